@@ -1,5 +1,5 @@
-# Builds the program, the libraries and the tools, puts them in place with their manual pages and documents, and makes
-# packages of them:
+# Builds the program, the libraries and the tools, installs them with their manual pages and documents, and makes packages of
+# them:
 #
 #     make
 #     make library
@@ -7,12 +7,11 @@
 #     make uninstall PREFIX=/usr/local
 #     make release
 #
-# With the Rattle kit, `rt`, all is made from the proved sources. Without it, the libraries and tools are made from dist/
-# by a C compiler, for the machine that it compiles for, and the program is not made.
+# With the Rattle kit, `rt`, everything is made from the proved sources. Without it, the libraries and tools are made from
+# dist/ by a C compiler, for the machine that it compiles for, and the program is not made.
 #
-# DESTDIR, if it is given, comes before each path, as for a package. LIB, ZSH and TOOLS are the folders of libraries, of
-# zsh's completions and of tools/ below PREFIX. DIST is the folder of the packages. CFLAGS and LDFLAGS are given to the
-# compiler.
+# DESTDIR, if it is given, precedes each path, as for a package. LIB, ZSH and TOOLS are the folders of libraries, of zsh's
+# completions and of tools/ below PREFIX. DIST is the folder of the packages. CFLAGS and LDFLAGS are passed to the compiler.
 
 PREFIX = /usr/local
 DESTDIR =
@@ -33,7 +32,7 @@ documents = $(root)/share/doc/fio2070
 kit := $(shell command -v rt)
 
 .PHONY: all test install uninstall dist deb release
-# One after the other: what is installed is linked by what is installed after it.
+# One after another: what is installed first is needed to link what is installed after it.
 .NOTPARALLEL:
 
 # Proves and builds the program if that is not done yet.
@@ -44,11 +43,11 @@ all:
 test:
 	@./test
 
-# ---- The library for C ----
+# ---- The C library ----
 
 # `make library` makes the archive, a shared library for languages that load one, and the tester, in OUT. The number in the
-# shared library's name is that of its interface: it rises when a program has to be built anew. PCPREFIX is the prefix that
-# fio2070.pc names. RTFLAGS are further words for `rt lib`, as `--jobs 1`.
+# shared library's name is that of its interface: it rises when a program has to be rebuilt. PCPREFIX is the prefix that
+# fio2070.pc names. RTFLAGS are further words for `rt lib`, such as `--jobs 1`.
 
 OUT = .
 PCPREFIX = $(PREFIX)
@@ -59,8 +58,8 @@ objects = $(OUT)/out/tester
 exports = tools/conformance/exports.map
 compile = $(CC) $(CPPFLAGS) $(CFLAGS)
 
-# What a shared library is called, and how it is linked, on the machine that CC compiles for. That of Windows has no tester,
-# which needs POSIX.
+# The name of a shared library, and how it is linked, on the machine that CC compiles for. On Windows there is no tester,
+# since it needs POSIX.
 machine := $(shell $(CC) -dumpmachine 2>/dev/null)
 ifneq ($(findstring mingw,$(machine)),)
 soname = fio2070.dll
@@ -104,7 +103,7 @@ $(objects)/tester.a: $(tester) $(wildcard tools/conformance/*.h) $(interface)/fi
 	rm -f $@
 	$(AR) rcs $@ $(objects)/*.o
 
-# The shared library has the tester too. It exports no name but those that begin with `fio2070_`.
+# The shared library includes the tester. It exports only names that begin with `fio2070_`.
 $(OUT)/$(soname): $(OUT)/libfio2070.a $(shared_tester) $(exports)
 	$(compile) -I $(interface) $(sharing) $(LDFLAGS) $(shared_tester) $(call all_of,$<) -o $@
 
@@ -114,11 +113,11 @@ $(OUT)/$(link_name): $(OUT)/$(soname)
 	ln -sf $(soname) $@
 endif
 
-# The tester as a command, of modules that are asked over a wire (tools/conformance/README.md).
+# The tester as a command, for modules that are asked over a wire (tools/conformance/README.md).
 $(OUT)/fio2070-test: $(objects)/tester.a $(OUT)/libfio2070.a tools/conformance/fio2070_test.c
 	$(compile) -I $(interface) $(LDFLAGS) tools/conformance/fio2070_test.c $(objects)/tester.a $(OUT)/libfio2070.a -o $@
 
-# The glossary of all definitions, DOC/GLOSSARY.md, and the page of the C library, made of the header by doxygen,
+# The glossary of all definitions, DOC/GLOSSARY.md, and the page of the C library, made from the header by doxygen,
 # DOC/html/index.html.
 DOC = doc
 
@@ -131,11 +130,11 @@ doc:
 
 # ---- Installing ----
 
-# With the kit the program is installed, and the library and the tester if they were made; without it these two are made first.
-# `fiolog` and `normalize` load the shared library, from beside the Python packages.
+# With the kit, the program is installed, and the library and the tester if they were made; without it, these two are made
+# first. `fiolog` loads the shared library, which is beside the Python packages.
 headers = $(wildcard $(interface)/*.h $(interface)/*.hpp)
-tools = lossy-script transcript conformance waveform wireshark $(if $(shared),fiolog captures)
-filters = transcript lossy-script waveform/vcd wireshark/hex2pcap $(if $(shared),captures/normalize)
+tools = lossy-script transcript conformance waveform wireshark $(if $(shared),fiolog)
+filters = transcript lossy-script waveform/vcd wireshark/hex2pcap
 tool_pages = README.md page/README.md portable/README.md $(patsubst tools/%,%,$(wildcard tools/page/*.png))
 pages = README.md LICENSE CHANGELOG.md SECURITY.md CONTRIBUTING.md
 pkgconfig = $(root)/$(LIB)/pkgconfig
@@ -212,7 +211,7 @@ install-documents:
 
 names = fio2070 fio2070-test fiolog
 uninstall:
-	rm -f $(foreach name,$(names) $(addprefix fio2070-,normalize vcd hex2pcap transcript lossy-script),'$(bin)/$(name)') \
+	rm -f $(foreach name,$(names) $(addprefix fio2070-,vcd hex2pcap transcript lossy-script),'$(bin)/$(name)') \
 	    $(foreach name,$(names) fio2070-tools,'$(man)/$(name).1') \
 	    $(foreach name,$(names),'$(bash)/$(name)' '$(zsh)/_$(name)' '$(fish)/$(name).fish') \
 	    $(foreach name,libfio2070.a $(soname) $(link_name) pkgconfig/fio2070.pc,'$(root)/$(LIB)/$(name)') \

@@ -1,7 +1,7 @@
-"""Single calls of the libraries, timed beside those of another implementation.
+"""Single calls of the libraries, timed side by side with those of another implementation.
 
-Both programs that time them are made of the same text, `calls/operations.rs` and `calls/timings.rs`, which is Rattle as
-well as Rust. They are made outside the repository, since no gate needs them."""
+Both programs that time them are made from the same text, `calls/operations.rs` and `calls/timings.rs`, which is both Rattle
+and Rust. They are made outside the repository, since no gate needs them."""
 
 import os
 import shutil
@@ -49,7 +49,7 @@ def text(head):
 
 
 def build_ours(folder):
-    """The program that times the calls of this repository. It stands on copies of the crates, with what was proved."""
+    """The program that times the calls of this repository. It is built on copies of the crates, with what was proved."""
     crates = folder / 'ours/crates'
     for name in CRATES:
         for part in ['src', 'specs', 'proofs', 'out/rlib']:
@@ -76,7 +76,7 @@ def build_peer(folder, peer):
 
 
 def times(programs, rounds):
-    """Nanoseconds of each call, by its name, for each of the programs: medians of runs in turns."""
+    """Nanoseconds of each call, by its name, for each of the programs: medians of runs that alternate."""
     found = [{} for _ in programs]
     for _ in range(rounds):
         for place, program in enumerate(programs):

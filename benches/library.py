@@ -1,9 +1,9 @@
-"""Instructions of the calls for C, beside those of the crates below them.
+"""Instructions of the calls for C, side by side with those of the crates below them.
 
 `calls/library.c` makes the calls of the library as often as `calls/timings.rs` makes those of the crates, on the same
-inputs, in functions of the same names. Each of these functions is counted by callgrind at each call of it, in both
-programs, and the counts are paired in their order. Before each function the program in C says what it counts. A
-function that is in C alone is counted beside the one below that does the same on the same inputs."""
+inputs, in functions of the same names. Each of these functions is counted by callgrind at each call of it, in both programs,
+and the counts are paired in order. Before each function the program in C says what it counts. A function that only C has is
+counted beside the one below that does the same on the same inputs."""
 
 import os
 import shlex
@@ -15,7 +15,7 @@ FUNCTIONS = ['decode_commands', 'copy_items', 'write_commands', 'decode_answers'
              'read_headers', 'copy_entries', 'scan_filters', 'scan_module', 'receive_each', 'poll_each',
              'write_polls', 'hear_each', 'hear_blocks']
 
-# Those that are in C alone, each with its case, and the function and the case below that do the same.
+# The functions that only C has, each with its case, and the function and the case below that do the same.
 BESIDE = {('copy_items', 'configure, 64 items'): ('decode_commands', 'configure, 64 items'),
           ('copy_entries', '255 entries'): ('read_blocks', '255 entries, each read')}
 
@@ -31,7 +31,7 @@ def build(folder):
 
 
 def counts_by_case(said, program, function, folder):
-    """The instructions of the last call of the function for each case, of which the program in C says so much."""
+    """The instructions of the last call of the function for each case. The program in C names the cases, in order."""
     cases = [case for one, _, case, _ in said if one == function]
     found = counts(program, function, folder)
     if len(cases) != len(found):

@@ -32,7 +32,7 @@ def succeed(command, **options):
 
 
 def build_ours():
-    """The program of this repository, proved and built where it is not yet."""
+    """The program of this repository, proved and built if it is not yet."""
     succeed([TOP / 'fio2070', '--version'])
     return TOP / 'crates/fio2070/out/fio2070'
 
@@ -65,7 +65,7 @@ class Bench:
         return path
 
     def instructions(self, program, word, path):
-        """How many instructions a run takes, `None` where there is no valgrind."""
+        """How many instructions a run takes, or `None` if there is no valgrind."""
         if shutil.which('valgrind') is None:
             return None
         notes = self.notes
@@ -84,8 +84,8 @@ class Bench:
         return [(float(share), plain_name(name)) for share, name in SHARE.findall(text)]
 
     def times(self, programs, word, path, rounds):
-        """The median of a run's milliseconds, and of the most memory that it holds in MB, for each of the programs,
-        which run in turns."""
+        """The median of a run's milliseconds, and of the most memory that it holds in MB, for each of the programs, whose
+        runs alternate."""
         runs = [[] for _ in programs]
         for _ in range(rounds):
             for place, program in enumerate(programs):
@@ -96,7 +96,7 @@ class Bench:
 
 
 def counts(program, function, folder):
-    """The instructions of each call of the function, with all that it calls, in the order of the calls."""
+    """The instructions of each call of the function, including all that it calls, in the order of the calls."""
     parts = folder / 'parts'
     shutil.rmtree(parts, ignore_errors=True)
     parts.mkdir()

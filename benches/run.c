@@ -1,4 +1,4 @@
-/* Runs a program so many times, with standard input from a file and standard output to nowhere, and writes a line for
+/* Runs a program a number of times, with standard input from a file and standard output to nowhere, and writes a line for
  * each run: its time from start to end in nanoseconds, and the most memory that it held, in KiB.
  *
  *     run INPUT TIMES PROGRAM [WORD]..

@@ -22,12 +22,12 @@ def table(heads, rows):
 
 
 def figure(value, digits):
-    """A number, or a dash where it is not known."""
+    """A number, or a dash if it is not known."""
     return '-' if value is None else f'{value:.{digits}f}'
 
 
 def compared(values, digits):
-    """Our number, and with another one beside it that number and the ratio."""
+    """Our number, and if there is another one, that number and the ratio."""
     cells = [figure(value, digits) for value in values]
     if len(values) == 2:
         ours, other = values
@@ -41,7 +41,7 @@ def heads_of(name, pair):
 
 
 def millions(bench, program, word, path):
-    """Instructions of a run in millions, `None` where there is no valgrind."""
+    """Instructions of a run in millions, or `None` if there is no valgrind."""
     count = bench.instructions(program, word, path)
     return None if count is None else count / 1e6
 
@@ -62,7 +62,7 @@ def of_programs(bench, pair, inputs, rounds):
 
 
 def of_growth(bench, pair):
-    """Instructions at three sizes of each input, or times where there is no valgrind."""
+    """Instructions at three sizes of each input, or times if there is no valgrind."""
     rows = []
     for name in workloads.NAMES:
         word = name.split('-', maxsplit=1)[0]
@@ -81,7 +81,7 @@ def of_growth(bench, pair):
 
 
 def times_in_turns(bench, program, words, path):
-    """The median of the milliseconds that a run takes with each of the words, in turns."""
+    """The median of the milliseconds that a run takes with each of the words; runs alternate."""
     runs = [[bench.times([program], word, path, 1)[0][0] for word in words] for _ in range(RECORD_ROUNDS)]
     return [statistics.median(times) for times in zip(*runs)]
 
@@ -121,7 +121,7 @@ def of_calls(counted):
 
 
 def of_times(timed):
-    """Nanoseconds of the calls that take memory, or are not counted."""
+    """Nanoseconds of the calls that allocate, or are not counted."""
     return of_cases('ns', timed, 1, [name for name in timed[0] if name[0] in ('Poller::hear', 'World::step')])
 
 

@@ -1,5 +1,5 @@
-"""Inputs of the program for `./bench`: eight of them near the limits, the same at every call. Each can be made
-smaller, so that growth shows."""
+"""Inputs of the program for `./bench`: eight of them near the limits, the same at every call. Each can be made smaller, so
+that growth shows."""
 
 import random
 
@@ -39,7 +39,7 @@ def block_answer(number, entries, status, stamp):
 
 
 def dense_entries(number, count):
-    """So many entries for each block, from scans at each of which all 64 inputs change."""
+    """A list of this many entries for each block, from scans at each of which all 64 inputs change."""
     places = range(count * number, count * (number + 1))
     return [entry(place % INPUTS, place // INPUTS % 2, place // INPUTS + 1) for place in places]
 
@@ -50,7 +50,8 @@ def full_block(number):
 
 
 def whole_block(number, count):
-    """A block of so many entries, after which none waits: the inputs change in turn at each scan, and the last scan is whole."""
+    """A block of this many entries, after which none waits: the inputs change in turn at each scan, and the last scan is
+    whole."""
     scans = -(-count // INPUTS)
     entries = []
     for place in range(count):
@@ -80,7 +81,7 @@ def show_short(chance):
 
 
 def show_long(_chance):
-    """Lines of `show`: full blocks, 64 entries a scan."""
+    """Lines of `show`: full blocks, with 64 entries per scan."""
     number = 0
     while True:
         yield full_block(number)
@@ -88,7 +89,7 @@ def show_long(_chance):
 
 
 def show_varied(chance):
-    """Lines of `show`: full blocks, an entry a scan."""
+    """Lines of `show`: full blocks, with one entry per scan."""
     number = 0
     while True:
         yield varied_block(chance, number)
@@ -136,7 +137,7 @@ def polled(block):
 
 
 def blocks_of(count):
-    """Lines of `check` and `record`: polls, each answered by a block of so many entries."""
+    """Lines of `check` and `record`: polls, each answered by a block of this many entries."""
     return lambda _chance: polled(lambda number: whole_block(number, count))
 
 
@@ -147,9 +148,9 @@ def configured(leading, trailing):
 
 
 def used_link(chance):
-    """Lines of `check` and `record`: a link in use at a busy intersection. The CPU polls each 10 ms. At each of 64
-    detectors a vehicle stays for part of a second, and the next comes some ten seconds later: a dozen changes a
-    second in all."""
+    """Lines of `check` and `record`: a link in use at a busy intersection. The CPU polls every 10 ms. At each of 64
+    detectors a vehicle stays for part of a second, and the next comes about ten seconds later: a dozen changes a second in
+    all."""
     yield '> ' + configured(5, 5)
     yield '< b300'
     levels = [1] * INPUTS
@@ -173,7 +174,7 @@ def recorded(name):
 
 
 def script(filters, events, limit):
-    """A script: all inputs are configured, with a filter for each, and then these events, so many in all."""
+    """A script: all inputs are configured, with a filter for each, and then come these events, `limit` in all."""
     items = ''.join(f'{place:02x}{leading:02x}{trailing:02x}' for place, (leading, trailing) in enumerate(filters))
     lines = ['fio2070 script 1 2 0', f'send 33{len(filters):02x}{items}', 'to-module 1']
     for event in events:
@@ -218,7 +219,7 @@ def block_events():
 
 
 def make(name, part=1):
-    """The input of this name. With a part below 1 it is so much smaller."""
+    """The input of this name. With a part below 1 it is smaller by that factor."""
     chance = random.Random(2070)
     size = int(part * INPUT_LIMIT)
     events = int(part * EVENT_LIMIT)

@@ -9,7 +9,7 @@
  * What the caller owes, and nothing checks:
  *  - A pointer points to as many objects as its length says, aligned as C asks of their type. Where that
  *    length is 0 it may be null (tested, not proved); any other pointer is not null.
- *  - What an argument with const points to is initialised. What a call writes need not be.
+ *  - Initialise what a const argument points to. What a call only writes may be uninitialised.
  *  - During a call no one else writes what an argument points to, and no one else reads what an
  *    argument without const points to. Such an argument overlaps no other. So threads may call at once, each with its
  *    own structs. A firmware that scans in a timer interrupt makes each other call on the module, getters too, with

@@ -6,17 +6,17 @@ fail() {
     exit 1
 }
 
-# say WORD..: says on standard error what is done now.
+# say WORD..: says on standard error what is being done.
 say() { echo "packaging: $*" >&2; }
 
-# needs COMMAND..: ends where a command is not there.
+# needs COMMAND..: ends if a command is not installed.
 needs() {
     for command in "$@"; do
         [ -n "$(command -v "$command")" ] || fail "this needs the command $command"
     done
 }
 
-# The version that the built program tells; that of CHANGELOG.md where a library alone is packed.
+# The version that the built program prints, or that of CHANGELOG.md if only a library is packed.
 version() {
     if [ "$processor" = x86_64 ]; then
         crates/fio2070/out/fio2070 --version | cut -d ' ' -f 2
@@ -25,11 +25,11 @@ version() {
     fi
 }
 
-# The time that all files of a package have: that of the last commit, or what SOURCE_DATE_EPOCH says.
+# The time stamp of all files of a package: that of the last commit, or what SOURCE_DATE_EPOCH says.
 epoch() { echo "${SOURCE_DATE_EPOCH:-$(git log -1 --format=%ct 2>/dev/null || stat -c %Y CHANGELOG.md)}"; }
 
-# stage FOLDER SETTING..: installs into a new folder, by `make install` with these settings, without symbols. All can be
-# read by everyone, whatever the settings of who cloned the repository.
+# stage FOLDER SETTING..: installs into a new folder, by `make install` with these settings, without symbols. Everyone can
+# read all of it, whatever the settings of the user who cloned the repository.
 stage() {
     folder=$1
     shift
@@ -65,5 +65,5 @@ stage_documents() {
     chmod -R u=rwX,go=rX "$folder"
 }
 
-# set_times FOLDER: gives all files and folders the time of the package.
+# set_times FOLDER: gives all files and folders the time stamp of the package.
 set_times() { find "$1" -exec touch -h -d "@$(epoch)" '{}' +; }

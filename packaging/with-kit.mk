@@ -1,4 +1,4 @@
-# What the Makefile makes of the proved sources, with the Rattle kit.
+# What the Makefile makes from the proved sources, with the Rattle kit.
 
 interface = include
 libraries = $(wildcard libfio2070.a)
@@ -45,11 +45,11 @@ $(OUT)/aarch64/libfio2070.a: crates/fio_c/out/aarch64-unknown-linux-gnu/libfio_c
 	mkdir -p $(@D)
 	cp $< $@
 
-# Its stack is 64 KB, of which no call takes more than a sixth.
+# Its stack has 64 KB, of which no call takes more than a sixth.
 $(module): crates/fio_c/out/$(wasm)/libfio_c.a
 	'$(kit_folder)/bin/rattle-link' --target $(wasm) --toolchain '$(kit_folder)/toolchain' --stack 65536 -o $@ $<
 
-# The portable library: fio2070.c and fio2070.h, two files of C99 for any processor, with the header for C++ beside them
+# The portable library: fio2070.c and fio2070.h, two files of C99 for any processor, with the C++ header
 # (tools/portable/README.md).
 portable = portable
 translator = $(addprefix tools/portable/,translate instructions.py functions.py module.py accesses.py ahead.py loops.py head.txt machine.c calls.c)
@@ -62,7 +62,7 @@ $(portable)/fio2070.c: $(module) $(headers) $(translator) packaging/release-file
 	packaging/release-files $(module) $(portable)
 
 # The page: one file that a browser opens offline, with the library in it (tools/page/README.md). If `wasm-opt` of the
-# package binaryen is there, it also lowers the library to memory of 32 bits, for browsers that have no other.
+# package binaryen is installed, it also lowers the library to memory of 32 bits, for browsers that have no other.
 page = fio2070.html
 lowered_module = crates/fio_c/out/$(wasm)/lowered.wasm
 lowered = $(if $(shell command -v wasm-opt),$(lowered_module))
@@ -79,8 +79,8 @@ $(lowered_module): $(module)
 $(page): $(module) $(lowered) $(page_sources)
 	tools/page/join $(module) $@ $(addprefix --lowered ,$(lowered))
 
-# The files that are kept in dist/, for those without the kit. `tests/release-files.sh` compares them with what this makes in the
-# folder FILES.
+# The files that are kept in dist/, for those without the kit. `tests/release-files.sh` compares them with what this makes in
+# the folder FILES.
 FILES = dist
 
 .PHONY: release-files
@@ -88,8 +88,8 @@ FILES = dist
 release-files: $(module) $(lowered) $(page_sources)
 	packaging/release-files $(module) '$(FILES)' --page $(addprefix --lowered ,$(lowered))
 
-# The archive and the Debian packages: the same files give the same octets each time. With TARGET=aarch64 they are of the
-# library for AArch64 alone.
+# The archive and the Debian packages: the same files give the same octets each time. With TARGET=aarch64 they only have the
+# library, for AArch64.
 ifeq ($(TARGET),aarch64)
 dist deb: ./aarch64/libfio2070.a
 	@packaging/$@ '$(DIST)' aarch64

@@ -1,4 +1,4 @@
-# What the Makefile makes of dist/, without the Rattle kit.
+# What the Makefile makes from dist/, without the Rattle kit.
 
 interface = dist
 libraries = libfio2070.a

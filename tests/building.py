@@ -1,8 +1,8 @@
 #!/usr/bin/env python3
-"""What `./fio2070` says while it builds the program, and where it cannot: what it will prove and about how long that
-takes, a line for each crate, one line that moves on a terminal, one clear line and status 125 for each thing that is
-missing; that crates which do not wait for each other are proved side by side. A short script stands in the place of
-`rt`, in a repository of four crates. Last line: `N passed, M failed`."""
+"""What `./fio2070` says while it builds the program, and if it cannot: what it will prove and about how long that takes, a
+line for each crate, one line that is updated on a terminal, and one clear line and status 125 for each thing that is
+missing. Crates that do not wait for each other are proved side by side. A short script takes the place of `rt`, in a
+repository of four crates. Last line: `N passed, M failed`."""
 
 import os
 import pty
@@ -21,8 +21,8 @@ from support.tables import TOP
 
 CRATES = 'low:\nhigh: low hex\nbeside: low\nfio2070: high beside\nother: low\n'
 
-# Proves nothing. Writes what rt writes, fails in the crate that FAILS names, takes long in the one that LINGERS names,
-# waits for the one that MEETS names, and writes nothing of a library that was proved before.
+# Proves nothing. Writes what rt writes, fails in the crate that FAILS names, takes long in the one that LINGERS names, waits
+# for the one that MEETS names, and writes nothing for a library that was proved before.
 RT = r"""#!/bin/sh
 crate=$(basename "$PWD")
 echo "$*" >>../../words
@@ -72,7 +72,7 @@ class Clone:
         os.chmod(rt, 0o755)
 
     def log(self, crate):
-        """The file for what rt writes of a crate."""
+        """The file for what rt writes about a crate."""
         return os.path.join(self.top, 'crates', crate, 'out', 'build.log')
 
     def environment(self, **settings):
@@ -116,7 +116,7 @@ def one_line(text, *words):
 
 
 def proved_in(said):
-    """How many crates each line but the first says are proved."""
+    """How many crates are proved by each line after the first."""
     return [int(count) for count in re.findall(r'^fio2070: (\d+) of \d+ crates proved', said, re.M)]
 
 
@@ -151,7 +151,7 @@ def try_side_by_side(check, room):
 
 
 def try_library(check, room):
-    """A library and those below it, in place of the program."""
+    """A library and those below it, instead of the program."""
     clone = Clone(room, 'library')
     done = subprocess.run([os.path.join(clone.top, 'build'), '--library', 'high', '--jobs', '1'], env=clone.environment(),
                           stdin=subprocess.DEVNULL, stdout=subprocess.PIPE, stderr=subprocess.PIPE, timeout=60)
@@ -164,7 +164,7 @@ def try_library(check, room):
 
 
 def try_terminal(check, room):
-    """A build on a terminal: a line that says what will be done, and one that moves, and goes."""
+    """A build on a terminal: a line that says what will be done, and one that is updated, and disappears at the end."""
     clone = Clone(room, 'terminal')
     written = clone.run_on_terminal(LINGERS='low')
     check.holds('one line that moves', written.count('\n') == 1 and '0 of 4 crates proved, now low; ' in written, written)
@@ -193,8 +193,8 @@ def try_faults(check, room):
 
 
 def as_nobody(room):
-    """The words before a command that run it as nobody, since root can write everywhere; `None` where that user can
-    reach no Python or not the folder."""
+    """The words before a command that run it as nobody, since root can write everywhere; `None` if that user can reach no
+    Python or not the folder."""
     words = ['setpriv', '--reuid=65534', '--regid=65534', '--clear-groups']
     if shutil.which(words[0]) is None:
         return None
@@ -221,7 +221,7 @@ def try_reading_only(check, room):
 
 
 def try_interrupt(check, room):
-    """Ctrl-C and a signal to end: both end the build with no temporary file and nothing that still runs."""
+    """Ctrl-C, and a signal to end: after both, the build leaves no temporary file and nothing that still runs."""
     for number in (signal.SIGINT, signal.SIGTERM):
         clone = Clone(room, 'interrupt%d' % number)
         with subprocess.Popen([os.path.join(clone.top, 'fio2070'), 'show'], env=clone.environment(LINGERS='low'),

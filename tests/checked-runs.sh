@@ -1,7 +1,7 @@
 #!/bin/sh
 # `check` on transcripts of `simulate`: runs the two ends by scripts, writes down what the CPU's end sent and heard, and
-# checks that transcript. It is good, since the bus repeats no frame and delivers an answer before the next command or
-# never, the module is not restarted, and the CPU's end never runs out of memory. The last line is `N passed, M failed`.
+# checks that transcript. It is good, since the bus repeats no frame and delivers an answer before the next command or never,
+# the module is not restarted, and the CPU's end never runs out of memory. The last line is `N passed, M failed`.
 
 . "$(dirname -- "$(readlink -f -- "$0")")/support/check.sh"
 cd "$top" || exit 1
@@ -12,7 +12,7 @@ begin() {
     sent=0 answered=0 frames=0
 }
 
-# event LINE: one event more.
+# event LINE: one more event.
 event() { echo "$1" >>"$room/script"; }
 
 # lost COMMAND: the CPU sends it, and the module never hears it.
@@ -35,7 +35,7 @@ whole() {
     frames=$((frames + 1))
 }
 
-# scans COUNT: so many times, all inputs are sampled as 0 and then as 1.
+# scans COUNT: this many times, all inputs are sampled as 0 and then as 1.
 scans() {
     for _ in $(seq "$1"); do
         event 'scan 0000000000000000'
@@ -43,14 +43,14 @@ scans() {
     done
 }
 
-# good NAME: the transcript of the script is good, with as many frames as were sent and heard.
+# good NAME: the transcript of the script is good, with the number of frames that were sent and heard.
 good() {
     wants "$1" || return 0
     ./fio2070 simulate <"$room/script" >"$room/report" || echo "$1: a run with a fault"
     equal "$1" "good $frames frames" "$(tools/transcript "$room/script" <"$room/report" | ./fio2070 check)"
 }
 
-# A configuration of all inputs: each is reported, and one sample changes its state.
+# A configuration of all inputs: each is open, and one sample changes its state.
 all='send 3340'
 for input in $(seq 0 63); do all="$all$(printf '%02x0101' "$input")"; done
 

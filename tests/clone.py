@@ -1,8 +1,8 @@
 #!/usr/bin/env python3
 """Copies the sources as a clone has them, and uses the copy without the Rattle kit, as a new user would: the first call of
-`./fio2070`, the library, a program in C, the tester, `fiolog`, the wrappers, `make install`. With `--all` also `./test` in the
-copy, a library for Windows and for ARM, and the same in a new Debian system with gcc, make and python3 alone, without a network.
-Last line: `N passed, M failed`."""
+`./fio2070`, the library, a program in C, the tester, `fiolog`, the wrappers, `make install`. With `--all` also `./test` in
+the copy, a library for Windows and for ARM, and the same in a new Debian system that only has gcc, make and python3, without
+a network. Last line: `N passed, M failed`."""
 
 import os
 import random
@@ -22,7 +22,7 @@ from support.tables import HAS_KIT, TOP, program_of
 
 PATH = '/usr/bin:/bin'
 MINUTE = 60
-# Other checks take processors at the same time.
+# Other checks use processors at the same time.
 MOST_SECONDS = 5 * MINUTE
 PROGRAM = '''#include <fio2070.h>
 int main(void) {
@@ -48,13 +48,13 @@ def run(*words, text='', seconds=MOST_SECONDS, folder=clone, **more):
 
 
 def fault(*words, **settings):
-    """What a command that fails writes, else nothing."""
+    """What a command writes if it fails, otherwise nothing."""
     done = run(*words, **settings)
     return 'status %d: %s' % (done.returncode, (done.stdout + done.stderr)[-600:]) if done.returncode else None
 
 
 def copy_sources():
-    """The files that git has or would take."""
+    """The files that git has or would add."""
     listed = subprocess.run(['git', 'ls-files', '-co', '--exclude-standard', '-z'], cwd=TOP, stdout=subprocess.PIPE, check=True)
     for name in filter(None, listed.stdout.decode().split('\0')):
         path = os.path.join(clone, name)
@@ -64,7 +64,7 @@ def copy_sources():
 
 
 def program():
-    """The words of `./fio2070` where there is no kit: what it is, once."""
+    """The text of `./fio2070` if there is no kit: what it is, once."""
     first, second = run('./fio2070', 'show', text='3605\n'), run('./fio2070', 'show', text='3605\n')
     check.equal('the first call', ('poll block 5\n', 0), (first.stdout, first.returncode))
     check.holds('the first call says what answers', 'dist/fio2070.c' in first.stderr and 'simulate' in first.stderr, first.stderr)
@@ -95,7 +95,8 @@ def answers(path, tool, octets):
 
 
 def alike():
-    """The program of the copy answers as the proved one does, to the letter: the checks of texts, the examples, and changed ones."""
+    """The program of the copy writes exactly what the proved one does: for the checks of texts, the examples, and changed
+    ones."""
     stand_in = os.path.join(clone, 'out/fio2070')
     longer = ('random-inputs.py', 'records.py') if HAS_KIT and check.whole('texts of random-inputs.py and records.py') else ()
     for name in ('shows.py', 'transcripts.py', 'examples.sh', *longer):
@@ -161,7 +162,7 @@ def library():
 
 
 def flags():
-    """What CFLAGS and LDFLAGS say reaches the compiler."""
+    """The contents of CFLAGS and LDFLAGS reach the compiler."""
     os.makedirs(os.path.join(room, 'flags'), exist_ok=True)
     done = run('make', '-n', 'library', 'OUT=' + os.path.join(room, 'flags'), 'CFLAGS=-O1 -DGIVEN', 'LDFLAGS=-Wl,--given')
     lines = [line for line in done.stdout.splitlines() if line.startswith('cc ')]
@@ -170,7 +171,7 @@ def flags():
 
 
 def pip():
-    """The package of Python is compiled where it is installed; without a compiler none is."""
+    """The Python package is compiled when it is installed; without a compiler it is not installed."""
     done = run('python3', '-m', 'venv', os.path.join(room, 'python'))
     if done.returncode:
         check.skip('pip install', 'python3 has no module venv here (Debian package python3-venv)')
@@ -200,7 +201,7 @@ def installing():
 
 
 def own_test():
-    """`./test` in the copy runs what can run, and says what it could not."""
+    """`./test` in the copy runs what can run, and says what it could not run."""
     done = run('./test', seconds=1500, HOME=os.environ.get('HOME', room))
     last = done.stdout.rstrip().rpartition('\n')[2]
     check.holds('./test without the kit', re.fullmatch(r'\d\d+ passed, 0 failed', last) and 'proofs\n' in done.stdout,
@@ -208,7 +209,7 @@ def own_test():
 
 
 def windows():
-    """A library for Windows, by MinGW, and what clang's dialect of MSVC says of the two files."""
+    """A library for Windows, by MinGW, and what clang's dialect of MSVC says about the two files."""
     compiler = 'x86_64-w64-mingw32-gcc'
     if not shutil.which(compiler):
         check.skip('a library for Windows', 'no %s here (Debian package gcc-mingw-w64-x86-64)' % compiler)
@@ -236,7 +237,7 @@ def windows():
 
 
 def processors():
-    """The library and the program on processors of other sizes and orders of octets."""
+    """The library and the program on processors of other sizes and byte orders."""
     for prefix, qemu in (('arm-linux-gnueabihf-', 'qemu-arm'), ('aarch64-linux-gnu-', 'qemu-aarch64'), ('powerpc-linux-gnu-', 'qemu-ppc')):
         name = prefix[:-1]
         if not shutil.which(prefix + 'gcc') or not shutil.which(qemu):
@@ -255,7 +256,7 @@ def processors():
                     check.equal('%s on %s' % (file, name), due.read(), run(qemu, out + '/fio2070', tool, text=source.read()).stdout)
 
 
-# What a user does in a new system, each within a minute of a processor, and what has to be in the text.
+# What a user does in a new system, each within a minute of processor time, and what has to be in the text.
 SESSION = [
     ('make library', ''),
     ('./fio2070 show < examples/lost-answer.frames', 'block 0 entries 1 status 00 stamp 2'),
@@ -284,7 +285,7 @@ def page_fault(kind, path):
 
 
 def in_new_system():
-    """All of it in a Debian system of its own that has gcc, make and python3 alone, and no network."""
+    """All of it in a Debian system of its own that only has gcc, make and python3, without a network."""
     why = roots.missing()
     if why:
         check.skip('a new Debian system', why)

@@ -1,7 +1,7 @@
 #!/usr/bin/env python3
-"""Types lines with a tab in them into bash, zsh and fish, each on a terminal of its own, and compares what the
-completed command prints. The completions are those that `make install` puts into a new folder. A shell that is not
-installed is skipped, as a line says. Last line: `N passed, M failed`."""
+"""Types lines with a tab in them into bash, zsh and fish, each on a terminal of its own, and compares what the completed
+command prints. The completions are those that `make install` puts into a new folder. A shell that is not installed is
+skipped, as a line says. Last line: `N passed, M failed`."""
 
 import os
 import pty
@@ -19,8 +19,8 @@ sys.dont_write_bytecode = True
 from support.check import Check
 from support.tables import HAS_KIT, TOP
 
-# How each shell is started without the user's own settings, and what it reads the completions by; {} is the folder
-# into which the program was installed.
+# How each shell is started without the user's own settings, and how it reads the completions; {} is the folder into which
+# the program was installed.
 SHELLS = {
     'bash': (['bash', '--norc', '--noprofile', '-i'],
              'for file in {}/share/bash-completion/completions/*; do . "$file"; done'),
@@ -69,7 +69,7 @@ class Terminal:
         return found
 
     def run(self, line, number):
-        """What the shell prints of a typed line; the sum behind it shows that the command ended."""
+        """What the shell prints for a typed line; the sum after it shows that the command ended."""
         for part in re.split('(\t)', line):
             os.write(self.terminal, part.encode())
             time.sleep(0.5 if part == '\t' else 0.05)

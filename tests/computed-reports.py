@@ -16,7 +16,7 @@ GAP = 'gap'
 
 
 class Example:
-    """A script, and the report that it is to have. The inputs that are open have filters of one sample."""
+    """A script, and the report that it should have. The inputs that are open have filters of one sample."""
 
     def __init__(self, first=0, version='1', limits=''):
         self.first = first
@@ -113,8 +113,8 @@ def two_polls_of_one_number_under_way(check):
 
 
 def full_scans_and_polls(check, polls, limits=''):
-    """After so many full scans in all, a poll takes the log from one place to before another, with this status,
-    and so many are left waiting. After each poll the record is what the blocks so far have of the log."""
+    """After this many full scans in all, a poll takes the log from one place to another, with this status, and this many
+    entries remain waiting. After each poll the record is what the blocks so far have of the log."""
     for count in range(1, len(polls) + 1):
         run = Example(version='3' if limits else '1', limits=limits)
         run.open_inputs(range(64))
@@ -140,8 +140,8 @@ def as_many_as_a_block_takes(check):
 
 
 def loss_in_the_next_new_block(check):
-    """The empty answer to poll 0 is lost, then entries are pushed out: the answer is sent again as it was, and
-    the next block reports the loss."""
+    """The empty answer to poll 0 is lost, and then entries are pushed out: the answer is sent again as it was, and the next
+    block reports the loss."""
     run = Example()
     run.open_inputs(range(64))
     run.poll(0)
@@ -164,7 +164,7 @@ def long_records(check):
         run.scan(ALL - 1)
         run.polled(0, run.log, 0)
         for number in range(1, blocks + 1):
-            # 256 transitions, of which one more than before is left waiting.
+            # 256 transitions, of which one more than before remains waiting.
             run.full_scans(4)
             end = 1 + 255 * number
             run.polled(number % 256, run.log[end - 255:end], 8)
@@ -173,8 +173,8 @@ def long_records(check):
 
 
 def many_rounds(check):
-    """In each of 300 rounds input 0 changes, and two polls of one number are answered: the first answer is
-    taken, and the second is stale."""
+    """In each of 300 rounds input 0 changes, and two polls with the same number are answered: the first answer is taken, and
+    the second is stale."""
     run = Example(first=255)
     run.open_inputs([0])
     for turn in range(300):
@@ -203,8 +203,8 @@ def load_before_the_block(check):
 
 
 def restarted():
-    """A block is made and sent, the module restarts, and the same poll reaches it again: it makes the first
-    block of another life."""
+    """A block is made and sent, the module restarts, and the same poll reaches it again: it makes the first block of a new
+    life."""
     run = Example(version='2')
     run.open_inputs([0])
     run.scan(ALL - 1)
@@ -221,7 +221,7 @@ def answer_from_before_a_restart(check):
     run.takes(2, run.log, 0)
     run.finds_stale(3, 0)
     run.ends(check, 'the answer from before a restart, delivered', 1, 0, run.log)
-    # No gap mark stands for what is lost over a restart.
+    # No gap mark appears for what is lost in a restart.
     run = restarted()
     run.takes(3, [], 0)
     run.ends(check, 'the answer from before a restart, lost', 1, 0, [])
@@ -237,7 +237,7 @@ def one_entry_a_block(check):
 
 
 class Input:
-    """One input, filtered alone: its run is counted with no bound."""
+    """One input, filtered by itself: the length of its run has no bound."""
 
     def __init__(self):
         self.ignore, self.leading, self.trailing = True, 5, 5
@@ -270,8 +270,8 @@ def configured(run, inputs, numbers):
 
 
 def filtered_alone(check, rarity):
-    """Samples in which each input changes once in 2^rarity scans, filtered one input after the other. The states are
-    read at each scan, and every fourth scan a poll takes what waits."""
+    """Samples in which each input changes once in 2^rarity scans, filtered one input after another. The states are read at
+    each scan, and every fourth scan a poll takes what waits."""
     numbers = random.Random(rarity)
     run, inputs, taken, rounds = Example(), [Input() for _ in range(64)], 0, 0
     for scan in range(800):
@@ -300,14 +300,14 @@ def filtered_alone(check, rarity):
 FULL_SCANS = [
     # One more than a block takes.
     ([(4, 0, 255, 8, 1), (4, 255, 256, 0, 0)], ''),
-    # As many as may wait, and more.
+    # The most that may wait, and more.
     ([(16, 0, 255, 8, 769)], ''),
     ([(17, 64, 319, 0x0c, 769)], ''),
     # Six blocks over two losses.
     ([(20, 256, 511, 0x0c, 769), (28, 768, 1023, 0x0c, 769), (28, 1023, 1278, 8, 514),
       (28, 1278, 1533, 8, 259), (28, 1533, 1788, 8, 4), (28, 1788, 1792, 0, 0)], ''),
 ]
-# As many as may wait, and more, by the limits of a script.
+# The most that may wait, and more, with the limits of a script.
 for limit in range(1024, MOST_WAITING + 1, 256):
     FULL_SCANS.append(([(limit // 64, 0, 255, 8, limit - 255)], ' 255 %d' % limit))
     FULL_SCANS.append(([(limit // 64 + 1, 64, 319, 0x0c, limit - 255)], ' 255 %d' % limit))

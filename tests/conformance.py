@@ -1,8 +1,8 @@
 #!/usr/bin/env python3
 """The tester of tools/conformance: it finds no difference in the proved ends and in right ones that are written from
-docs/PROTOCOL.md, exercises each rule, and finds each planted fault, of a module and of a CPU's end, within the 20,000
-events of a run over a wire; its reports, scripts, words and tables. With `--all` also by a
-second compiler and with sanitizers. Last line: `N passed, M failed`."""
+docs/PROTOCOL.md, exercises each rule, and finds each planted fault, of a module and of a CPU's end, within the 20,000 events
+of a run over a wire; also its reports, scripts, texts and tables. With `--all` also by a second compiler and with
+sanitizers. Last line: `N passed, M failed`."""
 
 import os
 import pty
@@ -29,7 +29,7 @@ from support.tables import HAS_KIT, TOP
 # The sections of docs/PROTOCOL.md that have rules in tables.
 RULED = ['Counter', 'Filters', 'Configuration', 'Waiting entries', 'Polls', 'Other commands']
 
-# What a script for `--replay` alone begins with.
+# How a script for `--replay` begins.
 FOR_REPLAY = '# For --replay alone'
 
 
@@ -46,7 +46,7 @@ def sources(folder):
 
 
 def built(check, room, name, compiler, *options):
-    """The program of planted faults, by a compiler; None where it does not build."""
+    """The program of planted faults, by a compiler; None if it does not build."""
     program = os.path.join(room, name)
     folder = os.path.join(room, name + '.objects')
     os.mkdir(folder)
@@ -67,7 +67,7 @@ def built(check, room, name, compiler, *options):
 
 
 def script_of(report):
-    """The script of a report: its lines of events, and what stands before them."""
+    """The script of a report: its lines of events, and what comes before them."""
     lines = report.splitlines(keepends=True)
     end = next(number for number, line in enumerate(lines) if line.startswith('# expected: '))
     return ''.join(line for line in lines[:end] if not line.startswith('# Something '))
@@ -90,7 +90,7 @@ def planted_faults(check, program):
 
 
 def other_seeds(check, program):
-    """Other seeds find nearly all planted faults within as many events."""
+    """Other seeds find nearly all planted faults within the same number of events."""
     for seed in SEEDS:
         if check.whole('planted faults by the seed %d' % seed):
             said = run([program, 'found', str(EVENTS), str(seed)])[1]
@@ -111,7 +111,7 @@ def right_ends(check, program):
 
 
 def simulated(report):
-    """What is wrong with what `fio2070 simulate` says of a report's script; None where it does what was expected."""
+    """What is wrong with what `fio2070 simulate` says about a report's script; None if it does what was expected."""
     text = run([os.path.join(TOP, 'fio2070'), 'simulate'], script_of(report))[1]
     if report.startswith(FOR_REPLAY):
         return None if text == 'line 1: bad header\n' else text
@@ -139,7 +139,7 @@ def reports(check, program):
 
 
 def goes_on(check, program):
-    """A run finds all rules that differ, leaves out rules of the own profile, and says what outlasts a reset."""
+    """A run finds all rules that differ, leaves out rules of the own profile, and says what survives a reset."""
     several = 'E is not set; filter of 0 acts as 2; F is not set; identification is another octet'
     found = set(re.findall('^# rule: ([^,]*),', run([program, 'module', several])[1], re.M))
     wanted = {'sent-again', 'filter-of-zero', 'lost', 'identification'}
@@ -169,7 +169,7 @@ def goes_on(check, program):
 
 
 def words(check, program):
-    """What the words of a tester do, and what it says of words and scripts that are faulty."""
+    """What the words of a tester do, and what it says about words and scripts that are faulty."""
     for given, wanted in [(['--except', 'none-such'], 'no rule has the name none-such'),
                           (['--except', 'sent-again'], "the rule sent-again is not this project's own"),
                           (['--except', 'stale'], 'no rule has the name stale'), (['x'], 'usage: '),
@@ -199,7 +199,7 @@ def transcripts(check, program):
 
 
 def tables(check, program, room):
-    """Each rule stands in docs/PROTOCOL.md under its section; the XML has a case for each, with what became of it."""
+    """Each rule is in docs/PROTOCOL.md under its section; the XML has a case for each, with its result."""
     with open(os.path.join(TOP, 'docs/PROTOCOL.md'), encoding='utf-8') as document:
         sections = re.split('(?m)^#+ ', document.read())
     plain = {section.partition('\n')[0]: section.replace('*', '') for section in sections}
@@ -229,7 +229,7 @@ def tables(check, program, room):
 
 
 def page(check, program):
-    """The report of the page is that which the tester writes of its script."""
+    """The report on the page is the one that the tester writes for its script."""
     with open(os.path.join(TOP, 'tools/conformance/README.md'), encoding='utf-8') as document:
         blocks = re.findall('(?s)```text\n(fio2070 script.*?)```', document.read())
     check.equal('report of the page', blocks, [

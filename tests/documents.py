@@ -1,11 +1,11 @@
 #!/usr/bin/env python3
-"""Runs each command of the blocks marked `console` in the documents, of the examples of the manual page and of those
-of `--help`, and compares what it prints.
+"""Runs each command of the blocks marked `console` in the documents, of the examples of the manual page and of those of
+`--help`, and compares what it prints.
 
 A line that begins with `$ ` is a command, run by sh at the top of the repository, with `fio2070` on the path; the lines
-below it, up to the next command or the end of the block, are what it prints, on standard output. A line `...` stands
-for any lines. A block marked `console NAME` needs the program of the Debian package NAME; where that program is
-missing, the block is skipped. Last line: `N passed, M failed`."""
+after it, up to the next command or the end of the block, are what it prints on standard output. A line `...` stands for any
+lines. A block marked `console NAME` needs the program of the Debian package NAME; if that program is missing, the block is
+skipped. Last line: `N passed, M failed`."""
 
 import os
 import shutil
@@ -22,7 +22,7 @@ from support.tables import TOP
 
 
 def is_runnable(check, path, number, line):
-    """Whether a line opens a block that needs a program, and the program is there."""
+    """Whether a line opens a block that needs a program, and the program is installed."""
     needed = line.removeprefix('```console ')
     if needed == line or shutil.which(needed):
         return needed != line
@@ -31,7 +31,7 @@ def is_runnable(check, path, number, line):
 
 
 def commands(check, path):
-    """Each command of a document, with its line and the lines that it is to print."""
+    """Each command of a document, with its line and the lines that it should print."""
     is_page = path.endswith('.1')
     inside, found = False, []
     for number, line in enumerate(text_of(path).split('\n'), 1):
@@ -47,7 +47,7 @@ def commands(check, path):
 
 
 def shown_commands(text):
-    """Each command below a line `Example:` of a help text, like `commands`."""
+    """Each command after a line `Example:` of a help text, like `commands`."""
     found = []
     lines = text.partition('\nExample:\n')[2].splitlines()
     for number, line in enumerate(line[2:] for line in lines):

@@ -1,7 +1,7 @@
 #!/usr/bin/env python3
-"""Goes through docs/EMBEDDING.md as its reader would, on a copy of the libraries: runs each command of its blocks
-marked `sh`, compares what it prints, and writes each file of Rust, whose name stands above it. So the crates are
-proved, built and run. Last line: `N passed, M failed`."""
+"""Goes through docs/EMBEDDING.md as its reader would, on a copy of the libraries: runs each command of its blocks marked
+`sh`, compares what it prints, and writes each file of Rust, whose name precedes it. So the crates are proved, built and run.
+Last line: `N passed, M failed`."""
 
 import os
 import re
@@ -17,7 +17,7 @@ from support.console import row
 from support.copies import link_or_copy
 from support.tables import TOP
 
-# The document's crates are this one and those below it.
+# The document's crates are this one and those that it depends on.
 LAST = 'fio_cpu'
 
 BLOCK = re.compile(r'(?:^\*(?P<file>[\w/.]+)\*:\n\n)?^```(?P<kind>sh|rust)\n(?P<text>.*?)^```$', re.M | re.S)
@@ -51,7 +51,7 @@ def run(command, folder):
 
 
 def commands(text):
-    """Each command of a block, with the lines that it is to print."""
+    """Each command of a block, with the lines that it should print."""
     found = []
     for line in text.splitlines():
         if line.startswith('$ '):
@@ -73,7 +73,7 @@ def main():
                     source.write(block['text'])
                 continue
             for command, expected in commands(block['text']):
-                # Whatever rows are asked for, since later commands need the earlier ones.
+                # Whichever rows are requested, since later commands need the earlier ones.
                 printed, rest = run(command, folder)
                 failed = check.failed
                 row(check, command, expected, printed)

@@ -1,12 +1,12 @@
 #!/bin/sh
-# Runs each file of examples/ and compares what is written with the file beside it: a script with its report,
-# a transcript with its verdict and its record, captured frames with what they show. The exit status is 1 where that file tells
-# of a fault, else 0. The last line is `N passed, M failed`.
+# Runs each file of examples/ and compares what is written with the file beside it: a script with its report, a transcript
+# with its verdict and its record, captured frames with what they show. The exit status is 1 if that file reports a fault,
+# otherwise 0. The last line is `N passed, M failed`.
 
 . "$(dirname -- "$(readlink -f -- "$0")")/support/check.sh"
 cd "$top" || exit 1
 
-# check TOOL FILE EXPECTED: compares what a tool writes of a file with what it is to write.
+# check TOOL FILE EXPECTED: compares what a tool writes for a file with what it should write.
 check() {
     wants "$2" || return 0
     "${FIO2070_PROGRAM:-./fio2070}" "$1" <"$2" >"$room/written"

@@ -1,5 +1,5 @@
 #!/usr/bin/env python3
-"""The commands of `fiolog`, run as a user runs them: the words of `show`, the rows of docs/PLANNING.md, texts that the
+"""The commands of `fiolog`, run as a user runs them: the text of `show`, the rows of docs/PLANNING.md, texts that the
 program reads again, answers while the input goes on; at a terminal too. Last line: `N passed, M failed`."""
 
 import csv
@@ -31,7 +31,7 @@ LOG = LOGGERS['ISO times'](timed(SESSION))
 
 
 def check_decode(check):
-    """`decode` says what `show` says of the examples, and its other forms say the same."""
+    """`decode` says what `show` says for the examples, and its other forms say the same."""
     for name in sorted(glob.glob(os.path.join(EXAMPLES, '*.frames'))):
         with open(name[:-len('frames')] + 'shown', encoding='ascii') as file:
             expected = [line for line in file.read().splitlines() if not line.startswith('line ')]
@@ -60,7 +60,7 @@ def check_decode(check):
 
 
 def check_shown(check):
-    """What is shown beside the words of `show`: the bits of a status, the clock of the log."""
+    """What is shown beside the text of `show`: the bits of a status, the clock of the log."""
     sets, says = ('3131', 'b1a1000000000005', 'ba01', 'b60500060000000a'), {
         'P': 'the module was reset', 'R': 'status flag', 'K': 'status flag', 'E': 'the same block number was asked for again',
         'F': 'entries between the block before and this one were pushed out', 'Y': 'the watchdog had been set before'}
@@ -81,7 +81,7 @@ def check_shown(check):
 
 
 class Frame:
-    """A frame as the reader gives it, of a log on the bus."""
+    """A frame as the reader returns it, in a log on the bus."""
 
     def __init__(self, octets):
         self.octets, self.said, self.text, self.note = bytes.fromhex(octets), '', '', ''
@@ -89,7 +89,8 @@ class Frame:
 
 
 def check_judged(check):
-    """What `check` says of a breach of limits, the nine rules alone, and what is not judged below a frame that was lost."""
+    """What `check` says about a breach of limits, the nine rules alone, and what is not judged after a frame that was
+    lost."""
     block = '> 3605\n< b605%s\n'
     for name, octets, words in [('an input', '014500010000000001', 'an entry is of input 69, above 63'),
                                 ('C', '010c00010800000001', 'C says that more entries wait than a block takes, and 1 entries came'),
@@ -107,7 +108,7 @@ def check_judged(check):
 
 
 def check_words(check):
-    """What is said on standard error, and the statuses."""
+    """What is written on standard error, and the statuses."""
     done = fiolog('decode', text=LOG)
     check.equal('a log that is read whole', (0, 'fiolog: 2 frames are of types that have any length: a cut in one of them is not seen\n'), (done.status, done.err))
     done = fiolog('decode', '-v', text=LOG + 'link down\n')
@@ -125,7 +126,7 @@ def check_words(check):
 
 
 def check_numbers(check):
-    """`stats` counts, and `plan` gives the rows of docs/PLANNING.md."""
+    """`stats` counts, and `plan` prints the rows of docs/PLANNING.md."""
     found = json.loads(fiolog('stats', '--json', text=LOG).out)
     check.equal('stats', (len(SESSION), 6, 1, 1, 36, 3, {'12': 34, '13': 1, '14': 1}),
                 (found['frames'], found['polls'], found['repeats'], found['answers_lost'], found['entries'],
@@ -169,8 +170,8 @@ def check_convert(check):
 
 
 def check_check(check):
-    """`check` finds first what the program finds, by `check` or else by `record`, and goes on: past noise, past damage, in logs
-    of the other end."""
+    """`check` finds first what the program finds, by `check` or else by `record`, and goes on: past noise, past damage, in
+    logs of the other end."""
     for name in sorted(glob.glob(os.path.join(EXAMPLES, '*.transcript'))):
         texts = ''
         for path in sorted(glob.glob(name[:-len('transcript')] + '[rv]e*'), reverse=True):
@@ -200,7 +201,7 @@ def check_check(check):
                 (''.join(re.findall(r'line .*', done.out)), done.status, 'not judged' in done.err))
     middle = '< b6050000000003e8\n> 3606\n< b6060000000003e9\n'
     check.equal('--start-at-poll', 0, fiolog('check', '--start-at-poll', text=middle).status)
-    # F without C: a module of which no more may wait than a block takes can say that it lost entries.
+    # F without C: a module in which no more may wait than a block takes can say that it lost entries.
     lost = '> 3605\n< b605010c000a040000000b\n'
     check.equal('the standard limits', ['limits'], re.findall(r'^line 2: (\w+)', fiolog('check', text=lost).out, re.M))
     for words, status in ((('255', '64'), 0), (('255', '1024'), 1), (('0', '64'), 2), (('255', '8193'), 2)):
@@ -209,7 +210,7 @@ def check_check(check):
 
 
 def with_library(name):
-    """A Python that has an optional library; None where there is none."""
+    """A Python that has an optional library; None if there is none."""
     found = (one for one in dict.fromkeys((sys.executable, '/usr/bin/python3')) if os.path.exists(one) and not subprocess.run(
         [one, '-c', 'import ' + name], stdout=subprocess.DEVNULL, stderr=subprocess.DEVNULL).returncode)
     return next(found, None)
@@ -304,11 +305,13 @@ def check_plot(check, folder):
 
 
 def fault_of_following():
-    """`decode` answers each line at once, as with `tail -f`."""
+    """`decode` answers each line at once, as with `tail -f`, but a short one of a form that nothing has made sure."""
     command = subprocess.Popen([sys.executable, '-m', 'fiolog', 'decode', '-q'], stdin=subprocess.PIPE,
                                stdout=subprocess.PIPE, env=ENVIRONMENT)
     try:
-        for line, expected in [(b'TX 36 05\n', b'poll block 5'), (b'RX B6 05 00 00 00 00 00 01\n', b'block 5 entries 0')]:
+        command.stdin.write(b'TX 36 04\n')
+        for line, expected in [(b'RX B6 04 00 00 00 00 00 01\n', b'poll block 4'), (b'', b'block 4 entries 0'), (b'TX 36 05\n', b'poll block 5'),
+                               (b'RX B6 05 00 00 00 00 00 01\n', b'block 5 entries 0'), (b'TX 36 06\n', b'poll block 6')]:
             command.stdin.write(line)
             command.stdin.flush()
             found = command.stdout.readline()
@@ -322,7 +325,7 @@ def fault_of_following():
 
 
 def fault_of_memory():
-    """Ten times as many lines take no more memory, noise among them."""
+    """Ten times the number of lines takes no more memory, noise included."""
     most = []
     for count in (6_000, 60_000):
         lines = "import sys\nfor n in range(%d): sys.stdout.write('TX 36 %%02X\\nRX B6 %%02X 00 00 00 00 00 01\\nnoise %%d\\n' %% (n %% 256, n %% 256, n))" % (count // 3)
@@ -348,7 +351,8 @@ def check_faulty_words(check):
 
 
 def check_hostile(check, folder):
-    """What no logger writes is passed over with a reason; no frame is read in it, and the lines below keep their numbers."""
+    """What no logger writes is skipped with a reason; no frame is read from it, and the lines after it keep their
+    numbers."""
     good, draw = b'TX 36 05\nRX B6 05 00 00 00 00 00 01\nTX 36 06\n', random.Random(35)
     for name, hostile in [('a line of 3 MB', b'> ' + b'b6' * 1_500_000 + b'\n'), ('zeros', bytes(200_000) + b'\n'),
                           ('a line of words', b'tx rx ' * 40_000 + b'3605\n'), ('no UTF-8', b'\x80\xfe TX 36 05\n'),
@@ -378,7 +382,7 @@ def check_hostile(check, folder):
 
 
 def check_closed(check):
-    """Streams that are closed or full end the tool with a word, and without a trace."""
+    """Streams that are closed or full end the tool with a message, and without a traceback."""
     for words, status in [('>&-', 3), ('> /dev/full', 3), ('<&-', 1), ('| head -n 1', 0), ('2>&-', 0)]:
         command = '%s -m fiolog decode -q %s' % (sys.executable, words)
         done = subprocess.run(['sh', '-c', command], input=LOG * 400, stdout=subprocess.PIPE, stderr=subprocess.PIPE,

@@ -1,7 +1,7 @@
 #!/usr/bin/env python3
-"""`fiolog live` on lines that talk: a process, a pseudo-terminal, datagrams and a pipe, with the proved module and poller on
-the other side, with losses, damage, a device that babbles, and entries that break a rule on content; the status line of a
-terminal; a capture in a pipe. Last line: `N passed, M failed`."""
+"""`fiolog live` on lines that carry traffic: a process, a pseudo-terminal, datagrams and a pipe, with the proved module and
+poller on the other side, with losses, damage, a device that babbles, and entries that break a rule on content; the status
+line of a terminal; a capture in a pipe. Last line: `N passed, M failed`."""
 
 import glob
 import os
@@ -51,7 +51,7 @@ def fault_of_process():
 
 
 def on_serial(write, *words):
-    """What a run writes whose serial port is a pseudo-terminal, at which this is written, and its status."""
+    """What a run writes whose serial port is a pseudo-terminal to which this is written, and its status."""
     ours, theirs = pty.openpty()
     command = started('--serial', os.ttyname(theirs), '--quiet', '--seconds', '5', *words)
     time.sleep(2)
@@ -63,8 +63,8 @@ def on_serial(write, *words):
 
 
 def fault_of_serial():
-    """A pseudo-terminal as serial port: frames with checks, of which an answer that the CPU heard is damaged here, one in two
-    pieces, then a damaged one, then a device that babbles. Nobody is accused."""
+    """A pseudo-terminal as serial port: frames with checks; an answer that the CPU heard is damaged here, one comes in two
+    pieces, then a damaged one, then a device babbles. Nobody is accused."""
     from support.talking import rounds, stuffed
     frames = [octets for _, octets in rounds(20)]
     lost = next(place for place, octets in enumerate(frames) if octets[0] == 182 and octets[2] and frames[place + 1][1] != octets[1])
@@ -123,7 +123,7 @@ def fault_of_datagrams():
 
 
 def heard(folder, text, *words):
-    """What a run writes of a named pipe with this text, of which the writer then is gone, and its status."""
+    """What a run writes for a named pipe with this text, whose writer then goes away, and its status."""
     pipe = os.path.join(folder, 'pipe')
     if not os.path.exists(pipe):
         os.mkfifo(pipe)
@@ -135,7 +135,7 @@ def heard(folder, text, *words):
 
 
 def fault_of_pipe(folder):
-    """A named pipe, with a transcript and a capture beside, whose writer stops in the middle of a line."""
+    """A named pipe, with a transcript and a capture as well, whose writer stops in the middle of a line."""
     transcript, capture = [os.path.join(folder, name) for name in ('transcript', 'capture')]
     out = heard(folder, LOG + '2026-11-22T07:15:09.000Z tx 36', '--quiet', '--transcript', transcript, '--pcapng', capture)[0]
     with open(transcript, encoding='ascii') as file:
@@ -149,7 +149,7 @@ def fault_of_pipe(folder):
 
 
 def check_content(check, folder):
-    """The examples whose record breaks a rule on content are accused of it, and no other is."""
+    """The examples whose record breaks a rule on content are accused of it, and no others are."""
     for path in sorted(glob.glob(os.path.join(EXAMPLES, '*.record'))):
         with open(path, encoding='ascii') as file:
             expected = re.findall(r'^line (\d+) (?:input (\d+) )?breaks (\w+)$', file.read(), re.M)
@@ -173,7 +173,7 @@ def check_beginning(check, folder):
 
 
 def check_passed(check, folder):
-    """What is passed over, and what is damaged, is said."""
+    """What is skipped, and what is damaged, is reported."""
     out, err, _ = heard(folder, LOG + 'link down\n', '--quiet', '-v')
     check.holds('a line that is passed over', 'line %d: no octets: link down' % (len(SESSION) + 1) in err, err)
     check.equal('and counted', 1, numbers_of(out)['lines passed over'])
@@ -186,7 +186,7 @@ def check_passed(check, folder):
 
 
 def screen(text):
-    """The lines that a terminal shows of a text, without colours."""
+    """The lines that a terminal shows for a text, without colours."""
     lines, place = [''], 0
     for part in re.findall(r'\r|\n|\x1b\[K|[^\r\n\x1b]+', re.sub(r'\x1b\[[0-9;]*m', '', text)):
         if part == '\r':
@@ -238,7 +238,7 @@ def check_process_ends(check):
 
 
 def check_ended_from_outside(check, folder):
-    """SIGTERM is as Ctrl-C; a pipe without a writer is left in time."""
+    """SIGTERM acts like Ctrl-C; a pipe without a writer is left in time."""
     path, pipe = os.path.join(folder, 'number'), os.path.join(folder, 'silent')
     live = started('--exec', "sh -c 'echo \\> 3605; echo $$ > %s; exec sleep 60'" % path, '--quiet')
     while not os.path.exists(path) or not os.path.getsize(path):

@@ -1,6 +1,6 @@
 #!/usr/bin/env python3
 """Many logs: `fiolog check` and `stats` of several files, what their summaries say is not judged, and summaries in Python, which
-add: of parts of a log, of files side by side, and by Dask over 500 files. Last line: `N passed, M failed`."""
+can be added: of parts of a log, of files side by side, and by Dask over 500 files. Last line: `N passed, M failed`."""
 
 import json
 import os
@@ -16,7 +16,7 @@ from support.check import Check
 from support.fiolog import ENVIRONMENT, fiolog, use_library
 from support.pages import text_of
 
-# A round each: a poll, and a block with one entry of input 12, each 10 ms; and the round with an answer that is lost.
+# One round each: a poll, and a block with one entry of input 12, 10 ms apart; and the round with an answer that is lost.
 START = '> 33020c05030d0503\n< b300\n'
 ROUNDS = ['> 36%02x\n< b6%02x01%s%04x00%08x\n' % (number, number, ('0c', '8c')[number % 2], 10 * number + 9, 10 * number + 10)
           for number in range(20)]
@@ -26,13 +26,14 @@ FILES = 500
 
 
 def counted(summary):
-    """What a summary counts, as two are compared."""
+    """What a summary counts, for the comparison of two."""
     return summary.counts.in_short(), summary.counts.entries, dict(summary.counts.types), summary.counts.responses.at(0.5), \
         summary.lines, dict(summary.broken), dict(summary.left_out)
 
 
 def check_parts(check):
-    """A log that is cut where all is answered sums to the whole; a path, a file and pieces of any length are the same log."""
+    """A log that is cut where everything is answered sums to the whole; a path, a file and pieces of any length are the same
+    log."""
     from fiolog.summary import Summary, summary_of
     whole = START + ''.join(ROUNDS)
     octets = whole.encode()
@@ -59,6 +60,46 @@ def write_logs(folder):
         with open(os.path.join(folder, '%03d.log' % number), 'w', encoding='ascii') as file:
             file.write(START + ''.join(ROUNDS) + tail)
     return [os.path.join(folder, '%03d.log' % number) for number in range(FILES)]
+
+
+class Told:
+    """A reader that has these verdicts on a log, whatever its text is."""
+
+    def __init__(self, *verdicts):
+        self.verdicts = verdicts
+
+    def read(self, octets):
+        """Nothing is certain yet."""
+        return []
+
+    def end(self):
+        """The verdicts."""
+        return list(self.verdicts)
+
+
+def check_lost(check):
+    """At a damaged line, and at a message among frames that nothing makes sure, the place is lost: nobody is accused. One above all
+    frames is not judged and not counted."""
+    import fio2070
+    from fiolog.summary import summary_of
+    from support.log_model import Verdict
+    real = fio2070.LogReader
+    poll, answer, later = (bytes.fromhex(digits) for digits in ('3605', 'b60500000000000a', '3607'))
+
+    def judged(*lines):
+        fio2070.LogReader = lambda form='auto': Told(*(
+            Verdict(number, kind, '', frames) for number, (kind, frames) in enumerate(lines, 1)))
+        try:
+            return summary_of([b'\n' * len(lines)])
+        finally:
+            fio2070.LogReader = real
+    sure = [('frames', (octets,)) for octets in (poll, answer, later)]
+    check.equal('a poll for another number', {'advance': 1}, dict(judged(*sure).broken))
+    for kind in (('damaged', ()), ('possible', (answer,))):
+        found = judged(*sure[:2], kind, sure[2])
+        check.equal('below a line that is %s' % kind[0], (0, 1, 3), (found.breaches, found.left_out['lost_places'], found.counts.frames))
+    found = judged(('possible', (answer,)), *sure)
+    check.equal('a possible one above', ({'advance': 1}, 3), (dict(found.broken), found.counts.frames))
 
 
 def check_files(check, paths):
@@ -152,6 +193,7 @@ def main():
     use_library(check, 'many logs')
     check_parts(check)
     check_unjudged(check)
+    check_lost(check)
     with tempfile.TemporaryDirectory() as folder:
         paths = write_logs(folder)
         check_files(check, paths)

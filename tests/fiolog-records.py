@@ -1,7 +1,7 @@
 #!/usr/bin/env python3
-"""`fiolog record` with the rules on content: as text letter for letter what `fio2070 record` writes of the examples and of
-lossy runs with an entry dropped, doubled, turned or swapped; each breach in the table, as JSON, VCD and picture; and what
-goes on below a breach, in the middle of traffic, and in logs of the bus and of the module. Last line: `N passed, M failed`."""
+"""`fiolog record` with the rules on content: as text exactly what `fio2070 record` writes for the examples and for lossy
+runs with an entry dropped, doubled, turned or swapped; each breach in the table, as JSON, VCD and picture; and what goes on
+after a breach, in the middle of traffic, and in logs of the bus and of the module. Last line: `N passed, M failed`."""
 
 import csv
 import glob
@@ -20,7 +20,7 @@ from support.fiolog import ENVIRONMENT, fiolog, use_library
 from support.tables import TOP, output_of
 
 EXAMPLES = os.path.join(TOP, 'examples')
-# What each broken example accuses: line, rule, and if it has them input and index in the block.
+# What each broken example accuses: line, rule, and if there is one, the input and the index in the block.
 BROKEN = {'clock-back': (5, 'clock'), 'doubled-entry': (10, 'fresh', 12, 0), 'flag-left': (3, 'cleared'),
           'ignored-input': (7, 'ignored', 12, 0), 'lost-entry': (11, 'alternate', 12, 0), 'near-entries': (7, 'apart', 12, 1),
           'other-states': (13, 'state', 12), 'refused-configuration': (3, 'accepted'), 'refused-load': (3, 'done'),
@@ -34,7 +34,7 @@ def transcript(name):
 
 
 def same_text(check, name, text):
-    """A row: as text and in its status it is what the program writes. The status."""
+    """A row: its text and its status are those of the program. Returns the status."""
     expected, status = output_of('record', text)[:2]
     done = fiolog('record', '-q', '--text', '--format', 'transcript', text=text)
     check.equal('the text of %s' % name, (expected, status), (done.out, done.status))
@@ -116,11 +116,11 @@ def check_runs(check, folder):
         check.holds('of %d runs with an entry %s most are accused' % (SEEDS, change), 2 * count > SEEDS, count)
 
 
-# An entry of input 12 twice, below whatever is above.
+# An entry of input 12 twice, after whatever comes before.
 START, FIRST = '> 33020c05030d0503\n< b300\n', '> 3600\n< b600000000000000\n> 3601\n< b601010c000a000000000b\n'
 AGAIN = '> 3602\n< b602010c00140000000015\n'
 EARLIER = '> 3602\n< b602010d0009000000000c\n'
-# The CPU asks for 9 where 3 is due; from the next poll on the link goes on.
+# The CPU asks for 9 although 3 is next; from the next poll on the link goes on.
 SKIP = '> 3609\n< b60900000000001f\n> 360a\n< b60a000000000020\n'
 
 
@@ -142,7 +142,7 @@ def check_course(check):
     check.equal('a time that goes back', ['line 7 breaks advance', 'line 14 breaks clock'], breaches(text=START + FIRST + SKIP + back)[0])
     check.equal('a load above the breach lifts it', ['line 9 breaks advance'], breaches(text=START + FIRST + load + SKIP + back)[0])
     check.equal('an entry that comes late', (['line 8 input 13 breaks fresh'], 1), breaches(text=START + FIRST + EARLIER))
-    # An input is ignored until it is configured, which only a log says that begins with both ends.
+    # An input is ignored until it is configured, which only a log shows that begins with both ends.
     check.equal('a log that begins later', ([], 0), breaches(text=FIRST))
     check.equal('--whole', (['line 4 input 12 breaks ignored'], 1), breaches('--whole', text=FIRST))
     check.equal('--whole of a right log', ([], 0), breaches('--whole', text=START + FIRST))
@@ -162,7 +162,7 @@ def check_course(check):
                 (done.status, len(done.out.splitlines()), re.findall('breaks', done.out)))
 
 
-# Python that says where the picture of a log has crosses.
+# Python that prints the positions of the crosses in the picture of a log.
 CROSSES = '''
 import sys
 from types import SimpleNamespace as Names
@@ -190,7 +190,7 @@ EVENTS = [['2026-03-01 06:59:59.990', '7', '82', '5'], ['2026-03-01 07:00:00.030
 
 
 def check_events(check, folder):
-    """High-resolution events: each transition of an input with a channel, at its time; what is missing is said."""
+    """High-resolution events: each transition of an input with a channel, at its time; what is missing is reported."""
     name = os.path.join(folder, 'events.csv')
     given = ('--hires', name, '--start', '2026-03-01T07:00:00', '--signal', '7', '--on', '0', '--channels', '12:5')
     done = fiolog('record', '-q', *given, text=HIRES)

@@ -1,8 +1,8 @@
 #!/usr/bin/env python3
 """The two whole ends of examples/: builds the firmware and the controller, and runs them against each other with
-examples/line/run.py, on the loopback alone. With `--all` on a line that loses, damages, repeats and delays frames, on one so
-bad that the module's buffer runs over, with a restart of either end; `fio2070-test` on the running firmware; planted faults, each
-of which is found. Last line: `N passed, M failed`."""
+examples/line/run.py, on the loopback alone. With `--all` on a line that loses, damages, repeats and delays frames, on one
+that is so bad that the module's buffer overflows, with a restart of either end; `fio2070-test` on the running firmware; and
+planted faults, each of which is found. Last line: `N passed, M failed`."""
 
 import functools
 import os
@@ -40,7 +40,7 @@ RUNS = [('frames lost, damaged and delayed', 8, []),
         ('a buffer that runs over', 8, ['--lose', '0.8', '--deadline', '40']),
         ('a restart of the module', 6, ['--restart', 'module']),
         ('a restart of the controller', 6, ['--restart', 'controller'])]
-# Faults: name, file, text, what it becomes.
+# Faults: name, file, text, replacement.
 NO_HOLD = ('board.h', '__asm volatile("msr basepri, %0\\n isb" : : "r"(SCANS_PRIORITY) : "memory");', '')
 LOST_TICKS = ('firmware.c', 'for (; due > 0; due--, scanned_to += SCAN_US) {',
               'for (scanned_to += due * SCAN_US, due = due > 0; due > 0; due--) {')
@@ -60,7 +60,7 @@ def run(*words, timeout=300, **settings):
 
 
 def fault_of(*words, **settings):
-    """What a command that fails writes, else nothing."""
+    """What a command writes if it fails, otherwise nothing."""
     done = run(*words, **settings)
     return (done.stdout + done.stderr)[-600:] or 'status %d' % done.returncode if done.returncode else None
 
@@ -90,7 +90,7 @@ def change(path, old, new):
 
 @functools.cache
 def built(*changes):
-    """The folder of the programs, with these changes of their sources; with `--all` the controller has sanitizers."""
+    """The folder of the programs, with these changes to their sources; with `--all` the controller has sanitizers."""
     made, examples = tempfile.mkdtemp(dir=room), EXAMPLES
     if changes:
         examples = os.path.join(made, 'sources')
@@ -113,7 +113,7 @@ def sources(*folders):
 
 
 def warns(compiler, options, *folders):
-    """Compiles each file alone. Returns what the compiler warns of."""
+    """Compiles each file by itself. Returns what the compiler warns about."""
     include = ['-I', library(), '-I', os.path.join(EXAMPLES, 'hdlc')]
     made = os.path.join(room, 'warns.o')
     return next(filter(None, (fault_of(compiler, *STRICT, *options, *include, '-c', path, '-o', made)
@@ -123,7 +123,7 @@ def warns(compiler, options, *folders):
 # ---- Frames ----
 
 def lines_of(kind, octets):
-    """What `hdlc.c` writes of lines of octets."""
+    """What `hdlc.c` writes for lines of octets."""
     program = os.path.join(room, 'hdlc')
     failed = fault_of('cc', *STRICT, '-fsanitize=address,undefined', '-I', os.path.join(EXAMPLES, 'hdlc'), *sources('hdlc'),
                       os.path.join(TOP, 'tests/support/c/hdlc.c'), '-o', program)
@@ -133,7 +133,7 @@ def lines_of(kind, octets):
 
 
 def meaning(line):
-    """What fiolog's reader of frames says of the octets of a line, in the words of tests/support/c/hdlc.c."""
+    """What fiolog's reader of frames says about the octets of a line, in the words of tests/support/c/hdlc.c."""
     said = ''
     for piece in line.split(b'\x7e')[1:-1]:
         octets, is_open = sdlc.unstuffed(piece), piece.endswith(b'\x7d') and not piece.endswith(b'\x7d\x7d')
@@ -178,7 +178,7 @@ def is_wrong(seconds, words, *changes):
 
 
 def rough_is_wrong():
-    """A run with late and repeated frames, and what `fiolog check --late-answers` says of its transcript."""
+    """A run with late and repeated frames, and what `fiolog check --late-answers` says about its transcript."""
     failed = is_wrong(8, ['--rough'])
     if failed or not os.path.exists(fiolog.LIBRARY):
         return failed
@@ -212,8 +212,8 @@ def toggle(lines, ended):
 
 
 def wrong_entry(link, seconds):
-    """Polls without a pause for this time at most. Returns the first wrong entry: it has the state of the one before of its
-    input. Without one, nothing, or why there is nothing to see."""
+    """Polls without a pause for at most this time. Returns the first wrong entry: it has the same state as the entry before
+    of its input. If there is none, returns nothing, or why there is nothing to see."""
     states, number, entries, ends_at = {}, 0, 0, time.monotonic() + seconds
     while time.monotonic() < ends_at:
         block, number = asked(link, bytes([54, number])), (number + 1) % 256
@@ -247,7 +247,7 @@ def races(seconds, *changes):
 # ---- The tester ----
 
 def tested(folder, image, events, options, *words):
-    """What the tester says of the running firmware."""
+    """What the tester says about the running firmware."""
     link, lines = board.free_port(), board.free_port()
     with board.running(board.board_words(os.path.join(folder, image), link, lines), signal.SIGTERM, stderr=subprocess.DEVNULL):
         board.Lines(lines).close()
@@ -290,7 +290,7 @@ def main():
         for name, seconds, words in RUNS:
             check.fault('run: ' + name, is_wrong, seconds, words)
         check.fault('run: frames late and repeated', rough_is_wrong)
-        # The transcript of this one has a block that is asked for again.
+        # The transcript of this one has a block that is requested again.
         restart, alone = ['--restart', 'controller'], ['--restart', 'controller', '--program', 'none']
         check.fault('run: a controller that ends before it keeps its number', is_wrong, 6, alone, ENDS_BETWEEN)
         check.fault('found: a block that is written twice', is_missed, 6, alone, ENDS_BETWEEN, NEVER_CUT)

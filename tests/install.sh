@@ -1,7 +1,7 @@
 #!/bin/sh
-# Installs with `make install` into a new folder, runs what is there, looks for its manual pages and its
-# completions, and takes it away with `make uninstall`. Without the Rattle kit the program is not installed. The
-# last line is `N passed, M failed`.
+# Installs with `make install` into a new folder, runs what is installed, looks for its manual pages and its completions, and
+# removes it with `make uninstall`. Without the Rattle kit the program is not installed. The last line is `N passed, M
+# failed`.
 
 . "$(dirname -- "$(readlink -f -- "$0")")/support/check.sh"
 
@@ -48,7 +48,7 @@ is_empty() {
     [ -z "$(find "$1" ! -type d)" ]
 }
 
-# has_pages PREFIX: each command has a manual page, or is one of fio2070-tools.1, and each page is of a command.
+# has_pages PREFIX: each command has a manual page, or is one of fio2070-tools.1, and each page belongs to a command.
 has_pages() {
     pages=$1/share/man/man1
     for file in "$1"/bin/*; do
@@ -68,19 +68,19 @@ runs_alone() {
     env -i PATH="$folder/bin:/usr/bin:/bin" "$@" --help
 }
 
-# is_whole FOLDER: no link of the folder hangs.
+# is_whole FOLDER: no link of the folder dangles.
 is_whole() {
     find "$1" -type l ! -exec test -e '{}' ';' -print | grep . && return 1
     return 0
 }
 
-# without_library: `make install` where there is no shared library puts no fiolog in place, and says so.
+# without_library: if there is no shared library, `make install` installs no fiolog, and says so.
 without_library() {
     run_make install-tools shared= PREFIX="$room/bare" >said && [ ! -e "$room/bare/bin/fiolog" ] &&
         [ ! -e "$room/bare/share/man/man1/fiolog.1" ] && grep -q 'fiolog is not installed' said
 }
 
-# Of a folder whose name has a blank, with PREFIX alone.
+# For a folder whose name has a blank, with PREFIX alone.
 prefix="$room/a folder"
 first 'make install' run_make install PREFIX="$prefix"
 cp "$room/log" "$room/installing"
@@ -91,7 +91,7 @@ if has_command rt; then
     holds 'the installed program' shows "$prefix"
     holds 'the manual page' cmp "$page" "$top/man/fio2070.1"
     holds 'an installed tool' says 'good 2 frames' sh -c '
-        "$1/share/fio2070/tools/captures/normalize" --transcript | "$1/bin/fio2070" check' sh "$prefix" <<'end'
+        "$1/bin/fiolog" convert -q --to transcript | "$1/bin/fio2070" check' sh "$prefix" <<'end'
 07:15:02.100 TX 36 05
 07:15:02.108 RX B6 05 00 00 00 00 03 E8
 end
@@ -124,14 +124,14 @@ done
 holds 'a page for each command, and a command for each page' has_pages "$prefix"
 holds 'no link hangs' is_whole "$prefix"
 holds 'no generator of the repository' is_empty_of "$prefix" 'generate-*' translate join sources.py draw-pictures stack-use
-for file in lossy-script transcript waveform/vcd wireshark/fio2070.lua conformance/conformance.h captures/normalize; do
+for file in lossy-script transcript waveform/vcd wireshark/fio2070.lua conformance/conformance.h; do
     holds "the tool $file" cmp "$top/tools/$file" "$tools/$file"
 done
-for name in fiolog fio2070-test fio2070-vcd fio2070-normalize fio2070-transcript fio2070-lossy-script; do
+for name in fiolog fio2070-test fio2070-vcd fio2070-transcript fio2070-lossy-script; do
     holds "the installed $name" runs_alone "$prefix" "$prefix/bin/$name"
 done
 holds 'without the shared library' without_library
-holds 'the page names the tools' sh -c 'cd "$1" && for file in lossy-script transcript */[a-z]*2pcap */vcd */normalize */*.lua; do
+holds 'the page names the tools' sh -c 'cd "$1" && for file in lossy-script transcript */[a-z]*2pcap */vcd */*.lua; do
     grep -q "^\.I $file\$" "$2" || exit 1; done' sh "$tools" "$page"
 holds 'installing says how Wireshark finds the dissector' sh -c 'grep -q "ln -sf .*/fio2070.lua" "$1"' sh "$room/installing"
 
@@ -139,7 +139,7 @@ first 'make uninstall' run_make uninstall PREFIX="$prefix"
 holds 'nothing is left' is_empty "$prefix"
 first 'make uninstall where nothing is' run_make uninstall PREFIX="$prefix"
 
-# Of a package, whose files are put below DESTDIR.
+# For a package, whose files are put below DESTDIR.
 first 'make install for a package' run_make install DESTDIR="$room/package" PREFIX=/usr
 holds 'fiolog of the package' runs_alone "$room/package/usr" "$room/package/usr/bin/fiolog"
 first 'make uninstall of a package' run_make uninstall DESTDIR="$room/package" PREFIX=/usr

@@ -1,6 +1,6 @@
 #!/usr/bin/env python3
-"""`fiolog check --late-answers` on runs of right ends whose answers come late and twice, whole and from any line on: it accuses
-none. Faults that are planted in an end are found. Last line: `N passed, M failed`."""
+"""`fiolog check --late-answers` on runs of right ends whose answers come late and twice, whole and from any line on: it
+accuses none. Faults that are planted in an end are found. Last line: `N passed, M failed`."""
 
 import random
 import re
@@ -24,7 +24,7 @@ def breaches_of(log):
     from fiolog.late import LateRules
 
     class Event:
-        """A frame as the reader gives it, of a log at the CPU."""
+        """A frame as the reader returns it, in a log at the CPU."""
 
         def __init__(self, direction, octets):
             self.direction, self.octets, self.text = direction, octets, '%s %s' % (direction, octets.hex())
@@ -35,7 +35,7 @@ def breaches_of(log):
 
 
 def fault_of_right_runs(runs):
-    """No run is accused, nor what is left of it from a random line on."""
+    """No run is accused, nor what remains of it from a random line on."""
     from support.late_runs import late_run
     dice, late = random.Random(1), 0
     for seed in range(runs):
@@ -49,14 +49,14 @@ def fault_of_right_runs(runs):
 
 
 def fault_of_planted(fault, least):
-    """A planted fault is found in this many runs at least."""
+    """A planted fault is found in at least this many runs."""
     from support.late_runs import late_run
     found = sum(bool(breaches_of(late_run(seed, fault=fault))[0]) for seed in range(TRIES))
     return None if found >= least else 'found in %d runs of %d' % (found, TRIES)
 
 
 def fault_of_command():
-    """The command says the same of a log: how many answers are late, and no breach where `check` has `pair`."""
+    """The command says the same about a log: how many answers are late, and no breach where `check` finds one of `pair`."""
     from support.late_runs import late_run
     log = next(log for log in map(late_run, range(100)) if breaches_of(log)[1] > 2)
     text = ''.join('%s %s\n' % (direction, octets.hex()) for direction, octets in log)

@@ -1,7 +1,7 @@
 #!/usr/bin/env python3
-"""Runs scripts of tools/lossy-script and reads their reports: the record has the transitions that the scans make, in
-order, each once, on a bus that loses and repeats frames; frames are lost and repeated about as often as was asked for.
-Then what tools/transcript writes of runs. Last line: `N passed, M failed`."""
+"""Runs scripts of tools/lossy-script and reads their reports: the record has the transitions that the scans make, in order,
+each once, on a bus that loses and repeats frames; frames are lost and repeated about as often as was requested. Then what
+tools/transcript writes for runs. Last line: `N passed, M failed`."""
 
 import os
 import subprocess
@@ -33,7 +33,7 @@ TIMES = '''0.000 > 3301000101
 0.002 > 3600
 0.002 < b600018000020000000002
 '''
-# Texts that are no whole report, and why.
+# Texts that are not a whole report, and why.
 NO_REPORTS = [
     ('no text', '', '0 lines without the end of a report'),
     ('a report that is cut', '1 sent 1 3600\n2 quiet\n', '2 lines without the end of a report'),

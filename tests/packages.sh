@@ -1,11 +1,10 @@
 #!/bin/sh
 # Makes the archive and the Debian package, each twice, compares the two, unpacks them into empty folders and runs the
-# program there, alone with the C library where the machine allows it. The last line is `N passed, M failed`.
+# program there, with only the C runtime library (libc) if the machine allows it. The last line is `N passed, M failed`.
 
 . "$(dirname -- "$(readlink -f -- "$0")")/support/check.sh"
 
-# twice TARGET: makes a package two times, the second time for another user's settings and under another folder for
-# temporary files.
+# twice TARGET: makes a package twice, the second time with another user's settings and another folder for temporary files.
 twice() {
     mkdir "$room/other"
     run_make "$1" DIST="$room/$1.1" &&
@@ -32,10 +31,10 @@ has() {
 # shows PROGRAM: the program runs.
 shows() { [ "$(echo 3605 | "$@" show)" = 'poll block 5' ]; }
 
-# runs_example PROGRAM DOCUMENTS: the program writes of an example what stands beside it.
+# runs_example PROGRAM DOCUMENTS: for an example the program writes what is beside it.
 runs_example() { "$1" simulate <"$2/examples/overflow.script" | cmp - "$2/examples/overflow.report"; }
 
-# is_linked DOCUMENTS: each document that README.md links is there.
+# is_linked DOCUMENTS: each document that README.md links exists.
 is_linked() {
     grep -o '](docs/[A-Z-]*\.md' "$1/README.md" | sed 's/^](//' | sort -u >"$room/links"
     [ -s "$room/links" ] && while read -r file; do has "$1" "$file" || return 1; done <"$room/links"
@@ -56,7 +55,7 @@ unpacks() { for package in "$@"; do dpkg-deb -x "$package" root || return 1; don
 # reads COMMAND..: the command reads a log.
 reads() { [ "$(echo 'TX 36 05' | "$@" decode -q)" = '1:     > poll block 5' ]; }
 
-# follows_note: the commands of the note below its first heading, in a folder that has the archive alone.
+# follows_note: the commands of the note after its first heading, in a folder that only has the archive.
 follows_note() {
     mkdir -p noted && cp dist.1/*.tar.gz noted || return 1
     sed -n '/^Without/,/^For all/s/^    //p' "$place/INSTALL" >noted/commands
@@ -64,7 +63,7 @@ follows_note() {
     tail -n 1 noted/out | grep -qx '1:     > poll block 5'
 }
 
-# without_net COMMAND..: runs a command where there is no network, if the machine allows it.
+# without_net COMMAND..: runs a command without a network, if the machine allows it.
 without_net() {
     if unshare --net --map-root-user true 2>log; then unshare --net --map-root-user "$@"; else "$@"; fi
 }
@@ -92,22 +91,22 @@ in_copy() {
             PATH=/usr/sbin:/usr/bin:/sbin:/bin chroot layers/root sh -c "cd /copy && $1"' sh "$1"
 }
 
-# The packages are installed as a user does, their commands run, and the packages taken away.
+# The packages are installed as by a user, their commands run, and the packages removed.
 mkdir copy
 cat >copy/installs <<'end'
 set -e
 dpkg -i packages/*.deb >log 2>&1 || { cat log; exit 1; }
 [ "$(echo 3605 | fio2070 show)" = 'poll block 5' ]
 [ "$(echo 'TX 36 05' | fiolog decode -q)" = '1:     > poll block 5' ]
-[ "$(echo 'TX 36 05' | fio2070-normalize 2>log)" = 3605 ]
+[ "$(echo 'TX 36 05' | fiolog convert -q --to frames)" = 3605 ]
 for command in fio2070-vcd fio2070-transcript fio2070-lossy-script fio2070-test; do $command --help >log 2>&1; done
 ldconfig -p | grep -q 'libfio2070\.so\.1 '
 dpkg -r fio2070-tools python3-fio2070 fio2070 libfio2070-dev libfio2070-1 >log 2>&1 || { cat log; exit 1; }
 [ ! -e /usr/bin/fiolog ]
 end
 
-# links LIBRARY OPTION..: a program in C is built with the headers and a library of a package, and runs. Of a shared library
-# LIBRARY is the folder that it is loaded from; of the archive it is empty, and the program needs no shared library.
+# links LIBRARY OPTION..: a program in C is built with the headers and a library of a package, and runs. For a shared library
+# LIBRARY is the folder from which it is loaded; for the archive it is empty, and the program needs no shared library.
 links() {
     folder=$1
     shift
@@ -126,7 +125,7 @@ end
 # needs_library: the program loads the shared library by the name with its number.
 needs_library() { readelf -d linked | grep -q 'NEEDED.*\[libfio2070\.so\.1\]'; }
 
-# finds PREFIX FOLDER: CMake finds the library below the prefix, and builds by it a program with the archive and one with
+# finds PREFIX FOLDER: CMake finds the library below the prefix, and builds with it a program with the archive and one with
 # the shared library, which run; it finds no version 2.
 finds() {
     rm -rf found
@@ -172,10 +171,10 @@ for_aarch64() {
     ! has_command lintian || is_clean "$(echo there.1/libfio2070-dev_*_arm64.deb)"
 }
 
-# flags FOLDER: what pkg-config says of the fio2070.pc in this folder.
+# flags FOLDER: what pkg-config says about the fio2070.pc in this folder.
 flags() { PKG_CONFIG_PATH=$1 pkg-config --cflags --libs fio2070; }
 
-# shows_alone ROOT: the program runs in a root that has the C library and nothing else.
+# shows_alone ROOT: the program runs in a root that only has libc.
 shows_alone() {
     for file in $(ldd "$1/usr/bin/fio2070" | grep -o '/[^ ]*'); do
         install -D "$file" "$1$file" || return 1

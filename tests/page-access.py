@@ -1,7 +1,8 @@
 #!/usr/bin/env python3
-"""The page that `make page` writes without a pointer, and in older browsers, in headless Chromium, with `--all` in Firefox too:
-the role and the name that each control has in the browser's accessibility tree; that the key Tab reaches each, with a mark around it;
-and what is said where the browser has no memory of 64 bits, or passes no numbers of 64 bits. Last line: `N passed, M failed`."""
+"""The page that `make page` writes without a pointer, and in older browsers, in headless Chromium, with `--all` in Firefox
+too: the role and the name that each control has in the browser's accessibility tree; that the key Tab reaches each, with a
+mark around it; and what is said if the browser has no memory of 64 bits, or passes no numbers of 64 bits. Last line: `N
+passed, M failed`."""
 
 import os
 import shutil
@@ -18,18 +19,18 @@ from support.tables import TOP
 
 VIEWS = ('open', 'messages', 'inputs', 'plan', 'play')
 CONTROLS = 'button, input, select, textarea, summary, a[href], [tabindex="0"]'
-# The role of a control, by its element and type, where it has no role of its own. Firefox has no name for that of a summary.
+# The role of a control, by its element and type, if it has no role of its own. Firefox has no name for that of a summary.
 ROLES = {'button': {'button'}, 'select': {'combobox'}, 'textarea': {'textbox'}, 'input search': {'searchbox'},
          'input range': {'slider'}, 'input file': {'button'}, 'input number': {'spinbutton'}, 'summary': {'DisclosureTriangle', ''}}
 OWN_ROLES = {'tab': 'tab', 'grid': 'grid', 'application': 'application', 'img': 'image', 'group': 'group'}
-# What a control is, in words; nothing where it is not seen.
+# What a control is, in words; nothing if it is not seen.
 KIND = '''const it = arguments[0]; if (!it.checkVisibility()) return "";
 return (it.getAttribute("role") || it.localName + (it.localName === "input" ? " " + it.type : "")) + "|" + it.outerHTML.slice(0, 100)'''
 # Numbers each control that a key can reach, and says how many they are.
 NUMBER = '''let count = 0; document.querySelectorAll("[data-stop]").forEach((it) => delete it.dataset.stop);
 document.querySelectorAll(arguments[0]).forEach((it) => { if (it.checkVisibility() && !it.disabled && it.tabIndex >= 0) it.dataset.stop = String(count++); });
 document.querySelector("[data-stop]").focus(); return count'''
-# Of the control that has the focus: its number, and whether a mark is around it.
+# For the control that has the focus: its number, and whether a mark is around it.
 FOCUS = '''const it = document.activeElement, style = getComputedStyle(it);
 return [it.dataset.stop === undefined ? -1 : Number(it.dataset.stop), style.outlineStyle !== "none" && parseFloat(style.outlineWidth) > 0]'''
 UNNUMBERED = 'return [...document.querySelectorAll("[data-stop]")].filter((it) => !arguments[0].includes(Number(it.dataset.stop))).map((it) => it.outerHTML.slice(0, 100))'
@@ -51,7 +52,7 @@ def show_near_entries(browser):
 
 
 def fault_of_control(browser, found):
-    """What is wrong with the role or the name of a control; nothing where all is right."""
+    """What is wrong with the role or the name of a control; nothing if all is right."""
     kind, _, text = browser.run(KIND, {ELEMENT: found}).partition('|')
     if not kind:
         return None
@@ -79,7 +80,7 @@ def check_keys(check, browser, kind):
     for view in VIEWS:
         browser.click('#tab-' + view)
         count, reached, unmarked = browser.run(NUMBER, CONTROLS), [0], []
-        # No further than the last one: behind it the browser has the focus.
+        # No further than the last one: after it the browser has the focus.
         while count - 1 not in reached and len(reached) < count + 3:
             browser.press('tab')
             number, is_marked = browser.run(FOCUS)
@@ -105,7 +106,7 @@ const isWide = (octets) => { let at = 8; const number = () => { let value = 0, b
   while (at < octets.length) { const kind = octets[at++], size = number(); if (kind === 5) { number(); return (octets[at] & 4) !== 0; } at += size; } return false; };
 WebAssembly.instantiate = (octets, given) => isWide(octets) ? Promise.reject(new WebAssembly.CompileError('no memory of 64 bits'))
   : real.call(WebAssembly, octets, given); }'''
-# One that passes no numbers of 64 bits to WebAssembly.
+# A browser that passes no numbers of 64 bits to WebAssembly.
 NO_NUMBERS_64 = '''{ const real = WebAssembly.instantiate; WebAssembly.instantiate = async (octets, given) => {
   const made = await real.call(WebAssembly, octets, given), exports = {};
   const refuse = (call) => (...words) => { if (words.some((it) => typeof it === 'bigint')) throw new TypeError('cannot pass a BigInt'); return call(...words); };
@@ -116,7 +117,7 @@ VERSIONS = ('too old', 'Chromium', '97', 'Firefox', '102', 'Safari', '16')
 
 
 def older(browser, folder, script, query=''):
-    """The page in a browser that this script makes older: the words of its trouble, once it has tried to start."""
+    """The page in a browser that this script makes older: the text of its trouble, after it has tried to start."""
     with open(PAGE, encoding='utf-8') as file:
         page = file.read()
     begin = "<script>\n'use strict';"

@@ -1,10 +1,9 @@
 #!/usr/bin/env python3
-"""Computes the table of docs/PLANNING.md again from its formulas. Computes for the densest traffic of each row, by
-counts alone, that it reaches each bound, and that one scan more loses a transition; and in small settings, by a search of
-all states, that the bounds are exact. Runs the densest traffic by
-`simulate`: what arrives at the end of each clean round, how late it is, outages of the length in the table and of one
-scan more, rounds as far apart as the table says and one scan further, restarts, and configurations that open other inputs.
-Last line: `N passed, M failed`."""
+"""Computes the table of docs/PLANNING.md again from its formulas. Computes for the densest traffic of each row, by counts
+alone, that it reaches each bound, and that one scan more loses a transition; and for small settings, by a search of all
+states, that the bounds are exact. Runs the densest traffic by `simulate`: what arrives at the end of each clean round, how
+late it is, outages of the length in the table and of one scan more, rounds as far apart as the table says and one scan
+further, restarts, and configurations that open other inputs. Last line: `N passed, M failed`."""
 
 import itertools
 import os
@@ -25,7 +24,7 @@ ALL_ONES = 2 ** 64 - 1
 
 
 def most_exact(inputs, filter_length, per_block, every, lost_answer):
-    """The most that wait and the most scans that one is late, with blocks and filters counted whole."""
+    """The most entries that wait and the most scans that one is late, with blocks and filters counted whole."""
     late = max(j * every - filter_length * (per_block * j // inputs) for j in range(inputs))
     waiting = max(inputs * -(-(j + 1 + lost_answer) * every // filter_length) - per_block * j
                   for j in range(filter_length + 1))
@@ -33,7 +32,7 @@ def most_exact(inputs, filter_length, per_block, every, lost_answer):
 
 
 def planned(inputs, filter_length):
-    """The row of the table for so many open inputs with filters of so many samples."""
+    """The row of the table for this number of open inputs with filters of this number of samples."""
     every = PER_BLOCK * filter_length // inputs
     kept = list(most_exact(inputs, filter_length, PER_BLOCK, every, False))
     lost = list(most_exact(inputs, filter_length, PER_BLOCK, every, True))
@@ -53,14 +52,14 @@ def check_table(check):
 
 
 def logged_in(inputs, filter_length, scans):
-    """How many transitions the densest traffic has in so many scans: all inputs change at the first, and then at each
+    """How many transitions the densest traffic has in a number of scans: all inputs change at the first, and then at each
     scan that ends a filter."""
     return inputs * -(-scans // filter_length)
 
 
 def most_reached(inputs, filter_length, lost_answer):
-    """The most that wait and the most scans that one is late, in the densest traffic with clean rounds as far apart as
-    the table says. Where an answer was lost when it began, the first of them repeats its block."""
+    """The most entries that wait and the most scans that one is late, in the densest traffic with clean rounds as far apart
+    as the table says. If an answer was lost when it began, the first of them repeats its block."""
     every = planned(inputs, filter_length)[2]
     taken = waiting = late = 0
     for round_number in range(2 if lost_answer else 1, 3 * filter_length + 9):
@@ -73,7 +72,7 @@ def most_reached(inputs, filter_length, lost_answer):
 
 
 def overflows(inputs, filter_length, every, waiting, rounds):
-    """Whether the densest traffic overflows the buffer, with so many clean rounds so far apart."""
+    """Whether the densest traffic overflows the buffer, with this number of clean rounds this far apart."""
     taken = scans = 0
     for _ in range(rounds):
         scans += every
@@ -105,9 +104,9 @@ def check_bounds(check):
 
 
 def next_states(inputs, filter_length, per_block, every, state):
-    """What a poll, with its answer taken or lost, or a scan makes of a state: for each input how long ago it changed, the
-    ages of what waits, those of a block whose answer was lost, and the scans since the latest clean round. With each the
-    ages of the block taken."""
+    """The successors of a state by a poll, with its answer taken or lost, or by a scan: for each input how long ago it
+    changed, the ages of what waits, those of a block whose answer was lost, and the scans since the latest clean round. With
+    each, the ages of the block taken."""
     since, ages, kept, scans = state
     if kept is None:
         yield (since, ages[per_block:], None, 0), ages[:per_block]
@@ -124,8 +123,8 @@ def next_states(inputs, filter_length, per_block, every, state):
 
 
 def check_search(check):
-    """All states that can be reached in small settings: the most that wait, and how late the latest is, where answers may
-    be lost and where none are."""
+    """All states that can be reached in small settings: the most that wait, and how late the latest is, if answers may be
+    lost and if none are."""
     for inputs, filter_length, per_block in ((1, 3, 3), (2, 2, 3), (2, 3, 3), (3, 2, 4), (2, 4, 3)):
         every = per_block * filter_length // inputs
         for lost_answer in (False, True):
@@ -144,9 +143,9 @@ def check_search(check):
 
 
 def most_reported(inputs, filter_length, opened, scans):
-    """The most that so many scans can report, by a search of all that inputs and configurations can do, where no more than
-    so many are open at each scan. An input can change at a sample that is the filter's since its latest change or
-    configuration, or one later."""
+    """The most that a number of scans can report, by a search of all that inputs and configurations can do, if at most a
+    number of inputs are open at each scan. An input can change at the sample that completes the filter since its latest
+    change or configuration, or at a later one."""
     reached = {tuple(sorted((is_open, filter_length - 1) for is_open in flags)): 0
                for flags in itertools.product((0, 1), repeat=inputs)}
     for _ in range(scans):
@@ -168,7 +167,7 @@ def most_reported(inputs, filter_length, opened, scans):
 
 
 def check_configured_search(check):
-    """Configurations that leave no more inputs open make no more transitions: so many scans report at most one of each such
+    """Configurations that leave no more inputs open make no more transitions: the scans report at most one of each such
     input for each filter that begins in them."""
     for inputs, filter_length, opened in ((3, 1, 1), (3, 2, 1), (3, 3, 1), (3, 2, 2), (4, 2, 2), (4, 3, 2)):
         for scans in range(8):
@@ -178,12 +177,12 @@ def check_configured_search(check):
 
 
 def logged_in_groups(groups, scans):
-    """How many transitions the densest traffic of inputs in groups, each with its filter, has in so many scans."""
+    """How many transitions the densest traffic of inputs in groups, each with its filter, has in a number of scans."""
     return sum(logged_in(count, length, scans) for count, length in groups)
 
 
 def most_planned(inputs, groups, scans):
-    """The most that so many scans can report, by a search of all that inputs and configurations can do, where at each scan
+    """The most that a number of scans can report, by a search of all that inputs and configurations can do, if at each scan
     each open input is in one of the groups, no more of each than planned, with the filter of its group. A configuration
     begins a run anew, also one that moves an input from one group to another."""
     lengths = [length for _, length in groups]
@@ -213,8 +212,8 @@ def most_planned(inputs, groups, scans):
 
 
 def check_planned_search(check):
-    """Configurations that keep to a plan make no more transitions than its inputs would without: so many scans report at most
-    one of each input that may be open, for each filter of its group that begins in them."""
+    """Configurations that keep to a plan make no more transitions than its inputs would without them: the scans report at
+    most one of each input that may be open, for each filter of its group that begins in them."""
     for inputs, groups in ((3, ((1, 1), (1, 3))), (3, ((1, 2), (1, 3))), (4, ((2, 2), (1, 3))), (4, ((1, 1), (2, 4)))):
         for scans in range(7):
             check.equal('the most that %d scans report of %d inputs in groups of %s' % (scans, inputs, groups),
@@ -222,8 +221,8 @@ def check_planned_search(check):
 
 
 def lossy_run(inputs, filter_length, every, is_lost, seed):
-    """The most that wait and how long the record lacks one at most, in the densest traffic with a round begun so often, of
-    which these are lost: the poll or, as the seed has it, the answer."""
+    """The most that wait and the longest that the record lacks one, in the densest traffic with rounds begun this often, of
+    which these are lost: the poll or, depending on the seed, the answer."""
     choose, waiting, kept, most, late = random.Random(seed), [], None, 0, 0
     for number, lost in enumerate(is_lost):
         for scan in range(number * every, (number + 1) * every):
@@ -239,7 +238,7 @@ def lossy_run(inputs, filter_length, every, is_lost, seed):
 
 
 def losses(seed):
-    """Which rounds are lost: at most 5 of each 100 in a row, as close together as the seed has it."""
+    """Which rounds are lost: at most 5 of each 100 successive ones, as close together as the seed says."""
     choose, is_lost, close = random.Random(seed), [], seed % 5 / 5
     while len(is_lost) < 1000:
         is_lost.append(sum(is_lost[-99:]) < 5 and (choose.random() < close or choose.random() < 0.06))
@@ -247,8 +246,8 @@ def losses(seed):
 
 
 def check_lossy(check):
-    """A round each 12 scans of which at most 5 of each 100 are lost, with 64 inputs and filters of 5: nothing is pushed out,
-    and none is later than 75 scans."""
+    """A round every 12 scans, at most 5 of each 100 lost, with 64 inputs and filters of 5: nothing is pushed out, and none
+    is later than 75 scans."""
     found = [lossy_run(64, 5, 12, losses(seed), seed) for seed in range(200)]
     check.holds('lost rounds push none out', max(most for most, _ in found) <= WAITING[0], found)
     check.holds('with lost rounds none is later than 75', max(late for _, late in found) <= 75, max(late for _, late in found))
@@ -256,8 +255,8 @@ def check_lossy(check):
 
 
 def differing_run(filters, per_block, every, lost_answer, seed):
-    """The most that wait and the longest that the record lacks one, where each input changes as often as its own filter lets
-    it, with clean rounds so far apart; where an answer may be lost one is, at a time between them."""
+    """The most that wait and the longest that the record lacks one, if each input changes as often as its own filter lets
+    it, with clean rounds this far apart; if an answer may be lost, one is, at a time between them."""
     choose, waiting, kept, most, late = random.Random(seed), [], None, 0, 0
     phases = [choose.randrange(length) for length in filters]
     for scan in range(40 * every):
@@ -274,7 +273,7 @@ def differing_run(filters, per_block, every, lost_answer, seed):
 
 
 def check_filters_that_differ(check):
-    """Filters that differ: no more than a block waits, and none is later than n - 1; with answers lost twice as many."""
+    """Filters that differ: no more than a block waits, and none is later than n - 1 scans; with answers lost, twice that."""
     for seed in range(300):
         choose = random.Random(seed)
         filters = [choose.randint(1, 7) for _ in range(choose.randint(1, 6))]
@@ -304,7 +303,7 @@ class Densest:
         self.scan(filter_length - 1)
 
     def scan(self, count):
-        """So many scans: all levels change at each one that ends a filter."""
+        """A number of scans: all levels change at each one that ends a filter."""
         for _ in range(count):
             level = self.scans // self.filter % 2
             self.lines.append('scan %016x' % (ALL_ONES if level else 0))
@@ -327,7 +326,7 @@ class Densest:
         self.lines.append('to-cpu %d' % self.to_cpu)
 
     def run(self):
-        """How many entries each answer has, and the record: the time of each item, or none for a gap mark."""
+        """How many entries each answer has, and the record: the time of each item, or None for a gap mark."""
         text, _ = output_of('simulate', '\n'.join(self.lines) + '\n')
         entries = [int(count) for count in re.findall(r'^\d+ block entries (\d+) ', text, re.M)]
         record = text[text.index('\nrecord '):].split('\n')[2:-1]
@@ -336,7 +335,7 @@ class Densest:
 
 class Configured(Densest):
     """Traffic like `Densest`, in which after each filter a configuration opens the next inputs instead of those that were
-    open. It is delivered twice, as one is whose answer was lost."""
+    open. It is delivered twice, as if its answer was lost."""
 
     def configure(self):
         first = (self.scans // self.filter - 1) * self.inputs
@@ -397,8 +396,8 @@ def check_outage(check, inputs, filter_length, waiting, traffic=Densest):
 
 
 def check_polling(check):
-    """64 inputs with filters of 1, and a clean round as often as the table says: nothing is ever lost. With a scan more
-    between the rounds each leaves one transition more waiting, until there is no room for it."""
+    """64 inputs with filters of 1, and a clean round as often as the table says: nothing is ever lost. With one scan more
+    between the rounds, each leaves one more transition waiting, until there is no room for it."""
     every = planned(64, 1)[2]
     for scans in (every, every + 1):
         script = Densest(64, 1, WAITING[0])
@@ -409,7 +408,7 @@ def check_polling(check):
 
 
 def check_room(check):
-    """As many transitions as may wait, and no more or one more: only then is one lost."""
+    """The most transitions that may wait, and then none or one more: only with one more is one lost."""
     for levels, is_lost in (('ff' * 8, False), ('fe' + 'ff' * 7, True)):
         script = Densest(64, 1, WAITING[0])
         script.scan(WAITING[0] // 64)
@@ -420,8 +419,8 @@ def check_room(check):
 
 
 def check_restart(check):
-    """A restart loses without a gap mark what waits, a block whose answer was lost, and what was pushed out: as many
-    transitions as may wait and a block takes, and four scans of them more."""
+    """A restart loses without a gap mark what waits, a block whose answer was lost, and what was pushed out: the transitions
+    that may wait and those of a block, and those of four more scans."""
     for more, lost in ((0, WAITING[0] + PER_BLOCK), (4, WAITING[0] + PER_BLOCK + 4 * 64)):
         script = Densest(64, 1, WAITING[0])
         script.scan(4)

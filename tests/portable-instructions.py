@@ -1,8 +1,8 @@
 #!/usr/bin/env python3
-"""Holds the translator of the portable library (tools/portable) against an interpreter: each instruction that it takes is
+"""Compares the translator of the portable library (tools/portable) with an interpreter: each instruction that it takes is
 run on numbers at the edges of its range, by `wasm-interp` of the Debian package wabt and as translated C, and each other
-instruction is refused. With `--all` also with sanitizers, and translators with a rule that no frame shows to be wrong are
-found. Last line: `N passed, M failed`."""
+instruction is refused. With `--all` also with sanitizers; and translators with a wrong rule that no frame reveals are found.
+Last line: `N passed, M failed`."""
 
 import os
 import re
@@ -27,7 +27,7 @@ from instructions import NUMERIC as RULES
 
 C = os.path.join(TOP, 'tests/support/c/instructions.c')
 FLAGS = ['--enable-memory64']
-# Each of these makes the C; the second without the operations that gcc has beyond C99.
+# Each of these compiles the C, the second without the operations that gcc has beyond C99.
 WAYS = [['-O0'], ['-O2', '-DFIO2070_FAST', '-DPLAIN', '-w'],
         ['-O1', '-fsanitize=address,undefined', '-fno-sanitize-recover=all']]
 
@@ -54,14 +54,14 @@ def module_of(functions):
 
 
 def interpreted(functions):
-    """What the interpreter says that each function gives: its number, or `trap`."""
+    """The result of each function by the interpreter: its number, or `trap`."""
     said = run('wasm-interp', *FLAGS, module_of(functions), '--run-all-exports').stdout
     found = dict(re.findall(r'^(\w+)\(\) => (?:i\d+:)?(.*)$', said, re.M))
     return {name: 'trap' if value.startswith('error') else value for name, value in found.items()}
 
 
 def translated_text(octets, translator=TRANSLATOR):
-    """The C of a module, without the calls of a library; nothing where the translator refuses it."""
+    """The C of a module, without the calls of a library; nothing if the translator refuses it."""
     done = run(sys.executable, '-c', 'import sys; sys.path.insert(0, %r); sys.dont_write_bytecode = True\n'
                'from importlib.machinery import SourceFileLoader as Loader\n'
                'translate = Loader("translate", %r).load_module()\n'
@@ -72,7 +72,7 @@ def translated_text(octets, translator=TRANSLATOR):
 
 
 def translated(functions, options, translator=TRANSLATOR):
-    """What the translated C says that each function gives."""
+    """The result of each function by the translated C."""
     text = translated_text(module_of(functions), translator)
     if text is None:
         return {}

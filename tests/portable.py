@@ -1,6 +1,6 @@
 #!/usr/bin/env python3
-"""Builds the portable library of `make portable`, and compares what it answers to random frames and lossy links with what
-the library for x86-64 answers: here by a compiler; with `--all` by each compiler and with sanitizers, on two other processors
+"""Builds the portable library of `make portable`, and compares its results for random frames and lossy links with those of
+the library for x86-64: here by one compiler; with `--all` by each compiler and with sanitizers, on two other processors
 under qemu-user and on a Cortex-M4 under qemu-system-arm, and by wrong translators, each of which is found. With `--all
 --every` on all processors, and by all wrong translators. Last line: `N passed, M failed`."""
 
@@ -24,7 +24,7 @@ TRANSLATOR = os.path.join(TOP, 'tools', 'portable')
 MODULE = os.path.join(TOP, 'crates/fio_c/out/wasm64-unknown-unknown/fio_c.wasm')
 COMPARE = os.path.join(TOP, 'tests/support/c/compare.c')
 STRICT = ['-Wall', '-Wextra', '-Wpedantic', '-Wconversion', '-Werror']
-# By one compiler: each takes long over a file of this size.
+# By one compiler: each takes long for a file of this size.
 FAULTS = {'gcc': ['-fsanitize=address,undefined', '-fno-sanitize-recover=all']}
 QUICKEST = 'clang' if shutil.which('clang') else 'gcc'
 # name, prefix of the compiler, its options, command of qemu-user.
@@ -54,7 +54,7 @@ def run(*words, **settings):
 
 
 def fault_of(*words):
-    """What a command that fails writes, else nothing."""
+    """What a command writes if it fails, otherwise nothing."""
     done = run(*words)
     return done.stderr[-500:] or 'status %d' % done.returncode if done.returncode else None
 
@@ -82,7 +82,7 @@ def translate(header, out, module=MODULE):
 
 
 def refuses(change, words):
-    """The translator stops at a changed header with these words."""
+    """The translator stops at a changed header with this message."""
     with open(os.path.join(TOP, 'include/fio2070.h'), encoding='utf-8') as file:
         text = change(file.read())
     with open(path('changed.h'), 'w', encoding='utf-8') as file:
@@ -93,7 +93,7 @@ def refuses(change, words):
 
 @functools.cache
 def object_fault(compiler):
-    """Compiles the library alone, to COMPILER.o. Returns what failed, or what the compiler warns of."""
+    """Compiles the library alone, to COMPILER.o. Returns what failed, or what the compiler warns about."""
     return fault_of(compiler, '-std=c99', '-Os', *STRICT, '-c', os.path.join(PORTABLE, 'fio2070.c'),
                     '-o', path(compiler + '.o'))
 
@@ -158,7 +158,7 @@ def cortex_rows():
 
 
 def archive_for_aarch64():
-    """The archive of `make library TARGET=aarch64` answers alike."""
+    """The archive of `make library TARGET=aarch64` gives the same results."""
     return fault_of('make', '-s', '-C', TOP, 'library', 'TARGET=aarch64') or fault_of(
         'aarch64-linux-gnu-gcc', '-O1', '-static', '-I', os.path.join(TOP, 'include'), COMPARE,
         os.path.join(TOP, 'aarch64/libfio2070.a'), '-o', path('archive')) or differs(['qemu-aarch64', path('archive')])
@@ -170,7 +170,7 @@ def link(name, *sources):
 
 
 def shows():
-    """examples/c/decode.c over the portable library writes what stands beside the examples."""
+    """examples/c/decode.c over the portable library writes what is beside the examples."""
     fault = link('decode', os.path.join(TOP, 'examples/c/decode.c'))
     for name in sorted(os.listdir(os.path.join(TOP, 'examples'))):
         if not fault and name.endswith('.frames'):
@@ -193,7 +193,7 @@ def polls():
 
 
 def wraps():
-    """The header for C++ that stands beside the library holds its rows over it."""
+    """The C++ header beside the library passes its rows over it."""
     return object_fault('gcc') or fault_of(
         'g++', '-std=c++17', '-O1', '-Wall', '-Wextra', '-Wpedantic', '-Werror', '-I', PORTABLE,
         os.path.join(TOP, 'tests/support/c/wrapper.cpp'), path('gcc.o'), '-o', path('wrapper')) or fault_of(path('wrapper'))
@@ -207,12 +207,12 @@ def tester_fault():
 
 
 def is_tested(end):
-    """The tester over the portable library finds nothing at an end of it."""
+    """The tester over the portable library finds nothing wrong with an end of it."""
     return tester_fault() or fault_of(path('tester'), '--self', end, '20000')
 
 
 def is_found(wrong):
-    """A wrong translator: what it makes does not compile or does not answer alike."""
+    """A wrong translator: its C does not compile or gives other results."""
     folder = path('wrong')
     shutil.rmtree(folder, ignore_errors=True)
     changed(TRANSLATOR, folder, wrong)

@@ -1,6 +1,6 @@
 #!/bin/sh
-# Runs the built program as a user does: its exit statuses, what it writes where its words, its input or
-# its output are at fault, and where it is called from. The last line is `N passed, M failed`.
+# Runs the built program as a user does: its exit statuses, what it writes if its words, its input or its output are at
+# fault, and where it is called from. The last line is `N passed, M failed`.
 
 . "$(dirname -- "$(readlink -f -- "$0")")/support/check.sh"
 cd / || exit 1

@@ -1,8 +1,8 @@
 #!/usr/bin/env python3
 """Runs the built program on random octets, random lines and mutated texts, 500 inputs for each tool and with `--all` 6,000,
-from a fixed seed: each run ends within ten seconds with status 0 or 1, writes lines of the known forms alone, and its status
-says whether they tell of a fault. `tests/random-inputs.py SEED COUNT` takes another seed and another number of inputs a
-tool. Last line: `N passed, M failed`."""
+from a fixed seed: each run ends within ten seconds with status 0 or 1, writes only lines of the known forms, and its status
+says whether they report a fault. `tests/random-inputs.py SEED COUNT` takes another seed and another number of inputs for
+each tool. Last line: `N passed, M failed`."""
 
 import concurrent.futures
 import os
@@ -22,7 +22,7 @@ SECONDS = 10
 
 
 def rules(head, words=''):
-    """The rules in a table of docs/FORMATS.md with this head, of which the rows have these words."""
+    """The rules in a table of docs/FORMATS.md with this head, whose rows have these words."""
     with open(os.path.join(TOP, 'docs', 'FORMATS.md'), encoding='utf-8') as file:
         table = file.read().partition('| RULE | %s |\n' % head)[2].partition('\n\n')[0]
     return re.findall(r'^\| `(\w+)` \|.*%s' % words, table, re.M)
@@ -60,7 +60,7 @@ def lines_that_say(text):
 
 
 def is_show(text, lines, status):
-    """There is one line for each line that says something, a faulty one with its number, and one for each part."""
+    """There is one line for each line that has content, with its number if it is faulty, and one for each part."""
     places = iter(lines_that_say(text))
     faults = parts = 0
     for line in lines:
@@ -97,7 +97,7 @@ def is_simulate(_, lines, status):
 
 
 def is_check(text, lines, status):
-    """One line, and where it is good it counts the lines that say something."""
+    """There is one line, and if it is good it counts the lines that have content."""
     if len(lines) != 1:
         return False
     if VERDICT.fullmatch(lines[0]):
@@ -146,7 +146,7 @@ class Inputs:
         return bytes(self.random.randrange(256) for _ in range(count))
 
     def frame(self):
-        """Octets of a message, right or nearly right: its length or its count may lie."""
+        """Octets of a message, right or nearly right: its length or its count may be wrong."""
         code = self.random.choice(list(range(47, 62)) + list(range(175, 190)) + [51, 54, 182, 182])
         if code in (51, 182):
             count = self.random.choice([0, 1, 2, 3, self.random.randrange(256)])
@@ -203,7 +203,7 @@ class Inputs:
         return [header] + [self.event(sent) for _ in range(self.random.randrange(40))]
 
     def transcript(self):
-        """The lines of a transcript, of which many keep the rules."""
+        """The lines of a transcript, many of which keep the rules."""
         number, lines = self.random.randrange(256), []
         for _ in range(self.random.randrange(12)):
             lines.append(self.random.choice([b'> 36%02x' % number, b'> ' + self.digits()]))
@@ -223,7 +223,7 @@ class Inputs:
         return [self.digits() for _ in range(self.random.randrange(12))]
 
     def mutated(self, text):
-        """The text with some octets or lines changed, taken out, doubled or put in."""
+        """The text with some octets or lines changed, removed, doubled or inserted."""
         for _ in range(self.random.randrange(1, 6)):
             place = self.random.randrange(len(text) + 1)
             end = min(len(text), place + self.random.choice([1, 1, 2, 16]))

@@ -1,8 +1,8 @@
 #!/usr/bin/env python3
-"""`record` by the rules on content: worked transcripts, each with what docs/FORMATS.md asks for; random transcripts, and
+"""`record` by the rules on content: worked transcripts, each with what docs/FORMATS.md requires; random transcripts, and
 runs of `simulate`, as they are, from a later command on, and with an entry dropped, doubled, turned or swapped, against an
-independent model in `support/content.py`. A run that nobody changed breaks no rule, whole or from any command on; of the
-changed ones most are found. Last line: `N passed, M failed`."""
+independent model in `support/content.py`. A run that nobody changed breaks no rule, whole or from any command on; most of
+the changed ones are found. Last line: `N passed, M failed`."""
 
 import os
 import random
@@ -59,7 +59,7 @@ WORKED = [
      'record 1\n' + ONE + 'line 8 input 12 breaks alternate\n'),
     ('swapped', START + block(1, 21, entry(12, 1, 20), entry(13, 0, 10)),
      'record 1\ninput 12 state 1 stamp 20 wide 20\nline 6 input 13 breaks order\n'),
-    # A block without entries between changes nothing, nor does a remark.
+    # A block without entries between them changes nothing, nor does a remark.
     ('below empty blocks', '# run\n' + LOST + block(2, 12) + block(3, 31, entry(12, 0, 30)),
      'record 1\n' + ONE + 'line 11 input 12 breaks alternate\n'),
     # Order: times modulo 2^32; equal times keep it; a gap mark and a load lift it.
@@ -75,7 +75,7 @@ WORKED = [
      'record 2\n' + ONE + 'input 13 state 0 stamp 5 wide 5\n'),
     ('order before alternate, an earlier time', START + block(1, 11, entry(12, 0, 10), entry(12, 0, 9)),
      'record 1\n' + ONE + 'line 6 input 12 breaks order\n'),
-    # Alternate: the first block has no block without C above it.
+    # Alternate: no block without C comes before the first block.
     ('no block above', block(0, 11, entry(12, 0, 10), entry(12, 0, 10)),
      'record 2\n' + ONE + ONE),
     ('no block without C above', block(0, 300, *FULL, status=8) + block(1, 311, entry(12, 0, 301), entry(12, 0, 301)),
@@ -83,7 +83,7 @@ WORKED = [
                               for place in range(255)) + 'input 12 state 0 stamp 301 wide 301\n' * 2),
     ('a load does not lift it', LOST + LOAD + block(2, 31, entry(12, 0, 30)),
      'record 1\n' + ONE + 'line 10 input 12 breaks alternate\n'),
-    # Only a configuration that ignores the input lifts it: one sent since the clear block above the older entry.
+    # Only a configuration that ignores the input lifts it: one sent since the clear block before the older entry.
     ('ignored between', LOST + configuration((12 | 128, 5, 3)) + configuration((12, 5, 3)) + block(2, 31, entry(12, 0, 30)),
      'record 2\n' + ONE + 'input 12 state 0 stamp 30 wide 30\n'),
     ('ignored between, no answer', LOST + '> 33018c0505\n' + block(2, 31, entry(12, 0, 30)),
@@ -95,7 +95,7 @@ WORKED = [
     ('ignored above the clear block', START + configuration((12 | 128, 1, 1)) + configuration((12, 1, 1)) + block(1, 1) +
      block(2, 11, entry(12, 0, 10)) + block(3, 31, entry(12, 0, 30)),
      'record 1\n' + ONE + 'line 14 input 12 breaks alternate\n'),
-    # Ignored: at the clear block the item was taken, and none opens the input since.
+    # Ignored: at the clear block the item was taken, and none has opened the input since.
     ('an ignored input', configuration((12 | 128, 5, 3)) + block(0, 0) + block(1, 11, entry(12, 0, 10)),
      'record 0\nline 6 input 12 breaks ignored\n'),
     ('an ignored input, no answer', '> 33018c0503\n' + block(0, 0) + block(1, 11, entry(12, 0, 10)), 'record 1\n' + ONE),
@@ -140,19 +140,19 @@ WORKED = [
      block(1, 14, entry(12, 0, 10), entry(12, 1, 12)), 'record 1\n' + ONE + 'line 8 input 12 breaks apart\n'),
     ('a load lifts apart', START + LOAD + block(1, 14, entry(12, 0, 10), entry(12, 1, 12)),
      'record 2\n' + ONE + 'input 12 state 1 stamp 12 wide 12\n'),
-    # A gap mark between lifts alternate and state.
+    # A gap mark between them lifts alternate and state.
     ('a gap mark', configuration((12, 5, 3)) + block(0, 0) + block(1, 11, entry(12, 0, 10)) +
      block(2, 300, *FULL[1:], entry(12, 0, 290), status=12),
      'record 257\n' + ONE + 'gap\n' +
      ''.join('input 0 state %d stamp %d wide %d\n' % (place % 2, place + 11, place + 11) for place in range(1, 255)) +
      'input 12 state 0 stamp 290 wide 290\n'),
-    # Right links whose logs begin later: an opening of the input reaches the module below the first poll of the log.
+    # Right links whose logs begin later: an opening of the input reaches the module after the first poll of the log.
     ('a late opening, from the start', '> 3301000101\n< b300\n> 3600\n> 3301800101\n< b300\n> 3301000101\n< b300\n' + LATE_OPENING,
      'record 2\ninput 0 state 0 stamp 6 wide 6\ninput 0 state 0 stamp 8 wide 8\n'),
     ('a late opening, from a later poll on', LATE_OPENING,
      'record 2\ninput 0 state 0 stamp 6 wide 6\ninput 0 state 0 stamp 8 wide 8\n'),
-    # Right links that PROMISES leaves out: a load that was sent above the log takes effect in it; an entry waits for 65,536
-    # scans and more; an input changes after 2^32 scans and more.
+    # Right links that PROMISES leaves out: a load that was sent before the log takes effect in it; an entry waits for 65,536
+    # scans or more; an input changes after 2^32 scans or more.
     ('a late load, from the start', '> 3301000101\n< b300\n> 320000000a\n< b200\n' + LATE_LOAD,
      'record 2\ninput 0 state 0 stamp 5001 wide 5001\ninput 0 state 1 stamp 11 wide 11\n'),
     ('a late load, from a later poll on', LATE_LOAD, 'record 1\ninput 0 state 0 stamp 5001 wide 5001\nline 6 breaks clock\n'),
@@ -164,19 +164,19 @@ WORKED = [
      'record 5\ninput 0 state 0 stamp 10 wide 10\ninput 1 state 0 stamp 12 wide 1073741836\n'
      'input 1 state 1 stamp 4 wide 2147483652\ninput 1 state 0 stamp 65532 wide 3221225468\n'
      'input 1 state 1 stamp 65524 wide 4294967284\nline 16 input 0 breaks apart\n'),
-    # What no rule finds: a dropped entry with neither a later one of its input nor a 181 below.
+    # What no rule finds: a dropped entry with neither a later entry of its input nor a 181 after it.
     ('a lost entry without a later one', '> 3301000101\n< b300\n' + block(0, 0) + block(1, 2, entry(0, 0, 1), entry(0, 1, 2)) +
      block(2, 3) + block(3, 3), 'record 2\ninput 0 state 0 stamp 1 wide 1\ninput 0 state 1 stamp 2 wide 2\n'),
-    # Below many lines.
+    # After many lines.
     *[('below %d lines' % above, '\n' * above + LOST + block(2, 31, entry(12, 0, 30)),
        'record 1\n' + ONE + 'line %d input 12 breaks alternate\n' % (above + 8))
       for above in (65_527, 65_528, 70_000, 131_072, 1_000_000)],
-    # The rules of `check` come first, also below an entry that breaks a rule on content.
+    # The rules of `check` come first, also after an entry that breaks a rule on content.
     ('a rule broken below', START + block(1, 11, entry(12, 0, 10), entry(12, 0, 10)) + '> 3604\n', 'line 7 breaks advance\n'),
     ('a bad line below', START + block(1, 11, entry(12, 0, 10), entry(12, 0, 10)) + '> zz\n', 'line 7: bad line\n'),
 ]
 
-# As many blocks as fit, of 255 entries of one input in turn, and the last entry is doubled.
+# The largest number of blocks that fit, of 255 entries of one input in turn, with the last entry doubled.
 BLOCK = block(0, 300, *FULL, status=8)
 
 
@@ -196,7 +196,7 @@ def longest():
 
 
 def most_items():
-    """As many full blocks as fit, each below a gap mark, and what `record` writes of them."""
+    """The largest number of full blocks that fit, each after a gap mark, and what `record` writes for them."""
     count = lines_that_fit(block(0, 300, *FULL, status=12))
     text = ''.join(block(turn % 256, 300, *FULL, status=12) for turn in range(count))
     items = ''.join('input 0 state %d stamp %d wide %d\n' % (place % 2, place + 11, place + 11) for place in range(255))
@@ -244,8 +244,8 @@ def lossy_script(seed):
 
 
 def late_script(draw):
-    """A script with configurations and loads of the counter: a command is lost, arrives at once, or late, below further
-    commands; its answer reaches the CPU directly after the command or never."""
+    """A script with configurations and loads of the counter: a command is lost, arrives at once, or arrives late, after
+    further commands; its answer reaches the CPU directly after the command or never."""
     lines, sent, last, answers, late, levels = ['fio2070 script 1 2 %d' % draw.randrange(256)], 0, 0, 0, [], (1 << 64) - 1
     loads = draw.random() < 0.3
     for _ in range(150):
@@ -325,14 +325,14 @@ def changed(text, change, draw):
 
 
 def from_later(text, draw):
-    """The transcript from a command below the first on."""
+    """The transcript from a command after the first on."""
     lines = text.rstrip('\n').split('\n')
     places = [place for place, line in enumerate(lines) if line.startswith('>')][1:]
     return '\n'.join(lines[draw.choice(places):]) + '\n'
 
 
 def agrees(check, name, text):
-    """A row: the program writes what the model says. Whether it is a record without a breach."""
+    """A row: the program writes what the model says. Returns whether it is a record without a breach."""
     expected = Record(text).text()
     good = '\nline ' not in expected
     row(check, name, 'record', text, expected, 0 if good else 1)

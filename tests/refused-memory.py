@@ -1,11 +1,11 @@
 #!/usr/bin/env python3
-"""Refuses each growth of memory in turn: to `fio_allocations`, which makes calls that can run out of memory once each
-and reports their answers, and to the built program, which makes the others, at some inputs. Growth 1 is refused to a
-first run, growth 2 to a second one, until a run meets no refusal. The number of growths of each call and of each
-input, and how many octets they ask for, are compared with the table `tests/support/growths`, so that room that a call
-asks for and never uses is found too; `tests/refused-memory.py --counts` writes the table anew. A C compiler (`$CC`,
-else `cc`) makes the library that refuses; `fio_allocations` is proved and built first, where it is not yet. Last line:
-`N passed, M failed`, where each run that met a refusal and each row of the table counts."""
+"""Refuses each growth of memory in turn: to `fio_allocations`, which makes calls that can run out of memory once each and
+reports their answers, and to the built program, which makes the others, at some inputs. Growth 1 is refused to a first run,
+growth 2 to a second one, until a run meets no refusal. The number of growths of each call and of each input, and how many
+octets they ask for, are compared with the table `tests/support/growths`, so that room that a call requests and never uses is
+found too; `tests/refused-memory.py --counts` writes the table anew. A C compiler (`$CC`, otherwise `cc`) makes the library
+that refuses; `fio_allocations` is proved and built first if it is not yet. Last line: `N passed, M failed`, where each run
+that met a refusal and each row of the table counts."""
 
 import glob
 import os
@@ -24,8 +24,8 @@ LIBRARY = os.path.join(TOP, 'tests', 'support', 'refuse.c')
 ALLOCATIONS = os.path.join(TOP, 'crates', 'fio_allocations')
 TABLE = os.path.join(TOP, 'tests', 'support', 'growths')
 
-# Large texts with a fault at their ends. A line that is of no form once its digits are read, beside one that is of none
-# at sight: the program asks for no more memory at the first.
+# Large texts with a fault at their ends: a line that is known to have no form only after its digits are read, and one that
+# is known so at sight. The program asks for no more memory at the first.
 TEXTS = {
     '20,000 frames and zz': '34\n' * 20_000 + 'zz\n',
     '10,000 polls': 'fio2070 script 1 2 0\n' + 'poll\n' * 10_000,
@@ -67,8 +67,8 @@ COMMANDS = [
     ('', None),
 ]
 
-# A run of events, the same events one by one, and what the run begins with, if anything: it stops at those events
-# at which the steps meet a refusal.
+# A run of events, the same events one by one, and what the run begins with, if anything: it stops at those events at which
+# the steps meet a refusal.
 RUNS = [
     ('World::run', 'World::step', 'World::new'),
     ('World::run of nine rounds', 'World::step of nine rounds', 'World::new'),
@@ -77,7 +77,7 @@ RUNS = [
     ('World::step_all of nine rounds', 'World::step of nine rounds', None),
 ]
 
-# The rows of calls that take no memory: they meet no refusal, save before the call.
+# The rows of calls that allocate nothing: they meet no refusal, except before the call.
 WITHOUT_MEMORY = {
     'other calls of Module',
     'Poller::hear that adds nothing',
@@ -87,18 +87,18 @@ WITHOUT_MEMORY = {
     'check_trace',
 }
 
-# What the program writes where it runs out of memory, and its status.
+# What the program writes if it runs out of memory, and its status.
 OUT_OF_MEMORY = ('fio2070: out of memory\n', 3)
 
-# What the library writes to standard error where it refuses: how many octets were asked for.
+# What the library writes to standard error when it refuses: how many octets were requested.
 REFUSED = re.compile(r'refused (\d{20})\n')
 
-# What a growth comes to: its call reports that it was refused, or it was refused before the call and the call was
+# The outcome of a refused growth: its call reports that it was refused, or it was refused before the call and the call was
 # not made, or the call did without.
 KINDS = ('reported', 'before', 'passed over')
 HEADING = 'reported before passed over    octets  call, or command and input'
 
-# More growths than any run here asks for.
+# More growths than any run here requests.
 MOST = 100_000
 
 
@@ -107,7 +107,7 @@ class Failed(Exception):
 
 
 def made(words, folder, what):
-    """Runs a command that makes something, and gives what it writes."""
+    """Runs a command that makes something, and returns what it writes."""
     try:
         done = subprocess.run(words, cwd=folder, stdin=subprocess.DEVNULL, stdout=subprocess.PIPE,
                               stderr=subprocess.PIPE)
@@ -131,14 +131,14 @@ class Sweep:
     def __init__(self, check, library):
         self.check = check
         self.library = library
-        # How many growths each row asked for: reported, before the call, passed over.
+        # How many growths each row requested: reported, before the call, ignored.
         self.growths = {}
-        # How many octets those that it reported asked for, in all.
+        # How many octets were requested in all by those that it reported.
         self.octets = {}
 
     def run(self, words, text, growth):
-        """What a program writes, on standard error too, and its status. Growth 0 is none. The input is a file: of a pipe
-        each read takes what is there, and the growths are others each time."""
+        """What a program writes, on standard error too, and its status. Growth 0 is none. The input is a file: from a pipe
+        each read takes what has arrived, and the growths differ each time."""
         environment = dict(os.environ, LD_PRELOAD=self.library, REFUSED_GROWTH=str(growth))
         with tempfile.TemporaryFile() as file:
             file.write(text)
@@ -148,8 +148,8 @@ class Sweep:
         return done.stdout.decode('latin-1'), done.returncode
 
     def refused(self, words, text):
-        """What is written for each growth that is refused, in turn: before the refusal and after it, with the octets
-        that it asked for."""
+        """What is written for each growth that is refused, in turn: before the refusal and after it, with the octets that it
+        requested."""
         for growth in range(1, MOST):
             written, status = self.run(words, text, growth)
             parts = REFUSED.split(written, 1)
@@ -169,7 +169,7 @@ class Sweep:
 
 
 def kind_of(answer):
-    """What a row of `fio_allocations` says of a growth that was refused while it was made."""
+    """What a row of `fio_allocations` says about a growth that was refused while it was made."""
     if answer.startswith('refused at '):
         return 'reported'
     return {'not begun': 'before', 'right': 'passed over'}.get(answer)
@@ -222,8 +222,8 @@ def input_of(given):
 
 
 def sweep_program(sweep):
-    """Refuses each growth of the built program: it writes that it is out of memory and nothing else, or the text that
-    it writes in ample memory. The library's `collect` asks for room ahead, and does without where that is refused."""
+    """Refuses each growth of the built program: it writes that it is out of memory and nothing else, or the text that it
+    writes with ample memory. The library's `collect` requests room ahead, and does without if that is refused."""
     for word, given in COMMANDS:
         name = name_of(word, given)
         text = input_of(given)

@@ -1,6 +1,6 @@
 #!/bin/sh
-# Compares dist/ with what `make release-files` makes of the proved sources; the page if the `wasm-opt` that its head names is here.
-# If dist/ was made of other sources, this is left to --all. The last line is `N passed, M failed`.
+# Compares dist/ with what `make release-files` makes from the proved sources; the page only if the `wasm-opt` that its head
+# names is installed. If dist/ was made from other sources, this is left to --all. The last line is `N passed, M failed`.
 
 . "$(dirname -- "$(readlink -f -- "$0")")/support/check.sh"
 dist=$top/dist
@@ -8,7 +8,7 @@ dist=$top/dist
 # names FILE LINE: the head of a file has this line.
 names() { head -n 12 "$1" | grep -Fqx " * $2"; }
 
-# has_optimizer: the program that lowers the page's library is the one that the page names.
+# has_optimizer: the program that lowers the page's library is the one named by the page.
 has_optimizer() {
     has_command wasm-opt && sed -n 1,20p "$dist/fio2070.html" | tr '\n' ' ' | grep -Fq "lowering by $(wasm-opt --version)."
 }

@@ -1,6 +1,6 @@
 #!/usr/bin/env python3
-"""Makes the packages of `make release`, compares their checksums, and with `--all` installs and uses each in a new Debian system
-without the kit, the repository and a network. Last line: `N passed, M failed`."""
+"""Makes the packages of `make release`, compares their checksums, and with `--all` installs and uses each in a new Debian
+system without the kit, the repository and a network. Last line: `N passed, M failed`."""
 
 import os
 import shutil
@@ -81,7 +81,7 @@ def write(root, name, text):
 
 
 def first_half(root):
-    """What needs gcc and python3 alone."""
+    """What needs only gcc and python3."""
     row(root, 'the archive', 'tar -xf /release/fio2070-*-x86_64.tar.gz\nbin=$(echo /used/fio2070-*/bin)\n' + SHOWS % '$bin/fio2070' + '\n'
         + READS % '$bin/fiolog' + '\n$bin/fio2070-test --self module 2000\n'
         'cc -I $bin/../include user.c $bin/../lib/libfio2070.a -o user && ./user\nrm -r fio2070-*')

@@ -1,7 +1,7 @@
 #!/usr/bin/env python3
 """`simulate` on tables of scripts, each with the report that is written out beside it: runs to the end, refused events,
-faulty scripts, the largest scripts. The scripts of examples/ are run by `tests/examples.sh`, and longer ones, of which the
-reports are computed, by `tests/computed-reports.py`. Last line: `N passed, M failed`."""
+faulty scripts, the largest scripts. The scripts of examples/ are run by `tests/examples.sh`, and longer ones, whose reports
+are computed, by `tests/computed-reports.py`. Last line: `N passed, M failed`."""
 
 import sys
 
@@ -131,7 +131,7 @@ REFUSED_EVENTS = [
     (HEADER + 'send 3605', '1 refused poll is ours\n'),
     (HEADER + 'to-cpu 1', '1 refused not sent 1\n'),
     (HEADER + 'to-module 0\npoll', '1 refused not sent 0\n'),
-    # No frame has the number 0, also where a frame was delivered already.
+    # No frame has the number 0, also if a frame was delivered already.
     (HEADER + 'poll\nto-module 1\nto-module 0',
      '1 sent 1 3600\n2 sent 1 b600000000000000\n3 refused not sent 0\n'),
     (HEADER + 'to-module 000000005', '1 refused not sent 5\n'),
@@ -166,7 +166,7 @@ BAD_HEADERS = [
     'fio2070 script 3 2 0 257 1024',
 ]
 
-# The first fault decides.
+# The first fault counts.
 FAULTS = [
     (HEADER + 'send 33', 'line 2: bad frame wrong length needed 2 got 1'),
     (HEADER + 'send ' + '38' * 774, 'line 2: bad frame too long got 774'),
@@ -187,7 +187,7 @@ to-cpu 2
 to-cpu 3
 ''', 'line 7: bad line'),
     (HEADER + '\n# zz\npoll\nzz\nsend 33', 'line 5: bad line'),
-    # A line is skipped where it begins with #, and with nothing else.
+    # A line that begins with # is skipped, but none that begins with anything else.
     (HEADER + '# x\n; x\npoll', 'line 3: bad line'),
     (HEADER + '\nrestart\n', 'line 3: bad line'),
     ('fio2070 script 2 2 0\nto-cpu 1\nsend 3\n', 'line 3: bad line'),
@@ -201,9 +201,9 @@ to-cpu 3
     (HEADER + 'send ' + '38' * 32_768, 'line 2: bad frame too long got 32768'),
     (HEADER + 'scan ' + '38' * 32_768, 'line 2: bad line'),
     ('\n' * (MOST_OCTETS + 1), 'input too long'),
-    # One line, and it is no header.
+    # One line, and it is not a header.
     ('f' * MOST_OCTETS, 'line 1: bad header'),
-    # One line below the header: a word of 1,048,550 digits.
+    # One line after the header: a word of 1,048,550 digits.
     (HEADER + 'send ' + '38' * 524_275, 'line 2: bad frame too long got 524275'),
 ]
 
@@ -213,7 +213,7 @@ FAULTS += [(HEADER + line, 'line 2: bad line') for line in (
     'scan 000000000000000000', 'scan 000000000000000g', 'to-cpu 0000000005', 'to-cpu 1000000000', 'to-cpu +5', 'to-cpu 5 ',
     'to-cpu 5a', 'to-cpu ', 'to-cpu', 'to-module 5 6', 'to-', 'polls', '\r')]
 
-# Faults far down.
+# Faults far into a text.
 for skipped in (10_001, 13_000, 65_533, 65_534, 65_535, 70_000, 131_072, 500_000, 1_000_000):
     FAULTS += [
         (HEADER + '\n' * skipped + 'zz', 'line %d: bad line' % (skipped + 2)),
@@ -221,7 +221,7 @@ for skipped in (10_001, 13_000, 65_533, 65_534, 65_535, 70_000, 131_072, 500_000
     ]
 for sent in (8_999, 9_000, 9_500, 9_999):
     FAULTS.append((HEADER + 'poll\n' * sent + 'send 33', 'line %d: bad frame wrong length needed 2 got 1' % (sent + 2)))
-# Behind 1,270 frames of 401 octets, and behind 9,999 scans.
+# After 1,270 frames of 401 octets, and after 9,999 scans.
 FAULTS += [
     (HEADER + ('send 38%s\n' % ('07' * 400)) * 1_270 + 'zz', 'line 1272: bad line'),
     (HEADER + 'scan 0000000000000000\n' * 9_999 + 'zz', 'line 10001: bad line'),
@@ -231,7 +231,7 @@ NOTHING_RECORDED = 'counter 0\nnumber 0\nwaiting 0\nrecord 0\n'
 
 
 def each_sent(frame, count):
-    """The report of a script that sends so many such frames, and does nothing else."""
+    """The report of a script that sends this number of such frames, and does nothing else."""
     return ''.join('%d sent %d %s\n' % (place, place, frame) for place in range(1, count + 1)) + NOTHING_RECORDED
 
 

@@ -1,7 +1,7 @@
 #!/usr/bin/env python3
-"""`show` on tables of captured frames, each with the text that its octets stand for in docs/PROTOCOL.md: each message
-whole, cut after each of its octets, and with one octet too many; counts that lie; the longest frames; the largest
-inputs. Last line: `N passed, M failed`."""
+"""`show` on tables of captured frames, each with the text that docs/PROTOCOL.md gives for its octets: each message whole,
+cut after each of its octets, and with one octet too many; wrong counts; the longest frames; the largest inputs. Last line:
+`N passed, M failed`."""
 
 import sys
 
@@ -10,8 +10,8 @@ sys.dont_write_bytecode = True
 from support.check import Check
 from support.tables import MOST_OCTETS, in_short, lines_that_fit, row
 
-# Each message, how many octets it needs, and what is written of it. Where the need follows from a count,
-# there is also how many octets tell it, and what is needed where the count is missing.
+# Each message, how many octets it needs, and what is written for it. If the need follows from a count, also how many octets
+# it takes to see the count, and what is needed if the count is missing.
 MESSAGES = [
     ('3180', 2, 'status clear 80'),
     ('3200010000', 5, 'load counter 65536'),
@@ -63,13 +63,13 @@ LINES = [
      'line 5: unknown type 48\nline 6: bad line\n', 1),
     ('3605\r\n36\n360\n 3605', 'line 1: bad line\nline 2: wrong length needed 2 got 1\n'
      'line 3: bad line\nline 4: bad line\n', 1),
-    # A line is skipped where it begins with #, and with nothing else.
+    # A line that begins with # is skipped, but none that begins with anything else.
     ('; x\n;\n// 36\n3605', 'line 1: bad line\nline 2: bad line\nline 3: bad line\npoll block 5\n', 1),
     ('7f\n80\nbd\n33', 'line 1: unknown type 127\nline 2: unknown type 128\n'
      'line 3: unknown type 189\nline 4: wrong length needed 2 got 1\n', 1),
 ]
 
-# Counts that lie.
+# Wrong counts.
 COUNTS = [
     ('b605028c03e700000003e8', 14, 11),
     ('b605ff8c03e700000003e8', 773, 11),
@@ -92,7 +92,7 @@ LONGEST = [
     ('38' * 32_768, 'line 1: too long got 32768\n', 1),
 ]
 
-# A body of 772 octets, and a block of 255 entries, whose text is the longest with the greatest numbers.
+# A body of 772 octets, and a block of 255 entries with the greatest numbers, whose text is the longest.
 LONGEST_BODY = '38' + '07' * 772 + '\n'
 LONGEST_BLOCK = 'b605ff' + '8c03e7' * 255 + '08000003e8\n'
 GREATEST_BLOCK = 'b6ffff' + 'ffffff' * 255 + '08ffffffff\n'
@@ -103,7 +103,7 @@ LARGEST = [
     ('\n' * (MOST_OCTETS + 1), 'input too long\n', 1),
     ('\n' * MOST_OCTETS, '', 0),
     ('#' * MOST_OCTETS, '', 0),
-    # The shortest lines that say something.
+    # The shortest lines that have content.
     ('34\n' * lines_that_fit('34\n'), 'raw inputs\n' * lines_that_fit('34\n'), 0),
     # One line.
     ('38' * (MOST_OCTETS // 2), 'line 1: too long got 524288\n', 1),
@@ -115,7 +115,7 @@ LARGEST = [
                                + '  input 127 state 1 stamp 65535 wide 4294967295\n' * 255) * BLOCKS, 0),
 ]
 
-# Lines that say something, or nothing, above two faulty ones.
+# Lines with content, or without, before two faulty ones.
 DEEP = [
     (line * count + 'zz\n30', text * count + 'line %d: bad line\nline %d: unknown type 48\n' % (count + 1, count + 2), 1)
     for line, text, counts in (
@@ -131,7 +131,7 @@ def wrong_length(needed, got):
 
 
 def at_other_lengths(message, need, text):
-    """What is written of a message that is cut after each of its octets, and of one with an octet too many."""
+    """What is written for a message that is cut after each of its octets, and for one with an octet too many."""
     whole = len(message) // 2
     for got in list(range(1, whole)) + [whole + 1]:
         octets = (message + '00')[:2 * got]

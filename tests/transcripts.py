@@ -1,7 +1,7 @@
 #!/usr/bin/env python3
-"""`check` and `record` on tables of transcripts, each with what docs/FORMATS.md asks for: rules kept and
-broken, two broken by one line, faulty lines, the longest transcripts. A transcript for each rule alone stands in
-examples/ and is run by `tests/examples.sh`. Last line: `N passed, M failed`."""
+"""`check` and `record` on tables of transcripts, each with what docs/FORMATS.md requires: rules kept and broken, two broken
+by one line, faulty lines, the longest transcripts. A transcript for each rule by itself is in examples/ and is run by
+`tests/examples.sh`. Last line: `N passed, M failed`."""
 
 import sys
 
@@ -22,10 +22,10 @@ WORKED = [
 
 LINES = [
     ('', 'good 0 frames'),
-    # Numbers count the lines of the text, and frames the lines that say something.
+    # Numbers count the lines of the text, and frames the lines that have content.
     ('# a remark\n\n> 3605\n#\n< B6050000000003E8\n\n', 'good 2 frames'),
     ('# a remark\n> 3605\n\n< b6060000000003e8\n', 'line 4 breaks number'),
-    # A bad line is reported whatever the lines above it break.
+    # A bad line is reported whatever the lines before it break.
     ('> 33\n< b300\n> zz', 'line 3: bad line'),
     ('> 33\n#\n> 3605\n>3605\n> zz', 'line 4: bad line'),
     ('> ', 'line 1: bad line'),
@@ -34,7 +34,7 @@ LINES = [
     ('> 360', 'line 1: bad line'),
     ('> 3605\r\n', 'line 1: bad line'),
     (' > 3605', 'line 1: bad line'),
-    # A line is skipped where it begins with #, and with nothing else.
+    # A line that begins with # is skipped, but none that begins with anything else.
     ('# x\n; x', 'line 2: bad line'),
     ('> 3605\n; < b6050000000003e8', 'line 2: bad line'),
     ('3605', 'line 1: bad line'),
@@ -73,7 +73,7 @@ ANSWERS = [
     ('> 3605\n< b500', 'line 2 breaks readable'),
     ('> 3c\n< b605000000000000', 'line 2 breaks pair'),
     ('> 3c\n< bc02\n< bc02', 'line 3 breaks pair'),
-    # What stands between a poll and the next one changes nothing, but for a block.
+    # What comes between a poll and the next one changes nothing, except for a block.
     ('> 3605\n> 3c\n< bc02\n> 3605', 'good 4 frames'),
     ('> 3605\n< b605000000000000\n> 3c\n> 3606', 'good 4 frames'),
 ]
@@ -127,7 +127,7 @@ GOOD = [
     '< b6090000000003ed',
 ]
 
-# What is written where the line with this number is another.
+# What is written if the line with this number is another.
 CHANGES = [
     (1, '> 3c', 'good 17 frames'),
     (3, '> 33020c0505', 'line 3 breaks readable'),
@@ -147,17 +147,17 @@ CHANGES = [
     (11, '', 'line 12 breaks advance'),
 ]
 
-# The last line breaks two rules, the one directly after the other among those that a block answer can break, and
-# the first of them is reported. Advance is broken by polls alone, refusal by answers 179 alone.
+# The last line breaks two rules, the second directly after the first among those that a block answer can break, and the
+# first of them is reported. Only polls break `advance`, and only answers 179 break `refusal`.
 TWO_RULES = [
-    # Pair and number: a block answer below another answer, and below another command than a poll.
+    # Pair and number: a block answer after another answer, and after another command than a poll.
     ('> 3605\n< b605000000000000\n< b606000000000000', 'line 3 breaks pair'),
     ('> 3605\n> 3c\n< b606000000000000', 'line 3 breaks pair'),
     # Number and same: another number than the poll's, and E at the first poll with its number.
     ('> 3605\n< b605000000000000\n> 3606\n< b607000200000000', 'line 4 breaks number'),
     # Same and sequence: E at the first poll with its number, and G with E.
     ('> 3605\n< b605000000000000\n> 3606\n< b606000300000000', 'line 4 breaks same'),
-    # Sequence and limits: G with E or below another block answer, and F without C.
+    # Sequence and limits: G with E or after another block answer, and F without C.
     ('> 3605\n< b605000700000000', 'line 2 breaks sequence'),
     ('> 3605\n< b605000000000000\n> 3606\n< b606000500000000', 'line 4 breaks sequence'),
     # Limits and rest: F without C, and no entries although more waited.
@@ -166,24 +166,24 @@ TWO_RULES = [
     ('< b606', 'line 1 breaks readable'),
     ('> 3605\n< b605000000000000\n< b606', 'line 3 breaks readable'),
     ('> 3301400505\n< b30000', 'line 2 breaks readable'),
-    # An answer 179 below another answer has no command that names an input.
+    # An answer 179 after another answer has no command that names an input.
     ('> 3301400505\n< b301\n< b300', 'line 3 breaks pair'),
 ]
 
 
-# What `record` writes: the record of a good transcript, else what `check` writes.
+# What `record` writes: the record of a good transcript, otherwise what `check` writes.
 RECORDS = [
     ('', 'record 0'),
     ('> 3c\n< bc02', 'record 0'),
     ('> 3605', 'record 0'),
     ('> 3605\n< b605018c03e700000003e8', 'record 1\ninput 12 state 1 stamp 999 wide 999'),
-    # A stamp above the low 16 bits of the answer's stamp is of the 65,536 steps before.
+    # A stamp above the low 16 bits of the answer's stamp belongs to the 65,536 steps before.
     ('> 36ff\n< b6ff0205ffff8600010000010001\n> 3600\n< b600000000010002',
      'record 2\ninput 5 state 0 stamp 65535 wide 65535\ninput 6 state 1 stamp 1 wide 65537'),
-    # A gap mark stands above the entries of a block with F.
+    # A gap mark comes before the entries of a block with F.
     ('> 3605\n< b605ff' + '000000' * 254 + '850007' + '0c00000008',
      'record 256\ngap\n' + 'input 0 state 0 stamp 0 wide 0\n' * 254 + 'input 5 state 1 stamp 7 wide 7'),
-    # What is heard below other commands, and an unanswered poll, add nothing.
+    # What is heard after other commands, and an unanswered poll, add nothing.
     ('> 3605\n> 3605\n< b605010000010200000001\n> 34\n< b4000000000000000000000000\n> 3606\n< b606018000020000000002',
      'record 2\ninput 0 state 0 stamp 1 wide 1\ninput 0 state 1 stamp 2 wide 2'),
     ('> 3605\n< b605018c03e700000003e8\n> 3605', 'line 3 breaks advance'),
@@ -209,7 +209,7 @@ LARGEST = [
     ('\n' * (MOST_OCTETS + 1), 'input too long'),
     ('\n' * MOST_OCTETS, 'good 0 frames'),
     ('#' * MOST_OCTETS, 'good 0 frames'),
-    # The shortest lines that say something.
+    # The shortest lines that have content.
     ('> 34\n' * lines_that_fit('> 34\n'), 'good 209715 frames'),
     # One line.
     ('> ' + '38' * (MOST_OCTETS // 2 - 1), 'line 1 breaks readable'),
@@ -220,7 +220,7 @@ LARGEST = [
     (('> 38' + '07' * 772 + '\n') * lines_that_fit('> 38' + '07' * 772 + '\n'), 'good 676 frames'),
 ]
 
-# Good frames, and below them a line that breaks a rule or is bad.
+# Good frames, followed by a line that breaks a rule or is bad.
 DEEP = []
 for count in (65_535, 65_538, 70_001, 100_000, 131_073, 150_000, 200_000, 209_000, 209_714):
     DEEP.append(('> 34\n' * count, 'good %d frames' % count))

@@ -1,7 +1,7 @@
 #!/usr/bin/env python3
-"""Reads what tools/waveform/vcd writes back, and compares it with the text of the program: on all examples, on random
-runs and on random blocks, with overflows, restarts and a counter that turns over. Where GTKWave's vcd2fst and fst2vcd
-are installed, the same of what they make of it. Last line: `N passed, M failed`."""
+"""Reads back what tools/waveform/vcd writes, and compares it with the text of the program: on all examples, on random runs
+and on random blocks, with overflows, restarts and a counter that wraps around. If GTKWave's vcd2fst and fst2vcd are
+installed, it compares what they make of it too. Last line: `N passed, M failed`."""
 
 import glob
 import itertools
@@ -23,7 +23,7 @@ TURN = 1 << 32
 ENTRY = re.compile(r' *input (\d+) state ([01]) stamp \d+ wide (\d+)')
 HEAD = re.compile(r'block (\d+) entries \d+ status ([0-9a-f]{2}) stamp (\d+)')
 
-# What is written of examples/lost-answer.frames.
+# What is written for examples/lost-answer.frames.
 LOST_ANSWER = '''$version fio2070 waveform $end
 $timescale 1 ms $end
 $scope module fio2070 $end
@@ -77,7 +77,7 @@ $end
 #3
 '''
 
-# Texts that are another's.
+# Texts that belong to something else.
 NOT_DRAWN = {
     'no text': '',
     'frames': '3605\nb605018c03e700000003e8\n',
@@ -89,7 +89,7 @@ NOT_DRAWN = {
 
 
 class Dump:
-    """A VCD file, read: the signals of the header, and each change below it as time, signal and value."""
+    """A VCD file, read: the signals of the header, and each change after it as time, signal and value."""
 
     def __init__(self, text):
         header, _, body = text.partition('$enddefinitions $end\n')
@@ -108,12 +108,12 @@ class Dump:
                 self.changes.append((time, self.names[line[1:]], line[0]))
 
     def inputs(self):
-        """The changes of inputs, those to unknown left out: time, input, state."""
+        """The changes of inputs, without those to unknown: time, input, state."""
         return [(time, int(name[6:]), int(value)) for time, name, value in self.changes
                 if name.startswith('input_') and value != 'x']
 
     def rises(self, name):
-        """The times at which a signal goes to 1, where it goes back to 0 a millisecond later."""
+        """The times at which a signal goes to 1, if it goes back to 0 a millisecond later."""
         found = [(time, value) for time, other, value in self.changes if other == name]
         ups, downs = ([time for time, value in found if value == level] for level in '10')
         if sorted(set(downs)) != [time + 1 for time in sorted(set(ups))]:
@@ -141,7 +141,7 @@ def drawn(text):
 
 
 def entries_of(text):
-    """The entries of a report's record, or of the blocks of `show` without those that come again at once."""
+    """The entries of a report's record, or of the blocks of `show` without those that are repeated at once."""
     entries = [tuple(map(int, ENTRY.fullmatch(line).groups())) for line in text.splitlines() if ENTRY.fullmatch(line)]
     if '\nrecord ' in text or '\nblock' not in '\n' + text:
         return entries
@@ -184,7 +184,7 @@ def fault_of_report(text, vcd):
 
 
 def settled(dump):
-    """The signals that are another at the end of a millisecond than before it, for each one with such."""
+    """The signals whose value at the end of a millisecond differs from that before it, for each millisecond that has any."""
     state, found = {}, []
     for time, group in itertools.groupby(dump.initial + dump.changes, lambda change: change[0]):
         later = {**state, **{name: value for _, name, value in group}}
@@ -239,7 +239,7 @@ def outcome(fault_of, *given):
 
 
 def check_texts(check, folder):
-    """A row for the VCD of each text that the program writes of the examples and of random inputs."""
+    """A row for the VCD of each text that the program writes for the examples and for random inputs."""
     texts = [(os.path.basename(path), open(path, encoding='ascii').read(), fault_of_report)
              for path in sorted(glob.glob(os.path.join(TOP, 'examples', '*.report'))) if 'refused' not in path]
     texts += [(words, simulated(words), fault_of_report)
@@ -263,7 +263,7 @@ def check_texts(check, folder):
 
 
 def check_edges(check):
-    """A whole file; a counter that goes back or turns over; what is unknown at a gap mark; faulty lines; no block."""
+    """A whole file; a counter that goes back or wraps around; what is unknown at a gap mark; faulty lines; no block."""
     with open(os.path.join(TOP, 'examples', 'lost-answer.frames'), encoding='ascii') as file:
         check.equal('a whole file', (LOST_ANSWER, '', 0), drawn(output_of('show', file.read())[0]))
     turn = Dump(drawn(output_of('show', 'b600010cfffe0000000005\nb601018c00070000000009\n')[0])[0])
@@ -283,8 +283,8 @@ def check_edges(check):
         lines = text.splitlines()
         complaints = ['vcd: not drawn: ' + line for line in lines[:10]]
         if len(lines) > 10:
-            complaints.append('vcd: not drawn: %d lines more' % (len(lines) - 10))
-        complaints.append('vcd: of %d lines none is of `fio2070 show` or of `fio2070 simulate`\n' % len(lines))
+            complaints.append('vcd: not drawn: %d more lines' % (len(lines) - 10))
+        complaints.append('vcd: none of the %d lines is of `fio2070 show` or of `fio2070 simulate`\n' % len(lines))
         check.equal('not drawn: ' + name, ('', '\n'.join(complaints), 1), drawn(text))
     cut = drawn('poll block 5\nblock 5 entries 2 status 00 stamp 9\n  input 1 state 0 stamp 8 wide 8\n')
     check.equal('a block that is cut', ('vcd: block 5 of 2 entries is cut\n', 1), cut[1:])

@@ -1,10 +1,9 @@
 #!/usr/bin/env python3
-"""Compares the Wireshark dissector, as tshark runs it, with `show`: frames of the protocol's tables and random ones
-in each way in which a capture carries them; the links between commands and answers of transcripts; frames that
-`show` has no line for; and the captures of hex2pcap. With `--all` ten times as many random frames, and wrong dissectors,
-of which each has to be caught by the comparison that is named with it.
-`tests/wireshark.py SEED COUNT` takes another seed and another number of random frames.
-Last line: `N passed, M failed`."""
+"""Compares the Wireshark dissector, as tshark runs it, with `show`: frames of the protocol's tables and random ones in each
+way in which a capture carries them; the links between commands and answers of transcripts; frames for which `show` has no
+line; and the captures of hex2pcap. With `--all` ten times the number of random frames, and wrong dissectors, each of which
+has to be caught by the comparison that is named with it. `tests/wireshark.py SEED COUNT` takes another seed and another
+number of random frames. Last line: `N passed, M failed`."""
 
 import concurrent.futures
 import os
@@ -46,7 +45,7 @@ SELECTED = {
 
 
 class Cases:
-    """What is compared, with the lines of `show`, which are found once."""
+    """What is compared with the lines of `show`, which are found once."""
 
     def __init__(self, seed, count):
         self.tables = list(table_frames())
@@ -102,7 +101,7 @@ def fault_of_transcripts(tshark, transcripts):
 
 
 def fault_of_edges(tshark, frames):
-    """The first difference at frames that `show` has no line for: without octets, and not captured whole."""
+    """The first difference at frames for which `show` has no line: without octets, or not captured whole."""
     def infos(rows):
         return {(row['_ws.col.Info'], row['_ws.expert.message'], row['fio2070.response_to']) for row in rows}
 
@@ -119,7 +118,7 @@ def fault_of_edges(tshark, frames):
 
 
 def fault_of_checks(tshark):
-    """A frame with a wrong bit is marked, with the frame check that it has and the one that it needs."""
+    """A frame with a wrong bit is marked, with the frame check that it has and the one that it should have."""
     good = SDLC.around(b'\x36\x05')
     bits = [1 << bit for bit in range(8 * len(good))]
     wrong = [(int.from_bytes(good, 'big') ^ bit).to_bytes(len(good), 'big') for bit in bits]
@@ -140,7 +139,7 @@ def fault_of_stations(tshark):
 
 
 def fault_of_ends(tshark):
-    """Who sends and who hears stands in the columns, where the capture has no addresses."""
+    """The columns say who sends and who hears, if the capture has no addresses."""
     rows = tshark.rows(BARE, [b'\x36\x05', b'\xb3\x00'])
     found = [(row['_ws.col.Source'], row['_ws.col.Destination']) for row in rows]
     return None if found == [('CPU', 'module'), ('module', 'CPU')] else 'columns: %r' % found
@@ -256,7 +255,7 @@ def fault_of_wrong(folder, by_name, name, text, other, catcher):
 
 
 def comparisons(check, cases):
-    """Each comparison: its name, and a function of a folder of its own that gives the first difference or None."""
+    """Each comparison: its name, and a function of a folder of its own that returns the first difference or None."""
     def over(function, *given):
         return lambda folder: function(Tshark(folder), *given)
 

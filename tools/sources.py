@@ -1,4 +1,4 @@
-"""What the generators beside this file share: the sources that they read, and the files that they write or compare."""
+"""What the generators in this folder share: the sources that they read, and the files that they write or compare."""
 
 import os
 import re
@@ -45,8 +45,8 @@ def replaced(text, pattern, new, what):
 
 
 def write(generator, words, writers):
-    """Writes each file as its function of the present text says. With `--check` nothing is written, and a file that differs is
-    an error."""
+    """Writes each file as its function of the present text says. With `--check` nothing is written, and a file that differs
+    is an error."""
     if words not in ([], ['--check']):
         sys.exit('usage: tools/%s [--check]' % generator)
     differs = []

@@ -1,7 +1,7 @@
-/* The calls of the library for C, each as often and on the same inputs as operations.rs and timings.rs have it, in
+/* The calls of the C library, each as often and on the same inputs as in operations.rs and timings.rs, in
  * functions of the same names, so that both can be counted; copy_items and copy_entries do what decode_commands and
- * read_blocks do there. A line is written before each of these functions is called: the function, the call, what it is
- * given, and how many calls it makes. */
+ * read_blocks do there. A line is written before each of these functions is called: the function, the call, its
+ * arguments, and how many calls it makes. */
 #include "fio2070.h"
 
 #include <stdio.h>

@@ -1,4 +1,4 @@
-// The calls that are timed, each as often as it is asked for. The same text is compiled as Rattle, with the crates of
+// The calls that are timed, each as often as is requested. The same text is compiled as Rattle, with the crates of
 // this repository, and as Rust, with another implementation of them. Inputs alternate and each result is read, at a
 // place that the compiler does not know, so that no call is left out or moved. It is read where the call left it, by a
 // reference: a `let` would add the move of a kilobyte to some.

@@ -70,7 +70,7 @@ fn write_answer(answer: &Answer, frame: &mut Frame) {
     *frame = encode_answer(answer);
 }
 
-/// The other implementation has no such call: the answer is read where it is returned.
+/// The other implementation has no such call: the answer is read as it is returned.
 fn weight_of_received(module: &mut Module, octets: &[u8], _answer: &mut Frame, place: usize) -> u32 {
     weight_of_frame(&module.receive(octets), place)
 }

@@ -1,10 +1,10 @@
-// What is timed. Each line that is written has a call, what it is given, nanoseconds, how many calls these are for, and
+// What is timed. Each line that is written has a call, its arguments, nanoseconds, how many calls these are for, and
 // a number that rests on all results.
 
-/// How many calls are timed together, where a call takes less than a microsecond.
+/// How many calls are timed together if a call takes less than a microsecond.
 const MANY: u32 = 2000;
 
-/// The same where it takes more.
+/// How many calls are timed together if a call takes more.
 const FEW: u32 = 200;
 
 const FLIPS: u64 = 0xffff_ffff_ffff_ffff;

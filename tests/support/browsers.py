@@ -23,7 +23,7 @@ KEYS = {'down': '\ue015', 'up': '\ue013', 'left': '\ue012', 'right': '\ue014', '
 
 
 class Browser:
-    """What a person does with a page. The ways to a browser have `ask`."""
+    """What a person does with a page. Each way to a browser has `ask`."""
 
     def open(self, address):
         self.ask('POST', 'url', 'WebDriver:Navigate', {'url': address})
@@ -33,7 +33,7 @@ class Browser:
         return self.ask('POST', 'execute/sync', 'WebDriver:ExecuteScript', {'script': script, 'args': list(given)})
 
     def wait(self, script, *given, seconds=20):
-        """The value of a script, once it is true."""
+        """The value of a script, as soon as it is true."""
         end = time.monotonic() + seconds
         while time.monotonic() < end:
             value = self.run(script, *given)
@@ -55,11 +55,11 @@ class Browser:
         return self.ask('GET', 'element/%s/computedrole' % found, 'WebDriver:GetComputedRole', {'id': found})
 
     def label(self, found):
-        """The name of an element there."""
+        """The name of an element in the accessibility tree."""
         return self.ask('GET', 'element/%s/computedlabel' % found, 'WebDriver:GetComputedLabel', {'id': found})
 
     def press(self, key):
-        """Presses a key where the focus is."""
+        """Presses a key with the focus where it is."""
         actions = [{'type': kind, 'value': KEYS[key]} for kind in ('keyDown', 'keyUp')]
         self.ask('POST', 'actions', 'WebDriver:PerformActions', {'actions': [{'type': 'key', 'id': 'keys', 'actions': actions}]})
 
@@ -78,14 +78,14 @@ class Browser:
         self.ask('POST', 'actions', 'WebDriver:PerformActions', {'actions': [pointer]})
 
     def turn_wheel(self, selector, by):
-        """Turns the wheel over an element by so many pixels."""
+        """Turns the wheel over an element by this many pixels."""
         turn = {'type': 'scroll', 'duration': 0, 'x': 0, 'y': 0, 'deltaX': 0, 'deltaY': by,
                 'origin': {ELEMENT: self.find(selector)}}
         self.ask('POST', 'actions', 'WebDriver:PerformActions', {'actions': [{'type': 'wheel', 'id': 'wheel', 'actions': [turn]}]})
 
     def touch(self, selector, *fingers):
-        """Moves fingers over an element at the same time: for each the points, from the middle of what is seen of it, that it
-        goes through."""
+        """Moves fingers over an element at the same time: for each, the points that it goes through, counted from the middle
+        of what is seen of the element."""
         middle = self.run(MIDDLE, selector)
         actions = []
         for number, points in enumerate(fingers):
@@ -134,7 +134,7 @@ class Chromium(Browser):
         self.base += '/' + self.begun({'capabilities': {'alwaysMatch': wanted}})
 
     def begun(self, wanted):
-        """The session, once the driver listens."""
+        """The session, as soon as the driver listens."""
         end = time.monotonic() + STARTED_IN
         while True:
             try:
@@ -236,7 +236,7 @@ def running(kind):
 
 
 def browsers(check):
-    """Returns the browsers in which a check is run: with `--all` each that is installed, else the first."""
+    """Returns the browsers in which a check is run: with `--all` each that is installed, otherwise the first."""
     installed = [kind for kind in (Chromium, Firefox) if all(map(shutil.which, kind.programs))]
     for kind in (Chromium, Firefox):
         if kind not in installed:

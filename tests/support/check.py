@@ -1,7 +1,7 @@
-"""The counting of rows, for the checks in tests/. Each row has a name; one that fails prints it, with what was expected
-and what came instead. The last line of a check is `N passed, M failed`, and its status is 0 if no row failed. With
-`-k WORD` it has only those rows whose name has the word in it. A check has a quick form, which `./test` runs, and with
-`--all` its whole form, which `./test --all` runs: it asks `Check.whole` for rows that only that has."""
+"""The counting of rows, for the checks in tests/. Each row has a name; one that fails prints it, with what was expected and
+what came instead. The last line of a check is `N passed, M failed`, and its status is 0 if no row failed. With `-k WORD` it
+only has the rows whose name has the word in it. A check has a quick form, which `./test` runs, and with `--all` its whole
+form, which `./test --all` runs: it calls `Check.whole` for the rows that only the whole form has."""
 
 import argparse
 import sys
@@ -28,9 +28,9 @@ class Check:
     """Counts the rows of a check that hold, and prints those that fail."""
 
     def __init__(self, **settings):
-        """Reads the command line: `-k WORD`, `--all`, and what the check takes beside them. A setting with a number is a word
-        that may be given, in order, and one with two numbers has the first in the quick form, the second with `--all`; one
-        that is `False` is an option, as `--counts`."""
+        """Reads the command line: `-k WORD`, `--all`, and the check's own settings. A setting with a number is a word that
+        may be given, in order; one with two numbers has the first in the quick form and the second with `--all`; one that is
+        `False` is an option, like `--counts`."""
         # The description is the check's own.
         parser = argparse.ArgumentParser(description=sys.modules['__main__'].__doc__)
         parser.add_argument('-k', metavar='WORD', default='', help='only the rows whose name has WORD in it')
@@ -46,7 +46,7 @@ class Check:
         self.passed = self.failed = self.skipped = 0
 
     def wants(self, name):
-        """Whether a row of this name is asked for."""
+        """Whether a row of this name is wanted."""
         return self.given.k in name
 
     def whole(self, name):
@@ -69,11 +69,11 @@ class Check:
         print('FAILED %s\n  expected: %s\n  got: %s' % (name, shown(expected, place), shown(got, place)))
 
     def holds(self, name, condition, got=''):
-        """A row: the condition, which its name says, holds. What was seen is printed where it does not."""
+        """A row: the condition that its name states holds. If it does not, what was seen is printed."""
         self.equal(name, True, True if condition else got or False)
 
     def fault(self, name, find, *given):
-        """A row: a function of what is given finds no fault. It is called only where the row is asked for."""
+        """A row: a function of these arguments finds no fault. It is called only if the row is wanted."""
         if self.wants(name):
             self.equal(name, None, find(*given) or None)
 

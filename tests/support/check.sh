@@ -1,7 +1,7 @@
-# The counting of rows, for the checks in tests/ that are shell scripts; check.py is the same for Python. A check reads
-# this file with its own words, begins in the folder $room, which is removed in the end, and closes with `end`. With
-# `-k WORD` it has only those rows whose name has the word in it. A check has a quick form, which `./test` runs, and with
-# `--all` its whole form, which `./test --all` runs: it asks `whole` for rows that only that has.
+# The counting of rows, for the checks in tests/ that are shell scripts; check.py is the same for Python. A check reads this
+# file with its own words, begins in the folder $room, which is removed at the end, and closes with `end`. With `-k WORD` it
+# only has the rows whose name has the word in it. A check has a quick form, which `./test` runs, and with `--all` its whole
+# form, which `./test --all` runs: it calls `whole` for the rows that only the whole form has.
 
 top=$(dirname -- "$(dirname -- "$(readlink -f -- "$0")")")
 room=$(mktemp -d) || exit 1
@@ -24,7 +24,7 @@ while [ $# -gt 0 ]; do
     shift
 done
 
-# wants NAME: a row of this name is asked for.
+# wants NAME: a row of this name is wanted.
 wants() {
     case $1 in
     *"$word"*) return 0 ;;
@@ -42,7 +42,7 @@ whole() {
     return 1
 }
 
-# judge NAME STATUS EXPECTED GOT: a row that holds where the status is 0; else it prints what was expected and what came.
+# judge NAME STATUS EXPECTED GOT: a row that holds if the status is 0; otherwise it prints what was expected and what came.
 judge() {
     wants "$1" || return 0
     if [ "$2" -eq 0 ]; then
@@ -58,7 +58,7 @@ equal() {
     if [ "$2" = "$3" ]; then judge "$1" 0; else judge "$1" 1 "$2" "$3"; fi
 }
 
-# first NAME COMMAND..: a row: the command succeeds. It is run whatever rows are asked for, since others need it.
+# first NAME COMMAND..: a row: the command succeeds. It is run whichever rows are wanted, since others need it.
 first() {
     name=$1
     shift
@@ -103,7 +103,7 @@ skip() {
     echo "skipped: $1: $2"
 }
 
-# has_command NAME: the command is there.
+# has_command NAME: the command is installed.
 has_command() { [ -n "$(command -v "$1")" ]; }
 
 # Runs make at the top with these targets and settings, without those of a make that runs the check.

@@ -1,4 +1,4 @@
-"""What the commands of a document print, compared with the lines below them there."""
+"""What the commands of a document print, compared with the lines after them in the document."""
 
 import re
 

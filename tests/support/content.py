@@ -1,5 +1,5 @@
-"""The rules on content, as an independent model: what `fio2070 record` writes of a transcript that keeps those of `check`.
-It goes over the lines once, as docs/FORMATS.md states the rules, and shares nothing with the program."""
+"""The rules on content, as an independent model: what `fio2070 record` writes for a transcript that keeps the rules of
+`check`. It goes over the lines once, as docs/FORMATS.md states the rules, and shares nothing with the program."""
 
 import struct
 
@@ -16,12 +16,12 @@ def lines_of(text):
 
 
 def is_before(time, other):
-    """A time is before another: it is not less than 2^31 ahead of it."""
+    """Whether a time is before another: it is not less than 2^31 ahead of it."""
     return (time - other) % WIDE >= WIDE // 2
 
 
 class Record:
-    """The record of a transcript's CPU, and the first breach of a rule on content. With `begun` both ends begin with the
+    """The record of a transcript's CPU, and the first breach of a rule on content. With `begun`, both ends begin with the
     first line."""
 
     def __init__(self, text, begun=False):
@@ -57,7 +57,7 @@ class Record:
                     hidden.discard(named)
 
     def hear(self, octets):
-        """Takes an answer, of the block answers those with the CPU's number."""
+        """Takes an answer; a block answer only if it has the CPU's number."""
         kind, status = octets[0], octets[-1]
         if kind == 182 and octets[1] != self.number:
             return
@@ -85,7 +85,7 @@ class Record:
         return None
 
     def take(self, octets, status, stamp):
-        """Records a block, and settles what a clear one tells."""
+        """Records a block, and settles what a clear block shows."""
         self.number = (octets[1] + 1) % 256
         if status & 4:
             self.items.append(None)

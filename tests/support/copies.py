@@ -1,11 +1,11 @@
-"""Copies of folders with what is built of the crates, which has hundreds of megabytes."""
+"""Copies of folders with what is built of the crates, which takes hundreds of megabytes."""
 
 import os
 import shutil
 
 
 def link_or_copy(source, target):
-    """A file of another folder under a further name, or a copy of it on another file system."""
+    """Links a file under a further name, or copies it if that is on another file system."""
     try:
         os.link(source, target)
     except OSError:

@@ -18,11 +18,11 @@ PARTS = {'module': r'sized_module_', 'poller': r'poller_',
 
 
 class Failed(Exception):
-    """What a command wrote that failed."""
+    """What a command wrote if it failed."""
 
 
 def missing():
-    """The command that is not here, and its package; nothing where all are."""
+    """The command that is not installed, and its package; nothing if all are installed."""
     for command, package in ((COMPILER, 'gcc-arm-none-eabi, libnewlib-arm-none-eabi'), (QEMU, 'qemu-system-arm')):
         if not shutil.which(command):
             return 'no %s here (Debian packages %s)' % (command, package)
@@ -38,7 +38,7 @@ def run(*words):
 
 @functools.cache
 def compiled(folder, library, *options):
-    """The portable library as an object in the folder, which is compiled once."""
+    """The portable library as an object in the folder, compiled once."""
     made = os.path.join(folder, 'cortex%s.o' % ''.join(options))
     run(COMPILER, *FLAGS, *options, '-Wall', '-Wextra', '-Wpedantic', '-Wconversion', '-Werror', '-I', library, '-c',
         os.path.join(library, 'fio2070.c'), '-o', made)
@@ -46,7 +46,7 @@ def compiled(folder, library, *options):
 
 
 def output_of(folder, options, library, program, words):
-    """What a program writes there that is given these words. Nanoseconds of its clock are instructions."""
+    """What a program writes there, given these words. Nanoseconds of its clock are instructions."""
     made, start = os.path.join(folder, 'cortex.elf'), os.path.join(SOURCES, 'cortex_m')
     run(COMPILER, *FLAGS, *options, '-I', library, '--specs=rdimon.specs', '-nostartfiles', '-T',
         os.path.join(start, 'link.ld'), '-Wl,--gc-sections', '-DARGUMENTS=' + ','.join('"%s"' % word for word in words),

@@ -1,4 +1,4 @@
-"""Logs with damage of one kind each, which fiolog and the page refuse or remark."""
+"""Logs with damage of one kind each, which fiolog and the page refuse or remark on."""
 
 # What is damaged, the lines, the frames that are read, and a reason or a remark on the others.
 DAMAGED = [

@@ -1,4 +1,4 @@
-"""What the Wireshark dissector is to say of frames: the lines that `show` writes of each, and the links between
+"""What the Wireshark dissector should say about frames: the lines that `show` writes for each, and the links between
 commands and answers as a search through the whole transcript finds them."""
 
 import re
@@ -14,7 +14,7 @@ LARGEST_INPUT = 1_000_000
 
 
 def shown(frames):
-    """For each frame the lines that `show` writes, without `line N: ` in front."""
+    """For each frame, the lines that `show` writes, without `line N: ` in front."""
     groups, start = [], 0
     while start < len(frames):
         end, size = start, 0
@@ -33,7 +33,7 @@ def shown(frames):
 
 
 def values(row, name):
-    """The values of a field that can stand more than once in a frame."""
+    """The values of a field that can appear more than once in a frame."""
     return row[name].split('|') if row[name] else []
 
 
@@ -65,7 +65,7 @@ def spelled_element(names, element):
 
 
 def facts_of_frame(row, octets):
-    """What the dissector says of a frame, by name."""
+    """What the dissector says about a frame, by name."""
     notices = values(row, '_ws.expert.message')
     refused = bool(FAULT.fullmatch(row['_ws.col.Info']))
     decoded = [name for name in FIELDS if row[name] and re.match(r'fio2070\.(?!octets|type|undecoded)', name)]
@@ -90,7 +90,7 @@ def facts_of_frame(row, octets):
 
 
 def expected_of_frame(octets, lines):
-    """What it is to say, from the octets and the lines of `show`."""
+    """What it should say, from the octets and the lines of `show`."""
     refused = bool(FAULT.fullmatch(lines[0]))
     inputs = [int(line.split()[1]) for line in lines[1:]]
     facts = {
@@ -113,7 +113,7 @@ def expected_of_frame(octets, lines):
 
 
 def fault_of_frame(octets, lines, row):
-    """The first difference between what the dissector says of a frame and what it is to say, or None."""
+    """The first difference between what the dissector says about a frame and what it should say, or None."""
     try:
         found = facts_of_frame(row, octets)
     except ValueError as fault:
@@ -125,13 +125,13 @@ def fault_of_frame(octets, lines, row):
 
 
 def kinds_of(frames, shows):
-    """The type of each frame, None where it spells no message."""
+    """The type of each frame, or None if it spells no message."""
     return [None if FAULT.fullmatch(lines[0]) else octets[0] for octets, lines in zip(frames, shows)]
 
 
 def commands_of(frames, kinds):
-    """For each answer that was asked for, the place of its command: the last above it of its type and, for a block
-    answer, with its number."""
+    """For each answer that was asked for, the index of its command: the last before it of its type and, for a block answer,
+    with its number."""
     found = {}
     for place, octets in enumerate(frames):
         if kinds[place] is None or kinds[place] < 128:
@@ -144,8 +144,8 @@ def commands_of(frames, kinds):
 
 
 def expected_links(frames, shows):
-    """For each frame: the place of its first answer, of its command, and of the poll that it repeats; whether it skips
-    a block, was not asked for, or is a further answer."""
+    """For each frame: the index of its first answer, of its command, and of the poll that it repeats; whether it skips a
+    block, was not asked for, or is a further answer."""
     kinds = kinds_of(frames, shows)
     commands = commands_of(frames, kinds)
     links, last_poll = [], None
@@ -167,7 +167,7 @@ def expected_links(frames, shows):
 
 
 def links_of(row):
-    """The same as the dissector says it of a frame."""
+    """The same, as the dissector says it about a frame."""
     notices = values(row, '_ws.expert.message')
 
     def said(form):

@@ -23,7 +23,7 @@ class Done(NamedTuple):
 
 
 def use_library(check, name):
-    """Lets this process import the packages. Where there is no library it skips the rows of this name, and ends."""
+    """Lets this process import the packages. If there is no library, skips the rows of this name, and ends."""
     if not os.path.exists(LIBRARY):
         check.skip(name, 'no libfio2070.so here (make library)')
         check.end()

@@ -33,8 +33,8 @@ def frame_check(octets):
 
 
 def table_frames():
-    """Each message of the tables, cut after each octet and with one octet too many; each first octet alone and
-    with seven octets behind it."""
+    """Each message of the tables, cut after each octet and with one octet too many; each first octet alone and followed by
+    seven octets."""
     for text in MESSAGES:
         octets = bytes.fromhex(text)
         yield from (octets[:cut] for cut in range(1, len(octets) + 1))
@@ -49,7 +49,7 @@ def table_frames():
 
 
 def random_block(draw, number, count):
-    """A block answer with this number and so many random entries."""
+    """A block answer with this number and this many random entries."""
     status = bytes([draw.choice([0, 0, 1, 2, 4, 8, 12, draw.randrange(256)])])
     stamp = draw.choice([draw.randrange(1 << 32), draw.randrange(1 << 17)]).to_bytes(4, 'big')
     return bytes([182, number, count]) + draw.randbytes(3 * count) + status + stamp
@@ -67,7 +67,7 @@ def random_message(draw):
 
 
 def random_frame(draw):
-    """The octets of some message, one time in five with some taken away, put behind or changed."""
+    """The octets of some message, one time in five with some removed, appended or changed."""
     octets, change = random_message(draw), draw.random()
     if change < 0.08:
         return octets[:draw.randrange(1, len(octets) + 1)]
@@ -85,8 +85,8 @@ def random_frames(seed, count):
 
 
 def random_transcript(draw, length):
-    """Commands and answers in an order that a good or a bad line could give: answers that are missing, late, doubled
-    or not asked for, and polls that repeat, skip or go on."""
+    """Commands and answers in an order that a good or a bad line could give: answers that are missing, late, doubled or not
+    asked for, and polls that repeat, skip or go on."""
     frames, number = [], draw.randrange(256)
     for _ in range(length):
         kind = draw.random()

@@ -10,7 +10,7 @@ TOP = os.path.dirname(os.path.dirname(os.path.dirname(os.path.realpath(__file__)
 
 
 class Function:
-    """A function of a crate: its file, the type whose method it is, the trait if any, its name, and where it stands. Its home
+    """A function of a crate: its file, the type whose method it is, the trait if any, its name, and its position. Its home
     is the file whose modules its whole name has: that of the type, for a method of no trait."""
 
     def __init__(self, path, owner, trait, name, words, start, body, end):
@@ -29,20 +29,20 @@ class Function:
 
 
 def place_of(path, name):
-    """The whole name, as the prover writes it, of what a file of a crate has."""
+    """Returns the whole name, as the prover writes it, of an item in a file of a crate."""
     crate, _, inner = os.path.relpath(path, os.path.join(TOP, 'crates')).partition(os.sep + 'src' + os.sep)
     modules = [] if inner == 'lib.rt' else inner[:-len('.rt')].split(os.sep)
     return '::'.join([crate, *modules, name])
 
 
 def without_words(text):
-    """The text with blanks for what remarks and strings say, at the same places."""
+    """Returns the text with blanks in place of remarks and strings, at the same positions."""
     form = re.compile(r'//[^\n]*|b?"(?:\\.|[^"\\])*"|b?\'(?:\\.|[^\'\\])\'', re.S)
     return form.sub(lambda found: re.sub(r'[^\n]', ' ', found[0]), text)
 
 
 def end_of_braces(text, start):
-    """The place behind the brace that closes the one at `start`."""
+    """Returns the position after the brace that closes the one at `start`."""
     depth = 0
     for place in range(start, len(text)):
         depth += (text[place] == '{') - (text[place] == '}')
@@ -51,7 +51,7 @@ def end_of_braces(text, start):
     return len(text)
 
 
-# A law: a public function that does nothing. Its name, and where it stands.
+# A law: a public function that does nothing. Its name, and its position.
 LAW = re.compile(r'^pub fn (\w+)[^\n]*\n(?:    [^\n]*\n)*\{\}$', re.M)
 HEADER = re.compile(r'^impl(<[^{]*?>)?\s+(?:(?:\w+::)*(\w+)(<[^{]*?>)?\s+for\s+)?(&?\[?)(\w+)\]?(<[^{>]*>)?[^{]*\{', re.M)
 
@@ -68,8 +68,8 @@ def owner_of(header):
 
 
 def functions_of(path, text):
-    """The functions of a file, less those that a trait wants. The last brace pair of an item, behind its clauses, is the
-    body."""
+    """Returns the functions of a file, without those that a trait requires. The last pair of braces of an item, after its
+    clauses, is the body."""
     text = without_words(text)
     owners = [(found.start(), end_of_braces(text, found.end() - 1), *owner_of(found)) for found in HEADER.finditer(text)]
     traits = [(found.start(), end_of_braces(text, found.end() - 1))
@@ -99,8 +99,8 @@ def settle(functions, homes):
 
 
 def name_functions(functions):
-    """Gives each function the shortest name that no other has: its type and its own name, and before them modules where
-    that is needed."""
+    """Gives each function the shortest name that no other has: its type and its own name, and modules before them if
+    needed."""
     places = {one: '::' + one.place() for one in functions}
     for one in functions:
         parts, count = places[one].split('::'), len(one.label().split('::'))
@@ -115,7 +115,7 @@ def sources_of(crate):
 
 
 def changed_places(sources, stanza):
-    """Each stretch of lines that a stanza changes: its file, and from where to where it stands."""
+    """Each range of lines that a stanza changes: its file, and the first and the last position."""
     folder = os.path.join(TOP, 'crates', stanza.crate)
     texts = {file: sources.get(os.path.join(folder, file), '') for file in stanza.files()}
     for file, text in (stanza.apply(texts) or {}).items():
@@ -128,7 +128,7 @@ def changed_places(sources, stanza):
 
 
 def without_bodies(text, functions):
-    """The text of a file with nothing in the bodies of these functions of it, which nobody may call then. Bodies that are
+    """Returns the text of a file with nothing in the bodies of these functions, which nobody may then call. Bodies that are
     computed while the code is read stay."""
     for one in sorted(functions, key=lambda one: -one.body):
         if not one.is_const:

@@ -34,11 +34,11 @@ class Crate:
         self.shorts = {place: short for short, place in self.places.items()}
         self.texts = {one.short: self.sources[one.path] for one in self.functions}
         self.reading, self.seconds, self.checks = 0, 0, 0
-        # The groups that are to be tried yet, and what has to be tried again, for the first time or not.
+        # The groups that are still to be tried, and what has to be tried again, for the first time or not.
         self.left, self.hidden, self.is_again = [], [], False
 
     def is_built(self, jobs):
-        """Builds the libraries that the crate uses, unless they are built; that proves them. Says whether they are there."""
+        """Builds the libraries that the crate uses, unless they are built, which proves them. Returns whether they exist."""
         for name in crates_below(self.name):
             done = Done(os.path.join(TOP, 'crates', name), ['rt', 'lib', '--jobs', str(jobs)])
             if done.returncode != 0:
@@ -47,14 +47,15 @@ class Crate:
         return True
 
     def is_ready(self):
-        """Whether the libraries that the crate uses are built, each of which has its stamp then."""
+        """Whether the libraries that the crate uses are built: each then has its stamp."""
         return all(os.path.exists(os.path.join(TOP, 'crates', name, BUILT, 'stamp')) for name in crates_below(self.name))
 
     def tell(self, done):
         print('%s is not read as it is:\n%s' % (self.name, done.stdout[-2000:]))
 
     def named(self):
-        """The functions and laws that the lines `refused-by:` name, or all where one has no line, which may be of any."""
+        """The functions and laws that the lines `refused-by:` name, or all if a stanza has no such line, since it may be
+        about any."""
         are_told = all(one.refused_by for one in self.stanzas)
         return set().union(*(one.named() for one in self.stanzas)) if are_told else set(self.places)
 
@@ -63,12 +64,12 @@ class Crate:
         return settle(list(functions_of(path, text)), self.homes)
 
     def with_bodies(self, file, text, named):
-        """The text of a file with the bodies of these functions alone, by their short names."""
+        """The text of a file with the bodies of these functions alone, given by their short names."""
         found = self.functions_in(os.path.join(TOP, 'crates', self.name, file), text)
         return without_bodies(text, [one for one in found if self.short(one.place()) not in named])
 
     def proofs_of(self, short):
-        """The files of the proof of a function or a law, those that there are: their names, and their texts."""
+        """The files of the proof of a function or a law that exist: their names, and their texts."""
         folder = os.path.join(TOP, 'crates', self.name, 'proofs', *self.places[short].split('::')[1:])
         for name in PROOF_FILES:
             path = os.path.join(folder, name)
@@ -77,7 +78,7 @@ class Crate:
                     yield name, file.read()
 
     def lemmas_of(self, short):
-        """The files of lemmas that the proof of a function or a law names, there or in attributes of its file."""
+        """The files of lemmas that the proof of a function or a law names, in itself or in attributes of its file."""
         texts = [self.texts.get(short, ''), *(text for _, text in self.proofs_of(short))]
         named = re.compile(r'use Rattle\.%s\.proofs\.(\w+)|\bcrate::proofs::(\w+)' % self.name)
         found = {name for text in texts for names in named.findall(text) for name in names}
@@ -88,8 +89,8 @@ class Crate:
         return self.shorts.get(name, short_name(name))
 
     def bodies(self, stanza):
-        """The functions whose bodies a stanza changes, or the laws whose statements, there or in definitions, or None
-        where it changes anything else. A control changes what its wrong statement does."""
+        """The functions whose bodies a stanza changes, or the laws whose statements, in the law or in definitions; None if
+        it changes anything else. A control changes what its wrong statement changes."""
         found = set()
         if any(not file.startswith('src/') for file in stanza.files()):
             is_of_laws = all(name.startswith('law ') for name in stanza.named())
@@ -136,7 +137,7 @@ class Group:
         self.crate, self.bodies = crate, bodies
 
     def takes(self, stanza, bodies):
-        """Takes a stanza, where that does not touch what others change, also not by the texts that they write."""
+        """Takes a stanza, if it does not touch what others change, not even through the texts that they write."""
         if bodies is None or len(self.bodies) >= LARGEST_GROUP:
             return False
         if any(its is None or its & bodies and not (one.is_control and stanza.is_control)
@@ -154,7 +155,7 @@ class Group:
         return [Group(self.crate, dict(half)) for half in (stanzas[:middle], stanzas[middle:])]
 
     def texts(self):
-        """The files that the group changes, and their texts, or None where a stanza does not fit."""
+        """The files that the group changes, and their texts, or None if a stanza does not fit."""
         texts = texts_of(self.crate.name, [file for one in self.bodies for file in one.files()])
         for one in self.bodies:
             texts = one.apply(texts) if texts is not None else None
@@ -162,7 +163,7 @@ class Group:
 
     def named(self):
         """The functions and laws to check: those that the lines `refused-by:` name, and those whose bodies are changed, or
-        all where there are none."""
+        all if there are none."""
         return set().union(*(one.named() | (bodies or set()) or set(self.crate.places) for one, bodies in self.bodies.items()))
 
     def __str__(self):

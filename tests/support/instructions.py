@@ -4,7 +4,7 @@ a result of 64 bits. The opcodes are those of the standard's index of instructio
 NUMBERS = sorted({value & 0xFFFFFFFFFFFFFFFF for power in (0, 1, 5, 6, 7, 8, 15, 16, 31, 32, 33, 47, 63)
                   for value in (2 ** power, 2 ** power - 1, 2 ** power + 1, -2 ** power, ~2 ** power)}
                  | {3, 10, 0x0123456789ABCDEF, 0xFEDCBA9876543210, 0x8000000080000000, 0x7FFFFFFF80000001})
-# Where memory ends that is written, and the numbers begin.
+# Where the memory that is written ends, and the numbers begin.
 DATA = 1024
 
 COMPARISONS = ['eqz', 'eq', 'ne', 'lt_s', 'lt_u', 'gt_s', 'gt_u', 'le_s', 'le_u', 'ge_s', 'ge_u']
@@ -37,7 +37,7 @@ def opcodes():
 NOT_TAKEN = ['i32.div_s', 'i32.rem_s', 'i64.div_s', 'i64.rem_s', 'f32.load', 'f64.load', 'f32.store', 'f64.store']
 OPCODES = {name: code for name, code in opcodes().items() if name not in NOT_TAKEN}
 
-# What a function begins with that mixes numbers into the local $all.
+# The beginning of a function that mixes numbers into the local $all.
 START = '(result i64) (local $a i64) (local $b i64) (local $all i64) (local $n i64) (local $w i32)\n'
 MIX = 'local.get $all i64.const 7 i64.rotl i64.xor i64.const 0x9E3779B97F4A7C15 i64.mul local.set $all\n'
 
@@ -141,7 +141,7 @@ STRUCTURES = {
     'run_to_far': START + 'i64.const 131064 local.set $a local.get $a i64.load offset=8',
 }
 
-# Straight loops: the text inside, and what goes on while it holds.
+# Straight loops: the text inside, and the condition under which the loop goes on.
 def straight(first, inside, condition):
     return START + first + 'loop ' + inside + condition + ' br_if 0 end '
 
@@ -197,7 +197,7 @@ STRUCTURES.update({
     + 'local.get $all',
 })
 
-# Their result, their frame; the place of the last eight octets of the stack.
+# Their result, their frame; the position of the last eight octets of the stack.
 FUNCTIONS = '''(func $combined (param $w i32) (param $n i64) (result i64)
   local.get $n local.get $w i64.extend_i32_u i64.mul local.get $n i64.const 3 i64.add i64.xor)
 (func $end (result i64) i64.const 1016)
@@ -224,7 +224,7 @@ def taken():
 
 
 TAKEN = taken()
-# Accesses to memory that the module has and the call has not: the interpreter makes them, the translated C traps.
+# Accesses to memory that the module has but the call does not: the interpreter makes them, the translated C traps.
 END = DATA + 8 * len(NUMBERS)
 OUTSIDE = [(name, START + text) for name, text in {
     'past_the_data': 'i64.const %d i64.load' % (END - 7),
@@ -262,7 +262,7 @@ REFUSED = [(name, '(result i64) %s i64.const 0' % text) for name, text in {
 
 
 def module_text(functions):
-    """A module with these functions, each exported, and with the numbers behind its memory that is written."""
+    """A module with these functions, each exported, and with the numbers after its memory that is written."""
     data = ''.join('\\%02x' % octet for number in NUMBERS for octet in number.to_bytes(8, 'little'))
     return ('(module (memory i64 2)\n(global (mut i64) (i64.const %d))\n(global $other (mut i64) (i64.const 5))\n'
             '(data (i64.const %d) "%s")\n%s%s)' % (DATA, DATA, data, FUNCTIONS, ''.join(

@@ -1,4 +1,4 @@
-"""What the kit knows of crates: `rtlib`, of which its command `rt` is made."""
+"""What the kit knows about crates: `rtlib`, of which its command `rt` is made."""
 
 import functools
 import os

@@ -1,7 +1,7 @@
-"""Copies of the crates, in which the prover tries wrong bodies over what it has read of each crate.
+"""Copies of the crates, in which the prover tries wrong bodies on top of what it has read of each crate.
 
-Only the functions that are asked for have their bodies and their proofs there, so that no time goes into the others: a
-function is proved by the contracts of those that it calls, whatever their bodies are."""
+Only the functions that are requested have their bodies and their proofs there, so that no time goes into the others: a
+function is proved from the contracts of those that it calls, whatever their bodies are."""
 
 import os
 import re
@@ -15,7 +15,7 @@ from support.stanzas import texts_of
 
 # A definition that is never admitted.
 HOLE = '\nhole : Type 0\nhole = ?\n'
-# The proof of a function that is not asked for.
+# The proof of a function that is not requested.
 LEFT_OUT = '''use Rattle.{place}.Statement.{{statement}}
 {lemmas}
 left_out : (A : Type 2) → A
@@ -51,7 +51,7 @@ def crates_below(name):
 
 
 def lay(folder, texts):
-    """Makes the files of a function's proof in a folder what these texts are, and takes the others away."""
+    """Makes the files of a function's proof in a folder equal to these texts, and removes the others."""
     os.makedirs(folder, exist_ok=True)
     for name in PROOF_FILES:
         path = os.path.join(folder, name)
@@ -63,13 +63,13 @@ def lay(folder, texts):
 
 
 def copy(source, target, by):
-    """Copies a folder that is there, unless the copy is there."""
+    """Copies a folder that exists, unless the copy exists."""
     if os.path.isdir(source) and not os.path.isdir(target):
         shutil.copytree(source, target, copy_function=by)
 
 
 def put_back(kept, copied):
-    """Makes a copy of a folder below it like the folder again: takes out what was added, and brings what was changed."""
+    """Makes a copy of a folder equal to the folder again: removes what was added, and restores what was changed."""
     for at, _, files in os.walk(copied):
         of = os.path.join(kept, os.path.relpath(at, copied))
         for name in files:
@@ -81,8 +81,8 @@ def put_back(kept, copied):
 
 
 class Lane:
-    """A copy of the crates, in which one group is tried after the other. What the prover read of each crate as it is stands
-    in `kept`, for all lanes."""
+    """A copy of the crates, in which one group is tried after another. What the prover read of each crate in its original
+    form is in `kept`, for all lanes."""
 
     def __init__(self, room, kept, guard, said):
         self.room, self.kept, self.guard, self.said = room, kept, guard, said
@@ -101,7 +101,7 @@ class Lane:
         return os.path.join(self.folder(crate), 'proofs', *place.split('::')[1:])
 
     def bring(self, crate):
-        """Brings the libraries that a crate uses, which are only read, and leaves bodies and proofs out."""
+        """Copies the libraries that a crate uses, which are only read, and leaves bodies and proofs out."""
         for name in crates_below(crate.name):
             copy(os.path.join(TOP, 'crates', name, BUILT), os.path.join(self.room, 'crates', name, BUILT), link_or_copy)
         if crate.name not in self.begun:
@@ -119,7 +119,7 @@ class Lane:
                 out.write(text)
 
     def leave_out(self, crate, short):
-        """Leaves a hole instead of the proof of a function. It names the lemmas of that, so that they are read."""
+        """Leaves a hole instead of the proof of a function. It names the lemmas of that proof, so that they are read."""
         place = crate.places[short]
         lemmas = ''.join('use Rattle.%s.proofs.%s\n' % (crate.name, name) for name in sorted(crate.lemmas_of(short)))
         name = '%s.proofs.%s' % (crate.name, '.'.join(place.split('::')[1:]))
@@ -127,9 +127,10 @@ class Lane:
         lay(self.proof_folder(crate, place), {PROOF: text})
 
     def bring_back(self, crate, short):
-        """Brings back the proof of a function or a law. A function has a hole in its answers: the prover tries the same of it,
-        but does not run once more for the answers that it would offer. So no function is proved, and a right one is refused
-        by no clause. A law has none: which of its goals are left the prover says only with the answers that it offers."""
+        """Restores the proof of a function or a law. A function has a hole in its answers: the prover then tries the same
+        things, but does not run once more for the answers that it would offer. So no function is proved, and a right one is
+        refused by no clause. A law has none: the prover says which of its goals remain only with the answers that it
+        offers."""
         texts = dict(crate.proofs_of(short))
         if PROOF not in texts and not short.startswith('law '):
             texts[ANSWERS] = texts.get(ANSWERS, '') + HOLE
@@ -153,7 +154,7 @@ class Lane:
         return True
 
     def check(self, group):
-        """What the prover says of a group, and its status, or None where a stanza does not fit."""
+        """What the prover says about a group, and its status, or None if a stanza does not fit."""
         crate, texts = group.crate, group.texts()
         if texts is None:
             return None

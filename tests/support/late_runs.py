@@ -1,5 +1,6 @@
-"""Runs of the proved ends on a bus that loses, repeats and delays frames, as docs/PROTOCOL.md has it, with a CPU that waits for an
-answer only until a deadline: the log has answers that come late and twice. Faults can be planted in either end."""
+"""Runs of the proved ends on a bus that loses, repeats and delays frames, as docs/PROTOCOL.md describes it, with a CPU that
+waits for an answer only until a deadline: the log has answers that come late and twice. Faults can be planted in either
+end."""
 
 import random
 
@@ -8,7 +9,7 @@ from fio2070 import ConfigurationItem, encode
 
 ALL = 2 ** 64 - 1
 ABSENT = [ConfigurationItem(64, False, 1, 1)]
-# Commands beside polls. 56 has no answer.
+# Commands other than polls. 56 has no answer.
 OTHERS = [encode.status(0), encode.raw_inputs(), encode.filtered_inputs(), encode.identify(), encode.watchdog(50),
           encode.configure_inputs(ABSENT), bytes([56])]
 
@@ -27,14 +28,15 @@ class Bus:
             self.frames.append((self.last, octets))
 
     def come(self, now):
-        """The frames that come now."""
+        """The frames that arrive now."""
         came = [octets for at, octets in self.frames if at <= now]
         self.frames = [frame for frame in self.frames if frame[0] > now]
         return came
 
 
 class Cpu:
-    """A CPU with one command under way. A strict one takes only what answers that command, any other each block that it can."""
+    """A CPU with one command under way. A strict one takes only what answers that command; any other takes each block that
+    it can."""
 
     def __init__(self, dice, is_strict, fault):
         self.dice, self.is_strict, self.fault = dice, is_strict, fault

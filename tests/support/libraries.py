@@ -1,10 +1,10 @@
 #!/usr/bin/env python3
 """Gives a copy of the sources the libraries below crates, as `rt ci` builds them here: `libraries.py COPY CRATE.. --until FILE`.
 
-Nothing has to prove them once more then; what they hold of proofs is their statements. Each is taken as soon as it is there,
-the lowest first, until all are, or FILE says that `rt ci` has ended; what lacks then, the copy proves for itself. `rt ci` leaves
-them without the stamp by which `rt` knows a library that is up to date, since others do not fit those above. In the copy there
-are no others, so it is written, last of all."""
+Then nothing has to prove them once more; what they contain of proofs is their statements. Each is taken as soon as it exists,
+the lowest first, until all do, or FILE says that `rt ci` has ended; what is missing then, the copy proves for itself. `rt ci`
+leaves them without the stamp by which `rt` knows a library that is up to date, since others do not fit those above. In the copy
+there are no others, so the stamp is written, last of all."""
 
 import argparse
 import os
@@ -21,8 +21,8 @@ from support.kit import crates_of
 
 
 def files_of(crate):
-    """The files of a library that `rt ci` has built here, or takes from an earlier run just now, with their sizes: none
-    where it is another's."""
+    """The files of a library that `rt ci` has built here, or is just taking from an earlier run, with their sizes: none if
+    it is another's."""
     folder = os.path.join(TOP, 'crates', crate.name, 'out', 'rlib')
     try:
         found = {path: os.path.getsize(path) for at, _, names in os.walk(folder)

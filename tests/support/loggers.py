@@ -1,5 +1,5 @@
-"""Logs as other tools write them: each function writes frames in one form. A frame is its time in seconds, its
-direction, `>` from the CPU or `<` to it, and its octets."""
+"""Logs as other tools write them: each function writes frames in one form. A frame is its time in seconds, its direction,
+`>` from the CPU or `<` to it, and its octets."""
 
 import csv
 import io
@@ -16,7 +16,7 @@ def pairs(octets, form='%02X', between=' '):
 
 
 def column(octets):
-    """The characters of octets, a dot for each that has none."""
+    """The characters of octets, with a dot for each octet that has none."""
     return ''.join(chr(octet) if 0x20 <= octet < 0x7f else '.' for octet in octets)
 
 
@@ -30,7 +30,7 @@ def words(sent, heard):
 
 
 def each_line(line):
-    """A form with one line a frame."""
+    """A form with one line for each frame."""
     def log(frames):
         return ''.join(line(*frame) + '\n' for frame in frames)
     return log

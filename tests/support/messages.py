@@ -9,22 +9,22 @@ with open(os.path.join(TOP, 'tools', 'messages.json'), encoding='utf-8') as _tab
     MESSAGES = json.load(_table)
 
 KNOWN = [one['type'] for one in MESSAGES]
-# The octets of an item or an entry, of which a count says how many there are.
+# The octets of an item or an entry; a count says how many of these there are.
 ELEMENT = 3
 _COUNTED = ('items', 'entries')
-# How a field stands in a first line.
+# How a field appears in a first line.
 _FORMS = {'bits': ':x', 'octets': ':o', 'body': ':o'}
 
 
 def octets_of(part, count=0):
-    """How many octets a part has, with so many elements; None where the length of the frame says it."""
+    """How many octets a part has, with this many elements; None if the length of the frame says it."""
     if part.get('form') in _COUNTED:
         return 1 + ELEMENT * count
     return None if part.get('form') == 'body' else part.get('octets', 0)
 
 
 def length_of(message, count=0):
-    """How many octets a message has behind its type, with so many elements; None for a body."""
+    """How many octets a message has after its type, with this many elements; None for a body."""
     sizes = [octets_of(part, count) for part in message['parts']]
     return None if None in sizes else sum(sizes)
 

@@ -1,4 +1,4 @@
-"""The texts of the repository, as the checks of texts read them, and its tools, as modules."""
+"""The texts of the repository, in the form in which the checks of texts read them, and its tools, as modules."""
 
 import functools
 import glob

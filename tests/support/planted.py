@@ -1,8 +1,8 @@
-"""The planted faults of tests/support/c/planted that tests/conformance.py names, and what it wants of each."""
+"""The planted faults of tests/support/c/planted that tests/conformance.py names, and what it requires of each."""
 
 import re
 
-# Planted faults, a script of which simulate runs too.
+# Planted faults for which simulate runs a script too.
 REPLAYED = [
     ('module', 'E is not set'), ('module', 'F is not set'), ('module', '1 comes after 255'),
     ('module', 'a repeat has a new stamp'), ('module', 'ignored inputs are reported'),
@@ -44,16 +44,16 @@ NAMED = {
     'it hangs at command 59': 'no-answer', 'the CPU ends at an empty frame': 'unreadable',
     'the CPU hangs at 256 items': 'gap-mark'}
 
-# The rule of a frame that is refused for its length.
+# The rule for a frame that is refused for its length.
 OF_LENGTH = {'module': 'frame-length', 'cpu': 'block-length'}
 
-# As many events as a run over a wire has: within them each fault is found.
+# The number of events of a run over a wire: within it each fault is found.
 EVENTS = 20000
 
 # Other seeds, and how many of 1,000 faults each may miss.
 SEEDS, MISSED = (2, 3, 4), 10
 
-# The most events of a script that was shrunk, but for faults that need long runs.
+# The most events of a script that was shrunk, except for faults that need long runs.
 SHORT = 60
 
 # Faults that are found over a wire in a module with a clock of its own, within 40,000 events.
@@ -62,18 +62,18 @@ BY_BOUNDS = ['E is not set', 'a repeat has a new stamp', 'state of an entry is t
              'stamp of a block has 16 bits', 'answer 183 has a stamp of 0', 'ignored inputs are reported',
              'load happens at once', 'first of two loads holds', 'input 63 is not sampled']
 
-# Faults that come again after their rule was passed over.
+# Faults that recur after their rule was passed over.
 LASTING = [('module', 'a status drops waiting entries'), ('module', 'the 1,025th entry is dropped'),
            ('module', 'entries carry the high half of the counter; filters are 0 at the start'),
            ('module', 'filtered states are 0 at the start'),
            ('cpu', 'gap marks come with G; states are turned')]
 
-# Modules over a wire that end or hang: the fault, the last line that they were asked, and what is said of it.
+# Modules over a wire that end or hang: the fault, the last line that they were asked, and what is said about it.
 FAILING = [('it ends at 255 items', 'frame 33ff', 'it ended, by signal 11'),
            ('it hangs at command 59', 'frame 3b', 'it wrote no line in time, and was killed'),
            ('it ends at the 100th repeat', 'frame 36', 'it ended, by signal 11')]
 
-# Passes the lines of a module on, and sets another E in each 800th block.
+# Passes the lines of a module on, and flips E in every 800th block.
 NOW_AND_THEN = """import sys
 blocks = 0
 for line in sys.stdin:

@@ -1,5 +1,5 @@
-/* Stands between a program and the C library, and refuses one growth of memory: the one with the number
-   REFUSED_GROWTH, from 1. It then writes `refused N` to standard error, N being the octets that were asked for. */
+/* Sits between a program and libc, and refuses one growth of memory: the one with the number
+   REFUSED_GROWTH, from 1. It then writes `refused N` to standard error, N being the octets that were requested. */
 
 #include <errno.h>
 #include <stdlib.h>

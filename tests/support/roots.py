@@ -1,5 +1,5 @@
-"""New Debian systems in folders, by debootstrap: what a user has who has neither the kit nor the repository. FIO2070_ROOT names a
-folder with one that was made before, with gcc, make and python3 alone."""
+"""New Debian systems in folders, made by debootstrap: what a user has who has neither the kit nor the repository.
+FIO2070_ROOT names a folder with one that was made before, with only gcc, make and python3."""
 
 import os
 import shutil
@@ -9,7 +9,7 @@ import time
 
 MIRROR = 'http://deb.debian.org/debian'
 RELEASE = 'bookworm'
-# Of a whole system, and of what is installed into it later.
+# Packages of a whole system, and those that are installed into it later.
 MOST_SECONDS = 900
 USUAL = ['gcc', 'libc6-dev', 'make', 'python3']
 # Without the caller's settings, and without a network.
@@ -17,7 +17,7 @@ CLEAN = {'PATH': '/usr/local/bin:/usr/sbin:/usr/bin:/sbin:/bin', 'HOME': '/root'
 
 
 def missing():
-    """Why no system can be made here, else nothing."""
+    """Why no system can be made here, otherwise nothing."""
     if os.geteuid() != 0:
         return 'this needs root, for chroot'
     if not shutil.which('debootstrap') and not os.environ.get('FIO2070_ROOT'):
@@ -28,7 +28,7 @@ def missing():
 
 
 def succeeds(words, seconds):
-    """Whether a command ends well in time."""
+    """Whether a command succeeds in time."""
     try:
         return subprocess.run(words, env={**CLEAN, 'DEBIAN_FRONTEND': 'noninteractive'}, capture_output=True, timeout=seconds,
                               check=False).returncode == 0
@@ -54,14 +54,14 @@ def install(root, *packages):
 
 
 def processor_seconds():
-    """What the processes that were started here took so far."""
+    """The time that the processes started here have taken so far."""
     times = os.times()
     return times.children_user + times.children_system
 
 
 def run(root, script, seconds, folder='/'):
-    """Runs a script of sh in a folder of a system, without a network. Returns its status, what it writes, and its seconds: those of
-    the clock and those of processors."""
+    """Runs a script of sh in a folder of a system, without a network. Returns its status, what it writes, and its seconds:
+    elapsed and of processors."""
     words = ['unshare', '--net', '--mount', '--pid', '--fork', '--kill-child', 'chroot', root, 'sh', '-c',
              'mount -t proc proc /proc; cd "$1" || exit 1; eval "$2"', 'sh', folder, script]
     begun, used = time.monotonic(), processor_seconds()

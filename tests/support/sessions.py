@@ -12,7 +12,7 @@ SESSION = [bytes.fromhex(digits) for digits in [
 
 
 def timed(frames, step=0.01, octet=0.0001):
-    """The frames with times and directions: each begins a step after the one before it has ended."""
+    """The frames with times and directions: each begins one step after the one before has ended."""
     now, found = 0.0, []
     for octets in frames:
         found.append((round(now, 3), '<' if octets[0] >= 128 else '>', octets))
@@ -33,5 +33,5 @@ def spells(octets):
 
 
 def random_session(seed, count):
-    """Random frames that spell messages, and are long enough to be known as such in any log."""
+    """Random frames that spell messages, and are long enough to be recognised as such in any log."""
     return [octets for octets in random_frames(seed, count) if len(octets) > 1 and spells(octets)]

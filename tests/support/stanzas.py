@@ -1,14 +1,14 @@
-"""Wrong bodies and wrong statements, as they are written: in `wrong-bodies/CRATE.edits`, in stanzas with a blank line
-between them, and in `crates/CRATE/must-fail/*.edit`, one a file.
+"""Wrong bodies (functions with a planted bug) and wrong statements, as they are written: in `wrong-bodies/CRATE.edits`, in
+stanzas with a blank line between them, and in `crates/CRATE/must-fail/*.edit`, one in each file.
 
     # plain name
     file: src/poller.rt
-    old: a text that stands once in that file
-    new: the text that takes its place
+    old: a text that occurs once in that file
+    new: the text that replaces it
     refused-by: Poller::hear_block, taken
 
-Lines `old:` or `new:` that follow one another are one text of several lines. Lines `control:` have the new text of the
-right statement beside a wrong one."""
+Successive lines `old:` or `new:` are one text of several lines. Lines `control:` have the new text of the right statement
+that goes with a wrong one."""
 
 import glob
 import os
@@ -46,12 +46,12 @@ class Stanza:
         return {part.split(', ')[0] for part in (self.refused_by or '').split('; ')} - {''}
 
     def control(self):
-        """The right statement beside a wrong one, as a stanza of its own, or None where there is none."""
+        """The right statement that goes with a wrong one, as a stanza of its own, or None if there is none."""
         has_one = any(control is not None for _, _, _, control in self.changes)
         return Stanza(self.crate, self.path, self.name, self.lines, True) if has_one else None
 
     def apply(self, texts):
-        """The texts of files with each change made, by their paths below the crate, or None where one does not fit."""
+        """The texts of files with each change made, by their paths below the crate, or None if one does not fit."""
         texts = dict(texts)
         for file, old, new, control in self.changes:
             if new is None or file not in texts or texts[file].count(old) != 1:
@@ -61,7 +61,7 @@ class Stanza:
 
 
 def texts_of(crate, files):
-    """What files of a crate hold, by their paths below it."""
+    """The contents of the files of a crate, by their paths below it."""
     texts = {}
     for name in files:
         path = os.path.join(TOP, 'crates', crate, name)
@@ -86,7 +86,7 @@ def stanzas_of(crate):
 
 
 def crates_with_stanzas():
-    """The crates that have stanzas, as `crates.txt` orders them."""
+    """The crates that have stanzas, in the order of `crates.txt`."""
     with open(os.path.join(TOP, 'crates.txt'), encoding='utf-8') as file:
         names = [line.split(':')[0].split()[0] for line in file if line.strip() and not line.startswith('#')]
     return [name for name in names if os.path.exists(os.path.join(TOP, 'wrong-bodies', name + '.edits'))

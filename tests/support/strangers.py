@@ -1,6 +1,6 @@
-r"""Logs in forms of many tools, written by hand: a name, the text, and the frames that are in it, each behind the direction
-that the log says, `-` where it says none. All have a poll for block 5, and a block 5 with an entry, which has printable
-octets, or one without."""
+r"""Logs in forms of many tools, written by hand: a name, the text, and the frames that are in it, each after the direction
+that the log says, `-` if it says none. All have a poll for block 5, and a block 5 with an entry, which has printable octets,
+or one without."""
 
 POLL, EMPTY, BLOCK = '3605', 'b605000000000001', 'b605018c4121000000416a'
 BOTH, NONE = ['>' + POLL, '<' + BLOCK], ['-' + POLL, '-' + BLOCK]
@@ -97,7 +97,7 @@ READ = [
     ('\\u', 'TX "6\\u0005"\n', ['>' + POLL]),
 ]
 
-# What is not read, or not all of it: nothing that is not there is.
+# What is not read, or not all of it: nothing is read that is not in the log.
 PASSED = [
     ('question and answer on one line', '36 05 -> B3 00\n36 05 -> 34\n', []),
     ('a packet that is cut', '\t0x0000:  4500 0024 0001 4000 4011 3cc6 7f00 0001\n\t0x0010:  7f00 0002 0816 0817 0010 0000 b605\n', []),

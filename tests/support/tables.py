@@ -1,4 +1,4 @@
-"""Tables of inputs of the program, and what it is to write for each."""
+"""Tables of inputs of the program, and what it should write for each."""
 
 import functools
 import os
@@ -10,22 +10,22 @@ TOP = os.path.dirname(os.path.dirname(os.path.dirname(os.path.realpath(__file__)
 # The most octets of an input.
 MOST_OCTETS = 1_048_576
 
-# The most entries that may wait in a module, by the limits that a script gives it.
+# The most entries that may wait in a module with the limits that a script gives it.
 MOST_WAITING = 8_192
 
 
 def lines_that_fit(line, above=''):
-    """How many such lines an input may have below the text above."""
+    """How many such lines an input may have after this text."""
     return (MOST_OCTETS - len(above)) // len(line)
 
 
-# Whether the Rattle kit is here. Without it a program of dist/ takes the place of the proved one, without `simulate`.
+# Whether the Rattle kit is installed. Without it a program of dist/ takes the place of the proved one, without `simulate`.
 HAS_KIT = shutil.which('rt') is not None
 
 
 @functools.cache
 def program():
-    """The path of the program, which the script `fio2070` proves and builds first, or without the kit compiles."""
+    """The path of the program, which the script `fio2070` proves and builds first, or compiles if there is no kit."""
     subprocess.run([os.path.join(TOP, 'fio2070'), '--version'], stdout=subprocess.DEVNULL, check=True)
     return os.path.join(TOP, *(['crates', 'fio2070', 'out', 'fio2070'] if HAS_KIT else ['out', 'fio2070']))
 
@@ -44,7 +44,7 @@ def output_of(tool, text):
 
 
 def in_short(text):
-    """A text as the name of a row has it: its first characters."""
+    """A text in the form that the name of a row has: its first characters."""
     return repr(text if len(text) <= 70 else text[:70] + '..')
 
 

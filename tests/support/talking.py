@@ -1,4 +1,4 @@
-"""The proved module and the proved poller, which talk: `talking.py` writes what the CPU's end sends and hears."""
+"""The proved module and the proved poller, talking to each other: `talking.py` writes what the CPU's end sends and hears."""
 
 import os
 import sys
@@ -8,11 +8,11 @@ sys.path.insert(0, os.path.dirname(os.path.dirname(os.path.realpath(__file__))))
 from support.frames import frame_check
 
 ALL_ONES = 2 ** 64 - 1
-LOSSES = 5      # every so many answers one is lost
+LOSSES = 5      # one answer in this many is lost
 
 
 def rounds(count):
-    """What is sent and heard in so many rounds, after a configuration of input 0."""
+    """What is sent and heard in this many rounds, after a configuration of input 0."""
     import fio2070
     from fio2070 import ConfigurationItem, encode
     module, poller = fio2070.Module(), fio2070.Poller(255)

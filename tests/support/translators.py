@@ -1,4 +1,4 @@
-"""Wrong translators for tests/portable.py: one rule of tools/portable is changed at a time, and a comparison has to see
+"""Wrong translators for tests/portable.py: one rule of tools/portable is changed at a time, and a comparison has to notice
 it. The usual ones are one of each family of instructions."""
 
 import os
@@ -7,7 +7,7 @@ from typing import NamedTuple
 
 
 class Wrong(NamedTuple):
-    """A text of a file, and a wrong one in its place."""
+    """A text of a file, and a wrong one to replace it."""
     file: str
     right: str
     wrong: str
@@ -58,7 +58,7 @@ WRONG = [
     ('field of a result', Wrong(CALLS, "header->stamp = get32(into + 4);", "header->stamp = get32(into + 3);", True)),
 ]
 
-# Those that tests/portable-instructions.py finds: the library never comes to the difference.
+# Those that tests/portable-instructions.py finds: the library never runs into the difference.
 UNSEEN = [
     ('less, signed', Wrong(RULES, "'(SIGNED{n}({0}) < SIGNED{n}({1}))'", "'({0} < {1})'")),
     ('narrowing', Wrong(RULES, "'(uint32_t){0}'", "'(uint16_t){0}'")),

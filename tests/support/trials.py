@@ -1,5 +1,5 @@
-"""What a checkout knows of trials of wrong bodies: for each crate of which all were refused as they say, a checksum of what
-that rests on. `wrong-bodies/try` writes it."""
+"""What a checkout knows about trials of wrong bodies: for each crate of which all were refused as they say, a checksum of
+what that rests on. `wrong-bodies/try` writes it."""
 
 import glob
 import hashlib
@@ -24,7 +24,7 @@ def files_of(crate):
 
 
 def checksum(crate):
-    """Returns the checksum of what a trial of a crate rests on, the kit too."""
+    """Returns the checksum of what a trial of a crate rests on, including the kit."""
     kit = subprocess.run(['rt', '--version'], stdout=subprocess.PIPE, check=True).stdout
     found = hashlib.sha256(kit)
     for path in files_of(crate):
@@ -42,7 +42,7 @@ def known(path):
 
 
 def remember(path, checksums):
-    """Writes checksums into the file, beside those of other crates."""
+    """Writes checksums into the file, together with those of other crates."""
     os.makedirs(os.path.dirname(path), exist_ok=True)
     lines = ['%s %s\n' % row for row in sorted({**known(path), **checksums}.items())]
     with open(path, 'w', encoding='utf-8') as file:

@@ -30,7 +30,7 @@ def over_udp(octets):
 
 
 def in_sdlc(octets):
-    """A frame with an address and a control octet in front and two octets of frame check behind."""
+    """A frame preceded by an address and a control octet and followed by two octets of frame check."""
     framed = b'\x14\x83' + octets
     return framed + frame_check(framed)
 
@@ -56,7 +56,7 @@ BARE, SDLC = WAYS['user link type by preference'], WAYS['SDLC by preference']
 
 
 def write_capture(path, link_type, frames, missing=0):
-    """A pcap file with frames a millisecond apart; so many octets at the end of each were not captured."""
+    """A pcap file with frames a millisecond apart; this many octets at the end of each were not captured."""
     with open(path, 'wb') as capture:
         capture.write(struct.pack('<IHHiIII', 0xa1b2c3d4, 2, 4, 0, 0, 262_144, link_type))
         for place, octets in enumerate(frames):
@@ -72,7 +72,7 @@ class Tshark:
         os.makedirs(os.path.join(folder, 'configuration'), exist_ok=True)
 
     def run(self, capture, words):
-        """What tshark writes of a capture. It reports faults of a dissector on standard error alone."""
+        """What tshark writes for a capture. It reports faults of a dissector only on standard error."""
         home = os.path.join(self.folder, 'configuration')
         done = subprocess.run(['tshark', '-n', '-X', 'lua_script:' + self.dissector, '-r', capture] + words,
                               stdout=subprocess.PIPE, stderr=subprocess.PIPE, timeout=600,

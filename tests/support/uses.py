@@ -13,8 +13,8 @@ KINDS = {'abbrev', 'unfoldable', 'pub', 'record', 'data', 'eta'}
 
 
 def items_of(text):
-    """The items of a file of definitions or lemmas, each as its name and where it is: from a line that does not begin
-    with a blank to the next item."""
+    """The items of a file of definitions or lemmas, each as its name and its position: from a line that does not begin with
+    a blank to the next item."""
     name, start, place = None, 0, 0
     for line in text.splitlines(keepends=True):
         if line.strip() and not line[0].isspace():
@@ -50,7 +50,7 @@ class Uses:
                 self.used.setdefault((module, name), set()).update(self.named(text[start:end], scope))
 
     def scope(self, text):
-        """The items that a file imports, by their names: all of a module where it imports that, by another name too."""
+        """The items that a file imports, by their names: all of a module if it imports the module, also by another name."""
         found = {}
         for module, names in re.findall(r'^ *(?:pub )?(?:ghost )?use Rattle\.%s\.([\w.]+?)(?:\.\{([^}]*)\}| as \w+)?(?:;|$)'
                                         % self.crate, text, re.M):
@@ -62,7 +62,7 @@ class Uses:
         return found
 
     def found_in(self, module, name):
-        """The item that a module has of this name, or passes on, or None."""
+        """The item of this name that a module has or re-exports, or None."""
         if name in self.names.get(module, ()):
             return module, name
         passed = '\n'.join(re.findall(r'^pub use .*$', self.texts.get(module, ''), re.M))
@@ -70,7 +70,7 @@ class Uses:
 
     @staticmethod
     def named(text, scope):
-        """The items that a text names, and the lemmas that its attributes do."""
+        """The items that a text names, and the lemmas that its attributes name."""
         lemmas = re.findall(r'\bcrate::(proofs(?:::\w+)*)::(\w+)', text)
         return ({scope[word] for word in WORDS.findall(text) if word in scope}
                 | {(module.replace('::', '.'), name) for module, name in lemmas})
@@ -114,7 +114,7 @@ class Uses:
         return found
 
     def changed(self, stanza):
-        """The definitions that a stanza changes: none where it changes functions too."""
+        """The definitions that a stanza changes: none if it changes functions too."""
         found = set()
         for file, old, _, _ in stanza.changes:
             module = file.removesuffix('.antt').replace('/', '.')

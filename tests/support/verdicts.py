@@ -1,4 +1,4 @@
-"""What the prover said of functions: which it refuses, and by which clauses."""
+"""What the prover said about functions: which it refuses, and by which clauses."""
 
 import re
 
@@ -9,7 +9,7 @@ VERDICT = re.compile(r'fn (\S+): (.*)')
 LOST_NAME = re.compile(r'is not in scope|has no field|is no name|has no `|operand is missing|expected the end')
 
 
-# The goals that are no clause of the function itself, by how their names go, and what the lines say of them.
+# The goals that are no clause of the function itself, by the form of their names, and what the lines say about them.
 OTHERS = [(re.compile(form), words) for form, words in (
     (r'invariant_of-', 'invariant of the type'),
     (r'overflow_', 'no overflow'),
@@ -31,7 +31,7 @@ def clause_of(goal):
 
 
 def short_name(name):
-    """The name of a function that the prover writes in whole: without modules, and with `law` where it is one."""
+    """Returns the short form of a whole name that the prover writes: without modules, and with `law` if it is one."""
     parts = name.split('::')
     if 'laws' in parts[:-1]:
         return 'law ' + parts[-1]
@@ -39,8 +39,8 @@ def short_name(name):
 
 
 def goals_in(said):
-    """The goals that an error in a proof names: the one that it is of, and those that depend on what it refuses. Where a
-    proof only names what a change took away, or is left out, no goal was tried."""
+    """The goals that an error in a proof names: the one in which it is, and those that depend on what it refuses. If a proof
+    only names what a change removed, or is left out, no goal was tried."""
     if LOST_NAME.search(said) or 'depends on `left_out`' in said:
         return []
     left = re.search(r'(?:was|were) not checked: (.*)', said)
@@ -50,8 +50,8 @@ def goals_in(said):
 
 
 def refusals(said):
-    """The clauses by which each function is refused, by its whole name: none where no clause was tried. A function that
-    is refused since it calls one that is not proved is left out."""
+    """The clauses by which each function is refused, by its whole name: none if no clause was tried. A function that is
+    refused only because it calls one that is not proved is left out."""
     refused, noted, in_proofs = {}, [], {}
     for line in said.splitlines():
         note, proof, verdict = NOTE.match(line), IN_PROOF.match(line), VERDICT.match(line)
@@ -72,8 +72,8 @@ def refusals(said):
 
 
 def left_of_laws(said):
-    """The goals of laws that are left to prove: none where a lemma only names what a change took away. Where an attribute
-    names the lemma that proves a goal, and that is refused, the prover tries nothing else, and says no more of the goal."""
+    """The goals of laws that remain to be proved: none if a lemma only names what a change removed. If an attribute names
+    the lemma that proves a goal, and that is refused, the prover tries nothing else, and says no more about the goal."""
     left = {}
     for goal, law in LEFT.findall(said):
         left.setdefault(law.replace('/', '::'), []).append(goal)
@@ -86,7 +86,7 @@ def proved(said):
 
 
 def unread(said):
-    """Why a check tried no contract: the line by which the prover does not read what was changed, or None."""
+    """Why a check tried no contract: the line that says why the prover cannot read what was changed, or None."""
     for line in said.splitlines():
         if re.match(r'(?:\./)?(?:src|specs)/\S+:\d+:\d+: error', line) or line.startswith(('error', 'rattle: error')):
             return 'it is not read: ' + line[:200]

@@ -1,5 +1,5 @@
-"""Wrong dissectors: the name of each, a text that stands once in `fio2070.lua`, what stands there instead, and the
-comparison of `tests/wireshark.py` that catches it."""
+"""Wrong dissectors: the name of each, a text that occurs once in `fio2070.lua`, what replaces it, and the comparison of
+`tests/wireshark.py` that catches it."""
 
 WRONG_DISSECTORS = (
     ('numbers with the least octet first',

@@ -4,7 +4,7 @@
 
 #include <string.h>
 
-/* So many scripts at the begin of a run have at most so many random events, so that all edges come early. */
+/* The first EARLY scripts of a run have at most SHORT random events, so that all edges come early. */
 enum { EARLY = 32, SHORT = 1200 };
 
 /* In turn two scripts of edges and a random one, until there was each edge; later every 16th is an edge. A mix of the
@@ -49,7 +49,7 @@ static void next_script(struct run *run) {
     conformance_make_script(run, &run->script, &run->this_origin, &run->state);
 }
 
-/* Runs the script, and counts what it exercises. Returns the event that shows a difference, 0 where none does. */
+/* Runs the script, and counts what it exercises. Returns the event that shows a difference, 0 if none does. */
 static size_t run_script(struct run *run) {
     static struct difference ignored;
     struct ends none;

@@ -1,4 +1,4 @@
-/* Holds another maker's module, or another maker's CPU's end, against the proved one: both are given the
+/* Compares another maker's module, or another maker's CPU's end, with the proved one: both get the
  * same random scripts, and every octet of every answer is compared, or every poll, every item of the
  * record and the block number. A difference is shrunk to a short script, and the run goes on to others.
  *
@@ -20,7 +20,7 @@ extern "C" {
 
 /* ---- What is under test ---- */
 
-/* What `exchange`, `poll` and `hear` return where the end under test can't be asked any more: the run ends. */
+/* What `exchange`, `poll` and `hear` return if the end under test can't be asked any more: the run ends. */
 #define CONFORMANCE_FAILED ((size_t)-1)
 
 /* A module. */
@@ -31,9 +31,9 @@ struct maker {
     void (*reset)(void *context);                 /* as after power on */
     void (*step)(void *context, uint64_t inputs); /* sets the 64 inputs, and steps one millisecond */
     void (*line_sync)(void *context);             /* LINESYNC goes from 0 to 1 */
-    /* Gives it a frame. Returns how many octets the answer has, 0 where there is none. */
+    /* Passes it a frame. Returns how many octets the answer has, 0 if there is none. */
     size_t (*exchange)(void *context, const uint8_t *octets, size_t length, uint8_t answer[FIO2070_LONGEST_FRAME]);
-    /* What no answer shows; NULL where it is not to be compared. */
+    /* What no answer shows; NULL if it is not compared. */
     void (*outputs)(void *context, uint8_t levels[8], uint8_t controls[8]);
     uint8_t (*watchdog_ms)(void *context); /* 0 before the first command 58 */
 };
@@ -42,9 +42,9 @@ struct maker {
 struct cpu_maker {
     void *context;
     void (*reset)(void *context, uint8_t number); /* as at its start; its first poll asks for this block */
-    /* Its next poll, also where the poll before had no answer. Returns how many octets it has. */
+    /* Its next poll, also if the poll before had no answer. Returns how many octets it has. */
     size_t (*poll)(void *context, uint8_t frame[FIO2070_LONGEST_FRAME]);
-    /* Gives it a frame. Returns how many items this adds to its record, and writes them to `items`. */
+    /* Passes it a frame. Returns how many items this adds to its record, and writes them to `items`. */
     size_t (*hear)(void *context, const uint8_t *octets, size_t length,
                    struct fio2070_record_item items[FIO2070_MOST_RECORD_ITEMS]);
     uint8_t (*number)(void *context); /* of the block that its next poll asks for */
@@ -74,7 +74,7 @@ struct cpu_mix {
     unsigned repeats;      /* of a frame, in either direction */
     unsigned others;       /* commands, whose answers the CPU's end hears too */
     unsigned hostile;      /* octets that mostly spell no answer, and blocks with other numbers */
-    unsigned overflows;    /* so many scans before a poll that entries are pushed out */
+    unsigned overflows;    /* enough scans before a poll to push entries out */
     unsigned orderly;      /* scripts in 1,000 with losses alone, as `fio2070 check` supposes */
 };
 
@@ -83,14 +83,14 @@ extern const struct mix CONFORMANCE_MIX;
 extern const struct cpu_mix CONFORMANCE_CPU_MIX;
 
 /* Runs scripts of this many events in all, up to the first difference. Returns how many events the shortest
- * script has that shows it, and writes it to `out`; 0 where there is none; CONFORMANCE_FAILED where a call
+ * script has that shows it, and writes it to `out`; 0 if there is none; CONFORMANCE_FAILED if a call
  * returned that. */
 size_t conformance_run(const struct maker *maker, const struct mix *mix, uint64_t seed, unsigned long events,
                        FILE *out);
 size_t conformance_cpu_run(const struct cpu_maker *maker, const struct cpu_mix *mix, uint64_t seed,
                            unsigned long events, FILE *out);
 
-/* What a run is asked for. All numbers 0 and all pointers NULL is a run of 1,000,000 events with the seed 1. */
+/* The options of a run. With all numbers 0 and all pointers NULL it is a run of 1,000,000 events with the seed 1. */
 struct options {
     unsigned long events;
     uint64_t seed;
@@ -99,7 +99,7 @@ struct options {
     struct rule_set excepted; /* rules that the end under test need not keep */
     int stops;                /* at the first difference */
     int is_outside;           /* the end under test is no code of this process, so that no new process has a new one */
-    FILE *kept;               /* the reports are written here too, for conformance_junit; NULL where none asks for them */
+    FILE *kept;               /* the reports are written here too, for conformance_junit; NULL if none are wanted */
 };
 
 /* What follows: no trial, one of a difference that was seen, or many, in which a hang may be seen sooner. */
@@ -108,8 +108,8 @@ enum hurry { NO_TRIAL, TRIAL, HURRIED_TRIAL };
 /* An end that is no code of this process: whether it failed, and how to go on. */
 struct outside {
     void *context;
-    const char *(*failure)(void *context); /* how it failed, in lines; NULL where it did not */
-    int (*begin_anew)(void *context);      /* after a failure. Returns 0 where it can't be asked any more */
+    const char *(*failure)(void *context); /* how it failed, in lines; NULL if it did not */
+    int (*begin_anew)(void *context);      /* after a failure. Returns 0 if it can't be asked any more */
     void (*hurry)(void *context, enum hurry hurry);
 };
 
@@ -129,8 +129,8 @@ struct ends {
 struct result {
     unsigned long events, exercised[RULES]; /* events that exercised each rule */
     unsigned long found[RULES];             /* the event of the run at which a difference in it came, from 1 */
-    size_t shortest[RULES];                 /* how many events its script has; 0 where none was found */
-    long begins[RULES], ends[RULES];        /* where its report stands in `kept` */
+    size_t shortest[RULES];                 /* how many events its script has; 0 if none was found */
+    long begins[RULES], ends[RULES];        /* where its report is in `kept` */
     unsigned long once[RULES];              /* scripts with a difference in it that did not come again */
     struct rule_set reported;               /* rules with a difference that came again */
     struct rule_set also_left_out;          /* since a difference could not be told from those before */
@@ -148,12 +148,12 @@ void conformance_test(const struct ends *ends, const struct options *options, st
 extern const struct maker CONFORMANCE_PROVED_MODULE;
 extern const struct cpu_maker CONFORMANCE_PROVED_CPU;
 
-/* What `main` of a tester does with its words, and its status: 0 where there is no difference, 1 where there is
- * one, 2 where the words or the script are faulty, 3 where a call failed. `--help` writes the words. */
+/* What `main` of a tester does with its words, and its status: 0 if there is no difference, 1 if there is
+ * one, 2 if the words or the script are faulty, 3 if a call failed. `--help` writes the words. */
 int conformance_main(const struct maker *maker, int count, char **words);
 int conformance_cpu_main(const struct cpu_maker *maker, int count, char **words);
 
-/* The same of ends that are no code of this process, where `is_outside` is 1: no new process has a new one. */
+/* The same for ends that are not code of this process, if `is_outside` is 1: no new process has a new one. */
 int conformance_words(const struct ends *ends, int is_outside, int count, char **words);
 
 /* ---- Scripts ---- */
@@ -164,7 +164,7 @@ enum event_kind {
     EVENT_RESTART,
     EVENT_FRAME,   /* `octets` come to the module */
     EVENT_POLL,    /* the CPU's end polls */
-    EVENT_COMMAND, /* the tester sends `octets`, as a CPU does beside its polls */
+    EVENT_COMMAND, /* the tester sends `octets`, as a CPU does between its polls */
     EVENT_DELIVER, /* the frame that was sent last comes to the module */
     EVENT_ANSWER,  /* an answer comes to the CPU's end: the last one, or one `back` before it */
     EVENT_HEAR     /* `octets` come to the CPU's end */
@@ -198,10 +198,10 @@ struct difference {
     int has_failed;            /* the end under test can't be asked any more, and nothing was compared */
     int is_whole;              /* the script has events that the difference does not need: it was not shrunk */
     int is_reset_failed;       /* it failed when it was reset, and not when it was begun anew */
-    char failure[1200];        /* how it crashed or hung at the last event, in lines; empty where it did not */
+    char failure[1200];        /* how it crashed or hung at the last event, in lines; empty if it did not */
     size_t frame_length;       /* of the frame that came to the end under test */
     uint8_t frame[CONFORMANCE_LONGEST_FRAME];
-    size_t expected_length, got_length; /* of the answers, or of the polls; 0 where the CPU's end heard a frame */
+    size_t expected_length, got_length; /* of the answers, or of the polls; 0 if the CPU's end heard a frame */
     uint8_t expected[FIO2070_LONGEST_FRAME], got[FIO2070_LONGEST_FRAME];
     uint8_t expected_outputs[16], got_outputs[16];
     uint8_t expected_timeout, got_timeout;
@@ -209,28 +209,28 @@ struct difference {
     size_t expected_items, got_items; /* that the record gained */
     struct fio2070_record_item expected_record[FIO2070_MOST_RECORD_ITEMS], got_record[FIO2070_MOST_RECORD_ITEMS];
     uint8_t expected_number, got_number; /* of the CPU's end */
-    char observed[120];                  /* what no clock of the module explains; empty where it has none of its own */
+    char observed[120];                  /* what no clock of the module explains; empty if it has none of its own */
 };
 
 /* Empties a script, and forgets the octets of all frames; a script starts with all numbers 0 and NULL. */
 void conformance_clear(struct script *script);
 
-/* Adds an event, with a copy of its octets. Returns it; NULL where the script has CONFORMANCE_LONGEST. */
+/* Adds an event, with a copy of its octets. Returns it; NULL if the script has CONFORMANCE_LONGEST. */
 const struct event *conformance_add(struct script *script, const struct event *event);
 
 /* Copies the events of a script, not their octets. */
 void conformance_copy(struct script *to, const struct script *from);
 
-/* Fills an empty script with events, mostly some hundred, now and then thousands, at most so many. */
+/* Fills an empty script with events, mostly some hundred, now and then thousands, but at most this number. */
 void conformance_random(struct script *script, const struct maker *maker, const struct mix *mix, size_t most,
                         uint64_t *state);
 void conformance_cpu_random(struct script *script, const struct cpu_mix *mix, size_t most, uint64_t *state);
 
-/* Runs a script on both ends. Returns 0 where all is the same, else the number of the event, from 1, at
- * which it is not. */
+/* Runs a script on both ends. Returns 0 if everything is the same, otherwise the number of the event, from 1,
+ * at which it is not. */
 size_t conformance_compare(const struct ends *ends, const struct script *script, struct difference *difference);
 
-/* Leaves out of a script what its difference does not need; where `fresh` is not NULL, what it does not need in a new
+/* Leaves out of a script what its difference does not need; if `fresh` is not NULL, what it does not need in a new
  * process. The difference is then that of the last trial that showed one. */
 struct fresh;
 void conformance_shrink(const struct ends *ends, struct fresh *fresh, struct script *script,
@@ -239,7 +239,7 @@ void conformance_shrink(const struct ends *ends, struct fresh *fresh, struct scr
 /* The rule that the difference at the end of a script is about. */
 enum rule conformance_judge(const struct ends *ends, const struct script *script, const struct difference *difference);
 
-/* Lets simulate's own ends send the frames of a script, where they can and the difference stays. */
+/* Lets simulate's own ends send the frames of a script, if they can and the difference stays. */
 void conformance_simulate(const struct ends *ends, struct fresh *fresh, struct script *script);
 
 /* Writes a script in the format of `fio2070 simulate`, a line for each event. A frame that simulate's own ends

@@ -1,5 +1,5 @@
 /* A module that samples by a clock of its own. Its stamps have to be within bounds by the tester's clock, its entries in
- * the order of their stamps, with states that alternate, and all of them there once levels stood long enough. */
+ * the order of their stamps, with states that alternate, and none missing after levels have lasted long enough. */
 #define _POSIX_C_SOURCE 200809L
 #include "conformance_clock.h"
 
@@ -9,7 +9,7 @@
 
 enum {
     UNKNOWN = 2,
-    SLACK_MS = 20, /* between a level and the sample of it, beside one part in 100 of each time */
+    SLACK_MS = 20, /* between a level and the sample of it, apart from one part in 100 of each time */
     LONGEST_MS = 30000 /* times between entries of less than half of what 16 bits can say */
 };
 
@@ -77,7 +77,7 @@ static uint32_t because(struct difference *difference, uint32_t field, const cha
     return field;
 }
 
-/* Whether the level of an input stood long enough at this time to be its filtered state. */
+/* Whether the level of an input has lasted long enough at this time to be its filtered state. */
 static int is_settled(const struct observer *observer, int input, long time) {
     int is_high = (int)(observer->levels >> input & 1);
     long filter = is_high ? observer->trailing[input] : observer->leading[input];
@@ -104,7 +104,7 @@ static uint32_t stamp_field(const struct observer *observer, struct span span, c
                    least > 0 ? least : 0, most, (unsigned long)observer->base);
 }
 
-/* 180 and 181: the levels of inputs that stood long enough. */
+/* 180 and 181: the levels of inputs that have lasted long enough. */
 static uint32_t inputs_field(const struct observer *observer, struct span span, int is_filtered,
                              struct difference *difference) {
     int input;
@@ -165,7 +165,7 @@ static uint32_t entry_field(struct observer *observer, const uint8_t *octets, ui
     return 0;
 }
 
-/* After a block that leaves nothing waiting, the last states are the filtered ones. */
+/* After a block that empties the buffer, the last states are the filtered ones. */
 static uint32_t drained_field(struct observer *observer, struct span span, struct difference *difference) {
     int input;
     for (input = 0; input < 64; input++) {

@@ -34,7 +34,7 @@ static void random_entries(uint8_t *entries, unsigned count, uint64_t *state) {
     for (place = 0; place < 3 * count; place++) entries[place] = (uint8_t)conformance_next(state);
 }
 
-/* The CPU's end hears a block. Where its number is the one that is due, the next one is due then. */
+/* The CPU's end hears a block. If its number is the one that is due, the next one is due afterwards. */
 static void hear(struct edge *edge, uint8_t number, uint8_t status, unsigned count, uint32_t stamp) {
     uint8_t octets[FIO2070_LONGEST_FRAME], entries[3 * 255];
     struct made block;
@@ -78,7 +78,7 @@ static void open(struct edge *edge) {
 
 enum outage { LOST_POLLS, LOST_ANSWERS, UNREADABLE, STALE, OTHER };
 
-/* So many polls in a row get no block; then the line is good again. */
+/* This many successive polls get no block; then the line is good again. */
 static void stay_out(struct edge *edge, enum outage outage, unsigned polls) {
     uint8_t other[2] = {FIO2070_TYPE_LOAD_COUNTER + FIO2070_TYPE_ANSWER, 0};
     while (polls-- > 0) {

@@ -22,7 +22,7 @@ static size_t random_length(enum theme theme, uint64_t *state) {
     return 20 + conformance_below(state, conformance_below(state, 16) == 0 ? 2400 : 380);
 }
 
-/* An event happens, where the script has room for it. */
+/* An event happens, if the script has room for it. */
 static void happen(struct growth *growth, const struct event *event) {
     static struct difference ignored;
     if (growth->script->length >= growth->most || conformance_add(growth->script, event) == NULL) return;
@@ -56,7 +56,7 @@ static void add_scans(struct growth *growth, unsigned count, enum theme theme) {
     }
 }
 
-/* A command beside the polls: a configuration, also one that is refused, one that reports all inputs again, or another. */
+/* A command other than a poll: a configuration, also one that is refused, one that reports all inputs again, or another. */
 static size_t random_command(uint8_t *octets, uint64_t *state) {
     switch (conformance_below(state, 4)) {
     case 0: return conformance_configuration(octets, state);
@@ -87,7 +87,7 @@ static size_t random_count(uint64_t *state) {
     }
 }
 
-/* The number that is due, or one beside it. */
+/* The number that is due, or one next to it. */
 static uint8_t near_number(const struct growth *growth) {
     if (conformance_below(growth->state, 2) == 0) return growth->link.cpu.number;
     return (uint8_t)(growth->link.cpu.number + conformance_below(growth->state, 3) - 1);

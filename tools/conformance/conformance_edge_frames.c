@@ -136,7 +136,7 @@ static void set_timeouts(struct edge *edge, unsigned given) {
 
 /* ---- Configurations ---- */
 
-/* Items of random inputs, of which the last 64 name each input once. */
+/* Items of random inputs; the last 64 name each input once. */
 static size_t write_items(uint8_t *octets, unsigned count, uint64_t *state) {
     unsigned item;
     octets[0] = FIO2070_TYPE_CONFIGURE_INPUTS;

@@ -97,13 +97,13 @@ static void sweep_filters(struct edge *edge, unsigned first) {
 
 /* ---- Waiting entries ---- */
 
-/* So many entries wait. */
+/* Lets this many entries wait. */
 static void let_wait(struct edge *edge, unsigned entries) {
     for (; entries >= 64; entries -= 64) conformance_edge_change(edge, ALL);
     if (entries > 0) conformance_edge_change(edge, ((uint64_t)1 << entries) - 1);
 }
 
-/* Numbers of waiting entries about those that blocks and the buffer have room for; each block is asked for twice. */
+/* Numbers of waiting entries near those for which blocks and the buffer have room; each block is requested twice. */
 static void fill_buffer(struct edge *edge, unsigned given) {
     static const unsigned counts[] = {1,   63,  64,  65,   127,  128,  129,  254,  255,  256,  257,  509, 510,
                                       511, 512, 767, 1020, 1022, 1023, 1024, 1025, 1026, 1087, 1279, 1280, 2047};
@@ -122,7 +122,7 @@ static void fill_buffer(struct edge *edge, unsigned given) {
 
 /* ---- Long runs ---- */
 
-/* A block is asked for again, often; meanwhile entries are pushed out, where that is given. */
+/* A block is requested again, often; meanwhile entries are pushed out, if that is wanted. */
 static void repeat_block(struct edge *edge, unsigned overflows) {
     unsigned left = overflows ? 40 : 300;
     conformance_edge_open(edge, 1, 1);
@@ -145,7 +145,7 @@ static void poll_all_numbers(struct edge *edge, unsigned given) {
     }
 }
 
-/* No frame comes for so many milliseconds: what was asked for, and what waits, is as it was. */
+/* No frame comes for this many milliseconds: what was requested, and what waits, is as it was. */
 static void stay_silent(struct edge *edge, unsigned scans) {
     uint8_t octets[17] = {FIO2070_TYPE_SET_OUTPUTS, 255, 1};
     conformance_edge_open(edge, 1, 1);

@@ -7,14 +7,14 @@
 /* How many scripts of edges there are of each end, the cheapest first. */
 extern const unsigned CONFORMANCE_EDGES, CONFORMANCE_CPU_EDGES;
 
-/* Fills an empty script with the edge of this number, at most so many events. */
+/* Fills an empty script with the edge of this number, at most this many events. */
 void conformance_edge(struct script *script, const struct maker *maker, unsigned number, size_t most, uint64_t *state);
 void conformance_cpu_edge(struct script *script, unsigned number, size_t most, uint64_t *state);
 
 /* A number of a block: often one about 0. */
 uint8_t conformance_block_number(uint64_t *state);
 
-/* How many times in a row something happens, 10 to 300: mostly a number that programs count up to. */
+/* How many times something is repeated, 10 to 300: mostly a number that programs count up to. */
 unsigned conformance_run_length(uint64_t *state);
 
 /* ---- For the files of edges ---- */
@@ -40,7 +40,7 @@ extern const struct edge_row CONFORMANCE_EDGE_FRAME_ROWS[CONFORMANCE_EDGE_FRAMES
 void conformance_edge_event(struct edge *edge, enum event_kind kind);
 void conformance_edge_octets(struct edge *edge, enum event_kind kind, const uint8_t *octets, size_t length);
 
-/* So many scans of the levels as they are, and one in which these inputs change. */
+/* This many scans of the levels as they are, and one in which these inputs change. */
 void conformance_edge_scans(struct edge *edge, unsigned count);
 void conformance_edge_change(struct edge *edge, uint64_t inputs);
 

@@ -1,4 +1,4 @@
-/* The fields in which two answers differ, or what two CPU's ends make of a frame, and their words. */
+/* The fields in which two answers differ, or the responses of two CPU's ends to a frame, and their names. */
 #include "conformance_link.h"
 
 #include <string.h>
@@ -56,7 +56,7 @@ uint32_t conformance_answer_fields(const struct difference *both) {
     }
 }
 
-/* ---- What a CPU's end makes of a frame ---- */
+/* ---- How a CPU's end responds to a frame ---- */
 
 static int is_same_item(const struct fio2070_record_item *one, const struct fio2070_record_item *other) {
     return one->gap == other->gap && one->input == other->input && one->state == other->state &&
@@ -89,7 +89,7 @@ uint32_t conformance_heard_fields(const struct difference *both) {
 
 /* ---- Words ---- */
 
-/* Where a field stands in the octets of an answer; places from the end are below 0. */
+/* Where a field is in the octets of an answer; positions from the end are below 0. */
 struct place {
     enum field field;
     const char *words;

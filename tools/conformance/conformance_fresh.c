@@ -7,7 +7,7 @@
 #include <sys/wait.h>
 #include <unistd.h>
 
-/* What is asked for, beside the script. */
+/* What is requested, apart from the script. */
 struct request {
     struct rule_set masked, left_out;
     int guard_ms;

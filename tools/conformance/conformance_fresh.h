@@ -10,11 +10,11 @@ struct fresh {
     FILE *text; /* the script that runs next */
 };
 
-/* Begins before the end under test was called. Where no process can be forked, `is_there` is 0. */
+/* Begins before the end under test was called. If no process can be forked, `is_there` is 0. */
 void conformance_fresh_begin(struct fresh *fresh, const struct ends *ends);
 void conformance_fresh_end(struct fresh *fresh);
 
-/* Like conformance_compare, in a new process. Where that can't be, there is no difference. */
+/* Like conformance_compare, in a new process. If that is not possible, there is no difference. */
 size_t conformance_fresh_compare(struct fresh *fresh, const struct ends *ends, const struct script *script,
                                  struct difference *difference);
 

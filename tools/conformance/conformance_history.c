@@ -23,7 +23,7 @@ static void put_if(struct rule_set *rules, enum rule rule, int condition) {
 
 /* ---- Scans ---- */
 
-/* An input's filtered state changed, by a filter of so many samples. */
+/* An input's filtered state changed, by a filter of this many samples. */
 static void saw_change(struct history *history, unsigned input, int is_high, struct rule_set *rules) {
     uint64_t bit = (uint64_t)1 << input;
     unsigned filter = is_high ? history->trailing[input] : history->leading[input];

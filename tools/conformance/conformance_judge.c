@@ -103,7 +103,7 @@ static enum rule rule_of_lack(const struct ends *ends, const struct script *scri
     return RULES;
 }
 
-/* The rule of an answer to a command, where nothing before it is suspect. */
+/* The rule of an answer to a command, if nothing before it is suspect. */
 static enum rule rule_of_command(uint8_t code, uint32_t fields, const struct rule_set *event) {
     switch (code) {
     case FIO2070_TYPE_STATUS:
@@ -122,7 +122,7 @@ static enum rule rule_of_command(uint8_t code, uint32_t fields, const struct rul
     }
 }
 
-/* The rule of a bit or a number that stands in a block answer alone; RULES for other fields. */
+/* The rule of a bit or a number that only a block answer has; RULES for other fields. */
 static enum rule rule_of_block(uint32_t fields, const struct rule_set *event) {
     if (fields & FIELD_BIT(AGAIN)) return conformance_has(event, RULE_FIRST_POLL) ? RULE_FIRST_POLL : RULE_SENT_AGAIN;
     if (fields & FIELD_BIT(REPEAT)) return conformance_has(event, RULE_KEPT_APART) ? RULE_KEPT_APART : RULE_REPEAT;
@@ -152,7 +152,7 @@ static int is_of_frame(const struct rule_set *event) {
            conformance_has(event, RULE_REFUSED);
 }
 
-/* The rule at which the module crashed or hung, where no frame came to it: of those that the event exercised the rarest. */
+/* The rule at which the module crashed or hung, if no frame came to it: the rarest of those that the event exercised. */
 static enum rule rule_of_step(const struct rule_set *event) {
     static const enum rule rules[] = {RULE_RESTART,     RULE_COUNTER_AROUND, RULE_LOAD_AT_SYNC, RULE_SYNC_ALONE,
                                       RULE_PUSHED_OUT,  RULE_MOST_WAITING,   RULE_FILTER_OF_ZERO, RULE_ENTRY_ORDER,
@@ -205,7 +205,7 @@ static enum rule judge_module(const struct ends *ends, const struct script *scri
 
 /* ---- At a CPU's end ---- */
 
-/* Whether the frame was passed over, where a block should have been taken. */
+/* Whether the frame was ignored although a block should have been taken. */
 static int is_left(const struct difference *both) {
     return both->got_items == 0 && both->expected_number == (uint8_t)(both->got_number + 1);
 }

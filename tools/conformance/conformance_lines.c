@@ -16,7 +16,7 @@
 #include <time.h>
 #include <unistd.h>
 
-/* In a hurry a line is late after so many times the slowest one so far, but not before so many milliseconds. */
+/* In a hurry a line is late after HURRIED_TIMES the slowest one so far, but not before HURRIED_MS milliseconds. */
 enum { HURRIED_TIMES = 20, HURRIED_MS = 100 };
 
 /* ---- Opening ---- */
@@ -105,7 +105,7 @@ int conformance_wire_socket(struct wire *wire, const char *address) { return beg
 
 /* ---- Standard error ---- */
 
-/* Keeps the last octets of standard error, and passes them on, but for those of trials. Returns 0 at its end. */
+/* Keeps the last octets of standard error, and passes them on, except those of trials. Returns 0 at its end. */
 static int read_errors(struct wire *wire) {
     char octets[1024];
     ssize_t count = read(wire->errors, octets, sizeof octets);
@@ -120,7 +120,7 @@ static int read_errors(struct wire *wire) {
     return 1;
 }
 
-/* Reads what is there, and what comes in so many milliseconds. */
+/* Reads what has come, and what comes in this many milliseconds. */
 static void drain_errors(struct wire *wire, int ms) {
     long end = conformance_now_ms() + ms, left;
     while (wire->errors >= 0 && (left = end - conformance_now_ms()) >= 0) {
@@ -131,7 +131,7 @@ static void drain_errors(struct wire *wire, int ms) {
 
 /* ---- Closing ---- */
 
-/* Waits for the process by the deadline, and then kills it and those that it began. Returns how it ended, -1 where it
+/* Waits for the process by the deadline, and then kills it and those that it began. Returns how it ended, -1 if it
  * was killed. */
 static int end_process(struct wire *wire, int ms) {
     static const struct timespec pause = {0, 2000000};
@@ -183,7 +183,7 @@ static int write_line(struct wire *wire, const char *line) {
     return 1;
 }
 
-/* Takes the first line of what came, without its end. Returns 0 where none is whole. */
+/* Takes the first line of what came, without its end. Returns 0 if none is whole. */
 static int take_line(struct wire *wire, char line[WIRE_LONGEST_LINE]) {
     char *end = (char *)memchr(wire->octets, '\n', wire->kept);
     size_t length;
@@ -203,7 +203,7 @@ static long deadline_of(const struct wire *wire) {
     return wire->hurry == HURRIED_TRIAL && !wire->is_new && hurried < wire->deadline_ms ? hurried : wire->deadline_ms;
 }
 
-/* Waits until octets of a line come. Returns 0 where none do by then. */
+/* Waits until octets of a line come. Returns 0 if none do by then. */
 static int wait_for_octets(struct wire *wire, long end) {
     for (;;) {
         struct pollfd ready[2] = {{wire->file, POLLIN, 0}, {wire->errors, POLLIN, 0}};
@@ -259,7 +259,7 @@ static void write_tail(const struct wire *wire, char *text, size_t room) {
     }
 }
 
-/* How a process ended that wrote no more lines, where it did by itself. */
+/* How a process ended that wrote no more lines, if it ended by itself. */
 static void see_end(struct wire *wire, char *text, size_t room) {
     int status;
     *text = '\0';

@@ -1,4 +1,4 @@
-/* The proved ends of the link, and beside one of them the end under test. */
+/* The proved ends of the link, and the end under test next to one of them. */
 #include "conformance_link.h"
 
 #include <string.h>
@@ -17,7 +17,7 @@ static void log_frame(const struct link *link, char direction, const uint8_t *oc
     fputs("\n", link->transcript);
 }
 
-/* Keeps how many octets or items a call returned, at most so many. Returns 1 where it failed. */
+/* Keeps how many octets or items a call returned, at most this many. Returns 1 if it failed. */
 static int has_failed(struct difference *difference, size_t *count, size_t most, size_t returned) {
     difference->has_failed = returned == CONFORMANCE_FAILED;
     *count = difference->has_failed ? 0 : returned < most ? returned : most;
@@ -63,7 +63,7 @@ static void remember(const struct link *link, struct memory *memory) {
     memory->history = link->history;
 }
 
-/* Undoes an event that exercised a rule that is left out. Returns 1 where it did. */
+/* Undoes an event that exercised a rule that is left out. Returns 1 if it did. */
 static int is_undone(struct link *link, const struct memory *memory) {
     if (!leaves_out(link) || !conformance_meets(&link->exercised, &link->ends.left_out)) return 0;
     link->module = memory->module;
@@ -77,7 +77,7 @@ static void ask_module(const struct maker *maker, struct difference *difference)
     if (maker->watchdog_ms != NULL) difference->got_timeout = maker->watchdog_ms(maker->context);
 }
 
-/* What no answer shows, compared where the maker offers it. */
+/* What no answer shows, compared if the maker offers it. */
 static uint32_t hidden_fields(const struct link *link, struct difference *difference) {
     const struct maker *maker = link->ends.module;
     struct fio2070_outputs outputs = fio2070_module_outputs(&link->module);
@@ -95,7 +95,7 @@ static uint32_t hidden_fields(const struct link *link, struct difference *differ
     return fields;
 }
 
-/* The module under test is given the frame that the proved one was given. */
+/* The module under test gets the frame that the proved one got. */
 static int compare_answers(struct link *link, const uint8_t *octets, size_t length, struct difference *difference) {
     const struct maker *maker = link->ends.module;
     struct span span = {link->ends.has_own_clock ? conformance_now_ms() : 0, 0};

@@ -1,4 +1,4 @@
-/* The proved ends of the link, and beside one of them the end under test. */
+/* The proved ends of the link, and the end under test next to one of them. */
 #ifndef CONFORMANCE_LINK_H
 #define CONFORMANCE_LINK_H
 
@@ -24,17 +24,17 @@ struct link {
     struct frame command;         /* that was sent last */
     struct frame answers[KEPT_ANSWERS];
     struct rule_set exercised; /* by the last event */
-    const char *head;          /* of the lines of the transcript, NULL where there is none */
+    const char *head;          /* of the lines of the transcript, NULL if there is none */
     FILE *transcript;
 };
 
 /* Starts both ends as a script has them. Without ends under test the proved ones are alone. */
 void conformance_link_start(struct link *link, const struct ends *ends, const struct script *script);
 
-/* Does an event. Returns 1 where the end under test does otherwise than the proved one. */
+/* Does an event. Returns 1 if the end under test differs from the proved one. */
 int conformance_link_step(struct link *link, const struct event *event, struct difference *difference);
 
-/* The number of the answer that an event delivers, 0 where there is none: it is no longer kept, or a
+/* The number of the answer that an event delivers, 0 if there is none: it is no longer kept, or a
  * later one was delivered. */
 unsigned long conformance_link_answer(const struct link *link, const struct event *event);
 

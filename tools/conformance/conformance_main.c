@@ -34,14 +34,14 @@ static enum rule_end end_of(const struct ends *ends) { return ends->module != NU
 
 /* ---- Reading ---- */
 
-/* A number in decimal digits. Returns 0 where the word is none. */
+/* Reads a number in decimal digits. Returns 0 if the word is not one. */
 static int read_number(const char *word, unsigned long *number) {
     char *end;
     *number = strtoul(word, &end, 10);
     return end != word && *end == '\0';
 }
 
-/* Adds a rule that need not be kept. Returns 0 where it is none, or none of this project's own. */
+/* Adds a rule that need not be kept. Returns 0 if it is none, or none of this project's own. */
 static int except(struct words *words, const struct ends *ends, const char *name) {
     enum rule rule = conformance_rule_named(name);
     if (rule == RULES || CONFORMANCE_RULE_ROWS[rule].end != end_of(ends)) {
@@ -56,7 +56,7 @@ static int except(struct words *words, const struct ends *ends, const char *name
     return 1;
 }
 
-/* Reads an option, and the word after it where it has one. Returns how many words it took, 0 where it is faulty. */
+/* Reads an option, and the word after it if it takes one. Returns how many words it took, 0 if it is faulty. */
 static int read_option(struct words *words, const struct ends *ends, int left, char **word) {
     const struct {
         const char *name;
@@ -132,7 +132,7 @@ static void write_rules(enum rule_end end) {
     }
 }
 
-/* Writes what was not exercised: rules, and cases where they are asked for. Returns how many that are. */
+/* Writes what was not exercised: rules, and cases if they are wanted. Returns how many there are. */
 static unsigned write_missing(const struct result *result, enum rule_end end, const struct rule_set *excepted,
                               int has_cases) {
     unsigned missing = 0;
@@ -147,7 +147,7 @@ static unsigned write_missing(const struct result *result, enum rule_end end, co
     return missing;
 }
 
-/* Writes the file of --junit. Returns 0 where it can't. */
+/* Writes the file of --junit. Returns 0 if it can't. */
 static int write_junit(const char *name, const struct result *result, enum rule_end end,
                        const struct options *options) {
     FILE *file = fopen(name, "w");

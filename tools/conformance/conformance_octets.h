@@ -28,7 +28,7 @@ struct course {
 /* The levels of the next scan. */
 uint64_t conformance_levels(struct course *course, uint64_t *state);
 
-/* The inputs that change together in a course of this theme: mostly all, else as many as divide 255. */
+/* The inputs that change together in a course of this theme: mostly all, otherwise a number of them that divides 255. */
 uint64_t conformance_moving(enum theme theme, uint64_t *state);
 
 /* The octets of a command, with at most CONFORMANCE_LONGEST_FRAME of them. Each returns how many there are. */

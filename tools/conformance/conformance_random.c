@@ -5,10 +5,10 @@
 
 const struct mix CONFORMANCE_MIX = {100, 30, 10, 40, 80, 20, 30, 2, 250, 60, 40};
 
-/* Now and then no frame comes for so many scans, as while a CPU restarts. */
+/* Now and then no frame comes for at most this many scans, as while a CPU restarts. */
 enum { LONGEST_SILENCE = 1200 };
 
-/* How many events a script has, but for a silence. */
+/* How many events a script has, apart from a silence. */
 static size_t random_length(enum theme theme, uint64_t *state) {
     if (theme == CALM) return 500 + conformance_below(state, 2500);
     if (theme == STEADY) return conformance_below(state, 16) == 0 ? 20000 : 1000 + conformance_below(state, 4000);
@@ -109,7 +109,7 @@ static void begin(struct script *script, enum theme theme, uint64_t *state) {
     }
 }
 
-/* The poll before comes again and again, as where all answers are lost. */
+/* The poll before comes again and again, as if all answers were lost. */
 static void repeat_poll(struct script *script, const struct course *course, uint64_t *state) {
     uint8_t octets[2];
     unsigned left;
@@ -124,7 +124,7 @@ static void add_scan(struct script *script, struct course *course, uint64_t *sta
     conformance_add(script, &event);
 }
 
-/* As many entries as a block takes, or one more, where the inputs that move divide that number; then a poll. */
+/* The entries of one block, or one more, if the number of moving inputs divides that number; then a poll. */
 static void fill_block(struct script *script, struct course *course, uint64_t *state) {
     uint8_t octets[2];
     unsigned inputs = 0, scans;

@@ -5,7 +5,7 @@
 
 enum { SHOWN = 48 /* octets of an answer */ };
 
-/* Octets, whole where they are few, else from shortly before the first that is not the same; then what is said of them. */
+/* Octets, all of them if they are few, otherwise from shortly before the first that differs; then what is said about them. */
 static void write_octets(const char *who, const uint8_t *octets, size_t length, size_t other, const char *said,
                          FILE *out) {
     size_t first = length > SHOWN && other > 8 ? other - 8 : 0, place;

@@ -1,8 +1,8 @@
-/* The rules of docs/PROTOCOL.md that the testers hold an end to, and the cases that a run looks for.
+/* The rules of docs/PROTOCOL.md by which the testers judge an end, and the cases that a run looks for.
  *
  * RULE(end, name in code, name, source, fields, section, sentence). The sentence is PROTOCOL's. A difference in
- * `fields` alone can be passed over where the rule is excepted; where that is 0, the events that exercise the rule are
- * left out instead. A CASE is no rule of its own: a run that never meets it has not looked far enough.
+ * `fields` alone can be passed over if the rule is excepted; if `fields` is 0, the events that exercise the rule are
+ * left out instead. A CASE is not a rule of its own: a run that never meets it has not looked far enough.
  */
 #ifndef CONFORMANCE_RULES_H
 #define CONFORMANCE_RULES_H
@@ -72,12 +72,11 @@ enum field {
     RULE(AT_MODULE, LATER_LOAD, "later-load", OWN, 0, "Counter", \
          "A further 50 before LINESYNC goes from 0 to 1 takes the place of the earlier one.") \
     RULE(AT_MODULE, SYNC_ALONE, "sync-alone", TEES, 0, "Counter", \
-         "Where no load is asked for, LINESYNC changes nothing.") \
+         "If no load is asked for, LINESYNC changes nothing.") \
     RULE(AT_MODULE, LEADING_FILTER, "leading-filter", TEES, 0, "Filters", \
-         "A filtered state goes from 1 to 0 when the input's latest samples, as many as its leading filter, are " \
-         "all 0") \
+         "A filtered state goes from 1 to 0 when the input's latest L samples are all 0, L being its leading filter") \
     RULE(AT_MODULE, TRAILING_FILTER, "trailing-filter", TEES, 0, "Filters", \
-         "from 0 to 1 when the latest samples, as many as its trailing filter, are all 1.") \
+         "from 0 to 1 when its latest T samples are all 1, T being its trailing filter.") \
     RULE(AT_MODULE, FILTER_OF_ZERO, "filter-of-zero", OWN, 0, "Filters", \
          "A filter of 0 disables filtering: it acts as a filter of 1.") \
     RULE(AT_MODULE, FILTERS_AT_START, "filters-at-start", OWN, 0, "Filters", \
@@ -89,9 +88,9 @@ enum field {
     RULE(AT_MODULE, RAW_AT_START, "raw-at-start", OWN, 0, "Filters", \
          "The raw levels are those of the last scan, and all 1 before any.") \
     RULE(AT_MODULE, ABSENT_INPUT, "absent-input", OWN, 0, "Configuration", \
-         "Where any item of a 51 names an input above 63, nothing changes and the answer has S = 1.") \
+         "If any item of a 51 names an input above 63, nothing changes and the answer has S = 1.") \
     RULE(AT_MODULE, ITEMS_APPLY, "items-apply", OWN, 0, "Configuration", \
-         "Else all items apply, in their order, and the answer has S = 0.") \
+         "Otherwise all items apply, in their order, and the answer has S = 0.") \
     RULE(AT_MODULE, ITEM_SETS, "item-sets", OWN, 0, "Configuration", \
          "An item that applies sets the input's ignore flag and both filters") \
     RULE(AT_MODULE, LAST_ITEM_HOLDS, "last-item-holds", OWN, 0, "Configuration", \
@@ -100,7 +99,7 @@ enum field {
          "Each transition of an input that is not ignored becomes an entry, with the state after it and the low 16 " \
          "bits of the counter at that scan") \
     RULE(AT_MODULE, ENTRY_ORDER, "entry-order", TEES, 0, "Waiting entries", \
-         "those of one scan in ascending order of inputs. It waits behind the earlier ones.") \
+         "those of one scan in ascending order of inputs. It waits after the earlier ones.") \
     RULE(AT_MODULE, MOST_WAITING, "most-waiting", TEES, 0, "Waiting entries", "At most 1,024 entries wait.") \
     RULE(AT_MODULE, PUSHED_OUT, "pushed-out", OWN, 0, "Waiting entries", "One more pushes out the oldest.") \
     RULE(AT_MODULE, KEPT_APART, "kept-apart", OWN, 0, "Waiting entries", \
@@ -112,18 +111,18 @@ enum field {
     RULE(AT_MODULE, NEW_BLOCK, "new-block", TEES, FIELD_BIT(UNNAMED), "Polls", \
          "The old block is given up and a new one is made.") \
     RULE(AT_MODULE, SEQUENCE, "out-of-sequence", TEES, FIELD_BIT(SEQUENCE), "Polls", \
-         "G is set exactly where the number is not the one before plus one") \
+         "G is set exactly if the number is not the one before plus one") \
     RULE(AT_MODULE, AFTER_255, "zero-after-255", TEES, FIELD_BIT(SEQUENCE), "Polls", \
-         "G is set exactly where the number is not the one before plus one, with 0 after 255.") \
+         "G is set exactly if the number is not the one before plus one, with 0 after 255.") \
     RULE(AT_MODULE, CURRENT_NUMBER, "current-number", TEES, FIELD_BIT(SEQUENCE), "Polls", \
          "The number is the current one from then on, also out of sequence.") \
     RULE(AT_MODULE, FIRST_POLL, "first-poll", OWN, FIELD_BIT(SEQUENCE) | FIELD_BIT(AGAIN), "Polls", \
          "makes a new block, and G is clear.") \
     RULE(AT_MODULE, BLOCK_SIZE, "block-size", TEES, 0, "Polls", \
-         "A new block takes the oldest 255 waiting entries, or all where fewer wait.") \
-    RULE(AT_MODULE, MORE, "more", TEES, FIELD_BIT(MORE), "Polls", "C is set exactly where more than 255 waited.") \
+         "A new block takes the oldest 255 waiting entries, or all if fewer wait.") \
+    RULE(AT_MODULE, MORE, "more", TEES, FIELD_BIT(MORE), "Polls", "C is set exactly if more than 255 waited.") \
     RULE(AT_MODULE, LOST, "lost", OWN, FIELD_BIT(LOST), "Polls", \
-         "F is set exactly where an entry was pushed out since the block before was made, or, for the first block, " \
+         "F is set exactly if an entry was pushed out since the block before was made, or, for the first block, " \
          "since the start.") \
     RULE(AT_MODULE, BLOCK_STAMP, "block-stamp", TEES, FIELD_BIT(BLOCK_STAMP), "Polls", \
          "The stamp of a new block is the counter when it is made.") \
@@ -134,7 +133,7 @@ enum field {
     RULE(AT_MODULE, ERROR_COUNTS, "error-counts", OWN, FIELD_BIT(ERRORS), "Other commands", \
          "Both error counts are 0 unless the firmware sets them.") \
     RULE(AT_MODULE, FLAGS_AT_START, "flags-at-start", OWN, FIELD_BIT(FLAGS), "Other commands", \
-         "At the start the flags are P alone.") \
+         "At the start P is the only flag that is set.") \
     RULE(AT_MODULE, INPUTS_ANSWER, "inputs-answer", TEES, FIELD_BIT(INPUTS), "Other commands", \
          "180 carries the raw levels, 181 the filtered states, each with the counter.") \
     RULE(AT_MODULE, OUTPUTS_KEPT, "outputs-kept", OWN, FIELD_BIT(OUTPUTS), "Other commands", \
@@ -142,7 +141,7 @@ enum field {
     RULE(AT_MODULE, OUTPUTS_ANSWER, "outputs-answer", OWN, FIELD_BIT(BODY) | FIELD_BIT(PRESENCE), "Other commands", \
          "The body of 183 is the octet 0 and then the stamp: a frame of six octets.") \
     RULE(AT_MODULE, WATCHDOG_TIMEOUT, "watchdog-timeout", TEES, FIELD_BIT(TIMEOUT), "Other commands", \
-         "the timeout is set, where less than 10 ms counts as 10 and more than 100 ms as 100.") \
+         "the timeout is set; less than 10 ms counts as 10, and more than 100 ms as 100.") \
     RULE(AT_MODULE, WATCHDOG_BEFORE, "watchdog-before", TEES, FIELD_BIT(STATUS), "Other commands", \
          "Y says whether an earlier 58 came.") \
     RULE(AT_MODULE, IDENTIFICATION, "identification", OWN, FIELD_BIT(BODY), "Other commands", \
@@ -188,13 +187,13 @@ enum field {
     RULE(AT_CPU, EMPTY_BLOCK, "empty-block", OWN, 0, "The CPU", \
          "only when an answer with that number is taken") \
     RULE(AT_CPU, GAP_MARK, "gap-mark", OWN, FIELD_BIT(GAP) | FIELD_BIT(ITEMS), "The CPU", \
-         "Taking a block appends one gap mark where F is set") \
+         "Taking a block appends one gap mark if F is set") \
     RULE(AT_CPU, ITEMS_IN_ORDER, "items-in-order", OWN, FIELD_BIT(ITEM), "The CPU", \
          "and then all of its entries in order.") \
     RULE(AT_CPU, HIGH_INPUT, "high-input", OWN, 0, "Answers", \
-         "It can name an input above 63 too, in a good message.") \
+         "It may name an input above 63 too: the message is still valid.") \
     RULE(AT_CPU, UNNAMED_BITS, "unnamed-bits", OWN, 0, "Bits of flags and statuses", \
-         "are kept as they come, in both directions, and are never a reason to refuse a message") \
+         "are kept as received, in both directions, and are never a reason to refuse a message") \
     RULE(AT_CPU, WIDE_TIME, "wide-time", OWN, FIELD_BIT(WIDE), "The CPU", \
          "the one number that has the entry's 16 bits as its low 16 bits and lies fewer than 65,536 steps before the " \
          "stamp or at it") \

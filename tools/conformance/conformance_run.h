@@ -32,7 +32,7 @@ struct run {
 /* Makes a script again. The state is that of the random numbers after it. */
 void conformance_make_script(const struct run *run, struct script *made, const struct origin *origin, uint64_t *state);
 
-/* Runs the script of the run, in a new process where scripts run so. Returns the event that shows a difference, 0 where
+/* Runs the script of the run, in a new process if scripts run in one. Returns the event that shows a difference, 0 if
  * none does. */
 size_t conformance_run_again(struct run *run);
 
@@ -43,7 +43,7 @@ void conformance_join_scripts(struct run *run, const struct origin *first);
 void conformance_settle(struct run *run);
 
 /* A rule that is found, or excepted, is passed over from then on: first a difference in its fields, then its events.
- * Returns 0 where it was already. */
+ * Returns 0 if it was already. */
 int conformance_pass_over(struct ends *ends, enum rule rule);
 
 #endif

@@ -4,12 +4,12 @@
 
 #include <string.h>
 
-/* A run under way: a crash leaves it as it is. */
+/* A run under way: a crash does not change it. */
 struct passage {
     const struct ends *ends;
     const struct script *script;
     struct difference *difference;
-    unsigned long *exercised; /* how many events exercised each rule; NULL where they are not counted */
+    unsigned long *exercised; /* how many events exercised each rule; NULL if they are not counted */
     size_t events;            /* that were done, or begun */
     int is_other;             /* the last of them shows a difference */
     struct link link;
@@ -48,7 +48,7 @@ static int has_failed(struct passage *passage) {
     return 1;
 }
 
-/* Resets both ends. Returns 0 where the one under test can't be asked any more. */
+/* Resets both ends. Returns 0 if the one under test can't be asked any more. */
 static int begin(struct passage *passage) {
     const struct outside *outside = passage->ends->outside;
     int is_first;

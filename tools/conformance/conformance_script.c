@@ -1,5 +1,5 @@
 /* Scripts as texts, in the format of `fio2070 simulate` (docs/FORMATS.md). A frame that simulate's own
- * ends do not send stands as a remark: a poll with another number than the CPU's, octets that spell no
+ * ends do not send is written as a remark: a poll with another number than the CPU's, octets that spell no
  * command, and octets that no module sent. Such a text begins with a remark, which simulate refuses. */
 #include "conformance_link.h"
 
@@ -103,7 +103,7 @@ static int digit_of(char digit) {
     return -1;
 }
 
-/* Reads pairs of hexadecimal digits as the event's octets. Returns 0 where the words are anything else. */
+/* Reads pairs of hexadecimal digits as the event's octets. Returns 0 if the words are anything else. */
 static int read_octets(const char *words, struct event *event) {
     static uint8_t octets[CONFORMANCE_LONGEST_FRAME];
     size_t length = strlen(words), place;
@@ -127,7 +127,7 @@ static int read_levels(const char *words, struct event *event) {
     return 1;
 }
 
-/* The rest of a line after these words, NULL where it begins otherwise. */
+/* The rest of a line after these words, NULL if it does not begin with them. */
 static const char *after(const char *line, const char *words) {
     size_t length = strlen(words);
     return strncmp(line, words, length) == 0 ? line + length : NULL;
@@ -147,7 +147,7 @@ static int read_delivery(const char *line, const struct link *link, struct event
     return number > 0 && conformance_link_answer(link, event) == number;
 }
 
-/* Reads the line of an event. Returns 0 where it is of no form. */
+/* Reads the line of an event. Returns 0 if it is of no form. */
 static int read_event(const char *line, const struct link *link, struct event *event) {
     static const struct {
         const char *words;
@@ -165,7 +165,7 @@ static int read_event(const char *line, const struct link *link, struct event *e
     return read_delivery(line, link, event);
 }
 
-/* Reads the header. Returns 0 where the line is none. */
+/* Reads the header. Returns 0 if the line is not one. */
 static int read_header(const char *line, struct script *script) {
     unsigned version, id, number, per_block = FIO2070_MOST_ENTRIES, waiting = FIO2070_STANDARD_WAITING;
     int count = sscanf(line, "fio2070 script %u %u %u %u %u", &version, &id, &number, &per_block, &waiting);
@@ -181,7 +181,7 @@ static int is_remark(const char *line) {
     return *line == '\0' || (*line == '#' && after(line, TO_MODULE) == NULL && after(line, TO_CPU) == NULL);
 }
 
-/* Adds the event of a line. Returns 0 where it is of no form, or one too many. */
+/* Adds the event of a line. Returns 0 if it is of no form, or one too many. */
 static int add_line(struct script *script, const char *line, const struct link *link) {
     struct event event;
     memset(&event, 0, sizeof event);

@@ -5,8 +5,8 @@
 
 enum {
     TRIES = 3,      /* how often a difference is looked for again */
-    MOST_ONCE = 3,  /* after so many differences in a rule that did not come again, one is looked for again once */
-    MOST_UNTOLD = 5 /* after so many differences that could not be told from others they are counted alone */
+    MOST_ONCE = 3,  /* after this many differences in a rule that did not recur, one is tried again once */
+    MOST_UNTOLD = 5 /* after this many differences that could not be told apart from others they are only counted */
 };
 
 /* ---- Once more ---- */
@@ -78,7 +78,7 @@ static int is_same(const struct run *run, size_t length, const struct sight *sig
     return length == sight->script.length && run->difference.fields == sight->difference.fields;
 }
 
-/* Whether the difference comes again in so many tries. Where it does not, all is as it was. */
+/* Whether the difference recurs in this many tries. If it does not, everything is as it was. */
 static int comes_again(struct run *run, int tries) {
     static struct sight sight;
     int comes = 0;
@@ -93,7 +93,7 @@ static int comes_again(struct run *run, int tries) {
     return comes;
 }
 
-/* How often a difference is looked for again: once, where it is in a rule that now and then differs. */
+/* How often a difference is tried again: once, if it is in a rule that differs now and then. */
 static int tries_of(struct run *run) {
     enum rule rule;
     run->difference.is_whole = 1;
@@ -104,10 +104,10 @@ static int tries_of(struct run *run) {
 
 /* ---- Shorter ---- */
 
-/* What is to be said of a script, NULL where it stands alone. */
+/* What is to be said about a script, NULL if there is nothing to say. */
 typedef const char *remark;
 
-/* The end under test is code of this process: a script has to show its difference in a new one. Where it does not, the run
+/* The end under test is code of this process: a script has to show its difference in a new one. If it does not, the run
  * goes on in new processes. */
 static remark shrink_here(struct run *run) {
     static struct sight sight;
@@ -156,7 +156,7 @@ static void write_remarked(struct run *run, remark said, FILE *out) {
     conformance_report(&run->ends, &run->script, &run->difference, out);
 }
 
-/* Writes a report, and keeps it where that is asked for. */
+/* Writes a report, and keeps it if that is wanted. */
 static void write_report(struct run *run, enum rule rule, remark said) {
     struct result *result = run->result;
     FILE *kept = run->options->kept;
@@ -192,7 +192,7 @@ int conformance_pass_over(struct ends *ends, enum rule rule) {
     return 1;
 }
 
-/* Whether the script shows nothing where the events of a rule are left out too. */
+/* Whether the script shows nothing if the events of a rule are left out too. */
 static int is_told_by(struct run *run, enum rule rule) {
     static struct difference ignored;
     struct ends ends = run->ends;
@@ -213,7 +213,7 @@ static void put_needed(struct rule_set *rules) {
 }
 
 /* Of the rules without whose events the script shows nothing, the one that the fewest events of the run exercised;
- * RULES where there is none. */
+ * RULES if there is none. */
 static enum rule other_rule(struct run *run) {
     struct rule_set exercised, tried = run->ends.left_out;
     enum rule rarest;
@@ -232,7 +232,7 @@ static enum rule other_rule(struct run *run) {
 }
 
 /* A rule is passed over already, and a difference is in it again: it is reported once more. The run goes on without another
- * rule that the script needs; where there is none, as it is. */
+ * rule that the script needs; if there is none, as it is. */
 static void tell_apart(struct run *run, enum rule rule) {
     enum rule other = other_rule(run);
     if (!conformance_has(&run->again, rule)) {

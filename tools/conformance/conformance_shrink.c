@@ -4,12 +4,12 @@
 
 #include <string.h>
 
-/* A script of so many events is worth another look. */
+/* A script of this many events is worth another look. */
 enum { LONG = 40 };
 
 /* ---- Events ---- */
 
-/* Keeps the last events alone, with the CPU's number as it is before them. Returns 1 where they are enough. */
+/* Keeps only the last events, with the CPU's number as it is before them. Returns 1 if they are enough. */
 static int begin_at(struct shrinking *shrinking, size_t first) {
     static struct link link;
     static struct difference ignored;
@@ -25,7 +25,7 @@ static int begin_at(struct shrinking *shrinking, size_t first) {
     return conformance_take_trial(shrinking);
 }
 
-/* Leaves out the first events of a CPU's script. Returns 1 where some could be. */
+/* Leaves out the first events of a CPU's script. Returns 1 if some could be. */
 static int begin_later(struct shrinking *shrinking) {
     size_t last, length = shrinking->script->length;
     for (last = 1; last < length; last += 1 + last / 16) {
@@ -34,7 +34,7 @@ static int begin_later(struct shrinking *shrinking) {
     return 0;
 }
 
-/* Leaves out events, in runs of half the script down to one. Returns 1 where some could be. */
+/* Leaves out events, in runs of half the script down to one. Returns 1 if some could be. */
 static int drop_events(struct shrinking *shrinking) {
     size_t run, first;
     int dropped = 0;
@@ -101,15 +101,15 @@ static void set_octets(size_t place, const uint8_t *octets, size_t length) {
     conformance_trial.events[place] = conformance_trial.events[--conformance_trial.length];
 }
 
-/* Where the count stands in the octets of an event: the items of a configuration, or the entries of a block, follow it.
- * 0 where there is none. */
+/* Where the count is in the octets of an event: the items of a configuration, or the entries of a block, follow it.
+ * 0 if there is none. */
 static size_t count_place(const struct event *event) {
     if (event->length > 1 && event->kind != EVENT_HEAR && event->octets[0] == FIO2070_TYPE_CONFIGURE_INPUTS) return 1;
     if (event->length > 2 && event->octets[0] == FIO2070_TYPE_POLL + FIO2070_TYPE_ANSWER) return 2;
     return 0;
 }
 
-/* Leaves out some items or entries of an event. Returns 1 where it could. */
+/* Leaves out some items or entries of an event. Returns 1 if it could. */
 static int drop_run(struct shrinking *shrinking, size_t place, size_t at, size_t first, size_t run) {
     uint8_t octets[CONFORMANCE_LONGEST_FRAME];
     uint8_t *item = octets + at + 1 + 3 * first;
@@ -138,7 +138,7 @@ static void drop_items(struct shrinking *shrinking, size_t place) {
 
 /* ---- Numbers ---- */
 
-/* Tries an octet of a frame with another value. Returns 1 where it could be. */
+/* Tries an octet of a frame with another value. Returns 1 if it could be. */
 static int try_octet(struct shrinking *shrinking, size_t place, size_t octet, uint8_t value) {
     uint8_t octets[CONFORMANCE_LONGEST_FRAME];
     conformance_begin_trial(shrinking);
@@ -163,7 +163,7 @@ static void lower_octet(struct shrinking *shrinking, size_t place, size_t octet,
     }
 }
 
-/* Filters of 1, where they are enough, and inputs that are there and reported; of one item the lowest input. */
+/* Filters of 1, if they are enough, and inputs that exist and are open; for a single item the lowest input. */
 static void lower_items(struct shrinking *shrinking, size_t place) {
     const struct script *script = shrinking->script;
     size_t octet, count = script->events[place].octets[1];

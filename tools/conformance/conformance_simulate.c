@@ -23,7 +23,7 @@ static int is_poll(const struct event *event) {
     return event->kind == EVENT_FRAME && event->length == 2 && event->octets[0] == FIO2070_TYPE_POLL;
 }
 
-/* The number of the first poll that comes to the module from this event on; `other` where there is none. */
+/* The number of the first poll that comes to the module from this event on; `other` if there is none. */
 static uint8_t next_poll(const struct script *script, size_t place, uint8_t other) {
     for (; place < script->length; place++) {
         if (is_poll(&script->events[place])) return script->events[place].octets[1];
@@ -31,8 +31,8 @@ static uint8_t next_poll(const struct script *script, size_t place, uint8_t othe
     return other;
 }
 
-/* A frame that comes to the module is sent and delivered, where simulate can send it. The CPU takes the
- * answer to a poll where the next poll has the next number; else the answer is lost. */
+/* A frame that comes to the module is sent and delivered, if simulate can send it. The CPU takes the
+ * answer to a poll if the next poll has the next number; otherwise the answer is lost. */
 static void add_frame(struct growth *growth, const struct script *script, size_t place) {
     const struct event *event = &script->events[place];
     struct fio2070_command command;

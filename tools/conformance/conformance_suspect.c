@@ -19,7 +19,7 @@ static void begin_variant(const struct script *script) {
     variant.length = 0;
 }
 
-/* The configuration of all inputs as it is at the start, but for the ignore flag that is given. */
+/* The configuration of all inputs as it is at the start, except for the ignore flag, which is given. */
 static void add_start(unsigned ignore) {
     struct event event;
     uint8_t octets[2 + 3 * 64];

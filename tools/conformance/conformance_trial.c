@@ -6,10 +6,10 @@
 #include <string.h>
 
 enum {
-    MOST_TRIED = 20000000, /* after so many events of trials a script is short enough */
-    MOST_MS = 15000,       /* and after so long, where each trial that fails takes time */
+    MOST_TRIED = 20000000, /* after this many events of trials a script is short enough */
+    MOST_MS = 15000,       /* and after this time, if each trial that fails takes time */
     HURRIED_MS = 100,      /* a trial that goes on for so long without a return is one that hangs */
-    MOST_MISSED = 20       /* after so many trials that show nothing the script is tried again */
+    MOST_MISSED = 20       /* after this many trials that show nothing the script is tried again */
 };
 
 struct script conformance_trial;
@@ -41,7 +41,7 @@ static int is_over(const struct shrinking *shrinking) {
            (shrinking->until_ms != 0 && conformance_now_ms() > shrinking->until_ms);
 }
 
-/* Runs a script. Returns its event with a difference of the same kind, 0 where there is none. */
+/* Runs a script. Returns its event with a difference of the same kind, 0 if there is none. */
 static size_t try_script(struct shrinking *shrinking, const struct script *script, struct difference *difference) {
     size_t length;
     if (shrinking->fresh != NULL) {
@@ -55,8 +55,8 @@ static size_t try_script(struct shrinking *shrinking, const struct script *scrip
     return length;
 }
 
-/* A trial showed nothing. After many the script itself is tried again, and where it shows nothing any more, that is the
- * end of it: its difference does not come each time. */
+/* A trial showed nothing. After many of these the script itself is tried again; if it shows nothing any more, that is the
+ * end of it: its difference does not occur each time. */
 static int miss(struct shrinking *shrinking, struct difference *ignored) {
     if (shrinking->ends.outside == NULL || ++shrinking->missed % MOST_MISSED != 0) return 0;
     if (try_script(shrinking, shrinking->script, ignored) == 0) shrinking->tried += shrinking->most;

@@ -8,13 +8,13 @@
 /* A script that is shrunk. */
 struct shrinking {
     struct ends ends;
-    struct fresh *fresh; /* trials run in new processes; NULL where they do not */
+    struct fresh *fresh; /* trials run in new processes; NULL if they do not */
     struct script *script;
     struct difference *difference; /* of the script, as it was last seen */
     int fails;                     /* at its last event the end under test crashes or hangs */
     unsigned long tried, most;     /* events of trials */
-    unsigned missed;               /* trials in a row that showed nothing */
-    long until_ms;                 /* of the clock; 0 where there is time enough */
+    unsigned missed;               /* successive trials that showed nothing */
+    long until_ms;                 /* of the clock; 0 if there is time enough */
 };
 
 /* The script that is tried in its place. */
@@ -27,7 +27,7 @@ void conformance_end_trials(struct shrinking *shrinking);
 /* Makes the trial a copy of the script. */
 void conformance_begin_trial(const struct shrinking *shrinking);
 
-/* Takes the trial in the place of the script where it shows a difference, or fails as the script does. Returns 1 where it
+/* Takes the trial in place of the script if it shows a difference, or fails as the script does. Returns 1 if it
  * does. */
 int conformance_take_trial(struct shrinking *shrinking);
 

@@ -38,7 +38,7 @@ static void step(void *context, uint64_t inputs) {
     if (wire->has_own_clock && !wire->has_failed) nanosleep(&millisecond, NULL);
 }
 
-/* Reads pairs of hexadecimal digits. Returns how many, at most so many; FAILED where the words are anything else. */
+/* Reads pairs of hexadecimal digits. Returns how many, at most `most`; FAILED if the words are anything else. */
 static size_t read_octets(const char *words, uint8_t *octets, size_t most) {
     size_t length = 0;
     int taken = 0;

@@ -1,5 +1,5 @@
-/* A module that is not in this process: it is asked by lines, over a pipe, a socket or a serial adapter. README.md beside
- * this file has the lines. */
+/* A module that is not in this process: it is asked by lines, over a pipe, a socket or a serial adapter. README.md in this
+ * folder has the lines. */
 #ifndef CONFORMANCE_WIRE_H
 #define CONFORMANCE_WIRE_H
 
@@ -11,9 +11,9 @@ enum {
 };
 
 struct wire {
-    int file;           /* -1 where it could not be opened */
+    int file;           /* -1 if it could not be opened */
     int deadline_ms;    /* for each line that the module's side writes */
-    int has_own_clock;  /* the levels are set where they change, and a step is a millisecond of waiting */
+    int has_own_clock;  /* the levels are set when they change, and a step is a millisecond of waiting */
     const char *target; /* as it was opened, and by what */
     int (*open)(struct wire *wire);
     long process; /* that was started, 0 for none */
@@ -21,7 +21,7 @@ struct wire {
     int has_answered, has_failed;
     enum hurry hurry;
     int is_new;      /* it was asked nothing since it was opened */
-    long slowest_ms; /* of the lines that came, but for the first after it was opened */
+    long slowest_ms; /* of the lines that came, except the first after it was opened */
     int has_levels;
     uint64_t levels;
     size_t kept, tail_length;      /* octets that came after the last line, and of standard error */
@@ -32,7 +32,7 @@ struct wire {
 };
 
 /* Begins a command with its standard input and output, opens a serial adapter as it was set up, or connects to
- * HOST:PORT. Returns 0 where that failed. The words have to last. */
+ * HOST:PORT. Returns 0 if that failed. The words have to last. */
 int conformance_wire_command(struct wire *wire, const char *command);
 int conformance_wire_serial(struct wire *wire, const char *device);
 int conformance_wire_socket(struct wire *wire, const char *address);
@@ -46,7 +46,7 @@ void conformance_wire_outside(struct wire *wire, struct outside *outside);
 
 /* ---- Between the two files of a wire ---- */
 
-/* Asks the module's side a line, and reads the one that it answers. Returns 0 where it failed. */
+/* Sends the module's side a line, and reads the line that it answers. Returns 0 if it failed. */
 int conformance_wire_ask(struct wire *wire, const char *line, char said[WIRE_LONGEST_LINE]);
 
 /* Notes why the module's side failed, first alone. Returns 0. */

@@ -32,10 +32,10 @@ static const char HELP[] =
 struct setup {
     struct wire wire;
     int id, per_block, is_open;
-    const char *opened, *self; /* the end of --self, NULL where there is none */
+    const char *opened, *self; /* the end of --self, NULL if there is none */
 };
 
-/* Reads an option and its word. Returns how many words it took, 0 where it is none of these. */
+/* Reads an option and its word. Returns how many words it took, 0 if it is none of these. */
 static int read_option(struct setup *setup, const char *name, const char *word) {
     if (strcmp(name, "--own-clock") == 0) return setup->wire.has_own_clock = 1;
     if (strcmp(name, "--self") == 0) {

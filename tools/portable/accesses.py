@@ -1,5 +1,5 @@
 """The tests of accesses to memory. A number of the function is known as a base and a distance from it; accesses at fixed
-distances from one base, of which each is made if the first is, are tested once for all of them."""
+distances from one base, each of which is made if the first is, are tested once for all of them."""
 
 from typing import NamedTuple
 
@@ -8,7 +8,7 @@ NOTHING = 0
 
 
 class Place(NamedTuple):
-    """A number of 64 bits: a base, which stands for a number that is not known, and what is added to it."""
+    """A number of 64 bits: a base, which represents a number that is not known, and what is added to it."""
     base: int
     distance: int
 
@@ -32,7 +32,7 @@ class Access(NamedTuple):
 
 
 class Tested(NamedTuple):
-    """Octets that were tested: a pointer leads to the first. `depth` is the number of blocks that were open there."""
+    """Octets that were tested: a pointer leads to the first. `depth` is the number of blocks that were open at the test."""
     base: int
     start: int
     end: int
@@ -61,7 +61,7 @@ class Accesses:
         self.locals, self.objects = {}, {}
 
     def fresh(self, local=None):
-        """Returns a number of which nothing is known, or no more than that it is in this local."""
+        """Returns a number of which nothing is known, except perhaps that it is in this local."""
         self.bases += 1
         self.locals[self.bases] = local
         return Place(self.bases, 0)
@@ -104,7 +104,7 @@ class Accesses:
         self.waiting = []
 
     def settle_turns(self, loop, turns, lines):
-        """Chooses the pointers of the accesses of a straight loop whose address is that of the turn before and a step: they
+        """Chooses the pointers of the accesses of a straight loop whose address is that of the turn before plus a step: they
         are tested before the loop, up to those of the last turn. Returns what moves them on between turns."""
         found = []
         for first in self.waiting if turns else []:
@@ -143,13 +143,13 @@ class Accesses:
         return found
 
     def object_of(self, first, size, writes):
-        """Returns the variable for the object that a loop's accesses were in, whose bounds are then at hand for the next ones.
-        It is no more than a guess that those from one local are in one object: a miss is looked up."""
+        """Returns the variable for the object that a loop's accesses were in, whose bounds are then known for the next ones.
+        It is only a guess that those from one local are in one object: a miss is looked up."""
         return self.objects.setdefault((self.locals.get(first.place.base), size, writes), 'n%d' % (len(self.objects) + 1))
 
     def leave(self, depth, is_joined):
-        """Ends a block that is open at this depth. Where its end is reached by branches too, what was tested in it is
-        not tested there."""
+        """Ends a block that is open at this depth. If branches reach its end too, what was tested in it is not tested
+        there."""
         if is_joined:
             self.tested = [it for it in self.tested if it.depth < depth]
         else:

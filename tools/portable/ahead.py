@@ -3,7 +3,7 @@
 from instructions import LOADS, STORES
 from module import Octets
 
-# Instructions with one number behind them.
+# Instructions with one number after them.
 ONE_NUMBER = (0x0C, 0x0D, 0x10, 0x20, 0x21, 0x22, 0x23, 0x24)
 
 
@@ -25,7 +25,7 @@ def assigned_in(it):
 
 
 def skip(it):
-    """Passes over code that cannot be reached, up to the else or end of its block."""
+    """Skips code that cannot be reached, up to the else or end of its block."""
     depth = 0
     while True:
         start = it.place

@@ -1,4 +1,4 @@
-"""A function of the module as a function of C. The entries of WebAssembly's stack are variables, named for their height
+"""A function of the module as a function of C. The entries of WebAssembly's stack are variables, named after their height
 and width: `i3` has 32 bits, `j3` has 64. Locals are v0, v1, ..; blocks end in labels; p1, p2, .. lead to octets that were
 tested."""
 
@@ -62,7 +62,7 @@ class Function:
                             'assigned': set(), 'places': list(self.places), 'bases': self.accesses.bases})
 
     def settle(self):
-        """Settles the accesses: what follows is not always done after what is here."""
+        """Settles the accesses: what follows is not always done after what comes before."""
         self.accesses.settle(self.lines)
 
     def forget(self, assigned):
@@ -164,7 +164,7 @@ class Function:
                 if not reachable:
                     skip(it)
         if it.place != it.end:
-            raise Refused('octets behind function %d' % self.index)
+            raise Refused('octets after function %d' % self.index)
 
     # ---- Instructions ----
 
@@ -194,8 +194,8 @@ class Function:
         return Comparison(*places, False) if op == IS_OTHER_64 else None
 
     def sum(self, op):
-        """Returns a sum or a difference of 64 bits, of which more is known than that it is a number. What the stack gives
-        pointer is the size of the function's frame."""
+        """Returns a sum or a difference of 64 bits, of which more is known than that it is a number. What is
+        subtracted from the stack pointer is the size of the function's frame."""
         (second, other), (first, one) = self.pop_entry(I64), self.pop_entry(I64)
         place = None
         if op == ADD_64:
@@ -249,7 +249,7 @@ class Function:
         self.say('l%d:;' % self.labels)
 
     def end_turn(self, condition):
-        """Ends a straight loop, which goes on where this holds. Returns what moves pointers on."""
+        """Ends a straight loop, which goes on as long as this holds. Returns what moves pointers on."""
         loop = self.blocks[-1].get('loop')
         if not loop:
             return []

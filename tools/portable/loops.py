@@ -1,6 +1,6 @@
-"""Loops without a way out but their end: each turn makes each access. Where the number of turns is known as the loop begins,
-the accesses at an address that moves by the same distance in each turn are tested there, all at once: the octets from those
-of the first turn to those of the last."""
+"""Loops with no way out but their end: each turn makes each access. If the number of turns is known as the loop begins, the
+accesses at an address that moves by the same distance in each turn are tested there, all at once: the octets from those of
+the first turn to those of the last."""
 
 from typing import NamedTuple
 
@@ -9,7 +9,7 @@ from ahead import pass_over
 from module import Octets
 
 BRANCH_IF, END = 0x0D, 0x0B
-# Those that lead elsewhere, and those that change more than locals and the octets that they name.
+# Instructions that lead elsewhere, and those that change more than locals and the octets that they name.
 LEAVE = (0x00, 0x02, 0x03, 0x04, 0x05, 0x0C, 0x0E, 0x0F, 0x10, 0x24, 0xFC)
 
 
@@ -43,7 +43,7 @@ class Loop:
         self.steps = {}
 
     def measure(self, places):
-        """Takes what the locals are at the end of a turn."""
+        """Notes what the locals are at the end of a turn."""
         for index, place in enumerate(self.places):
             if index not in self.assigned:
                 self.steps.setdefault(place.base, 0)
@@ -61,7 +61,7 @@ class Loop:
         for moved, end in ((condition.one, condition.other), (condition.other, condition.one)):
             step = self.steps.get(moved.base, 0) if moved.base != NOTHING else 0
             there = None if step == 0 else self.text_of(end)
-            # The number is compared when it has moved.
+            # The number is compared after it has moved.
             if there and moved.distance == self.places_of(moved.base).distance + step:
                 name = self.name_of(moved.base)[0]
                 return 'turns(%s, %s, %du)' % ((name, there, -step) if step < 0 else (there, name, step))

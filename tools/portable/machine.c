@@ -1,12 +1,12 @@
 /* What the translated functions call: memory, and the integer operations that C lacks.
  *
- * A memory of 64 bits is mostly empty, so it holds what a call needs and no more. Addresses below 2^32 are the module's
+ * A memory of 64 bits is mostly empty, so it only holds what a call needs. Addresses below 2^32 are the module's
  * own: its stack, which is an array of the C function that makes the call, and its read-only data. Argument k of a call
- * has the addresses from k * 2^32 on, in the very memory of the caller, read and written in place. Each access is held to
+ * has the addresses from k * 2^32 on, in the caller's own memory, read and written in place. Each access is tested against
  * the object's length; a store to a const argument, and any other access, ends in FIO2070_TRAP.
  *
  * Memory is little-endian by WebAssembly's definition, whatever the processor is: numbers are put together from octets,
- * which compilers make one load of where the processor allows it. */
+ * which compilers turn into one load if the processor allows it. */
 
 #if defined(__GNUC__)
 #define HOT static inline __attribute__((always_inline))
@@ -34,7 +34,7 @@ COLD static void trap(void) {
     }
 }
 
-/* Accesses below 2^32 are always tested, since constants are told from the stack so. */
+/* Accesses below 2^32 are always tested, since that is how constants are told from the stack. */
 #ifdef FIO2070_UNCHECKED
 #define HOLDS(test) (number > 0 || (test))
 #else
@@ -48,7 +48,7 @@ COLD static void trap(void) {
 #define PLACE static
 #endif
 
-/* The read-only data of the module. Anything else that is no argument and not the stack is no place. */
+/* The read-only data of the module. Anything else that is neither an argument nor the stack is not valid. */
 COLD_PLACE static uint8_t *data_at(uint64_t address, uint32_t size) {
     uint64_t place = address - STACK_TOP;
     if (address < STACK_TOP || place > DATA_LENGTH || size > DATA_LENGTH - (uint32_t)place) trap();
@@ -78,9 +78,9 @@ PLACE uint8_t *write_at(uint64_t address, const struct machine *m, uint32_t size
     return m->windows[0].octets;
 }
 
-/* How many turns a loop takes until a number is another one, by steps of this. Where it would take 2^64 it is 0. */
+/* How many turns a loop takes until a number has reached another, by steps of this size. If it would take 2^64, it is 0. */
 HOT uint64_t turns(uint64_t to, uint64_t from, uint32_t step) { if ((to - from) % step) trap(); return (to - from) / step; }
-/* How many octets so many turns reach, each some octets beyond the one before. */
+/* How many octets this many turns reach, each some octets beyond the one before. */
 HOT uint32_t run(uint32_t size, uint32_t step, uint64_t turns) { if (turns - 1 > 0xFFFFFFFFu || (turns - 1) * step > 0xFFFFFFFFu - size) trap(); return size + step * (uint32_t)(turns - 1); }
 
 /* An object, and how many places of it some octets may begin at. A loop has it in a variable for its accesses. */

@@ -116,7 +116,7 @@ class Module:
         self.data = (address, it.take(it.number()))
 
     def name_of(self, index):
-        """Returns the name of a function in C. An export has its own, behind `enter_`."""
+        """Returns the name of a function in C. An export has its own, after `enter_`."""
         if index not in self.c_names:
             name = c_name(self.names.get(index, 'function'))
             if name.startswith('fio2070_'):

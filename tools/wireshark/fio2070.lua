@@ -2,11 +2,11 @@
 --
 -- A frame holds one message: its type (49 to 60 for commands of the CPU, 177 to
 -- 188 for answers of the module) and the fields of that type. The Info column
--- and the words of faults are those of `fio2070 show` for the same octets.
+-- and the texts of faults are those of `fio2070 show` for the same octets.
 --
 -- Protocol "fio2070" takes bare messages; "fio2070_sdlc" takes frames with an
 -- address and a control octet in front and, by preference, two octets of frame
--- check behind. Both can be chosen in Wireshark's table of user link types
+-- check after it. Both can be chosen in Wireshark's table of user link types
 -- (DLT_USER), by their own preference, or with "Decode As" on a UDP port.
 --
 -- Written for Lua 5.2 (Wireshark 4.0) and later, so without operators on bits.
@@ -48,7 +48,7 @@ local type_names = {
   [188] = "Module identification, answer",
 }
 
--- The words of the text, each followed by the field behind it where there is one.
+-- The words of the text, each followed by the field after it, if there is one.
 local layouts = {
   [49] = { "status clear", "clear" },
   [50] = { "load counter", "load" },
@@ -200,7 +200,7 @@ local function flags(name, label, infos)
   end }
 end
 
--- Octets kept as they come, written in hexadecimal: as many as the table has, or all the rest.
+-- Octets kept as they come, written in hexadecimal: the number in the table, or all the rest.
 local function octets(name, label)
   local size, made = octets_of[name], declare("bytes", name, label)
   local function rest(tvb, offset) return tvb:len() - offset end
@@ -211,7 +211,7 @@ local function octets(name, label)
   end }
 end
 
--- A count and as many elements of three octets, each read by `read_element`.
+-- A count and that many elements of three octets, each read by `read_element`.
 local function list(name, label, read_element)
   local count = declare("uint8", name, label, base.DEC)
   parts[name] = { size = function(tvb, offset)
@@ -270,7 +270,7 @@ end
 
 ---------------------------------------------------------------- messages
 --
--- The parts of a message stand in the order in which they stand in the frame,
+-- The parts of a message are in the order in which they are in the frame,
 -- with the words of the text between them.
 
 flags("clear", "Flags to clear", {})
@@ -311,7 +311,7 @@ declare("framenum", "repeat_of", "Same block was asked for in", base.NONE, frame
 link.fields = field
 link.experts = notice
 
--- The notice and the words of the first fault that applies, or nil.
+-- The notice and the text of the first fault that applies, or nil.
 local function fault_of(tvb)
   local got = tvb:len()
   if got == 0 then return "fault.empty", "empty" end

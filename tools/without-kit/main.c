@@ -1,6 +1,6 @@
 /* `fio2070 show`, `check` and `record` without the Rattle kit: the calls of dist/fio2070.c do all decoding, texts and judging.
  * This file reads lines by docs/FORMATS.md and is not proved; tests/clone.py compares it with the program. ./fio2070 compiles it
- * where there is no `rt`. */
+ * if there is no `rt`. */
 #include <fio2070.h>
 #include <signal.h>
 #include <stdio.h>
@@ -98,7 +98,7 @@ static int show(void) {
     return status;
 }
 
-/* Writes the line of `check` that tells of a fault, and returns 1. Without one it writes nothing, counts the frames, and
+/* Writes the line of `check` that reports a fault, and returns 1. Without a fault it writes nothing, counts the frames, and
  * returns 0. */
 static int has_fault(unsigned long *frames) {
     static const struct place top = {0, 0};

@@ -9,7 +9,7 @@ from collections import Counter
 from . import log, many, terminal, unjudged
 from .counts import Counts
 from .decode import clock_of
-from .events import BAD, DAMAGED, FRAME, PASSED
+from .events import BAD, FRAME, LOSSES, PASSED
 from .late import LateRules
 from .message import POLL, message_of
 from .options import number_in
@@ -94,11 +94,11 @@ def frames_judged(read, option, late=None):
         return judged(option.at, not option.start_at_poll, option.whole, option.limits)
     judge, name, is_open = begin(), None, not option.start_at_poll
     for event in read.events():
-        if event.kind not in (FRAME, BAD, DAMAGED):
+        if event.kind not in (FRAME, BAD, *LOSSES):
             continue
         if name != read.name:
             judge, name, is_open = begin(), read.name, not option.start_at_poll
-        if event.kind == DAMAGED:
+        if event.kind in LOSSES:
             judge.lose(event)
             yield event, None, judge
             continue
@@ -116,7 +116,7 @@ def run(option):
     paint, read, counts = terminal.painter('auto'), log.Log(option, sys.stdout.flush, writes=option.json), Counts()
     rules, breaches, spans = None, 0, Spans()
     for event, found, rules in frames_judged(read, option, counts if option.late_answers else None):
-        if event.kind == DAMAGED:
+        if event.kind in LOSSES:
             counts.lose()
         else:
             counts.add(event, message_of(event.octets) if event.kind == FRAME else None)

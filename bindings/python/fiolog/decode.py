@@ -9,11 +9,13 @@ import sys
 import time
 
 from . import log, terminal
-from .events import BAD, DAMAGED, FRAME, POSSIBLE
+from .events import BAD, DAMAGED, DOUBTFUL, FRAME, POSSIBLE
 from .log_words import POSSIBLE as UNSURE
 from .message import BLOCK, LETTERS, SENT_AGAIN, message_of
 from .options import line_range, message_type, number_in, status_letters
 
+# The kinds of messages that nothing makes sure.
+UNSURE_KINDS = POSSIBLE, DOUBTFUL
 # The most characters of a damaged line that are shown.
 MOST_SHOWN = 100
 # Times from here on are of a date.
@@ -113,7 +115,7 @@ def as_text(write, paint, takes_part=lambda part: True):
             colour = 'mark'
         says, *lines = message.lines()
         again = paint('dim', '  ' + SENT_AGAIN) if message.is_repeat else ''
-        again += paint('fault', '  ' + UNSURE) if event.kind == POSSIBLE else ''
+        again += paint('fault', '  ' + UNSURE) if event.kind in UNSURE_KINDS else ''
         bits = ''.join(paint('dim', '  %s: %s' % bit) + '\n' for bit in message.bits().items())
         write('%s%s%s\n%s' % (head, paint(colour, says), again, bits)
               + ''.join(words + '\n' for part, words in zip(message.parts, lines) if takes_part(part)))
@@ -125,7 +127,7 @@ def as_json(write, takes_part):
     def line(name, event, message):
         one = {'file': name, 'line': event.number, 'time': event.time, 'direction': event.direction,
                'octets': event.octets.hex()}
-        if event.kind == POSSIBLE:
+        if event.kind in UNSURE_KINDS:
             one['possible'] = True
         if message is None:
             one['fault'] = fault_in(event)
@@ -163,9 +165,9 @@ def run(option):
         line = as_text(write, terminal.painter(option.color), taken.takes_part)
     read = log.Log(option, sys.stdout.flush)
     for event in read.events():
-        if event.kind not in (FRAME, POSSIBLE, BAD, DAMAGED):
+        if event.kind not in (FRAME, *UNSURE_KINDS, BAD, DAMAGED):
             continue
-        message = message_of(event.octets) if event.kind in (FRAME, POSSIBLE) else None
+        message = message_of(event.octets) if event.kind in (FRAME, *UNSURE_KINDS) else None
         if taken.takes(event, message):
             line(read.name, event, message)
     return 0 if read.summary(takes_possible=True) and not read.kinds[BAD] + read.kinds[DAMAGED] else 1

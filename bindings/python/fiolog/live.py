@@ -19,7 +19,7 @@ from fio2070.constants import LONGEST_FRAME
 from . import check, sdlc, terminal
 from .counts import Counts
 from .decode import as_text
-from .events import BAD, DAMAGED, FRAME, PASSED, POSSIBLE, Line
+from .events import BAD, DAMAGED, FRAME, LOSSES, PASSED, POSSIBLE, Line
 from .judge import is_answer, words_of
 from .message import message_of
 from .options import number_in
@@ -188,11 +188,11 @@ class Station:
 
     def add(self, event):
         """A frame, good or bad; other lines are passed over, and at a damaged one the place is lost."""
-        if event.kind == DAMAGED:
+        if event.kind in LOSSES:
             self.rules.lose(event)
             self.counts.lose()
         if event.kind not in (FRAME, BAD):
-            if event.kind in (PASSED, POSSIBLE, DAMAGED) and self.option.verbose:
+            if event.kind in (PASSED, POSSIBLE, *LOSSES) and self.option.verbose:
                 self._say('line %d: %s: %s' % (event.number, event.note, event.text[:100]))
             return
         self.last = time.monotonic()
@@ -241,7 +241,7 @@ class Station:
         """What was counted."""
         numbers = {name.replace('_', ' '): number for name, number in self.counts.in_short(is_over).items()}
         numbers.update({'breaches': self.breaches, 'breaches in content': self.content_breaches})
-        kinds = {'lines passed over': self.reader.kinds[PASSED], 'damaged lines': self.reader.kinds[DAMAGED]}
+        kinds = {'lines passed over': self.reader.kinds[PASSED], 'damaged lines': sum(self.reader.kinds[kind] for kind in LOSSES)}
         return {**numbers, **{words: count for words, count in kinds.items() if count},
                 **{words: count for words, count in self.source.losses().items() if count}}
 

@@ -5,7 +5,7 @@ import sys
 from collections import Counter
 
 from . import source
-from .events import BAD, DAMAGED, FRAME, PART, PASSED, POSSIBLE
+from .events import BAD, FRAME, LOSSES, PART, PASSED, POSSIBLE
 from .reader import CHECKED, FORMS, UNCHECKED, Reader
 from .terminal import Progress, say
 from .unjudged import reasons_in_words
@@ -46,7 +46,7 @@ class Log:
             self.name, self.reader = name, Reader(**settings_of(self.option))
             for event in self._of_file(name):
                 self.lines = event.number if event.kind != PART else self.lines
-                if event.kind in (PASSED, DAMAGED) and self.option.verbose:
+                if event.kind in (PASSED, *LOSSES) and self.option.verbose:
                     self.name_passed(event)
                 yield event
             self.kinds += self.reader.kinds
@@ -82,9 +82,10 @@ class Log:
         if passed and not self.option.quiet:
             say('%d of %d lines passed over: %s%s' % (passed, self.lines, reasons_in_words(self.reasons),
                                                       '' if self.option.verbose else ' (-v names each)'))
-        if self.kinds[DAMAGED] and not self.option.quiet:
+        damaged = sum(self.kinds[kind] for kind in LOSSES)
+        if damaged and not self.option.quiet:
             say('%d damaged lines may have held frames: nobody is accused up to the next poll%s'
-                % (self.kinds[DAMAGED], '' if self.option.verbose else ' (-v names each)'))
+                % (damaged, '' if self.option.verbose else ' (-v names each)'))
         if self.kinds[POSSIBLE]:
             say('%d lines say a message, and nothing makes them sure: %s' % (
                 self.kinds[POSSIBLE], 'they are marked' if takes_possible else '`fiolog decode` shows them'))

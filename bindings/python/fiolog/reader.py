@@ -8,7 +8,7 @@ import fio2070
 
 from . import judge, sdlc
 from .doubts import Doubts
-from .events import BAD, BLANK, DAMAGED, FRAME, PART, PASSED, POSSIBLE, Line
+from .events import BAD, BLANK, DAMAGED, DOUBTFUL, FRAME, PART, PASSED, POSSIBLE, Line
 from .log_words import REASONS
 from .rules import WRONG_CHECK
 from .sides import side_in, side_of
@@ -91,11 +91,13 @@ class Reader:
         return self._events(last) + self._events(self.library.end())
 
     def _events(self, verdicts):
-        events = [event for verdict in verdicts for event in self._of_line(verdict)]
-        for event in events:
-            self.kinds[event.kind] += 1
-            if event.kind == PASSED:
-                self.reasons[event.note] += 1
+        events = []
+        for verdict in verdicts:
+            found = self._of_line(verdict)
+            self.kinds[found[0].kind] += len(found)
+            if found[0].kind == PASSED:
+                self.reasons[found[0].note] += 1
+            events += found
         return events
 
     def _of_line(self, verdict):
@@ -104,6 +106,8 @@ class Reader:
         time = None if verdict.time is None or verdict.time >= END_OF_TIME * 1_000_000 else verdict.time / 1_000_000
         kind, note = KINDS[verdict.kind], REASONS.get(verdict.reason, verdict.reason)
         line = Line(number, kind, text, b'', time, '', note, '', verdict.places)
+        if kind == POSSIBLE and self.kinds[FRAME]:
+            line = line._replace(kind=DOUBTFUL)
         if self.pattern:
             line = line._replace(**self.given.pop(number, {}))
         else:

@@ -13,7 +13,7 @@ import fio2070
 from . import hires, log, plot, terminal
 from .check import add_place, frames_judged
 from .decode import clock_of
-from .events import DAMAGED, FRAME, Line
+from .events import FRAME, LOSSES, Line
 from .message import BLOCK, LOST, POLL, message_of
 from .rules import Breach
 from .waveform import Block, draw
@@ -73,7 +73,7 @@ def taken(read, option):
     hearing = Hearing()
     for event, breach, _ in frames_judged(read, option):
         is_taken, items = False, []
-        hearing.is_lost |= event.kind == DAMAGED
+        hearing.is_lost |= event.kind in LOSSES
         if event.kind == FRAME and event.octets[0] == POLL:
             words = hearing.note(event)
             if words and not breach:

@@ -6,7 +6,7 @@ from collections import Counter
 
 from . import log, many, terminal, unjudged
 from .counts import Counts
-from .events import BAD, DAMAGED, FRAME, PASSED
+from .events import BAD, FRAME, LOSSES, PASSED
 from .message import message_of
 
 MILLI = 1000
@@ -54,13 +54,13 @@ def run(option):
         return many.run(option, counts_alone=True)
     read, counts = log.Log(option, writes=False), Counts()
     for event in read.events():
-        if event.kind == DAMAGED:
+        if event.kind in LOSSES:
             counts.lose()
         elif event.kind in (FRAME, BAD):
             counts.add(event, message_of(event.octets) if event.kind == FRAME else None)
     if not read.summary():
         return 1
-    missing = counts.unjudged() + Counter(damaged_lines=read.kinds[DAMAGED], lines_passed_over=read.kinds[PASSED])
+    missing = counts.unjudged() + Counter(damaged_lines=sum(read.kinds[kind] for kind in LOSSES), lines_passed_over=read.kinds[PASSED])
     if option.json:
         json.dump({**numbers(counts), 'not_counted': unjudged.numbers(missing, unjudged.OF_LINES)}, sys.stdout, indent=1)
         print()

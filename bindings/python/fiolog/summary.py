@@ -9,7 +9,7 @@ import os
 from collections import Counter
 
 from .counts import Counts
-from .events import BAD, DAMAGED, FRAME
+from .events import BAD, FRAME, LOSSES
 from .message import message_of
 from .reader import Reader
 from .rules import Rules
@@ -78,7 +78,7 @@ def summary_of(source, at='auto', whole=False, limits=(), **settings):
 
 def _judge(summary, rules, events):
     for event in events:
-        if event.kind == DAMAGED:
+        if event.kind in LOSSES:
             rules.lose(event)
             summary.counts.lose()
         elif event.kind in (FRAME, BAD):

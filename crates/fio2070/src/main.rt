@@ -1,5 +1,4 @@
-//! The program `fio2070`: the crate `fio_tool`, called with the words of the command line and the
-//! standard streams.
+//! The program `fio2070`: it calls the crate `fio_tool` with the words of the command line and the standard streams.
 #![tactic(auto)]
 
 use fio_tool::{ToolFault, run_program};
@@ -8,10 +7,10 @@ use std::process::ExitCode;
 use std::rt::Env;
 use std::{env, io};
 
-/// The exit status for words that are no text.
+/// The exit status if the words of the command line are not text.
 const MISUSED: u8 = 2;
 
-/// The exit status where memory runs out.
+/// The exit status if memory runs out.
 const FAILED: u8 = 3;
 
 fn main(rt: HostRuntime) -> ExitCode {
@@ -26,7 +25,7 @@ fn main(rt: HostRuntime) -> ExitCode {
     }
 }
 
-/// Returns the exit status, or why the words of the command line could not be had.
+/// Returns the exit status, or why the words of the command line could not be read.
 fn run(rt: &HostRuntime) -> io::Result<u8> {
     let alloc = rt.alloc();
     let words: Vec<String> = words(rt)?;

@@ -1,18 +1,18 @@
-//! What a call came to.
+//! The results of calls.
 
 /// How a call answered.
 #[derive(Clone, Copy, Drop)]
 pub(crate) enum Answer {
-    /// As it does where memory is there.
+    /// As it does if no memory is refused.
     Right,
-    /// It reported that memory ran out and changed nothing; of events, at the one with this place.
+    /// It reported that memory ran out and changed nothing; for events, at the one with this index.
     Refused(usize),
     /// In any other way.
     Wrong,
 }
 
 impl Answer {
-    /// Right where the answer is the expected one.
+    /// Returns `Right` if the answer is the expected one, otherwise `Wrong`.
     pub(crate) fn right_if(is_expected: bool) -> Answer {
         if is_expected {
             Answer::Right
@@ -21,7 +21,7 @@ impl Answer {
         }
     }
 
-    /// Refused, where nothing else is to be seen of the call.
+    /// Returns `Refused` if nothing else can be seen of the call, otherwise `Wrong`.
     pub(crate) fn refused_if(is_unchanged: bool) -> Answer {
         if is_unchanged {
             Answer::Refused(0)

@@ -50,8 +50,7 @@ pub(crate) fn gap(alloc: Global) -> Answer {
     )
 }
 
-/// Octets that add no item to the record: of no answer, of another one, of an old block, and of a block
-/// without entries.
+/// Octets that add no item to the record: of no answer, of another answer, of an old block, and of a block without entries.
 const NOTHING: [(&[u8], Heard); 4] = [
     (
         &[0x36, 5],
@@ -92,8 +91,8 @@ fn hear(alloc: Global, octets: &[u8], items: usize, expected: Heard) -> Answer {
     hear_again(&mut Poller::new(alloc, 5), octets, items, expected)
 }
 
-/// The octets are taken, at last the second time, and so many items are recorded. Where memory was
-/// refused, the record was empty then and the number was as before.
+/// The octets are taken, the second time at the latest, and `items` items are recorded. If memory was refused the first
+/// time, the record was then empty and the number as before.
 fn hear_again(poller: &mut Poller, octets: &[u8], items: usize, expected: Heard) -> Answer {
     let mut heard = poller.hear(octets);
     let mut answer = Answer::Right;

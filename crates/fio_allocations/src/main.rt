@@ -1,7 +1,7 @@
-//! Makes each call that can allocate once, except those of the tools and of the command line, which `fio2070` makes,
-//! and reports of each whether its answer was right. Where a growth of memory is refused to the program, the one
-//! call that meets it has to say so and to leave all as it was. `tests/refused-memory.py` runs both programs once for
-//! each growth, with that one refused.
+//! Makes each call that can allocate once, except those of the tools and of the command line, which `fio2070` makes, and
+//! reports for each whether its answer was right. If an allocation is refused, the one call that meets the refusal has to
+//! report it and to leave everything as it was. `tests/refused-memory.py` runs both programs once for each growth of memory,
+//! refusing that one.
 #![tactic(auto)]
 
 mod answers;
@@ -29,8 +29,8 @@ fn main(rt: HostRuntime) -> ExitCode {
     ExitCode::from(u8::from(!rows.are_right))
 }
 
-/// A line of output for each call, written before the next call is made: `tests/refused-memory.py` sees by it
-/// which call met the refusal.
+/// A line of output for each call, written before the next call is made: it shows `tests/refused-memory.py` which call met
+/// the refusal.
 #[derive(Drop)]
 struct Rows<'a> {
     rt: &'a HostRuntime,
@@ -63,12 +63,12 @@ impl Rows<'_> {
         }
     }
 
-    /// Writes how a call answered, and returns whether that is done.
+    /// Writes how a call answered, and returns whether that succeeded.
     fn writes(&self, name: &str, answer: &str) -> bool {
         println!(self.rt; "{name}: {answer}").is_ok()
     }
 
-    /// Writes where memory was refused, and returns whether that is done.
+    /// Writes where memory was refused, and returns whether that succeeded.
     fn writes_place(&self, name: &str, place: usize) -> bool {
         println!(self.rt; "{name}: refused at {place}").is_ok()
     }
@@ -85,7 +85,7 @@ fn report_parts(rows: &mut Rows<'_>, alloc: Global) {
     rows.report("Poller::hear that adds nothing", hearing::nothing(alloc));
 }
 
-/// Both ends that are made, and their events one by one.
+/// Worlds that are made, and their events one by one.
 fn report_steps(rows: &mut Rows<'_>, alloc: Global) {
     rows.report("World::new", worlds::new(alloc));
     rows.report("World::with_limits", worlds::with_limits(alloc));

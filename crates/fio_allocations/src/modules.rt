@@ -9,7 +9,7 @@ pub(crate) fn new(alloc: Global) -> Answer {
     made(Module::new(alloc, 2))
 }
 
-/// Like the one above, with other limits.
+/// Like `new`, with other limits.
 pub(crate) fn with_limits(alloc: Global) -> Answer {
     let Some(limits) = Limits::new(1, MOST_WAITING) else {
         return Answer::Wrong;
@@ -24,7 +24,7 @@ fn made(module: Result<Module, Memory>) -> Answer {
     }
 }
 
-/// Octets, and what a module answers to them, whose inputs report each change: nothing where nothing is there.
+/// Octets, and the answers of a module whose inputs report each change; an empty answer is none.
 const ANSWERS: [(&[u8], &[u8]); 12] = [
     (&[0x31, 0x80], &[0xb1, 0, 0, 0, 0, 0, 0, 0]),
     (&[0x32, 0, 0, 0, 5], &[0xb2, 0]),
@@ -49,7 +49,7 @@ const ANSWERS: [(&[u8], &[u8]); 12] = [
     (&[0x30], &[]),
 ];
 
-/// Every call that takes no memory, on a module in which more entries wait than may.
+/// Every call that allocates nothing, on a module in which more entries come than may wait.
 pub(crate) fn others(alloc: Global) -> Result<Answer, Memory> {
     let mut module = Module::new(alloc, 2)?;
     Ok(Answer::right_if(is_open(&mut module) && is_used(&mut module)))
@@ -60,7 +60,7 @@ fn is_open(module: &mut Module) -> bool {
     is_answered(module, &opens_all_inputs(), &[0xb3, 0])
 }
 
-/// The calls below it are answered as they should be.
+/// The following calls are answered as they should be.
 fn is_used(module: &mut Module) -> bool {
     answers_all(module)
         && overflows(module)
@@ -105,13 +105,13 @@ fn writes_a_block(module: &mut Module) -> bool {
     is_written && answer.len() == 773 && module.waiting() == 514
 }
 
-/// A restart leaves no entry, and the counter at 0.
+/// A restart leaves no entry, and sets the counter to 0.
 fn restarts(module: &mut Module) -> bool {
     module.restart();
     module.waiting() == 0 && module.counter() == 0
 }
 
-/// The octets of a configuration: each input is reported, and one sample changes its state.
+/// The octets of a configuration: each input is open, and one sample changes its state.
 fn opens_all_inputs() -> [u8; 194] {
     let mut octets = [1; 194];
     octets[0] = 0x33;
@@ -122,7 +122,7 @@ fn opens_all_inputs() -> [u8; 194] {
     octets
 }
 
-/// The module answers octets as it is expected, and not at all where nothing is expected.
+/// The module answers octets as expected, and not at all if nothing is expected.
 fn is_answered(module: &mut Module, octets: &[u8], expected: &[u8]) -> bool {
     match module.receive(octets) {
         Some(frame) => frame.as_slice() == expected,

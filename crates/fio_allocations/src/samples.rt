@@ -23,9 +23,8 @@ impl Sample {
         }
     }
 
-    /// What can be counted of both ends when it is done: the frames sent to the module and to the CPU, the
-    /// numbers delivered last to each, the items of the record, the CPU's block number, the module's
-    /// counter, and the waiting entries.
+    /// The figures of both ends when the script is done: the frames sent to the module and to the CPU, the numbers delivered
+    /// last to each, the items of the record, the CPU's block number, the module's counter, and the waiting entries.
     pub(crate) fn end(self) -> [usize; 8] {
         match self {
             Sample::LostAnswer => [4, 4, 4, 4, 2, 1, 2, 0],

@@ -1,4 +1,4 @@
-//! Texts that are read and made.
+//! Texts that are read and written.
 use crate::answers::Answer;
 use crate::samples::{
     FAULTY_SCRIPTS, FAULTY_TRANSCRIPTS, LOST_ANSWER, LOST_ANSWER_REPORT, TRANSCRIPT,
@@ -9,7 +9,7 @@ use fio_tool::{TraceError, Verdict, check_trace, read_trace};
 use fio_world::{Report, Script, ScriptError, push_fault, read_script, report, report_text};
 use std::alloc::Global;
 
-/// The words of a refusal at the end of a text, or the text as it was.
+/// The text of a refusal at the end of a text, or the text as it was.
 pub(crate) fn push_words(alloc: Global) -> Result<Answer, Memory> {
     Ok(push(&mut Vec::from_slice(alloc, b"abc")?))
 }
@@ -89,7 +89,7 @@ pub(crate) fn verdict(alloc: Global) -> Result<Answer, Memory> {
     Ok(Answer::right_if(is_expected))
 }
 
-/// Scripts whose first event has a fault. No line above it takes memory, so its fault is the answer.
+/// Scripts whose first event has a fault. No line before it allocates, so its fault is the answer.
 pub(crate) fn faulty_scripts(alloc: Global) -> Answer {
     have_faults(alloc, &FAULTY_SCRIPTS)
 }
@@ -105,7 +105,7 @@ fn have_faults(alloc: Global, rows: &[(&[u8], ScriptError)]) -> Answer {
     Answer::Right
 }
 
-/// The fault of a line below a good one, which took memory.
+/// The fault of a line after a good one, which allocated.
 pub(crate) fn script_with_a_fault(alloc: Global) -> Answer {
     match read_script(alloc, b"fio2070 script 1 2 0\npoll\nsend zz\n") {
         Err(ScriptError::Memory) => Answer::Refused(0),
@@ -126,7 +126,7 @@ pub(crate) fn faulty_transcripts(alloc: Global) -> Answer {
     Answer::Right
 }
 
-/// A line that is no frame, below one that is, which took memory.
+/// A line that is no frame, after one that is, which allocated.
 pub(crate) fn transcript_with_a_fault(alloc: Global) -> Answer {
     match read_trace(alloc, b"> 3605\n< zz\n") {
         Err(TraceError::Memory) => Answer::Refused(0),

@@ -12,7 +12,7 @@ pub(crate) fn new(alloc: Global) -> Answer {
     made(World::new(alloc, 2, 255))
 }
 
-/// Like the one above, with other limits.
+/// Like `new`, with other limits.
 pub(crate) fn with_limits(alloc: Global) -> Answer {
     let Some(limits) = Limits::new(1, MOST_WAITING) else {
         return Answer::Wrong;
@@ -64,8 +64,8 @@ fn ended(ran: &Result<World, RunError>, script: &Script, sample: Sample) -> Answ
     }
 }
 
-/// The events of a sample, one after the other, in two worlds. One of them does each event first, and
-/// where memory is refused to it, it is still like the other, and does the same event then.
+/// The events of a sample, one after another, in two worlds. One of them does each event first; if memory is refused to it,
+/// it is still like the other, and then does the same event.
 pub(crate) fn step(alloc: Global, sample: Sample) -> Result<Answer, Memory> {
     step_in_both(alloc, &script_of(alloc, sample)?, sample.end())
 }
@@ -76,7 +76,7 @@ fn step_in_both(alloc: Global, script: &Script, end: [usize; 8]) -> Result<Answe
     step_beside(&mut first, alloc, script, end)
 }
 
-/// The events of a script in a world and in one beside it.
+/// The events of a script in a world and in a second one.
 fn step_beside(
     first: &mut World,
     alloc: Global,
@@ -137,7 +137,7 @@ fn step_both(first: &mut World, second: &mut World, event: &Event) -> Result<Ans
     Ok(Answer::refused_if(follows(first, second, event, &outcome)?))
 }
 
-/// The second world does an event as the first did, and is like it then.
+/// The second world does an event as the first did, and is then like it.
 fn follows(
     first: &World,
     second: &mut World,
@@ -151,8 +151,8 @@ fn follows(
     Ok(outcome.is_ok() && *outcome == expected && are_alike(first, second))
 }
 
-/// The events of a sample, together: where memory is refused at one of them, those above it are done, and
-/// the rest is tried again.
+/// The events of a sample, together: if memory is refused at one of them, those before it are done, and the rest are tried
+/// again.
 pub(crate) fn step_all(alloc: Global, sample: Sample) -> Result<Answer, Memory> {
     step_script(alloc, &script_of(alloc, sample)?, sample.end())
 }
@@ -173,7 +173,7 @@ fn step_together_to(world: &mut World, events: &[Event], end: [usize; 8]) -> Ans
     }
 }
 
-/// Events together, with those that are left where memory is refused at one of them.
+/// Events together; if memory is refused at one of them, those that remain are tried again.
 fn steps_together(world: &mut World, events: &[Event]) -> Answer {
     let Err(error) = world.step_all(events) else {
         return Answer::Right;
@@ -187,8 +187,8 @@ fn steps_together(world: &mut World, events: &[Event]) -> Answer {
     Answer::Refused(error.place)
 }
 
-/// Events that take no memory, at the end of a sample: those of the module alone, a delivery that adds
-/// nothing to the record, and refused ones.
+/// Events that allocate nothing, at the end of a sample: those of the module alone, a delivery that adds nothing to the
+/// record, and refused ones.
 pub(crate) fn adding_nothing(alloc: Global) -> Result<Answer, Memory> {
     add_nothing(alloc, &script_of(alloc, Sample::LostAnswer)?)
 }
@@ -238,7 +238,7 @@ fn script_of(alloc: Global, sample: Sample) -> Result<Script, Memory> {
     read_script(alloc, sample.script()).ok().ok_or(Memory)
 }
 
-/// What can be counted of a world.
+/// The figures of a world.
 fn counts(world: &World) -> [usize; 8] {
     [
         world.sent_to_module(),
@@ -252,7 +252,7 @@ fn counts(world: &World) -> [usize; 8] {
     ]
 }
 
-/// Every reading call answers the same for both worlds.
+/// Every reading call returns the same for both worlds.
 fn are_alike(one: &World, other: &World) -> bool {
     counts(one) == counts(other)
         && one.poller().items() == other.poller().items()

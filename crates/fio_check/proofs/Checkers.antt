@@ -14,7 +14,7 @@ use Rattle.fio_check.proofs.Verdicts.{below-or-at, breach-is}
 -- ---- from the start on, through the first breach
 
 -- a checker that passes over nothing
-abbrev taking : Limits → Facts → Checker
+abbrev pub taking : Limits → Facts → Checker
 taking limits facts = record { limits = limits; facts = facts; skips = false }
 
 takes-it : (limits : Limits) (facts : Facts) (observation : Observation) → passes_over (taking limits facts) observation ≡ false
@@ -24,11 +24,11 @@ takes-it limits facts (Block number status entries absent) = refl
 takes-it limits facts (Answer code accepted) = refl
 takes-it limits facts Unreadable = refl
 
-found-taking : (limits : Limits) (facts : Facts) (observation : Observation)
+pub found-taking : (limits : Limits) (facts : Facts) (observation : Observation)
     → found_by (taking limits facts) observation ≡ breach_of limits facts observation
 found-taking limits facts observation = rw (takes-it limits facts observation) refl
 
-with-taking : (limits : Limits) (facts : Facts) (observation : Observation) → first_broken_within limits facts observation ≡ None
+pub with-taking : (limits : Limits) (facts : Facts) (observation : Observation) → first_broken_within limits facts observation ≡ None
     → checker_with (taking limits facts) observation ≡ taking limits (facts_with facts observation)
 with-taking limits facts observation none = rw (takes-it limits facts observation, none) refl
 

@@ -32,10 +32,6 @@ is_overfull_within limits status entries =
     (nat_lt limits.per_block limits.waiting && (says_lost status && not (says_more status)))
     || (says_more status && not (entries == limits.per_block))
 
--- the same with the limits of TEES 2009
-abbrev pub is_overfull : ℕ → ℕ → Bool
-is_overfull status entries = is_overfull_within standard_limits status entries
-
 -- A line breaks a rule, where the module has these limits:
 abbrev pub breaks_within : Limits → Facts → Observation → Rule → Bool
 -- Readable: its octets are no message of its direction.
@@ -67,10 +63,6 @@ breaks_within limits facts (Block number status entries absent) Rest =
 breaks_within limits facts (Answer code accepted) Refusal = accepted && facts.absent_named
 -- No other line breaks it.
 breaks_within limits facts observation rule = false
-
--- the same with the limits of TEES 2009
-abbrev pub breaks : Facts → Observation → Rule → Bool
-breaks facts observation rule = breaks_within standard_limits facts observation rule
 
 -- the name of a rule
 abbrev pub rule_name : Rule → List ℕ

@@ -7,15 +7,14 @@ use Rattle.fio_input.specs.Widening.{wide_time_of}
 use Rattle.fio_cpu.specs.declared.record.Item.{Item}
 use Rattle.fio_cpu.specs.declared.record.Item.TheVariants.{Entry, Gap}
 
--- an entry as an item of the record, in an answer with this stamp: its wide time is the widened
--- number of that stamp
+-- an entry as an item of the record, from an answer with this stamp: its wide time is widened from that stamp
 abbrev pub item_of : ℕ → EntryOf → Item
 item_of stamp entry = Entry entry.input entry.level entry.stamp (wide_time_of stamp entry.stamp)
 
--- a gap mark where entries were lost
+-- a gap mark, if entries were lost
 abbrev pub gap_if : Bool → List Item
 gap_if lost = if lost then Gap ∷ [] else []
 
--- what taking a block appends: one gap mark if F is set, then all its entries in order
+-- what taking a block appends to the record: one gap mark if F is set, then all its entries in order
 abbrev pub items_of_block : Block → List Item
 items_of_block block = gap_if (says_lost block.status) ++ map (item_of block.stamp) block.entries

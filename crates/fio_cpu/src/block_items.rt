@@ -9,8 +9,8 @@ use fio_input::widen;
 use fio_message::{BlockEntries, BlockStatus, EntriesView, Entry};
 use std::marker::Model;
 
-/// What taking a block appends to the record, in the octets of the answer: one gap mark if F is set, then
-/// all its entries in order. Contracts see it as the list of these items.
+/// What taking a block appends to the record, in the octets of the answer: one gap mark if F is set, then all its entries in
+/// order. Contracts describe it as the list of these items.
 #[derive(Debug, Drop)]
 pub struct BlockItems<'a> {
     lost: bool,
@@ -30,7 +30,7 @@ impl<'a> Model for BlockItems<'a> {
 }
 
 impl<'a> BlockItems<'a> {
-    /// Returns what a block with these entries, this status and this stamp adds.
+    /// Returns what a block with these entries, this status and this stamp adds to the record.
     pub(crate) fn new(entries: EntriesView<'a>, status: u8, stamp: u32) -> BlockItems<'a>
         ensures { result
             ≡ gap_if (says_lost status) ++ map (item_of stamp) (entries_of entries.entry) }
@@ -50,14 +50,14 @@ impl<'a> BlockItems<'a> {
         usize::from(self.lost) + self.entries.len()
     }
 
-    /// Returns whether there is no item.
+    /// Returns whether there are no items.
     pub fn is_empty(&self) -> bool
         ensures { result ≡ (length self.now == 0) }
     {
         self.len() == 0
     }
 
-    /// Returns the items in order, each made as it is asked for.
+    /// Returns the items in order, each made when it is asked for.
     pub fn iter(&self) -> RecordItems<'a>
         ensures { result ≡ self.now }
     {
@@ -69,7 +69,7 @@ impl<'a> BlockItems<'a> {
     }
 }
 
-/// The items that a block adds which are left to be taken. Contracts see it as the list of these.
+/// The items that a block adds and that remain to be taken. Contracts describe it as the list of these.
 #[derive(Debug, Drop)]
 pub struct RecordItems<'a> {
     lost: bool,

@@ -1,4 +1,4 @@
-//! Hearing: what a CPU makes of octets, wherever its record is kept.
+//! Hearing: how a CPU responds to octets, wherever its record is kept.
 ghost use Rattle.std.specs.Prelude.{◌≡◌, ◌+◌, ◌%◌, [], length, Some, OnOk, OnErr, IfOk, IfErr};
 ghost use Rattle.fio_message.specs.Blocks.{block_answer};
 ghost use Rattle.fio_message.specs.Decoding.{answered_block, decoded_answer, block_in};
@@ -13,13 +13,12 @@ use crate::poller::Heard;
 use crate::record::Record;
 use fio_message::{AnswerView, EntriesView, read_answer};
 
-/// Hears the octets of a frame, where the next poll carries `number` and the record is `items`. A block
-/// answer (TEES 2009, answer 182) with this number is taken whole: what it adds is appended, and the
-/// number rises by one modulo 256. Anything else is reported and changes nothing (own profile).
+/// Hears the octets of a frame, given the number that the next poll carries and the record. A block answer (TEES 2009,
+/// answer 182) with this number is taken whole: what it adds is appended to the record, and the number rises by one modulo
+/// 256. Anything else is reported and changes nothing (own profile).
 ///
 /// # Errors
-/// Why there is no room in the record for what a block adds. Nothing is appended then, and the number
-/// stays.
+/// Why the record has no room for what a block adds. Then nothing is appended, and the number stays.
 #[inline]
 pub fn hear_frame<R: Record>(
     number: &mut u8,
@@ -43,11 +42,10 @@ pub fn hear_frame<R: Record>(
     }
 }
 
-/// Hears an answer that is read already, as `hear_frame` hears its octets.
+/// Hears an answer that has been read already, as `hear_frame` hears its octets.
 ///
 /// # Errors
-/// Why there is no room in the record for what a block adds. Nothing is appended then, and the number
-/// stays.
+/// Why the record has no room for what a block adds. Then nothing is appended, and the number stays.
 #[inline(always)]
 pub fn hear_read_answer<R: Record>(
     number: &mut u8,
@@ -78,7 +76,7 @@ pub fn hear_read_answer<R: Record>(
     }
 }
 
-/// Hears a block answer: takes it where it has the CPU's number, and else reports it as stale.
+/// Hears a block answer: takes it if it has the CPU's number, and otherwise reports it as stale.
 #[inline(always)]
 fn hear_block<R: Record>(
     number: &mut u8,
@@ -106,8 +104,7 @@ fn hear_block<R: Record>(
     take_block(number, items, entries, status, stamp)
 }
 
-/// Takes a block that has the CPU's number: appends what it adds, and raises the number by one modulo
-/// 256.
+/// Takes a block that has the CPU's number: appends what it adds, and raises the number by one modulo 256.
 #[inline]
 fn take_block<R: Record>(
     number: &mut u8,

@@ -1,15 +1,14 @@
 //! The CPU's end of the transition link: it polls the module by block numbers and records what it
 //! takes.
 //!
-//! What the crates above use: `hear` takes exactly the block answers with the CPU's present number,
-//! whole, and changes nothing at any other octets. Only `hear` can ask for memory, and only where a
-//! block adds to the record.
+//! What the crates above rely on: `hear` takes exactly the block answers with the CPU's present number, whole, and changes
+//! nothing for any other octets. Only `hear` can allocate, and only if a block adds to the record.
 //!
-//! The definitions are in `specs/`, in this order: the end as contracts see it (`Poller`), what a
-//! block is in the record (`Record`), and what the CPU makes of octets (`Hearing`).
+//! The definitions are in `specs/`, in this order: the CPU's end as contracts describe it (`Poller`), what a block adds to
+//! the record (`Record`), and how the CPU responds to octets (`Hearing`).
 //!
-//! The logic is once, in `hear_frame` and `hear_read_answer`, which append to any `Record`. `Poller` has
-//! its record on the heap.
+//! The logic is in one place, `hear_frame` and `hear_read_answer`, which append to any `Record`. `Poller` has its record on
+//! the heap.
 //!
 //! # Examples
 //!

@@ -12,22 +12,22 @@ use fio_message::{AnswerView, Command, DecodeError, Frame, Memory, encode_comman
 use std::alloc::Global;
 use std::marker::Model;
 
-/// What the octets were: the first of these that applies (own profile).
+/// What a poller heard: the first of these that applies (own profile).
 #[derive(Clone, Copy, Debug, PartialEq, Eq, Hash)]
 pub enum Heard {
-    /// They spell no answer, for this reason.
+    /// The octets spell no answer, for this reason.
     Unreadable(DecodeError),
-    /// They spell an answer that is no block.
+    /// The octets spell an answer that is not a block.
     Other {
         /// The type of the answer: its first octet.
         code: u8,
     },
-    /// A block answer whose number is not the CPU's present one, ignored.
+    /// The octets are a block answer whose number is not the CPU's present one. It is ignored.
     Stale {
         /// The block number that it carries.
         block: u8,
     },
-    /// A block answer with the present number, taken whole.
+    /// The octets are a block answer with the present number. It is taken whole.
     Block {
         /// How many entries it has, at most 255.
         entries: usize,
@@ -36,8 +36,7 @@ pub enum Heard {
     },
 }
 
-/// The CPU's end: the block number that its next poll carries, and the record of all that it has
-/// taken.
+/// The CPU's end: the block number that its next poll carries, and the record of everything that it has taken.
 #[derive(Drop)]
 pub struct Poller {
     number: u8,
@@ -53,8 +52,7 @@ impl Model for Poller {
 }
 
 impl Poller {
-    /// Returns a poller whose record is empty and whose first block number is this one. Takes no
-    /// memory.
+    /// Returns a poller whose record is empty and whose first block number is `first`. It allocates nothing.
     pub fn new(alloc: Global, first: u8) -> Poller
         ensures { result ≡ record { number = first; items = [] } }
     {
@@ -64,23 +62,23 @@ impl Poller {
         }
     }
 
-    /// Returns the block number of the next poll, from 0 to 255. It rises by one modulo 256 with
-    /// each block that is taken, and with nothing else (own profile).
+    /// Returns the block number of the next poll, from 0 to 255. It rises by one modulo 256 with each block that is taken,
+    /// and at no other time (own profile).
     pub fn number(&self) -> u8
         ensures { result ≡ self.now.number }
     {
         self.number
     }
 
-    /// Returns a poll with the present block number (TEES 2009, command 54). Nothing changes: until
-    /// an answer with this number is taken each poll carries the same one (own profile).
+    /// Returns a poll with the present block number (TEES 2009, command 54). Nothing changes: until an answer with this
+    /// number is taken, each poll carries the same number (own profile).
     pub fn poll(&self) -> Frame
         ensures { SpellsCommand (commands.Poll self.now.number) result.items }
     {
         encode_command(&Command::Poll { block: self.number })
     }
 
-    /// Returns the record: all that was taken, in order.
+    /// Returns the record: everything that was taken, in order.
     pub fn items(&self) -> &[Item]
         ensures { result.now ≡ self.now.items }
     {
@@ -93,10 +91,8 @@ impl Poller {
     /// Taking a block appends one gap mark to the record if F is set, then all its entries in
     /// order, each with its time in milliseconds, and raises the number by one modulo 256.
     ///
-    /// # Errors
-    /// `Memory` where the record had to grow and no room was given: only for a block answer with
-    /// the present number that has F or entries. Record and number are then as before, so the same
-    /// octets may be heard again.
+    /// `Memory` if the record had to grow and there was no memory: only for a block answer with the present number that has
+    /// F or entries. Record and number are then as before, so the same octets may be heard again.
     pub fn hear(&mut self, octets: &[u8]) -> Result<Heard, Memory>
         ensures heard { IfOk result (λ heard.
             heard ≡ heard_as self.old.number (decoded_answer octets.now)) }
@@ -107,10 +103,10 @@ impl Poller {
         hear_frame(&mut self.number, &mut self.items, octets)
     }
 
-    /// Hears an answer that is read already, as `hear` hears its octets.
+    /// Hears an answer that has been read already, as `hear` hears its octets.
     ///
     /// # Errors
-    /// `Memory` where `hear` returns it.
+    /// `Memory` if `hear` would return it.
     #[inline(always)]
     pub fn hear_answer(&mut self, answer: &AnswerView<'_>) -> Result<Heard, Memory>
         ensures heard { IfOk result (λ heard.

@@ -17,8 +17,8 @@ pub enum Item {
         level: bool,
         /// The low 16 bits of the module's millisecond counter at the transition.
         stamp: u16,
-        /// The time in milliseconds, in 32 bits: the one number at or before the answer's stamp,
-        /// less than 65,536 steps back modulo 2^32, with these low 16 bits (own profile).
+        /// The time in milliseconds, in 32 bits: the one number with these low 16 bits that is at or before the answer's
+        /// stamp, counting back modulo 2^32, by less than 65,536 (own profile).
         wide: u32,
     },
     /// Some transitions are missing here: the module pushed out entries before the next block.
@@ -32,13 +32,13 @@ pub trait Record {
     /// Why there is no room for items.
     type NoRoom;
 
-    /// The record before, the items that it gains at its end, and the record after.
+    /// Relates the record before, the items appended to it, and the record after.
     ghost Gains: { Self → List ItemOf → Self → Type 0 };
 
     /// The record has no room for these items, for this reason.
     ghost LacksRoom: { Self → List ItemOf → Self.NoRoom → Type 0 };
 
-    /// Appends what a block adds: all of it, or nothing where there is no room.
+    /// Appends what a block adds: all of it, or nothing if there is no room.
     ///
     /// # Errors
     /// Why there is no room.
@@ -61,8 +61,7 @@ impl Record for Vec<Item> {
 
     ghost none_gained = { Prim.search rules };
 
-    /// Asks for room for all of the items once, before any is appended, and for none where there are
-    /// no items.
+    /// Reserves room for all of the items once, before any is appended, and none if there are no items.
     fn append(&mut self, items: &BlockItems<'_>) -> Result<(), Memory> {
         if items.is_empty() {
             return Ok(());
@@ -74,9 +73,8 @@ impl Record for Vec<Item> {
     }
 }
 
-/// Returns a list with items appended, for which there is room. It is moved here for the loop: of a
-/// list behind a reference, each push would write the length to memory and read the place of the
-/// items again.
+/// Returns a list with items appended, for which there is room. The list is moved here for the loop: with a list behind a
+/// reference, each push would write the length to memory and read the address of the items again.
 fn extended(mut kept: Vec<Item>, items: &BlockItems<'_>) -> Vec<Item>
     requires { vec_len kept + length items.now ≤ vec_capacity kept }
     ensures { result.items ≡ kept.items ++ items.now }

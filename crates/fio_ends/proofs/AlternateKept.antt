@@ -1,19 +1,19 @@
 -- The rule `alternate` never accuses: an entry that is watched is a change from the state of the latest one of its input.
-use Rattle.fio_ends.proofs.Names.{◌≡◌, ◌≢◌, ◌∙◌, ◌+◌, ◌<◌, ◌≤◌, ◌&&◌, ◌||◌, inl, inr, ℕ, Bool, true, false, not, List, [], ◌∷◌, ◌++◌, length, Option, Some, None, refl, ap, sym, subst, arith, if◌then◌else◌, ◌==◌, beq, slice_get, slice_get_within, eqb_tells, nat_lt, nat_tests, is_some_and, same_Some, Answer, Command, Block, command_in, command_octets, IsCommand, says_again, says_more, Settings, AreInRange, Life, Occurrence, Scanned, LineSynced, Raised, Commanded, life_of, life_after_command, log_of, Transition, entry_of, MadeBlock, blocks_in, ContentFacts, InputAbove, content_with, Ended, Recorded, Sent, Gap, Event, SentFrame, Machine, after, after_sending, after_delivery_to_module, after_taken, Alternate, IsKept, get_after_push}
-use Rattle.fio_message.specs.declared.answers.Answer.TheVariants as answers
+use Rattle.fio_ends.proofs.Names.{◌≡◌, ◌≢◌, ◌∙◌, ◌+◌, ◌<◌, ◌≤◌, ◌&&◌, ◌||◌, inl, inr, ℕ, Bool, true, false, not, List, [], ◌∷◌, ◌++◌, length, Option, Some, None, refl, ap, sym, subst, arith, if◌then◌else◌, ◌==◌, beq, slice_get, slice_get_within, eqb_tells, nat_lt, nat_tests, is_some_and, same_Some, Command, Block, command_in, command_octets, IsCommand, says_again, says_more, Settings, AreInRange, Life, Occurrence, Scanned, LineSynced, Raised, Commanded, life_of, life_after_command, log_of, Transition, entry_of, MadeBlock, blocks_in, ContentFacts, InputAbove, content_with, Ended, Recorded, Sent, Gap, Event, SentFrame, Machine, start, after, after_sending, after_delivery_to_module, after_taken, Alternate, IsKept, get_after_push}
 use Rattle.fio_message.specs.declared.commands.Command.TheVariants as commands
 use Rattle.fio_message.specs.Blocks.{block_answer}
 use Rattle.fio_input.specs.Widening.{wide_time_of}
 use Rattle.fio_module.specs.Blocks.{end_of_blocks}
 use Rattle.fio_check.specs.ContentSaid.{SentItem, ignores, items_for, items_sent}
-use Rattle.fio_check.specs.ContentFacts.{input_below_clear, input_with_entry, settled_now}
-use Rattle.fio_check.specs.ContentRules.{breaks_answer}
+use Rattle.fio_check.specs.ContentFacts.{content_begun, input_below_clear, input_with_entry, settled_now}
 use Rattle.fio_link.specs.declared.event.Event.TheVariants as events
 use Rattle.fio_ends.specs.ContentRuns.{Always, ContentNeverAccuses, KeepsRule}
 use Rattle.fio_ends.proofs.BlockPlaces.{end_at, ends_within, is_next}
 use Rattle.fio_ends.proofs.BlockWalk.{IsWalk, entry_event, walk}
+use Rattle.fio_ends.proofs.ContentBegun.{begun_input}
 use Rattle.fio_ends.proofs.ContentSteps.{IsInvariant, IsKnown, IsPastBus, Takes}
 use Rattle.fio_ends.proofs.MadeNow.{made_now}
+use Rattle.fio_ends.proofs.ContentFrame.{heard_keeps}
 use Rattle.fio_ends.proofs.ContentRuns.{content_never_accuses}
 use Rattle.fio_ends.proofs.Following.{IsNoCommand}
 use Rattle.fio_ends.proofs.Sends.{read_back}
@@ -259,13 +259,6 @@ module _ (settings : Settings) (range : AreInRange settings) (first : ℕ) (begi
       (watch-received machine.to_module machine.last_to_module (end_at settings now machine.round) input facts.clear (facts.inputs input).hidden (facts.inputs input).watched
       low now place frame (omega arith) at (p input low)))
 
-  heard_alternate : (facts : ContentFacts) (answer : Answer) → breaks_answer facts answer Alternate ≡ false
-  heard_alternate facts (answers.LoadCounter status) = refl
-  heard_alternate facts (answers.ConfigureInputs status) = refl
-  heard_alternate facts (answers.Status flags receive transmit stamp) = refl
-  heard_alternate facts (answers.Watchdog status) = refl
-  heard_alternate facts other = refl
-
   alternate_is_invariant : IsInvariant settings first begin Alternate (Unit {0}) tt (λ state machine event. tt) (λ state machine later. Unit {0})
       (λ state from machine facts. WatchHolds settings machine facts)
   alternate_is_invariant = record {
@@ -274,15 +267,24 @@ module _ (settings : Settings) (range : AreInRange settings) (first : ℕ) (begi
     happens = λ state from machine facts event rest known past holds p. watch-happens machine facts event past p;
     sends = λ state from machine facts event command known may within p. watch-sends machine facts command within p;
     receives = λ state from machine facts place frame known new at reads p. watch-receives machine facts place frame known.is_kept new at p;
-    hears = λ state from machine facts place rest command answer known h holds p. (heard_alternate facts answer, p);
+    hears = λ state from machine facts place rest command answer known h holds p. ((heard_keeps facts answer).alternate, p);
     takes = λ state from machine facts place rest number answer block known t holds p.
         walk Alternate settings (life_of machine.history) machine.round answer block (Watch from machine place number answer block known t)
         (WatchHolds settings (after_taken machine place answer)) (watch_walk from machine place number answer block known t)
-        t.made t.carried facts (heard_alternate facts (block_answer answer)) p;
+        t.made t.carried facts ((heard_keeps facts (block_answer answer)).alternate) p;
   }
 
+-- at the start of both ends no change is hidden
+pub watch_begun : (settings : Settings) → WatchHolds settings start content_begun
+watch_begun settings input low =
+    subst (λ (above : InputAbove). KeepsWatch [] [] 0 0 input true above.hidden above.watched) (sym (begun_input input low))
+    (record {
+      open_ones = λ is none. (λ place frame high there. absurd (cc there), none_hidden-now [] 0 input refl);
+      watched_ones = λ level is. absurd (cc is);
+    })
+
 pub alternate_never_accuses : ContentNeverAccuses Alternate Always
-alternate_never_accuses = content_never_accuses Alternate (Unit {0}) tt (λ state machine event. tt) Always
-    (λ settings first begin state machine later. Unit {0}) (λ settings first begin state from machine facts. WatchHolds settings machine facts)
-    (λ settings first machine last later range k none leads premise. tt)
+alternate_never_accuses = content_never_accuses Alternate (Unit {0}) tt (λ state machine event. tt)
+    (λ settings first begin state from machine facts. WatchHolds settings machine facts)
     (λ settings first begin range. alternate_is_invariant settings range first begin)
+    (λ settings first. watch_begun settings)

@@ -65,9 +65,8 @@ module _ (rule : ContentRule) (keeps : KeepsOthers rule)
   }
 
   kept_by_answers : ContentNeverAccuses rule Always
-  kept_by_answers = content_never_accuses rule (Unit {0}) tt (λ state machine event. tt) Always (λ settings first begin state machine later. Unit {0})
-      (λ settings first begin state from machine facts. Unit {0}) (λ settings first machine last later range k none leads premise. tt)
-      (λ settings first begin range. stateless settings first begin)
+  kept_by_answers = content_never_accuses rule (Unit {0}) tt (λ state machine event. tt) (λ settings first begin state from machine facts. Unit {0})
+      (λ settings first begin range. stateless settings first begin) (λ settings first. tt)
 
 -- ---- done
 
@@ -269,6 +268,7 @@ watchdog_is_invariant settings first begin = record {
 }
 
 pub watchdog_never_accuses : ContentNeverAccuses Watchdog Always
-watchdog_never_accuses = content_never_accuses Watchdog (Unit {0}) tt (λ state machine event. tt) Always (λ settings first begin state machine later. Unit {0})
-    (λ settings first begin state from machine facts. KeepsWatchdog from facts) (λ settings first machine last later range k none leads premise. tt)
+watchdog_never_accuses = content_never_accuses Watchdog (Unit {0}) tt (λ state machine event. tt)
+    (λ settings first begin state from machine facts. KeepsWatchdog from facts)
     (λ settings first begin range. watchdog_is_invariant settings first begin)
+    (λ settings first is. absurd (cc is))

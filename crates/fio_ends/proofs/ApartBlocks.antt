@@ -21,9 +21,9 @@ use Rattle.fio_ends.proofs.MadeNow.{made_now}
 use Rattle.fio_ends.proofs.Settled.{setting-since, setting_of}
 use Rattle.fio_ends.proofs.Spaced.{spaced}
 use Rattle.fio_ends.proofs.Steady.{IsSteady}
-use Rattle.fio_ends.proofs.Taken.{taken_with}
+use Rattle.fio_ends.proofs.Taken.{brief_last, taken_with}
 use Rattle.fio_ends.proofs.Watching.{input_at}
-use Rattle.fio_ends.proofs.ApartTimes.{AreNearByInput, IsTimed, KeepsApart, KeepsTimes, ahead_of, brief_last, entries_in, entries_with, far_enough, if_clear, latest_after, latest_after-append, least_by, none_near, none_yet, timed-later, times-later, towards}
+use Rattle.fio_ends.proofs.ApartTimes.{AreNearByInput, IsTimed, KeepsApart, KeepsTimes, ahead_of, entries_in, entries_with, far_enough, if_clear, latest_after, latest_after-append, least_by, none_near, none_yet, timed-later, times-later, towards}
 
 module _ (settings : Settings) (range : AreInRange settings) (first : ℕ) (begin : Machine) where
   abbrev begin_life : Life

@@ -1,22 +1,22 @@
 -- The rule `apart` never accuses: an entry is as far from the latest one of its input as the least filter that can be in force.
-use Rattle.fio_ends.proofs.Names.{◌≡◌, ◌∙◌, ◌+◌, ◌<◌, ◌≤◌, ℕ, Bool, false, [], ◌∷◌, length, Some, refl, ap, sym, subst, arith, append-nil, slice_get, Answer, Command, command_in, command_octets, Settings, AreInRange, Life, Scanned, LineSynced, Raised, life_of, life_after_command, log_of, log_of-with_command, blocks_of, blocks_in, ContentFacts, content_with, Sent, Event, SentFrame, Machine, after, after_delivery_to_module, after_taken, Apart, IsKept, take, drop}
-use Rattle.fio_message.specs.declared.answers.Answer.TheVariants as answers
-use Rattle.fio_message.specs.declared.commands.Command.TheVariants as commands
+use Rattle.fio_ends.proofs.Names.{◌≡◌, ◌∙◌, ◌+◌, ◌<◌, ◌≤◌, ℕ, Bool, false, [], ◌∷◌, length, Some, refl, ap, sym, subst, arith, append-nil, slice_get, command_in, command_octets, Settings, AreInRange, Life, Scanned, LineSynced, Raised, life_of, life_after_command, log_of, log_of-with_command, blocks_of, blocks_in, ContentFacts, InputAbove, Event, SentFrame, Machine, start, after, after_delivery_to_module, after_taken, Apart, IsKept, take, drop}
 use Rattle.fio_message.specs.Blocks.{block_answer}
 use Rattle.fio_module.specs.Blocks.{end_of_blocks}
 use Rattle.fio_module.specs.Log.{transitions_below}
-use Rattle.fio_check.specs.ContentRules.{breaks_answer}
+use Rattle.fio_check.specs.ContentFacts.{content_begun}
 use Rattle.fio_link.specs.declared.event.Event.TheVariants as events
 use Rattle.fio_ends.specs.ContentPremises.{HasNearInputs, blocks_taken}
 use Rattle.fio_ends.specs.ContentRuns.{ContentNeverAccuses}
 use Rattle.fio_ends.proofs.BlockPlaces.{end_at}
 use Rattle.fio_ends.proofs.BlockWalk.{walk}
-use Rattle.fio_ends.proofs.ContentRuns.{content_never_accuses}
+use Rattle.fio_ends.proofs.ContentBegun.{begun_input}
+use Rattle.fio_ends.proofs.ContentFrame.{heard_keeps}
+use Rattle.fio_ends.proofs.ContentRuns.{timed_never_accuses}
 use Rattle.fio_ends.proofs.ContentSteps.{IsInvariant, IsPastBus}
-use Rattle.fio_ends.proofs.IgnoredKept.{both-happens, both-receives, both-sends, item-heard}
+use Rattle.fio_ends.proofs.IgnoredKept.{both_begun, both-happens, both-receives, both-sends, item-heard}
 use Rattle.fio_ends.proofs.LeastFilters.{KeepsLeast, least-begins, least-quiet, least-received, least-sent}
 use Rattle.fio_ends.proofs.Sends.{read_back}
-use Rattle.fio_ends.proofs.Steady.{loaded_after, loaded_by, sends_no_load, steady-happens, steady-receives, unloaded_before}
+use Rattle.fio_ends.proofs.Steady.{loaded_after, loaded_sent, sends_no_load, steady-happens, steady-receives, unloaded_before}
 use Rattle.fio_ends.proofs.Taken.{Asks, asked_of, asks_on, blocks_stay, taken_stay}
 use Rattle.fio_ends.proofs.ApartTimes.{AreNearByInput, KeepsApart, KeepsTimes, entries_in, front_asked, latest_after, near_last, none_yet, past_loaded, times-later}
 use Rattle.fio_ends.proofs.ApartBlocks.{KeepsRest, apart_walk}
@@ -96,18 +96,6 @@ module _ (settings : Settings) (range : AreInRange settings) (first : ℕ) (begi
             (ap (λ blocks. latest_after none_yet (entries_in blocks)) (taken_stay settings range first begin AreNearByInput machine command k)) (p.times unloaded);
       }
 
-  loaded_sent : (loaded : Bool) (facts : ContentFacts) (command : Command) → facts.loaded ≡ loaded
-      → (content_with facts (Sent command)).loaded ≡ loaded_by loaded command
-  loaded_sent loaded facts (commands.LoadCounter load) is = refl
-  loaded_sent loaded facts other is = is
-
-  heard_apart : (facts : ContentFacts) (answer : Answer) → breaks_answer facts answer Apart ≡ false
-  heard_apart facts (answers.LoadCounter status) = refl
-  heard_apart facts (answers.ConfigureInputs status) = refl
-  heard_apart facts (answers.Status flags receive transmit stamp) = refl
-  heard_apart facts (answers.Watchdog status) = refl
-  heard_apart facts other = refl
-
   apart_is_invariant : IsInvariant settings first begin Apart Bool false loaded_after (Asks settings first begin AreNearByInput)
       (λ loaded from machine facts. KeepsApart settings begin loaded machine facts)
   apart_is_invariant = record {
@@ -139,7 +127,7 @@ module _ (settings : Settings) (range : AreInRange settings) (first : ℕ) (begi
     };
     receives = λ loaded from machine facts place frame known new at reads p. apart-receives loaded machine facts place frame known.is_kept new at p;
     hears = λ loaded from machine facts place rest command answer known h asks p. (
-      heard_apart facts answer,
+      (heard_keeps facts answer).apart,
       record {
         loaded_is = p.loaded_is;
         steady = p.steady;
@@ -153,7 +141,7 @@ module _ (settings : Settings) (range : AreInRange settings) (first : ℕ) (begi
         (let asked = asked_of settings range first begin AreNearByInput front_asked loaded from machine place number answer block rest known t asks in
         walk Apart settings (life_of machine.history) machine.round answer block (KeepsRest settings range first begin from machine place number answer block known t asked loaded p.steady)
         (KeepsApart settings begin loaded (after_taken machine place answer)) (apart_walk settings range first begin from machine place number answer block known t asked loaded p.steady)
-        t.made t.carried facts (heard_apart facts (block_answer answer))
+        t.made t.carried facts ((heard_keeps facts (block_answer answer)).apart)
         (record {
           loaded_is = p.loaded_is;
           both = λ input low. (let k = p.both input low in record { item = record { taken_one = k.item.taken_one; sent_last = λ is. absurd (cc is) }; shut = k.shut });
@@ -165,15 +153,36 @@ module _ (settings : Settings) (range : AreInRange settings) (first : ℕ) (begi
         }));
   }
 
+-- at the start of both ends the filters are those of the item above, and no entry is recorded
+apart_begun : (settings : Settings) → KeepsApart settings start false start content_begun
+apart_begun settings = record {
+  loaded_is = refl;
+  steady = λ is. refl;
+  both = both_begun settings;
+  least = λ input low.
+      subst (λ (above : InputAbove). KeepsLeast [] [] 0 0 input above.least) (sym (begun_input input low))
+      (record {
+        now = record { leading = omega arith; trailing = omega arith };
+        coming = λ place frame high at. absurd (cc at);
+        logged = λ k transition high at of_input. absurd (cc at);
+      });
+  times = λ unloaded. record {
+    clear = λ is. (omega arith, omega arith);
+    timed = λ input low time is. absurd (cc (ap (λ (above : InputAbove). above.timed) (sym (begun_input input low)) ∙ is));
+  };
+}
+
 pub apart_never_accuses : ContentNeverAccuses Apart HasNearInputs
-apart_never_accuses = content_never_accuses Apart Bool false loaded_after HasNearInputs
-    (λ settings first begin. Asks settings first begin AreNearByInput)
-    (λ settings first begin loaded from machine facts. KeepsApart settings begin loaded machine facts)
-    (λ settings first machine last later range k none leads premise. record {
+apart_never_accuses = timed_never_accuses Apart Bool (λ begun. false) (λ settings. loaded_after) HasNearInputs
+    (λ begun settings first begin. Asks settings first begin AreNearByInput)
+    (λ begun settings first begin loaded from machine facts. KeepsApart settings begin loaded machine facts)
+    (λ begun settings first machine last later premise. premise.no_load)
+    (λ begun settings first machine last later none leads unloaded premise. record {
       last = last;
       leads = leads;
       none = none;
       asked = record { brief = premise.brief; near = premise.near };
-      no_load = λ is. premise.no_load;
+      no_load = λ is. unloaded;
     })
-    (λ settings first begin range. apart_is_invariant settings range first begin)
+    (λ begun settings first begin range. apart_is_invariant settings range first begin)
+    (λ settings first. apart_begun settings)

@@ -13,6 +13,7 @@ use Rattle.fio_ends.proofs.Shut.{ShutHolds}
 use Rattle.fio_ends.proofs.LeastFilters.{AreNoMore, KeepsLeast}
 use Rattle.fio_ends.proofs.Settled.{setting_of}
 use Rattle.fio_ends.proofs.Steady.{IsSteady, loaded_after}
+use Rattle.fio_ends.proofs.Taken.{brief_front}
 
 -- ---- what is asked of the blocks
 
@@ -32,10 +33,6 @@ pub record AreNearByInput (blocks : List MadeBlock) : Type 0 where
   pub brief : AllByRecursion WaitBriefly blocks
   pub near : InputsAreNear none_yet (entries_in blocks)
 
-pub brief_front : (front more : List MadeBlock) → AllByRecursion WaitBriefly (front ++ more) → AllByRecursion WaitBriefly front
-brief_front [] more all = tt
-brief_front (block ∷ front) more all = (all.0, brief_front front more all.1)
-
 pub near_front : (latest : ℕ → Option ℕ) (front more : List Transition) → InputsAreNear latest (front ++ more) → InputsAreNear latest front
 near_front latest [] more near = tt
 near_front latest (transition ∷ front) more near = (near.0, near_front (latest_with latest transition) front more near.1)
@@ -54,10 +51,6 @@ front_asked front more a = record {
   near = near_front none_yet (entries_in front) (entries_in more)
       (subst (InputsAreNear none_yet) (flat_map-append (λ (block : MadeBlock). block.transitions) front more) a.near);
 }
-
-pub brief_last : (blocks : List MadeBlock) (block : MadeBlock) → AllByRecursion WaitBriefly (blocks ++ block ∷ []) → WaitBriefly block
-brief_last [] block all = all.0
-brief_last (first ∷ blocks) block all = brief_last blocks block all.1
 
 pub entries_with : (blocks : List MadeBlock) (block : MadeBlock) → entries_in (blocks ++ block ∷ []) ≡ entries_in blocks ++ block.transitions
 entries_with blocks block =

@@ -4,24 +4,24 @@ use Rattle.std.proofs.Common.{min}
 use Rattle.fio_module.specs.Log.{transitions_below}
 use Rattle.fio_module.proofs.BlockLaws.{losses_leave_more}
 
--- a block that keeps the limits: F implies C, C implies that it is full, and all its inputs are there
-pub record KeepsLimits (per_block : ℕ) (block : MadeBlock) : Type 0 where
-  pub lost : block.lost ≡ true → block.more ≡ true
-  pub more : block.more ≡ true → length block.transitions ≡ per_block
+-- a block that keeps the limits: F implies C if more may wait than a block takes, C implies that it is full, and all its inputs
+-- are there
+pub record KeepsLimits (settings : Settings) (block : MadeBlock) : Type 0 where
+  pub lost : settings.per_block < settings.waiting → block.lost ≡ true → block.more ≡ true
+  pub more : block.more ≡ true → length block.transitions ≡ settings.per_block
   pub inputs : AllByRecursion HasInput block.transitions
 
 full_if : (per_block left : ℕ) → nat_lt per_block left ≡ true → min per_block left ≡ per_block
 full_if per_block left more = grind (arith, nat_tests)
 
 -- the block that a new poll makes next keeps them
-next_keeps : (settings : Settings) → settings.per_block < settings.waiting → (life : Life)
-    → KeepsLimits settings.per_block (next_block settings life)
-next_keeps settings fewer life =
+next_keeps : (settings : Settings) (life : Life) → KeepsLimits settings (next_block settings life)
+next_keeps settings life =
     let log = log_of life in
     let start = start_after settings log (newest_end settings life) in
     let count = count_from settings log start in
     record {
-      lost = losses_leave_more settings life fewer;
+      lost = losses_leave_more settings life;
       more = λ more.
           (let full : count ≡ settings.per_block = full_if settings.per_block (length log - start) more in
           let over : settings.per_block < length log - start = grind (arith, nat_tests) in
@@ -30,47 +30,48 @@ next_keeps settings fewer life =
     }
 
 -- and so does each block of a life
-pub blocks_keep : (settings : Settings) → settings.per_block < settings.waiting → (life : Life)
-    → AllByRecursion (KeepsLimits settings.per_block) (blocks_of settings life)
-blocks_keep settings fewer life =
-    each_block (KeepsLimits settings.per_block) settings (next_keeps settings fewer) life
+pub blocks_keep : (settings : Settings) (life : Life) → AllByRecursion (KeepsLimits settings) (blocks_of settings life)
+blocks_keep settings life = each_block (KeepsLimits settings) settings (next_keeps settings) life
 
 -- ---- after a block with C
 
--- the block after one with C has entries, and where the newest block has C the log goes on behind it
-pub record LeavesSome (blocks : List MadeBlock) (logged : ℕ) : Type 0 where
+-- the block after one with C has entries, and where the newest block has C, some may wait and the log goes on after it
+pub record LeavesSome (settings : Settings) (blocks : List MadeBlock) (logged : ℕ) : Type 0 where
   pub next : (k : ℕ) (block later : MadeBlock) → slice_get blocks k ≡ Some block
       → slice_get blocks (k + 1) ≡ Some later → block.more ≡ true → 1 ≤ length later.transitions
   pub newest : (k : ℕ) (block : MadeBlock) → slice_get blocks k ≡ Some block → length blocks ≡ k + 1
-      → block.more ≡ true → end_of_blocks blocks < logged
+      → block.more ≡ true → (1 ≤ settings.waiting) × (end_of_blocks blocks < logged)
 
-leaves_longer : (blocks : List MadeBlock) (logged longer : ℕ) → logged ≤ longer → LeavesSome blocks logged
-    → LeavesSome blocks longer
-leaves_longer blocks logged longer le leaves =
-    record { next = leaves.next; newest = λ k block at last more. omega (arith, leaves.newest k block at last more) }
+leaves_longer : (settings : Settings) (blocks : List MadeBlock) (logged longer : ℕ) → logged ≤ longer → LeavesSome settings blocks logged
+    → LeavesSome settings blocks longer
+leaves_longer settings blocks logged longer le leaves = record {
+  next = leaves.next;
+  newest = λ k block at last more.
+      (let left = leaves.newest k block at last more in (left.0, omega (arith, left.1)));
+}
 
-module _ (settings : Settings) (some : 1 ≤ settings.per_block) (room : 1 ≤ settings.waiting) (life : Life)
-    (leaves : LeavesSome (blocks_of settings life) (length (log_of life))) where
+module _ (settings : Settings) (some : 1 ≤ settings.per_block) (life : Life)
+    (leaves : LeavesSome settings (blocks_of settings life) (length (log_of life))) where
   abbrev made : MadeBlock
   made = next_block settings life
 
   abbrev start : ℕ
   start = start_after settings (log_of life) (newest_end settings life)
 
-  -- the next block takes some where the log goes on behind the newest
-  takes_some : newest_end settings life < length (log_of life) → 1 ≤ length made.transitions
-  takes_some less =
+  -- the next block takes some where some may wait and the log goes on after the newest
+  takes_some : (1 ≤ settings.waiting) × (newest_end settings life < length (log_of life)) → 1 ≤ length made.transitions
+  takes_some (room, less) =
       let log = log_of life in
       let count = count_from settings log start in
       omega (arith, length-take count (drop start log), length-drop start log)
 
-  -- and where it has C the log goes on behind it
-  goes_on : made.more ≡ true → made.end < length (log_of life)
+  -- and where it has C, some may wait and the log goes on after it
+  goes_on : made.more ≡ true → (1 ≤ settings.waiting) × (made.end < length (log_of life))
   goes_on more =
       let over : settings.per_block < length (log_of life) - start = grind (arith, nat_tests) in
-      omega arith
+      (omega arith, omega arith)
 
-  leaves_new : LeavesSome (blocks_of settings life ++ made ∷ []) (length (log_of life))
+  leaves_new : LeavesSome settings (blocks_of settings life ++ made ∷ []) (length (log_of life))
   leaves_new =
       let blocks = blocks_of settings life in
       let count : length (blocks ++ made ∷ []) ≡ length blocks + 1 = length-append blocks (made ∷ []) in
@@ -89,7 +90,7 @@ module _ (settings : Settings) (some : 1 ≤ settings.per_block) (room : 1 ≤ s
               ]
             ];
         newest = λ k block at last more.
-            elim (get_after_push blocks made k block at) as (λ _. end_of_blocks (blocks ++ made ∷ []) < length (log_of life)) [
+            elim (get_after_push blocks made k block at) as (λ _. (1 ≤ settings.waiting) × (end_of_blocks (blocks ++ made ∷ []) < length (log_of life))) [
               | inl older ↦ absurd (omega (arith, slice_get_within blocks k block older))
               | inr new ↦
                   rw (last_end-append 0 blocks made)
@@ -98,23 +99,23 @@ module _ (settings : Settings) (some : 1 ≤ settings.per_block) (room : 1 ≤ s
       }
 
   leaves_if : (new : Bool)
-      → LeavesSome (if new then blocks_of settings life ++ made ∷ [] else blocks_of settings life) (length (log_of life))
+      → LeavesSome settings (if new then blocks_of settings life ++ made ∷ [] else blocks_of settings life) (length (log_of life))
   leaves_if true = leaves_new
   leaves_if false = leaves
 
 -- so it is in each life
-pub blocks_leave : (settings : Settings) → 1 ≤ settings.per_block → 1 ≤ settings.waiting → (life : Life)
-    → LeavesSome (blocks_of settings life) (length (log_of life))
-blocks_leave settings some room [] =
+pub blocks_leave : (settings : Settings) → 1 ≤ settings.per_block → (life : Life)
+    → LeavesSome settings (blocks_of settings life) (length (log_of life))
+blocks_leave settings some [] =
     record { next = λ k block later at after more. absurd (cc at); newest = λ k block at last more. absurd (cc at) }
-blocks_leave settings some room (Commanded (Poll number) ∷ life) =
-    leaves_if settings some room life (blocks_leave settings some room life) (is_new (newest_poll life) number)
-blocks_leave settings some room (Scanned raw ∷ life) =
+blocks_leave settings some (Commanded (Poll number) ∷ life) =
+    leaves_if settings some life (blocks_leave settings some life) (is_new (newest_poll life) number)
+blocks_leave settings some (Scanned raw ∷ life) =
     let longer : length (log_of life) ≤ length (log_of life ++ transitions_below 64 raw life) =
     omega (arith, length-append (log_of life) (transitions_below 64 raw life)) in
-    leaves_longer (blocks_of settings life) (length (log_of life)) (length (log_of life ++ transitions_below 64 raw life)) longer
-    (blocks_leave settings some room life)
-blocks_leave settings some room (other ∷ life) = blocks_leave settings some room life
+    leaves_longer settings (blocks_of settings life) (length (log_of life)) (length (log_of life ++ transitions_below 64 raw life)) longer
+    (blocks_leave settings some life)
+blocks_leave settings some (other ∷ life) = blocks_leave settings some life
 
 -- ---- what holds stays
 

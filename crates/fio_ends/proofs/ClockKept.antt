@@ -1,5 +1,5 @@
 -- The rule `clock` never accuses: a stamp is later than the one before it, or the same.
-use Rattle.fio_ends.proofs.Names.{◌≡◌, ◌∙◌, ◌+◌, ◌&&◌, ◌==◌, ℕ, Bool, true, false, not, List, [], ◌∷◌, length, Option, Some, None, refl, ap, sym, subst, arith, fold, if◌then◌else◌, nat_tests, is_some_and, same_Some, Answer, Command, Block, LoadCounter, answer_in, command_in, says_again, Settings, Life, Occurrence, Scanned, LineSynced, Raised, Commanded, life_of, life_after_command, loads_of, scans_of, MadeBlock, Item, Entry, Gap, items_of_block, ContentFacts, content_with, Ended, Heard, Recorded, Sent, events_of_block, Clock, Event, SentFrame, Machine, after, after_sending, after_delivery_to_module, after_taken}
+use Rattle.fio_ends.proofs.Names.{◌≡◌, ◌∙◌, ◌+◌, ◌&&◌, ◌==◌, ℕ, Bool, true, false, not, List, [], ◌∷◌, length, Option, Some, None, refl, ap, sym, subst, arith, fold, if◌then◌else◌, nat_tests, is_some_and, same_Some, Answer, Command, Block, answer_in, command_in, says_again, Settings, Life, Occurrence, Scanned, LineSynced, Raised, Commanded, life_of, life_after_command, loads_of, scans_of, MadeBlock, Item, Entry, Gap, items_of_block, ContentFacts, content_with, Ended, Heard, Recorded, Sent, events_of_block, Clock, Event, SentFrame, Machine, start, after, after_sending, after_delivery_to_module, after_taken}
 use Rattle.std.specs.Option.{option_or}
 use Rattle.std.specs.Prelude.{is_some, option_and_then}
 use Rattle.fio_message.specs.Blocks.{block_answer}
@@ -8,21 +8,21 @@ use Rattle.fio_module.specs.Life.{History, counter_of}
 use Rattle.fio_module.specs.Life as module_events
 use Rattle.fio_check.specs.ContentSaid.{floor_of, is_before, is_clear_end, stamp_of}
 use Rattle.fio_check.specs.ContentEvents.{items_and_end}
-use Rattle.fio_check.specs.ContentFacts.{below_clear, seen_below}
+use Rattle.fio_check.specs.ContentFacts.{below_clear, content_begun, seen_below}
 use Rattle.fio_link.proofs.Events.{frame_at_place}
 use Rattle.fio_link.specs.declared.event.Event.TheVariants as events
-use Rattle.fio_ends.specs.ContentPremises.{HasNearStamps, IsNear, NoLoadTakesEffect, hears_stamp}
+use Rattle.fio_ends.specs.ContentPremises.{HasNearStamps, IsNear, NoLoadTakesEffect, hears_stamp, scans_above}
 use Rattle.fio_ends.specs.ContentRuns.{ContentNeverAccuses, KeepsRule}
 use Rattle.fio_ends.proofs.Answered.{says_of}
 use Rattle.fio_ends.proofs.AnswersKept.{items_keep}
 use Rattle.fio_ends.proofs.Clocks.{clock, counter_is_clock, not_before, offset_of}
-use Rattle.fio_ends.proofs.ContentRuns.{content_never_accuses}
+use Rattle.fio_ends.proofs.ContentRuns.{timed_never_accuses}
 use Rattle.fio_ends.proofs.ContentSteps.{HearsAnswer, IsInvariant, IsKnown, IsPastBus, IsSending, Takes}
 use Rattle.fio_ends.proofs.Following.{GoesOn, IsNoCommand, IsSince, goes_on-both}
 use Rattle.fio_ends.proofs.ContentLines.{EventsKeep}
 use Rattle.fio_ends.proofs.Lives.{goes_on-since, loads_grow, scans_grow}
 use Rattle.fio_ends.proofs.MadeNow.{made_now}
-use Rattle.fio_ends.proofs.Steady.{loaded_by, no_load_on, sends_no_load, steady-happens, steady-receives, unloaded_before}
+use Rattle.fio_ends.proofs.Steady.{loaded_sent, no_load_on, sends_no_load, steady-happens, steady-receives, unloaded_before}
 use Rattle.fio_ends.proofs.Stamps.{AsksClock, ClockState, IsStamped, KeepsClock, block_stamp, clock_after, clock_is, none_before, none_since, since-back, since-now, stamp_says}
 
 module _ (settings : Settings) (first : ℕ) (begin : Machine) where
@@ -111,11 +111,6 @@ module _ (settings : Settings) (first : ℕ) (begin : Machine) where
   clock-happens state from machine facts (events.ToModule index) rest past none p = absurd past
   clock-happens state from machine facts (events.ToCpu index) rest past none p = absurd past
   clock-happens state from machine facts events.Restart rest past none p = absurd past
-
-  loaded_sent : (loaded : Bool) (facts : ContentFacts) (command : Command) → facts.loaded ≡ loaded
-      → (content_with facts (Sent command)).loaded ≡ loaded_by loaded command
-  loaded_sent loaded facts (commands.LoadCounter load) is = refl
-  loaded_sent loaded facts other is = is
 
   -- sending asks for nothing else
   sent_before : (state : ClockState) (machine : Machine) (event : Event) (command : Command) → IsSending first machine event command
@@ -236,9 +231,9 @@ module _ (settings : Settings) (first : ℕ) (begin : Machine) where
           let m = made_now settings first begin from machine place number answer block known t is in
           sym (same_Some _ _ (sym (ap (λ a. if a then None else Some answer.stamp) is) ∙ at)) ∙ t.carried.stamp ∙ ap (λ (b : MadeBlock). b.stamp) m.is
 
-  clock_is_invariant : IsInvariant settings first begin Clock ClockState (record { loaded = false; asked = 0; before = None }) clock_after (AsksClock settings first)
-      (KeepsClock begin_life)
-  clock_is_invariant = record {
+  clock_is_invariant : (above : Option ℕ)
+      → IsInvariant settings first begin Clock ClockState (record { loaded = false; asked = 0; before = above }) clock_after (AsksClock settings first) (KeepsClock begin_life)
+  clock_is_invariant above = record {
     goes_on = λ state machine event rest a. record { no_load = no_load_on settings first state.loaded machine event rest a.no_load; near = a.near.1 };
     begins = λ known. record {
       loaded_is = refl;
@@ -253,8 +248,25 @@ module _ (settings : Settings) (first : ℕ) (begin : Machine) where
     takes = clock-takes;
   }
 
+-- what the rule reads above a log
+abbrev clock_above : Bool → ClockState
+clock_above begun = record { loaded = false; asked = 0; before = scans_above begun }
+
+-- at the start of both ends the counter is that of the block above
+clock_begun : KeepsClock [] (clock_above true) [] start content_begun
+clock_begun = record {
+  loaded_is = refl;
+  steady = λ is. refl;
+  stamped = λ is stamp at.
+      subst (IsStamped (offset_of []) [] (Some 0)) (same_Some _ _ at)
+      (record { scans = 0; before_is = refl; time = refl; within = omega arith });
+  received = λ all command life since goes_on. absurd (none_since command [] life since goes_on);
+}
+
 pub clock_never_accuses : ContentNeverAccuses Clock HasNearStamps
-clock_never_accuses = content_never_accuses Clock ClockState (record { loaded = false; asked = 0; before = None }) clock_after HasNearStamps
-    (λ settings first begin. AsksClock settings first) (λ settings first begin. KeepsClock (life_of begin.history))
-    (λ settings first machine last later range k none leads premise. record { no_load = λ is. premise.no_load; near = premise.near })
-    (λ settings first begin range. clock_is_invariant settings first begin)
+clock_never_accuses = timed_never_accuses Clock ClockState clock_above (λ settings. clock_after) HasNearStamps
+    (λ begun settings first begin. AsksClock settings first) (λ begun settings first begin. KeepsClock (life_of begin.history))
+    (λ begun settings first machine last later premise. premise.no_load)
+    (λ begun settings first machine last later none leads unloaded premise. record { no_load = λ is. unloaded; near = premise.near })
+    (λ begun settings first begin range. clock_is_invariant settings first begin (scans_above begun))
+    (λ settings first. clock_begun)

@@ -1,11 +1,11 @@
 -- What is kept of content along a prompt run, frame by frame.
-use Rattle.fio_ends.proofs.Names.{◌≡◌, ◌∙◌, ◌+◌, ◌%◌, ℕ, true, List, [], ◌∷◌, Option, Some, None, refl, ap, sym, subst, arith, if◌then◌else◌, ◌==◌, fold, nat_tests, same_Some, Answer, Command, answered_block, ContentFacts, content_with, ContentKept, kept_at_start, false, ContentEvent, Sent, events_in, content_events, events_of_block, number_after, facts_with, no_facts, ContentRule, State, Facts, Observation, Machine, number_of, sending_refusal, CpuFrame, SentFrame, length, ◌++◌, length-append, slice_get, get_push, command_in, Bool, ◌||◌}
+use Rattle.fio_ends.proofs.Names.{◌≡◌, ◌∙◌, ◌+◌, ◌%◌, ℕ, true, List, [], ◌∷◌, Option, Some, None, refl, ap, sym, subst, arith, if◌then◌else◌, ◌==◌, fold, nat_tests, same_Some, Answer, Command, answered_block, ContentFacts, content_with, ContentKept, kept_at_start, false, ContentEvent, Sent, events_in, content_events, events_of_block, number_after, facts_with, no_facts, ContentRule, Alternate, Apart, Fresh, Ignored, Order, State, Facts, Observation, Machine, number_of, sending_refusal, CpuFrame, SentFrame, length, ◌++◌, length-append, slice_get, get_push, command_in, Bool, ◌||◌}
 use Rattle.fio_message.specs.declared.answers.Answer.TheVariants as answers
 use Rattle.fio_message.specs.declared.commands.Command.TheVariants as commands
 use Rattle.fio_message.specs.Blocks.{Block as BlockOf}
 use Rattle.fio_check.specs.ContentSaid.{Seen, are_some, items_for, items_sent}
 use Rattle.fio_check.specs.ContentEvents.{number_below, number_with_command}
-use Rattle.fio_check.specs.ContentRules.{broken_state}
+use Rattle.fio_check.specs.ContentRules.{breaks_answer, broken_state}
 use Rattle.fio_ends.specs.ContentRuns.{KeepsRule}
 use Rattle.fio_ends.proofs.GoodLines.{said_by}
 use Rattle.fio_ends.proofs.Following.{IsSentLast, facts_below}
@@ -21,8 +21,8 @@ pub record Agrees (first : ℕ) (machine : Machine) (facts : Facts) (kept : Cont
   pub unpolled : facts.polled ≡ None → kept.number ≡ None
   pub awaits : (code : ℕ) (command : Command) → facts.awaited ≡ Some code → IsSentLast machine.to_module command → Awaits kept.facts command
 
-pub agrees-start : (first : ℕ) (machine : Machine) → Agrees first machine no_facts (kept_at_start false)
-agrees-start first machine =
+pub agrees-start : (begun : Bool) (first : ℕ) (machine : Machine) → Agrees first machine no_facts (kept_at_start begun)
+agrees-start begun first machine =
     record {
       number = λ polled is. absurd (cc is);
       unpolled = λ is. refl;
@@ -103,6 +103,21 @@ number_stays None other fine = refl
 number_stays (Some number) other fine = refl
 
 -- ---- an answer is heard
+
+-- an answer keeps the rules on entries
+pub record KeepsEntryRules (facts : ContentFacts) (answer : Answer) : Type 0 where
+  pub order : breaks_answer facts answer Order ≡ false
+  pub fresh : breaks_answer facts answer Fresh ≡ false
+  pub alternate : breaks_answer facts answer Alternate ≡ false
+  pub apart : breaks_answer facts answer Apart ≡ false
+  pub ignored : breaks_answer facts answer Ignored ≡ false
+
+pub heard_keeps : (facts : ContentFacts) (answer : Answer) → KeepsEntryRules facts answer
+heard_keeps facts (answers.LoadCounter status) = record { order = refl; fresh = refl; alternate = refl; apart = refl; ignored = refl }
+heard_keeps facts (answers.ConfigureInputs status) = record { order = refl; fresh = refl; alternate = refl; apart = refl; ignored = refl }
+heard_keeps facts (answers.Status flags receive transmit stamp) = record { order = refl; fresh = refl; alternate = refl; apart = refl; ignored = refl }
+heard_keeps facts (answers.Watchdog status) = record { order = refl; fresh = refl; alternate = refl; apart = refl; ignored = refl }
+heard_keeps facts other = record { order = refl; fresh = refl; alternate = refl; apart = refl; ignored = refl }
 
 -- a block answer with the number
 pub block_events : (number : ℕ) (answer : Option Answer) (block : BlockOf) → answered_block answer ≡ Some block → block.number ≡ number

@@ -1,5 +1,5 @@
 -- Events that keep a rule on content, frame by frame, are those of a log in which none breaks it.
-use Rattle.fio_ends.proofs.Names.{◌≡◌, ◌∙◌, ◌-◌, ◌≤◌, inl, inr, ℕ, suc, false, List, [], ◌∷◌, ◌++◌, drop, length, map, Option, Some, None, refl, ap, sym, subst, arith, fold, option_map, slice_get, eqb_tells, length-drop, same_Some, slice_get_within, ContentFacts, content_with, ContentKept, kept_at_start, kept_with, ContentEvent, LineEvent, content_event_at, events_below, events_in, events_of_lines, TranscriptLine, ContentRule, CpuFrame, frame_on}
+use Rattle.fio_ends.proofs.Names.{◌≡◌, ◌∙◌, ◌-◌, ◌≤◌, inl, inr, ℕ, suc, Bool, List, [], ◌∷◌, ◌++◌, drop, length, map, Option, Some, None, refl, ap, sym, subst, arith, fold, option_map, slice_get, eqb_tells, length-drop, same_Some, slice_get_within, ContentFacts, content_with, no_content, ContentKept, kept_at_start, kept_with, ContentEvent, LineEvent, content_event_at, events_above, events_below, events_in, events_of_lines, events_of_log, TranscriptLine, ContentRule, CpuFrame, frame_on}
 use Rattle.fio_check.specs.ContentAbove.{content_at}
 use Rattle.fio_check.proofs.ContentCourse.{dropped_first}
 use Rattle.fio_check.proofs.ContentNext.{content_next}
@@ -85,9 +85,12 @@ at_places rule all (found ∷ rest) place left keep above event low at =
           above event (omega (arith, other.1)) at
     ]
 
--- lines whose frames keep the rule
-pub none_breaks : (rule : ContentRule) (lines : List TranscriptLine) → FramesKeep rule (kept_at_start false) (map frame_on lines)
-    → NoneBreaks lines rule
-none_breaks rule lines keep place event at =
-    at_places rule (events_of_lines lines) (events_of_lines lines) 0 refl (lines_keep rule (kept_at_start false) lines keep)
+-- lines whose frames keep the rule, and so do the events above them
+pub none_breaks : (rule : ContentRule) (begun : Bool) (lines : List TranscriptLine) → EventsKeep rule no_content (events_above begun)
+    → FramesKeep rule (kept_at_start begun) (map frame_on lines) → NoneBreaks begun lines rule
+none_breaks rule begun lines above keep place event at =
+    let all = events_of_log begun lines in
+    at_places rule all all 0 refl
+    (subst (EventsKeep rule no_content) (sym (untagged 0 (events_above begun) (events_of_lines lines)))
+    (events_keep rule no_content (events_above begun) (map event_of (events_of_lines lines)) above (lines_keep rule (kept_at_start begun) lines keep)))
     place event (omega arith) at

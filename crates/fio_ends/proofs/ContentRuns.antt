@@ -1,22 +1,28 @@
--- Along a prompt run an invariant of content holds from any command on, so its rule never accuses.
-use Rattle.fio_ends.proofs.Names.{◌≡◌, ◌∙◌, ◌+◌, ◌%◌, ◌<◌, ◌≤◌, ◌⊎◌, inl, inr, ℕ, Bool, true, false, List, [], ◌∷◌, length, Option, Some, None, refl, ap, sym, subst, arith, if◌then◌else◌, ◌==◌, slice_get, AllByRecursion, list_any, nat_tests, Answer, Command, command_octets, IsCommand, Life, life_of, answer_in, block_in, Settings, AreInRange, ContentFacts, ContentKept, kept_at_start, Heard, Sent, content_events, events_of_block, number_after, no_facts, answer_type_to, is_absent, names_absent, observation_of, ContentRule, Facts, Event, SentFrame, Machine, start, number_of, sending_refusal, after_sending, after_delivery_to_module, after_delivered_block, after_delivery_to_cpu, refusal, after, Leads, HasBlock, IsNotRestart, HaveNoRestart, blocks_in, CarriesBlockOf, number_of-fits, number_of-next, after_taken, in_order, same_round, after_delivery, IsKept, carries_own, kept_all, kept, frame_heard, frames_at, frames_from, due_after, IsPrompt, ArePrompt, IsWithinRanges, Block, items_of_block, item_numbered, ◌++◌, command_in, same_Some}
+-- Along a prompt run an invariant of content holds, from its start or from any command on, so its rule never accuses.
+use Rattle.fio_ends.proofs.Names.{◌≡◌, ◌∙◌, ◌+◌, ◌%◌, ◌<◌, ◌≤◌, ◌⊎◌, inl, inr, ℕ, Bool, true, false, List, [], ◌∷◌, length, Option, Some, None, refl, ap, sym, subst, arith, if◌then◌else◌, ◌==◌, slice_get, AllByRecursion, list_any, nat_tests, Answer, Command, command_octets, IsCommand, Life, life_of, answer_in, block_in, Settings, AreInRange, ContentFacts, ContentKept, kept_at_start, Heard, Sent, content_events, events_of_block, number_after, no_facts, answer_type_to, is_absent, names_absent, observation_of, ContentRule, Facts, Event, SentFrame, Machine, start, number_of, sending_refusal, after_sending, after_delivery_to_module, after_delivered_block, after_delivery_to_cpu, refusal, after, Leads, HasBlock, IsNotRestart, HaveNoRestart, blocks_in, CarriesBlockOf, number_of-fits, number_of-next, after_taken, in_order, same_round, after_delivery, IsKept, carries_own, kept_all, kept, frame_heard, frames_at, frames_from, due_after, IsPrompt, ArePrompt, IsWithinRanges, Block, items_of_block, item_numbered, ◌++◌, command_in, same_Some, TranscriptLine}
 use Rattle.fio_message.specs.declared.answers.Answer.TheVariants as answers
 use Rattle.fio_message.specs.declared.commands.Command.TheVariants as commands
+use Rattle.fio_check.proofs.ContentStart.{begun_is}
 use Rattle.fio_check.specs.ContentEvents.{number_with_command}
+use Rattle.fio_check.specs.ContentFacts.{content_begun}
 use Rattle.fio_check.specs.Facts.{facts_with}
 use Rattle.fio_check.specs.Observations.{observation_of_command}
 use Rattle.fio_check.specs.declared.observation.Observation.{Observation}
 use Rattle.fio_check.specs.declared.observation.Observation.TheVariants as seen
 use Rattle.fio_link.specs.declared.event.Event.TheVariants as events
 use Rattle.fio_link.proofs.Events.{frame_at_place}
-use Rattle.fio_ends.specs.ContentRuns.{ContentNeverAccuses}
-use Rattle.fio_ends.specs.PromptRuns.{BeginsWithCommand}
+use Rattle.fio_ends.specs.ContentPremises.{NoEarlierLoad, NoLoadTakesEffect}
+use Rattle.fio_ends.specs.ContentRuns.{Always, ContentNeverAccuses, NoneBreaks, Premise}
+use Rattle.fio_ends.specs.PromptRuns.{BeginsWithCommand, IsPromptRun}
+use Rattle.fio_ends.specs.Transcripts.{HaveFrames}
 use Rattle.fio_ends.proofs.Heard.{IsHeardAs}
 use Rattle.fio_ends.proofs.Following.{Answers, Follows, GoesOn, IsBlockFor, IsReceived, Keeps, Stage, facts_below, follows-start, from_after, goes_on-both, goes_on-same, may_begin}
 use Rattle.fio_ends.proofs.Sends.{other_said, read_back, said_of, sends-other, sends-poll}
 use Rattle.fio_ends.proofs.Hears.{block_said, no_block_said}
 use Rattle.fio_ends.proofs.PromptRuns.{ReachesLater, keeps-event, reaches}
+use Rattle.fio_ends.proofs.ContentBegun.{start_keeps}
 use Rattle.fio_ends.proofs.ContentLines.{FramesKeep, content_below, frames_keep, none_breaks}
+use Rattle.fio_ends.proofs.FirstLoads.{no_load_first}
 use Rattle.fio_ends.proofs.ContentSteps.{IsInvariant, IsKnown, IsSending}
 use Rattle.fio_ends.proofs.ContentFrame.{Agrees, KeepsContent, agrees-below, agrees-start, awaits_sent, block_events, number_stays, one_frame, sent_keeps}
 
@@ -328,39 +334,101 @@ module _ (settings : Settings) (range : AreInRange settings) (first : ℕ) (begi
       let known = known_first r.is_kept in
       first_keeps events.Poll later last r holds refl
       (sends-poll settings first begin no_facts (may_begin settings first r.from begin r.due r.facts r.follows))
-      (content-poll initial (life_of begin.history) begin no_facts (kept_at_start false) known (agrees-start first begin) (i.begins known))
+      (content-poll initial (life_of begin.history) begin no_facts (kept_at_start false) known (agrees-start false first begin) (i.begins known))
   later_keeps (events.Send command ∷ later) last begins r holds =
       let known = known_first r.is_kept in
       first_keeps (events.Send command) later last r holds refl
       (sends-other settings first begin no_facts (may_begin settings first r.from begin r.due r.facts r.follows) command r.leads.0 r.within.0)
-      (content-send initial (life_of begin.history) begin no_facts (kept_at_start false) known (agrees-start first begin) (i.begins known) command r.leads.0 r.within.0)
+      (content-send initial (life_of begin.history) begin no_facts (kept_at_start false) known (agrees-start false first begin) (i.begins known) command r.leads.0 r.within.0)
   later_keeps (other ∷ later) last begins r holds = absurd begins
 
--- a rule with an invariant never accuses, where this holds of a log; what it reads of the events above may depend on the settings
-pub never_accuses_with : (rule : ContentRule) (S : Type 0) (initial : S) (next : Settings → S → Machine → Event → S)
-    (Premise : Settings → ℕ → Machine → List Event → Machine → Type 0)
-    (Holds : Settings → ℕ → Machine → S → Machine → List Event → Type 0) (P : Settings → ℕ → Machine → S → Life → Machine → ContentFacts → Type 0)
-    → ((settings : Settings) (first : ℕ) (machine last : Machine) (later : List Event) → AreInRange settings → IsKept settings first machine
-    → HaveNoRestart later → Leads settings first machine later last → Premise settings first machine later last
-    → Holds settings first machine initial machine later)
-    → ((settings : Settings) (first : ℕ) (begin : Machine) → AreInRange settings
-    → IsInvariant settings first begin rule S initial (next settings) (Holds settings first begin) (P settings first begin))
-    → ContentNeverAccuses rule Premise
-never_accuses_with rule S initial next Premise Holds P premises invariant settings first before later machine last range run leads begins premise lines has =
-    let r = reaches settings range first before later [] start machine last 0 no_facts (kept settings range first [] start refl tt) (follows-start settings first)
-    leads run.is_run run.no_restart run.within run.prompt in
-    none_breaks rule lines (subst (FramesKeep rule (kept_at_start false)) (sym has)
-    (later_keeps settings range first machine rule S initial (next settings) (Holds settings first machine) (P settings first machine) (invariant settings first machine range) later last begins r
-    (premises settings first machine last later range r.is_kept r.no_restart r.leads premise)))
+-- what is to be shown of a log, so that a rule never accuses: what the rule reads of the events above holds at its begin
+abbrev Asks : {S : Type 0} → (Bool → S) → Premise → (Bool → Settings → ℕ → Machine → S → Machine → List Event → Type 0) → Type 0
+Asks initial Asked Holds =
+    (begun : Bool) (settings : Settings) (first : ℕ) (machine last : Machine) (later : List Event) → HaveNoRestart later
+    → Leads settings first machine later last → (begun ≡ true → NoLoadTakesEffect settings first machine later)
+    → Asked begun settings first machine later last → Holds begun settings first machine (initial begun) machine later
 
--- where it does not
+-- a rule with an invariant never accuses, where this holds of a log; what it reads of the events above may depend on the settings
+module _ (rule : ContentRule) (S : Type 0) (initial : Bool → S) (next : Settings → S → Machine → Event → S) (Asked : Premise)
+    (Holds : Bool → Settings → ℕ → Machine → S → Machine → List Event → Type 0) (P : Bool → Settings → ℕ → Machine → S → Life → Machine → ContentFacts → Type 0)
+    (asks : Asks initial Asked Holds)
+    (invariant : (begun : Bool) (settings : Settings) (first : ℕ) (begin : Machine) → AreInRange settings
+    → IsInvariant settings first begin rule S (initial begun) (next settings) (Holds begun settings first begin) (P begun settings first begin))
+    (starts : (settings : Settings) (first : ℕ) → P true settings first start (initial true) [] start content_begun) where
+  -- from the start of both ends
+  whole : (settings : Settings) (first : ℕ) (later : List Event) (last : Machine) → AreInRange settings → IsPromptRun settings first later last
+      → Asked true settings first start later last → (lines : List TranscriptLine) → HaveFrames lines (frames_from settings first start later)
+      → NoneBreaks true lines rule
+  whole settings first later last range run premise lines has =
+      let i = invariant true settings first start range in
+      let k = kept settings range first [] start refl tt in
+      let unloaded = no_load_first settings first later last run.is_run run.no_restart run.within in
+      none_breaks rule true lines (start_keeps rule true)
+      (subst (FramesKeep rule (kept_at_start true)) (sym has)
+      (all_keep_content settings range first start rule S (initial true) (next settings) (Holds true settings first start) (P true settings first start) i
+      (initial true) later [] start last 0 no_facts (kept_at_start true)
+      (known_first settings range first start rule S (initial true) (next settings) (Holds true settings first start) (P true settings first start) i k)
+      (follows-start settings first) (agrees-start true first start) (subst (P true settings first start (initial true) [] start) (sym begun_is) (starts settings first))
+      run.is_run run.no_restart run.within run.prompt (asks true settings first start last later run.no_restart run.is_run (λ is. unloaded) premise)))
+
+  -- from a command on
+  later_ones : (settings : Settings) (first : ℕ) (before later : List Event) (machine last : Machine) → AreInRange settings
+      → IsPromptRun settings first (before ++ later) last → Leads settings first start before machine → BeginsWithCommand later
+      → Asked false settings first machine later last → (lines : List TranscriptLine) → HaveFrames lines (frames_from settings first machine later)
+      → NoneBreaks false lines rule
+  later_ones settings first before later machine last range run leads begins premise lines has =
+      let r = reaches settings range first before later [] start machine last 0 no_facts (kept settings range first [] start refl tt) (follows-start settings first)
+      leads run.is_run run.no_restart run.within run.prompt in
+      none_breaks rule false lines tt
+      (subst (FramesKeep rule (kept_at_start false)) (sym has)
+      (later_keeps settings range first machine rule S (initial false) (next settings) (Holds false settings first machine) (P false settings first machine)
+      (invariant false settings first machine range) later last begins r
+      (asks false settings first machine last later r.no_restart r.leads (λ is. absurd (cc is)) premise)))
+
+  never_accuses : ContentNeverAccuses rule Asked
+  unfolding ContentNeverAccuses
+  never_accuses false settings first before later machine last range run leads begins premise lines has =
+      later_ones settings first before later machine last range run leads begins premise lines has
+  never_accuses true settings first before later machine last range run leads begins premise lines has =
+      nothing_before before begins run leads
+    where
+      nothing_before : (before : List Event) → before ≡ [] → IsPromptRun settings first (before ++ later) last → Leads settings first start before machine
+          → NoneBreaks true lines rule
+      nothing_before (event ∷ before) none run leads = absurd (cc none)
+      nothing_before [] none run leads =
+          subst (λ m. Asked true settings first m later last → HaveFrames lines (frames_from settings first m later) → NoneBreaks true lines rule) (sym leads)
+          (λ premise has. whole settings first later last range run premise lines has) premise has
+
+-- one whose events read no time
 pub content_never_accuses : (rule : ContentRule) (S : Type 0) (initial : S) (next : S → Machine → Event → S)
-    (Premise : Settings → ℕ → Machine → List Event → Machine → Type 0)
-    (Holds : Settings → ℕ → Machine → S → Machine → List Event → Type 0) (P : Settings → ℕ → Machine → S → Life → Machine → ContentFacts → Type 0)
-    → ((settings : Settings) (first : ℕ) (machine last : Machine) (later : List Event) → AreInRange settings → IsKept settings first machine
-    → HaveNoRestart later → Leads settings first machine later last → Premise settings first machine later last
-    → Holds settings first machine initial machine later)
+    (P : Settings → ℕ → Machine → S → Life → Machine → ContentFacts → Type 0)
     → ((settings : Settings) (first : ℕ) (begin : Machine) → AreInRange settings
-    → IsInvariant settings first begin rule S initial next (Holds settings first begin) (P settings first begin))
-    → ContentNeverAccuses rule Premise
-content_never_accuses rule S initial next = never_accuses_with rule S initial (λ settings. next)
+    → IsInvariant settings first begin rule S initial next (λ state machine later. Unit {0}) (P settings first begin))
+    → ((settings : Settings) (first : ℕ) → P settings first start initial [] start content_begun)
+    → ContentNeverAccuses rule Always
+content_never_accuses rule S initial next P invariant starts =
+    never_accuses rule S (λ begun. initial) (λ settings. next) Always (λ begun settings first begin state machine later. Unit {0}) (λ begun. P)
+    (λ begun settings first machine last later none leads unloaded premise. tt) (λ begun. invariant) starts
+
+either : {A : Type 0} → (begun : Bool) → (begun ≡ false → A) → (begun ≡ true → A) → A
+either true at_command at_start = at_start refl
+either false at_command at_start = at_command refl
+
+-- one whose events do: no load that was sent before the log takes effect in it
+pub timed_never_accuses : (rule : ContentRule) (S : Type 0) (initial : Bool → S) (next : Settings → S → Machine → Event → S) (Asked : Premise)
+    (Holds : Bool → Settings → ℕ → Machine → S → Machine → List Event → Type 0) (P : Bool → Settings → ℕ → Machine → S → Life → Machine → ContentFacts → Type 0)
+    → ((begun : Bool) (settings : Settings) (first : ℕ) (machine last : Machine) (later : List Event) → Asked begun settings first machine later last
+    → NoEarlierLoad begun settings first machine later)
+    → ((begun : Bool) (settings : Settings) (first : ℕ) (machine last : Machine) (later : List Event) → HaveNoRestart later
+    → Leads settings first machine later last → NoLoadTakesEffect settings first machine later → Asked begun settings first machine later last
+    → Holds begun settings first machine (initial begun) machine later)
+    → ((begun : Bool) (settings : Settings) (first : ℕ) (begin : Machine) → AreInRange settings
+    → IsInvariant settings first begin rule S (initial begun) (next settings) (Holds begun settings first begin) (P begun settings first begin))
+    → ((settings : Settings) (first : ℕ) → P true settings first start (initial true) [] start content_begun)
+    → ContentNeverAccuses rule Asked
+timed_never_accuses rule S initial next Asked Holds P no_load asks invariant starts =
+    never_accuses rule S initial next Asked Holds P
+    (λ begun settings first machine last later none leads unloaded premise.
+    asks begun settings first machine last later none leads (either begun (no_load begun settings first machine last later premise) unloaded) premise)
+    invariant starts

@@ -1,20 +1,20 @@
 -- Where the rules are kept, a log has no fault of them.
-use Rattle.fio_ends.proofs.Names.{◌≡◌, ℕ, zero, suc, Bool, false, List, length, Option, Some, None, refl, ap, ap₂, option_map, slice_get, Answer, Entry, Gap, TranscriptLine, ContentFacts, ContentEvent, LineEvent, Ended, Heard, Recorded, Sent, content_event_at, events_of_log, ContentRule, Accepted, Alternate, Apart, Cleared, Clock, Done, Fresh, Ignored, Order, State, Watchdog, rule_broken_by}
+use Rattle.fio_ends.proofs.Names.{◌≡◌, ℕ, Bool, false, List, length, Option, Some, None, refl, ap, ap₂, option_map, slice_get, Answer, Entry, Gap, TranscriptLine, ContentFacts, ContentEvent, LineEvent, Ended, Heard, Recorded, Sent, content_event_at, events_of_log, ContentRule, Accepted, Alternate, Apart, Cleared, Clock, Done, Fresh, Ignored, Order, State, Watchdog, rule_broken_by}
 use Rattle.std.specs.Option.{option_or}
 use Rattle.std.specs.Prelude.{find, option_and_then, take, if◌then◌else◌}
 use Rattle.fio_check.specs.ContentAbove.{content_at}
 use Rattle.fio_check.specs.ContentSaid.{TimedState}
 use Rattle.fio_check.specs.ContentEvents.{recorded_items}
 use Rattle.fio_check.specs.ContentRules.{answer_rules, breaks_answer, breaks_entry, content_fault_at, content_fault_in, entry_rules, fault_of}
-use Rattle.fio_check.specs.Places.{earliest_above}
 use Rattle.fio_check.specs.declared.content_rules.BrokenRule.{BrokenRule}
 use Rattle.fio_ends.specs.ContentPremises.{HasNearTimes}
-use Rattle.fio_ends.specs.ContentRuns.{AccusesNone, KeepsRule}
+use Rattle.fio_ends.specs.ContentRuns.{AccusesNone, ContentNeverAccuses, KeepsRule}
 use Rattle.fio_ends.proofs.AlternateKept.{alternate_never_accuses}
 use Rattle.fio_ends.proofs.AnswersKept.{accepted_never_accuses, cleared_never_accuses, done_never_accuses, watchdog_never_accuses}
 use Rattle.fio_ends.proofs.ApartKept.{apart_never_accuses}
 use Rattle.fio_ends.proofs.ClockKept.{clock_never_accuses}
 use Rattle.fio_ends.proofs.FloorsKept.{fresh_never_accuses, order_never_accuses}
+use Rattle.fio_ends.proofs.GoodLines.{none_earliest}
 use Rattle.fio_ends.proofs.IgnoredKept.{ignored_never_accuses}
 use Rattle.fio_ends.proofs.StateKept.{state_never_accuses}
 
@@ -60,14 +60,10 @@ none_broken facts (Sent command) k = refl
 
 -- ---- a log
 
-none_earliest : {A : Type 0} (says : ℕ → Option A) (below : ℕ) → ((place : ℕ) → says place ≡ None) → earliest_above says below ≡ None
-none_earliest says zero none = refl
-none_earliest says (suc below) none = ap₂ option_or (none_earliest says below none) (none below)
-
-module _ (lines : List TranscriptLine) (keeps : (place : ℕ) (event : ContentEvent) → content_event_at (events_of_log false lines) place ≡ Some event
-    → KeepsAll (content_at (events_of_log false lines) place) event) where
+module _ (begun : Bool) (lines : List TranscriptLine) (keeps : (place : ℕ) (event : ContentEvent) → content_event_at (events_of_log begun lines) place ≡ Some event
+    → KeepsAll (content_at (events_of_log begun lines) place) event) where
   abbrev all : List LineEvent
-  all = events_of_log false lines
+  all = events_of_log begun lines
 
   none_at : (place : ℕ) (here : Option LineEvent) → slice_get all place ≡ here
       → option_and_then (λ found. option_map (fault_of found.line (recorded_items (take place all))) (rule_broken_by (content_at all place) found.event)) here ≡ None
@@ -76,21 +72,22 @@ module _ (lines : List TranscriptLine) (keeps : (place : ℕ) (event : ContentEv
       ap (option_map (fault_of here.line (recorded_items (take place all))))
       (none_broken (content_at all place) here.event (keeps place here.event (ap (option_map (λ (found : LineEvent). found.event)) at)))
 
-  no_faults : content_fault_in false lines ≡ None
-  no_faults = none_earliest (content_fault_at all) (length all) (λ place. none_at place (slice_get all place) refl)
+  no_faults : content_fault_in begun lines ≡ None
+  no_faults = none_earliest (content_fault_at all) (length all) (λ place within. none_at place (slice_get all place) refl)
 
 pub accuses_none : AccusesNone HasNearTimes
-accuses_none settings first before later machine last range run leads begins holds lines has =
-    no_faults lines (λ place event at. record {
-      order = order_never_accuses settings first before later machine last range run leads begins holds.entries lines has place event at;
-      fresh = fresh_never_accuses settings first before later machine last range run leads begins holds.entries lines has place event at;
-      alternate = alternate_never_accuses settings first before later machine last range run leads begins tt lines has place event at;
-      apart = apart_never_accuses settings first before later machine last range run leads begins holds.inputs lines has place event at;
-      ignored = ignored_never_accuses settings first before later machine last range run leads begins tt lines has place event at;
-      clock = clock_never_accuses settings first before later machine last range run leads begins holds.stamps lines has place event at;
-      done = done_never_accuses settings first before later machine last range run leads begins tt lines has place event at;
-      accepted = accepted_never_accuses settings first before later machine last range run leads begins tt lines has place event at;
-      cleared = cleared_never_accuses settings first before later machine last range run leads begins tt lines has place event at;
-      watchdog = watchdog_never_accuses settings first before later machine last range run leads begins tt lines has place event at;
-      state = state_never_accuses settings first before later machine last range run leads begins holds.states lines has place event at;
+unfolding AccusesNone ContentNeverAccuses
+accuses_none begun settings first before later machine last range run leads begins holds lines has =
+    no_faults begun lines (λ place event at. record {
+      order = order_never_accuses begun settings first before later machine last range run leads begins holds.entries lines has place event at;
+      fresh = fresh_never_accuses begun settings first before later machine last range run leads begins holds.entries lines has place event at;
+      alternate = alternate_never_accuses begun settings first before later machine last range run leads begins tt lines has place event at;
+      apart = apart_never_accuses begun settings first before later machine last range run leads begins holds.inputs lines has place event at;
+      ignored = ignored_never_accuses begun settings first before later machine last range run leads begins tt lines has place event at;
+      clock = clock_never_accuses begun settings first before later machine last range run leads begins holds.stamps lines has place event at;
+      done = done_never_accuses begun settings first before later machine last range run leads begins tt lines has place event at;
+      accepted = accepted_never_accuses begun settings first before later machine last range run leads begins tt lines has place event at;
+      cleared = cleared_never_accuses begun settings first before later machine last range run leads begins tt lines has place event at;
+      watchdog = watchdog_never_accuses begun settings first before later machine last range run leads begins tt lines has place event at;
+      state = state_never_accuses begun settings first before later machine last range run leads begins holds.states lines has place event at;
     })

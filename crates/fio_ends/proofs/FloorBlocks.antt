@@ -13,18 +13,18 @@ use Rattle.fio_ends.proofs.Lives.{IsMadeSince, log_grows, logged_since, scans_gr
 use Rattle.fio_ends.proofs.ContentSteps.{IsKnown, Takes}
 use Rattle.fio_ends.proofs.EntryTimes as times
 use Rattle.fio_ends.proofs.Steady.{IsSteady}
-use Rattle.fio_ends.proofs.Taken.{taken_with}
-use Rattle.fio_ends.proofs.Floors.{AreNearAndBrief, IsBehind, IsBelowClear, IsFloor, KeepsFloor, behind, below-same, brief_last, scans_after, scans_after-append}
+use Rattle.fio_ends.proofs.Taken.{brief_last, taken_with}
+use Rattle.fio_ends.proofs.Floors.{AreNearAndBrief, IsBehind, IsBelowClear, IsFloor, KeepsFloor, behind, below-same, scans_after, scans_after-append}
 
 -- ---- the CPU takes a block
 
-module _ (settings : Settings) (range : AreInRange settings) (first : ℕ) (begin : Machine) where
+module _ (settings : Settings) (range : AreInRange settings) (first : ℕ) (begin : Machine) (above : Option ℕ) where
   abbrev begin_life : Life
   begin_life = life_of begin.history
 
   module _ (from : Life) (machine : Machine) (place number : ℕ) (answer : Block) (block : MadeBlock)
       (known : IsKnown settings first begin from machine) (t : Takes settings first from machine place number answer block)
-      (asked : AreNearAndBrief (blocks_taken settings begin machine ++ block ∷ [])) where
+      (asked : AreNearAndBrief above (blocks_taken settings begin machine ++ block ∷ [])) where
     abbrev now : Life
     now = life_of machine.history
 
@@ -32,7 +32,7 @@ module _ (settings : Settings) (range : AreInRange settings) (first : ℕ) (begi
     g = times.since_begin settings first begin from machine place number answer block known t
 
     abbrev before_block : Option ℕ
-    before_block = scans_after None (blocks_taken settings begin machine)
+    before_block = scans_after above (blocks_taken settings begin machine)
 
     -- what is kept between the entries of the block: the rest of them is near
     pub record KeepsRest (loaded : Bool) (upto : ℕ) (rest : List Transition) (facts : ContentFacts) : Type 0 where
@@ -127,7 +127,7 @@ module _ (settings : Settings) (range : AreInRange settings) (first : ℕ) (begi
         (loaded : Bool) (steady : IsSteady loaded begin_life now) where
       -- what holds of the machine then
       abbrev Last : ContentFacts → Type 0
-      Last facts = KeepsFloor settings begin loaded (after_taken machine place answer) facts
+      Last facts = KeepsFloor settings begin above loaded (after_taken machine place answer) facts
 
       gap_step : (facts : ContentFacts) → end_at settings now machine.round ≤ block.start
           → KeepsRest loaded (end_at settings now machine.round) block.transitions facts
@@ -190,14 +190,14 @@ module _ (settings : Settings) (range : AreInRange settings) (first : ℕ) (begi
       after_more facts again more is q =
           let says : says_more answer.status ≡ true = t.carried.more ∙ more in
           let upto = (is_next settings now machine.round block t.made).ends in
-          let taken = ap (scans_after None) (taken_with settings range first begin AreNearAndBrief machine place answer block known.rounds t.made)
-          ∙ scans_after-append None (blocks_taken settings begin machine) block in
+          let taken = ap (scans_after above) (taken_with settings range first begin (AreNearAndBrief above) machine place answer block known.rounds t.made)
+          ∙ scans_after-append above (blocks_taken settings begin machine) block in
           rw says (record {
             loaded_is = q.loaded_is;
             steady = steady;
             below = λ unloaded clear.
                 (let c = q.clear unloaded clear in
-                let point : scans_after None (blocks_taken settings begin (after_taken machine place answer)) ≡ c.0 =
+                let point : scans_after above (blocks_taken settings begin (after_taken machine place answer)) ≡ c.0 =
                 taken ∙ ap (λ (m : Bool). if m then scans_of_last before_block block.transitions else Some block.scans) more ∙ sym c.3 in
                 let b = c.1 in
                 record {
@@ -218,15 +218,15 @@ module _ (settings : Settings) (range : AreInRange settings) (first : ℕ) (begi
       -- the floor below a block without C
       all_below : (few : length (blocks_of settings begin_life) ≤ machine.round) → loads_of now ≡ loads_of begin_life → block.more ≡ false
           → IsBelowClear settings begin_life now (end_at settings now (machine.round + 1)) (machine.round + 1)
-          (scans_after None (blocks_taken settings begin (after_taken machine place answer))) (Some (record { time = answer.stamp; input = None }))
+          (scans_after above (blocks_taken settings begin (after_taken machine place answer))) (Some (record { time = answer.stamp; input = None }))
       all_below few same all =
           let upto = (is_next settings now machine.round block t.made).ends in
-          let taken : scans_after None (blocks_taken settings begin (after_taken machine place answer)) ≡ Some block.scans =
-          ap (scans_after None) (taken_with settings range first begin AreNearAndBrief machine place answer block known.rounds t.made)
-          ∙ scans_after-append None (blocks_taken settings begin machine) block
+          let taken : scans_after above (blocks_taken settings begin (after_taken machine place answer)) ≡ Some block.scans =
+          ap (scans_after above) (taken_with settings range first begin (AreNearAndBrief above) machine place answer block known.rounds t.made)
+          ∙ scans_after-append above (blocks_taken settings begin machine) block
           ∙ ap (λ (m : Bool). if m then scans_of_last before_block block.transitions else Some block.scans) all in
           below-same settings begin_life now now block.end (end_at settings now (machine.round + 1)) (machine.round + 1) (Some block.scans)
-          (scans_after None (blocks_taken settings begin (after_taken machine place answer))) (Some (record { time = answer.stamp; input = None })) refl refl (sym upto) taken
+          (scans_after above (blocks_taken settings begin (after_taken machine place answer))) (Some (record { time = answer.stamp; input = None })) refl refl (sym upto) taken
           (end_below same few all)
 
       after_all : (facts : ContentFacts) (again : Bool) → block.more ≡ false → says_again answer.status ≡ again → KeepsRest loaded block.end [] facts

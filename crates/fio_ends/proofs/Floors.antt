@@ -12,6 +12,7 @@ use Rattle.fio_ends.proofs.Ahead.{IsAhead, ahead_later}
 use Rattle.fio_ends.proofs.BlockPlaces.{end_at}
 use Rattle.fio_ends.proofs.Clocks.{clock, later_clock, offset_of}
 use Rattle.fio_ends.proofs.Steady.{IsSteady}
+use Rattle.fio_ends.proofs.Taken.{brief_front}
 
 pub scans-command : (command : Option Command) (life : Life) → scans_of (life_after_command command life) ≡ scans_of life
 scans-command None life = refl
@@ -30,30 +31,22 @@ pub scans_after-append : (before : Option ℕ) (blocks : List MadeBlock) (block 
 scans_after-append before [] block = refl
 scans_after-append before (first ∷ blocks) block = scans_after-append (scans_below before first) blocks block
 
--- both premises on the blocks that are taken
-pub record AreNearAndBrief (blocks : List MadeBlock) : Type 0 where
+-- both premises on the blocks that are taken, below what has so many scans
+pub record AreNearAndBrief (above : Option ℕ) (blocks : List MadeBlock) : Type 0 where
   pub brief : AllByRecursion WaitBriefly blocks
-  pub near : BlocksAreNear None blocks
-
-pub brief_front : (front more : List MadeBlock) → AllByRecursion WaitBriefly (front ++ more) → AllByRecursion WaitBriefly front
-brief_front [] more all = tt
-brief_front (block ∷ front) more all = (all.0, brief_front front more all.1)
+  pub near : BlocksAreNear above blocks
 
 pub near_front : (before : Option ℕ) (front more : List MadeBlock) → BlocksAreNear before (front ++ more) → BlocksAreNear before front
 near_front before [] more near = tt
 near_front before (block ∷ front) more near = (near.0, near_front (scans_below before block) front more near.1)
 
-pub front_asked : (front more : List MadeBlock) → AreNearAndBrief (front ++ more) → AreNearAndBrief front
-front_asked front more a = record { brief = brief_front front more a.brief; near = near_front None front more a.near }
+pub front_asked : (above : Option ℕ) (front more : List MadeBlock) → AreNearAndBrief above (front ++ more) → AreNearAndBrief above front
+front_asked above front more a = record { brief = brief_front front more a.brief; near = near_front above front more a.near }
 
 pub near_last : (before : Option ℕ) (blocks : List MadeBlock) (block : MadeBlock) → BlocksAreNear before (blocks ++ block ∷ [])
     → EntriesAreNear (scans_after before blocks) block.transitions
 near_last before [] block near = near.0
 near_last before (first ∷ blocks) block near = near_last (scans_below before first) blocks block near.1
-
-pub brief_last : (blocks : List MadeBlock) (block : MadeBlock) → AllByRecursion WaitBriefly (blocks ++ block ∷ []) → WaitBriefly block
-brief_last [] block all = all.0
-brief_last (first ∷ blocks) block all = brief_last blocks block all.1
 
 -- ---- one entry
 
@@ -115,13 +108,13 @@ pub record IsBelowClear (settings : Settings) (begin now : Life) (upto round : �
   pub blocks : length (blocks_of settings begin) ≤ round
   pub floor_is : (f : Floor) → floor ≡ Some f → IsFloor (offset_of begin) now upto before f
 
--- what is kept of a machine
-pub record KeepsFloor (settings : Settings) (begin : Machine) (loaded : Bool) (machine : Machine) (facts : ContentFacts) : Type 0 where
+-- what is kept of a machine, below what has so many scans
+pub record KeepsFloor (settings : Settings) (begin : Machine) (above : Option ℕ) (loaded : Bool) (machine : Machine) (facts : ContentFacts) : Type 0 where
   pub loaded_is : facts.loaded ≡ loaded
   pub steady : IsSteady loaded (life_of begin.history) (life_of machine.history)
   pub below : loaded ≡ false → facts.clear ≡ true
       → IsBelowClear settings (life_of begin.history) (life_of machine.history) (end_at settings (life_of machine.history) machine.round) machine.round
-      (scans_after None (blocks_taken settings begin machine)) facts.floor
+      (scans_after above (blocks_taken settings begin machine)) facts.floor
 
 -- the floor stays where something happens
 pub floor-scan : (offset : ℕ) (now : Life) (raw upto : ℕ) (before : Option ℕ) (floor : Floor) → IsFloor offset now upto before floor

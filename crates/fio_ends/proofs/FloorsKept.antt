@@ -1,25 +1,26 @@
 -- The rules `order` and `fresh` never accuse: below a clear block each entry comes behind the latest entry or block without C.
-use Rattle.fio_ends.proofs.Names.{◌≡◌, ◌∙◌, ◌+◌, ◌≤◌, ℕ, Bool, true, false, List, ◌∷◌, length, Some, None, refl, ap, sym, arith, Answer, Command, Settings, AreInRange, Life, life_of, life_after_command, command_in, blocks_of, ContentFacts, content_with, Ended, Heard, Recorded, Sent, Entry, Event, SentFrame, Machine, after, after_delivery_to_module, after_taken, ContentRule, Order, Fresh, blocks_in, IsKept, Leads, HaveNoRestart, take, drop, LoadCounter}
-use Rattle.fio_message.specs.declared.answers.Answer.TheVariants as answers
-use Rattle.fio_message.specs.declared.commands.Command.TheVariants as commands
+use Rattle.fio_ends.proofs.Names.{◌≡◌, ◌∙◌, ◌+◌, ◌≤◌, ℕ, Bool, true, false, List, [], ◌∷◌, length, Option, Some, refl, ap, sym, subst, arith, Answer, Settings, AreInRange, Life, life_of, life_after_command, command_in, blocks_of, ContentFacts, Ended, Heard, Recorded, Entry, Event, SentFrame, Machine, after, after_delivery_to_module, after_taken, ContentRule, Order, Fresh, blocks_in, IsKept, Leads, HaveNoRestart, start, same_Some, take, drop}
 use Rattle.fio_message.specs.Blocks.{block_answer}
 use Rattle.fio_module.specs.Blocks.{end_of_blocks}
 use Rattle.fio_module.proofs.LifeLaws.{log_of-with_command}
 use Rattle.fio_check.specs.ContentSaid.{Floor}
-use Rattle.fio_check.specs.ContentRules.{breaks_answer, is_out_of_order, is_stale}
+use Rattle.fio_check.specs.ContentRules.{is_out_of_order, is_stale}
 use Rattle.fio_link.specs.declared.event.Event.TheVariants as events
-use Rattle.fio_ends.specs.ContentPremises.{HasNearEntries, NoLoadTakesEffect, blocks_taken}
+use Rattle.fio_check.specs.ContentFacts.{content_begun}
+use Rattle.fio_ends.specs.ContentPremises.{HasNearEntries, NoLoadTakesEffect, blocks_taken, scans_above}
 use Rattle.fio_ends.specs.ContentRuns.{ContentNeverAccuses, KeepsRule}
 use Rattle.fio_ends.proofs.BlockPlaces.{end_at}
 use Rattle.fio_ends.proofs.BlockWalk.{walk}
 use Rattle.fio_ends.proofs.ContentSteps.{IsInvariant, IsPastBus}
-use Rattle.fio_ends.proofs.ContentRuns.{content_never_accuses}
-use Rattle.fio_ends.proofs.Steady.{loaded_after, loaded_by, sends_no_load, steady-happens, steady-receives, unloaded_before}
+use Rattle.fio_ends.proofs.Clocks.{offset_of}
+use Rattle.fio_ends.proofs.ContentFrame.{heard_keeps}
+use Rattle.fio_ends.proofs.ContentRuns.{timed_never_accuses}
+use Rattle.fio_ends.proofs.Steady.{loaded_after, loaded_sent, sends_no_load, steady-happens, steady-receives, unloaded_before}
 use Rattle.fio_ends.proofs.Taken.{Asks, asked_of, asks_on, blocks_stay, taken_stay}
-use Rattle.fio_ends.proofs.Floors.{AreNearAndBrief, IsBehind, KeepsFloor, below-same, below-scan, front_asked, near_last, none_breaks, scans-command, scans_after}
+use Rattle.fio_ends.proofs.Floors.{AreNearAndBrief, IsBehind, IsFloor, KeepsFloor, below-same, below-scan, front_asked, near_last, none_breaks, scans-command, scans_after}
 use Rattle.fio_ends.proofs.FloorBlocks.{KeepsRest, floor_walk}
 
-module _ (settings : Settings) (range : AreInRange settings) (first : ℕ) (begin : Machine) where
+module _ (settings : Settings) (range : AreInRange settings) (first : ℕ) (begin : Machine) (above : Option ℕ) where
   abbrev begin_life : Life
   begin_life = life_of begin.history
 
@@ -32,13 +33,13 @@ module _ (settings : Settings) (range : AreInRange settings) (first : ℕ) (begi
       (end_keeps : (facts : ContentFacts) (status stamp : ℕ) → KeepsRule rule facts (Ended status stamp)) where
     floor-happens : (loaded : Bool) (from : Life) (machine : Machine) (facts : ContentFacts) (event : Event) (rest : List Event)
         → IsPastBus event → (loaded ≡ false → NoLoadTakesEffect settings first machine (event ∷ rest))
-        → KeepsFloor settings begin loaded machine facts
-        → KeepsFloor settings begin (loaded_after loaded machine event) (after settings first machine event) facts
+        → KeepsFloor settings begin above loaded machine facts
+        → KeepsFloor settings begin above (loaded_after loaded machine event) (after settings first machine event) facts
     floor-happens loaded from machine facts (events.Scan raw) rest past none p = record {
       loaded_is = p.loaded_is;
       steady = steady-happens settings first loaded begin_life machine (events.Scan raw) rest past none p.steady;
       below = λ unloaded clear. below-scan settings begin_life (life_of machine.history) raw
-          (end_at settings (life_of machine.history) machine.round) machine.round (scans_after None (blocks_taken settings begin machine)) facts.floor (p.below unloaded clear);
+          (end_at settings (life_of machine.history) machine.round) machine.round (scans_after above (blocks_taken settings begin machine)) facts.floor (p.below unloaded clear);
     }
     floor-happens loaded from machine facts events.LineSync rest past none p = record {
       loaded_is = p.loaded_is;
@@ -46,7 +47,7 @@ module _ (settings : Settings) (range : AreInRange settings) (first : ℕ) (begi
       below = λ unloaded clear. (let b = p.below unloaded clear in
           below-same settings begin_life (life_of machine.history) (life_of (after settings first machine events.LineSync).history)
           (end_at settings (life_of machine.history) machine.round) (end_at settings (life_of machine.history) machine.round) machine.round
-          (scans_after None (blocks_taken settings begin machine)) (scans_after None (blocks_taken settings begin machine)) facts.floor refl refl refl refl b);
+          (scans_after above (blocks_taken settings begin machine)) (scans_after above (blocks_taken settings begin machine)) facts.floor refl refl refl refl b);
     }
     floor-happens loaded from machine facts (events.Raise mask) rest past none p = record {
       loaded_is = p.loaded_is;
@@ -54,7 +55,7 @@ module _ (settings : Settings) (range : AreInRange settings) (first : ℕ) (begi
       below = λ unloaded clear. (let b = p.below unloaded clear in
           below-same settings begin_life (life_of machine.history) (life_of (after settings first machine (events.Raise mask)).history)
           (end_at settings (life_of machine.history) machine.round) (end_at settings (life_of machine.history) machine.round) machine.round
-          (scans_after None (blocks_taken settings begin machine)) (scans_after None (blocks_taken settings begin machine)) facts.floor refl refl refl refl b);
+          (scans_after above (blocks_taken settings begin machine)) (scans_after above (blocks_taken settings begin machine)) facts.floor refl refl refl refl b);
     }
     floor-happens loaded from machine facts events.Poll rest past none p = absurd past
     floor-happens loaded from machine facts (events.Send command) rest past none p = absurd past
@@ -63,8 +64,8 @@ module _ (settings : Settings) (range : AreInRange settings) (first : ℕ) (begi
     floor-happens loaded from machine facts events.Restart rest past none p = absurd past
 
     floor-receives : (loaded : Bool) (machine : Machine) (facts : ContentFacts) (place : ℕ) (frame : SentFrame) → IsKept settings first machine
-        → KeepsFloor settings begin loaded machine facts
-        → KeepsFloor settings begin loaded (after_delivery_to_module settings machine (place + 1) (Some frame)) facts
+        → KeepsFloor settings begin above loaded machine facts
+        → KeepsFloor settings begin above loaded (after_delivery_to_module settings machine (place + 1) (Some frame)) facts
     floor-receives loaded machine facts place frame k p =
         let now = life_of machine.history in
         let command = command_in frame.octets in
@@ -74,23 +75,17 @@ module _ (settings : Settings) (range : AreInRange settings) (first : ℕ) (begi
           steady = steady-receives loaded begin_life now command p.steady;
           below = λ unloaded clear.
               below-same settings begin_life now (life_after_command command now) (end_at settings now machine.round) (end_at settings (life_after_command command now) machine.round) machine.round
-              (scans_after None (blocks_taken settings begin machine)) (scans_after None (drop begin.round (take machine.round (blocks_of settings (life_after_command command now))))) facts.floor
+              (scans_after above (blocks_taken settings begin machine)) (scans_after above (drop begin.round (take machine.round (blocks_of settings (life_after_command command now))))) facts.floor
               (log_of-with_command command now) (scans-command command now)
               (ap end_of_blocks (blocks_stay settings now command machine.round few))
-              (ap (scans_after None) (taken_stay settings range first begin AreNearAndBrief machine command k))
+              (ap (scans_after above) (taken_stay settings range first begin (AreNearAndBrief above) machine command k))
               (p.below unloaded clear);
         }
 
-    -- a load of the counter that is sent
-    loaded_sent : (loaded : Bool) (facts : ContentFacts) (command : Command) → facts.loaded ≡ loaded
-        → (content_with facts (Sent command)).loaded ≡ loaded_by loaded command
-    loaded_sent loaded facts (commands.LoadCounter load) is = refl
-    loaded_sent loaded facts other is = is
-
-    floor_is_invariant : IsInvariant settings first begin rule Bool false loaded_after (Asks settings first begin AreNearAndBrief)
-        (λ loaded from machine facts. KeepsFloor settings begin loaded machine facts)
+    floor_is_invariant : IsInvariant settings first begin rule Bool false loaded_after (Asks settings first begin (AreNearAndBrief above))
+        (λ loaded from machine facts. KeepsFloor settings begin above loaded machine facts)
     floor_is_invariant = record {
-      goes_on = asks_on settings first begin AreNearAndBrief;
+      goes_on = asks_on settings first begin (AreNearAndBrief above);
       begins = λ known. record { loaded_is = refl; steady = λ is. refl; below = λ unloaded clear. absurd (cc clear) };
       happens = λ loaded from machine facts event rest known past asks p. floor-happens loaded from machine facts event rest past asks.no_load p;
       sends = λ loaded from machine facts event command known may within p. record {
@@ -104,17 +99,17 @@ module _ (settings : Settings) (range : AreInRange settings) (first : ℕ) (begi
         record { loaded_is = p.loaded_is; steady = p.steady; below = p.below },
       );
       takes = λ loaded from machine facts place rest number answer block known t asks p.
-          (let asked = asked_of settings range first begin AreNearAndBrief front_asked loaded from machine place number answer block rest known t asks in
-          walk rule settings (life_of machine.history) machine.round answer block (KeepsRest settings range first begin from machine place number answer block known t asked loaded)
-          (λ facts. KeepsFloor settings begin loaded (after_taken machine place answer) facts)
-          (floor_walk settings range first begin from machine place number answer block known t asked rule entry_keeps (λ facts. end_keeps facts answer.status answer.stamp) loaded p.steady)
+          (let asked = asked_of settings range first begin (AreNearAndBrief above) (front_asked above) loaded from machine place number answer block rest known t asks in
+          walk rule settings (life_of machine.history) machine.round answer block (KeepsRest settings range first begin above from machine place number answer block known t asked loaded)
+          (λ facts. KeepsFloor settings begin above loaded (after_taken machine place answer) facts)
+          (floor_walk settings range first begin above from machine place number answer block known t asked rule entry_keeps (λ facts. end_keeps facts answer.status answer.stamp) loaded p.steady)
           t.made t.carried facts (heard_keeps facts (block_answer answer))
           (record {
             loaded_is = p.loaded_is;
             clear = λ unloaded clear. (
-              scans_after None (blocks_taken settings begin machine),
+              scans_after above (blocks_taken settings begin machine),
               p.below unloaded clear,
-              near_last None (blocks_taken settings begin machine) block asked.near,
+              near_last above (blocks_taken settings begin machine) block asked.near,
               refl,
             );
           }));
@@ -122,30 +117,37 @@ module _ (settings : Settings) (range : AreInRange settings) (first : ℕ) (begi
 
 -- ---- both rules
 
-heard_order : (facts : ContentFacts) (answer : Answer) → breaks_answer facts answer Order ≡ false
-heard_order facts (answers.LoadCounter status) = refl
-heard_order facts (answers.ConfigureInputs status) = refl
-heard_order facts (answers.Status flags receive transmit stamp) = refl
-heard_order facts (answers.Watchdog status) = refl
-heard_order facts other = refl
-
-heard_fresh : (facts : ContentFacts) (answer : Answer) → breaks_answer facts answer Fresh ≡ false
-heard_fresh facts (answers.LoadCounter status) = refl
-heard_fresh facts (answers.ConfigureInputs status) = refl
-heard_fresh facts (answers.Status flags receive transmit stamp) = refl
-heard_fresh facts (answers.Watchdog status) = refl
-heard_fresh facts other = refl
+-- at the start of both ends no entry is below that time
+floor_begun : (settings : Settings) → KeepsFloor settings start (scans_above true) false start content_begun
+floor_begun settings = record {
+  loaded_is = refl;
+  steady = λ is. refl;
+  below = λ unloaded clear. record {
+    log = omega arith;
+    blocks = omega arith;
+    floor_is = λ f is.
+        subst (IsFloor (offset_of []) [] 0 (Some 0)) (same_Some _ _ is)
+        (record {
+          scans = 0;
+          time = refl;
+          before_is = refl;
+          within = omega arith;
+          ahead = λ k transition low at. absurd (cc at);
+        });
+  };
+}
 
 -- what is asked of a log
-asks_first : (settings : Settings) (first : ℕ) (machine last : Machine) (later : List Event) → HaveNoRestart later
-    → Leads settings first machine later last → HasNearEntries settings first machine later last
-    → Asks settings first machine AreNearAndBrief false machine later
-asks_first settings first machine last later none leads premise = record {
+asks_first : (begun : Bool) (settings : Settings) (first : ℕ) (machine last : Machine) (later : List Event) → HaveNoRestart later
+    → Leads settings first machine later last → NoLoadTakesEffect settings first machine later
+    → HasNearEntries begun settings first machine later last
+    → Asks settings first machine (AreNearAndBrief (scans_above begun)) false machine later
+asks_first begun settings first machine last later none leads unloaded premise = record {
   last = last;
   leads = leads;
   none = none;
   asked = record { brief = premise.brief; near = premise.near };
-  no_load = λ is. premise.no_load;
+  no_load = λ is. unloaded;
 }
 
 keeps_rule : (rule : ContentRule) → ((facts : ContentFacts) (answer : Answer) → KeepsRule rule facts (Heard answer))
@@ -154,20 +156,22 @@ keeps_rule : (rule : ContentRule) → ((facts : ContentFacts) (answer : Answer) 
     → KeepsRule rule facts (Recorded (Entry input level low wide)))
     → ((facts : ContentFacts) (status stamp : ℕ) → KeepsRule rule facts (Ended status stamp))
     → ContentNeverAccuses rule HasNearEntries
-keeps_rule rule heard_keeps entry_keeps end_keeps = content_never_accuses rule Bool false loaded_after HasNearEntries
-    (λ settings first begin. Asks settings first begin AreNearAndBrief)
-    (λ settings first begin loaded from machine facts. KeepsFloor settings begin loaded machine facts)
-    (λ settings first machine last later range k none leads premise. asks_first settings first machine last later none leads premise)
-    (λ settings first begin range. floor_is_invariant settings range first begin rule heard_keeps entry_keeps end_keeps)
+keeps_rule rule heard_keeps entry_keeps end_keeps = timed_never_accuses rule Bool (λ begun. false) (λ settings. loaded_after) HasNearEntries
+    (λ begun settings first begin. Asks settings first begin (AreNearAndBrief (scans_above begun)))
+    (λ begun settings first begin loaded from machine facts. KeepsFloor settings begin (scans_above begun) loaded machine facts)
+    (λ begun settings first machine last later premise. premise.no_load)
+    (λ begun settings first machine last later none leads unloaded premise. asks_first begun settings first machine last later none leads unloaded premise)
+    (λ begun settings first begin range. floor_is_invariant settings range first begin (scans_above begun) rule heard_keeps entry_keeps end_keeps)
+    (λ settings first. floor_begun settings)
 
 pub order_never_accuses : ContentNeverAccuses Order HasNearEntries
-order_never_accuses = keeps_rule Order heard_order
+order_never_accuses = keeps_rule Order (λ facts answer. (heard_keeps facts answer).order)
     (λ facts input low wide level behind. none_breaks (is_out_of_order input wide) facts.loaded facts.clear facts.floor
     (λ unloaded clear f at. (behind unloaded clear f at).in_order))
     (λ facts status stamp. tt)
 
 pub fresh_never_accuses : ContentNeverAccuses Fresh HasNearEntries
-fresh_never_accuses = keeps_rule Fresh heard_fresh
+fresh_never_accuses = keeps_rule Fresh (λ facts answer. (heard_keeps facts answer).fresh)
     (λ facts input low wide level behind. none_breaks (is_stale wide) facts.loaded facts.clear facts.floor
     (λ unloaded clear f at. (behind unloaded clear f at).fresh))
     (λ facts status stamp. tt)

@@ -1,54 +1,73 @@
--- Frames that break no rule, one after the other, make a good transcript.
-use Rattle.fio_ends.proofs.Names.{◌≡◌, ◌∙◌, ◌+◌, ◌<◌, ◌≤◌, inl, inr, ℕ, suc, List, [], ◌∷◌, ◌++◌, length, map, Some, None, refl, ap, sym, subst, arith, length-append, append_assoc, slice_get, eqb_tells, facts_at, facts_with, no_facts, TranscriptLine, observation_in, observation_on, first_broken, rule_broken, verdict_on, Facts, Observation, Good, facts_next, seen_at, CpuFrame, frame_on}
-use Rattle.fio_check.proofs.Verdicts.{one_verdict}
+-- In frames that break no rule, one after the other, a checker finds nothing.
+use Rattle.fio_ends.proofs.Names.{◌≡◌, ◌∙◌, ◌+◌, ◌<◌, ◌≤◌, inl, inr, ℕ, zero, suc, List, [], ◌∷◌, ◌++◌, length, map, Option, Some, None, refl, ap, ap₂, sym, arith, length-append, append_assoc, slice_get, eqb_tells, facts_with, no_facts, TranscriptLine, observation_in, observation_on, first_broken_within, standard_limits, verdict_on, Facts, Limits, Observation, Good, seen_at, CpuFrame, frame_on}
+use Rattle.std.specs.Option.{option_or}
+use Rattle.std.specs.Prelude.{option_and_then, option_map, unwrap_or}
+use Rattle.fio_check.specs.Checkers.{checker_at, checker_with, found_at, found_by, verdict_found_at}
+use Rattle.fio_check.specs.Observations.{observation_at}
+use Rattle.fio_check.specs.Places.{earliest_above}
+use Rattle.fio_check.specs.declared.checker.Breach.{Breach}
+use Rattle.fio_check.specs.declared.verdict.Verdict.TheVariants.{Broken}
+use Rattle.fio_check.proofs.Checkers.{finds_the_first_breach, found-taking, taking, with-taking}
 
 -- what a frame says to the rules
 abbrev pub said_by : CpuFrame → Observation
 said_by frame = observation_in frame.from_cpu frame.octets
 
--- each of these frames breaks no rule, below lines of which these facts hold
-abbrev pub KeepRules : Facts → List CpuFrame → Type 0
-KeepRules facts [] = Unit {0}
-KeepRules facts (frame ∷ frames) =
-    (first_broken facts (said_by frame) ≡ None) × KeepRules (facts_with facts (said_by frame)) frames
-
--- the same of lines
-abbrev LinesKeep : Facts → List TranscriptLine → Type 0
-LinesKeep facts [] = Unit {0}
-LinesKeep facts (line ∷ lines) =
-    (first_broken facts (observation_on line) ≡ None) × LinesKeep (facts_with facts (observation_on line)) lines
-
-lines_keep : (facts : Facts) (lines : List TranscriptLine) → KeepRules facts (map frame_on lines) → LinesKeep facts lines
-lines_keep facts [] kept = tt
-lines_keep facts (line ∷ lines) kept = (kept.0, lines_keep (facts_with facts (observation_on line)) lines kept.1)
+-- each of these frames breaks no rule with these limits, below lines of which these facts hold
+abbrev pub KeepRules : Limits → Facts → List CpuFrame → Type 0
+KeepRules limits facts [] = Unit {0}
+KeepRules limits facts (frame ∷ frames) =
+    (first_broken_within limits facts (said_by frame) ≡ None) × KeepRules limits (facts_with facts (said_by frame)) frames
 
 line_here : (before rest : List TranscriptLine) (line : TranscriptLine)
     → slice_get (before ++ line ∷ rest) (length before) ≡ Some line
 line_here [] rest line = refl
 line_here (first ∷ before) rest line = line_here before rest line
 
--- no line from a place on breaks a rule, where those left keep them
-rest_kept : (lines before rest : List TranscriptLine) (place : ℕ) → lines ≡ before ++ rest → place ≡ length before
-    → LinesKeep (facts_at lines place) rest
-    → (above : ℕ) → place ≤ above → above < length lines → rule_broken lines above ≡ None
-rest_kept lines before [] place is at kept above low high =
+-- a checker of the lines above a place finds nothing from there on, if the lines left keep the rules
+none_from : (limits : Limits) (lines before rest : List TranscriptLine) (place : ℕ) (facts : Facts) → lines ≡ before ++ rest
+    → place ≡ length before → checker_at limits lines place ≡ taking limits facts → KeepRules limits facts (map frame_on rest)
+    → (above : ℕ) → place ≤ above → above < length lines → found_at limits lines above ≡ None
+none_from limits lines before [] place facts is at checker kept above low high =
     let all : length lines ≡ length before + 0 = ap length is ∙ length-append before [] in
     absurd (omega arith)
-rest_kept lines before (line ∷ rest) place is at kept above low high =
+none_from limits lines before (line ∷ rest) place facts is at checker kept above low high =
+    let observation = observation_on line in
     let here : slice_get lines place ≡ Some line =
     ap (slice_get lines) at ∙ ap (λ all. slice_get all (length before)) is ∙ line_here before rest line in
-    elim (eqb_tells above place) as (λ _. rule_broken lines above ≡ None) [
-      | inl same ↦ rw same.1 (ap (first_broken (facts_at lines place)) (seen_at lines place line here) ∙ kept.0)
+    let seen : observation_at lines place ≡ observation = seen_at lines place line here in
+    elim (eqb_tells above place) as (λ _. found_at limits lines above ≡ None) [
+      | inl same ↦ rw same.1 (ap₂ found_by checker seen ∙ found-taking limits facts observation ∙ rw kept.0 refl)
       | inr other ↦
-          rest_kept lines (before ++ line ∷ []) rest (suc place) (is ∙ sym (append_assoc before (line ∷ []) rest))
+          none_from limits lines (before ++ line ∷ []) rest (suc place) (facts_with facts observation)
+          (is ∙ sym (append_assoc before (line ∷ []) rest))
           (let more : length (before ++ line ∷ []) ≡ length before + 1 = length-append before (line ∷ []) in omega arith)
-          (subst (λ facts. LinesKeep facts rest) (sym (facts_next lines place line here)) kept.1)
-          above (omega (arith, other.1)) high
+          (ap₂ checker_with checker seen ∙ with-taking limits facts observation kept.0)
+          kept.1 above (omega (arith, other.1)) high
     ]
 
--- lines whose frames break no rule make a good transcript
-pub lines_are_good : (lines : List TranscriptLine) → KeepRules no_facts (map frame_on lines)
-    → verdict_on lines ≡ Good (length lines)
-lines_are_good lines kept =
-    sym ((one_verdict lines (Good (length lines))).0
-    (refl, λ above high. rest_kept lines [] lines 0 refl refl (lines_keep no_facts lines kept) above (omega arith) high))
+-- in lines whose frames break no rule a checker finds nothing
+pub nothing_found : (limits : Limits) (lines : List TranscriptLine) → KeepRules limits no_facts (map frame_on lines)
+    → (place : ℕ) → place < length lines → found_at limits lines place ≡ None
+nothing_found limits lines kept place within = none_from limits lines [] lines 0 no_facts refl refl refl kept place (omega arith) within
+
+-- where nothing is said at any place, nothing is said first
+pub none_earliest : {A : Type 0} (says : ℕ → Option A) (below : ℕ) → ((place : ℕ) → place < below → says place ≡ None)
+    → earliest_above says below ≡ None
+none_earliest says zero none = refl
+none_earliest says (suc below) none =
+    ap₂ option_or (none_earliest says below (λ place within. none place (omega arith))) (none below (omega arith))
+
+no_verdict : (found : Option Breach) (line : Option TranscriptLine) → found ≡ None
+    → option_and_then (λ l. option_map (λ (breach : Breach). Broken l.number breach.rule) found) line ≡ None
+no_verdict found None none = refl
+no_verdict found (Some line) none = rw none refl
+
+-- where a checker with the limits of TEES 2009 finds nothing, the transcript is good
+pub good_if_none : (lines : List TranscriptLine)
+    → ((place : ℕ) → place < length lines → found_at standard_limits lines place ≡ None) → verdict_on lines ≡ Good (length lines)
+good_if_none lines none =
+    sym (finds_the_first_breach lines)
+    ∙ ap (λ found. unwrap_or found (Good (length lines)))
+    (none_earliest (verdict_found_at lines) (length lines)
+    (λ place within. no_verdict (found_at standard_limits lines place) (slice_get lines place) (none place within)))

@@ -1,11 +1,11 @@
 -- The CPU hears the answer that is due: its line breaks no rule.
-use Rattle.fio_ends.proofs.Names.{◌≡◌, ◌∙◌, ◌+◌, ◌%◌, ◌<◌, ◌≤◌, ◌&&◌, ◌||◌, inl, inr, ℕ, Bool, true, false, List, [], ◌∷◌, length, map, Option, Some, None, refl, ap, sym, subst, arith, if◌then◌else◌, ◌==◌, not, nat_le, option_map, slice_get, AllByRecursion, list_any, option_map_or, nat_tests, same_Some, Answer, Command, answer_in, answered_block, block_in, says_again, says_lost, says_more, Settings, AreInRange, HasRoom, Life, life_of, Transition, entry_of, MadeBlock, blocks_of, facts_with, answer_type_to, is_absent, observation_in, observation_of, first_broken, Facts, ToCpu, SentFrame, Machine, number_of, after_delivered_block, after_delivery_to_cpu, refusal, after, item_numbered, HasBlock, next_round, CarriesBlockOf, number_of-next, HasInput, each-at, after_taken, in_order, same_round, after_delivery, IsKept, carries_own, frame_heard}
+use Rattle.fio_ends.proofs.Names.{◌≡◌, ◌∙◌, ◌+◌, ◌%◌, ◌<◌, ◌≤◌, ◌&&◌, ◌||◌, inl, inr, ℕ, Bool, true, false, List, [], ◌∷◌, length, map, Option, Some, None, refl, ap, sym, subst, arith, if◌then◌else◌, ◌==◌, not, nat_le, nat_lt, option_map, slice_get, AllByRecursion, list_any, option_map_or, nat_tests, same_Some, Answer, Command, answer_in, answered_block, block_in, says_again, says_lost, says_more, Settings, AreInRange, Life, life_of, Transition, entry_of, MadeBlock, blocks_of, facts_with, answer_type_to, is_absent, observation_in, observation_of, first_broken_within, Facts, Limits, ToCpu, SentFrame, Machine, number_of, after_delivered_block, after_delivery_to_cpu, refusal, after, item_numbered, HasBlock, next_round, CarriesBlockOf, number_of-next, HasInput, each-at, after_taken, in_order, same_round, after_delivery, IsKept, carries_own, frame_heard, SuitModule}
 use Rattle.std.specs.Prelude.{is_some}
 use Rattle.std.proofs.lemmas.List.{length-map}
 use Rattle.fio_message.specs.declared.answers.Answer.TheVariants as answers
 use Rattle.fio_message.specs.declared.commands.Command.TheVariants as commands
 use Rattle.fio_message.specs.Blocks.{Block as BlockOf}
-use Rattle.fio_check.specs.Rules.{is_overfull}
+use Rattle.fio_check.specs.Rules.{is_overfull_within}
 use Rattle.fio_check.specs.declared.rules.Rule.TheVariants as tried
 use Rattle.fio_check.specs.declared.observation.Observation.TheVariants as seen
 use Rattle.fio_ends.proofs.Rules.{KeepsRules, no_rule_broken}
@@ -24,10 +24,10 @@ is_asked awaited code is =
 
 -- an answer to the command directly above, which takes no configuration of an absent input, breaks no rule
 answer_keeps : (facts : Facts) (code : ℕ) (accepted : Bool) → facts.awaited ≡ Some code
-    → (accepted && facts.absent_named) ≡ false → KeepsRules facts (seen.Answer code accepted)
-answer_keeps facts code accepted asked fair tried.Pair = is_asked facts.awaited code asked
-answer_keeps facts code accepted asked fair tried.Refusal = fair
-answer_keeps facts code accepted asked fair rule = refl
+    → (accepted && facts.absent_named) ≡ false → (limits : Limits) → KeepsRules limits facts (seen.Answer code accepted)
+answer_keeps facts code accepted asked fair limits tried.Pair = is_asked facts.awaited code asked
+answer_keeps facts code accepted asked fair limits tried.Refusal = fair
+answer_keeps facts code accepted asked fair limits rule = refl
 
 has_number : (polled : Option ℕ) (number n : ℕ) → polled ≡ Some number → n ≡ number
     → option_map_or (λ p. not (n == p)) polled false ≡ false
@@ -40,12 +40,20 @@ not_both true again apart = ap (λ b. b && true) (apart refl)
 not_both false true apart = refl
 not_both false false apart = refl
 
-within_limits : (lost more : Bool) (entries : ℕ) → (lost ≡ true → more ≡ true) → (more ≡ true → entries ≡ 255)
-    → ((lost && not more) || (more && not (entries == 255))) ≡ false
-within_limits true true entries implied full = let e : entries ≡ 255 = full refl in grind (arith, nat_tests)
-within_limits true false entries implied full = absurd (cc (implied refl))
-within_limits false true entries implied full = let e : entries ≡ 255 = full refl in grind (arith, nat_tests)
-within_limits false false entries implied full = refl
+within_limits : (fewer lost more : Bool) (entries per_block : ℕ) → (fewer ≡ true → lost ≡ true → more ≡ true)
+    → (more ≡ true → entries ≡ per_block)
+    → ((fewer && (lost && not more)) || (more && not (entries == per_block))) ≡ false
+within_limits fewer lost true entries per_block implied full =
+    let same : (entries == per_block) ≡ true = (let e : entries ≡ per_block = full refl in grind (arith, nat_tests)) in
+    rw same (with_more fewer lost)
+  where
+    with_more : (fewer lost : Bool) → ((fewer && (lost && false)) || false) ≡ false
+    with_more true true = refl
+    with_more true false = refl
+    with_more false lost = refl
+within_limits true true false entries per_block implied full = absurd (cc (implied refl refl))
+within_limits true false false entries per_block implied full = refl
+within_limits false lost false entries per_block implied full = refl
 
 never : (b : Bool) → (b && false) ≡ false
 never true = refl
@@ -106,10 +114,7 @@ module _ (settings : Settings) (range : AreInRange settings) (first : ℕ) (mach
   keeps_answer earlier command place octets r past h =
       let code = answer_type_to command in
       let none : block_in octets ≡ None = no_block_said (answer_in octets) code h.accepted h.heard in
-      let kept : first_broken facts (seen.Answer code h.accepted) ≡ None =
-      no_rule_broken facts (seen.Answer code h.accepted)
-      (answer_keeps facts code h.accepted r.asked.awaited
-      (ap (λ named. h.accepted && named) r.asked.named ∙ h.fair)) in
+      let fair : (h.accepted && facts.absent_named) ≡ false = ap (λ named. h.accepted && named) r.asked.named ∙ h.fair in
       let follows : Follows settings first life (record machine { last_to_cpu = place + 1 }) due (facts_with facts (seen.Answer code h.accepted)) =
       record {
         number = f.number;
@@ -119,7 +124,11 @@ module _ (settings : Settings) (range : AreInRange settings) (first : ℕ) (mach
         stage = inl (record { all = r.all; past = past });
       } in
       record {
-        rules = λ wide full. (ap (first_broken facts) h.heard ∙ kept, tt);
+        rules = λ limits suit. (
+          ap (first_broken_within limits facts) h.heard
+              ∙ no_rule_broken limits facts (seen.Answer code h.accepted) (answer_keeps facts code h.accepted r.asked.awaited fair limits),
+          tt,
+        );
         follows = subst (λ found. Follows settings first life (after_delivered_block first (record machine { last_to_cpu = place + 1 }) found) due (facts_with facts (observation_in false octets))) (sym none)
             (subst (λ o. Follows settings first life (record machine { last_to_cpu = place + 1 }) due (facts_with facts o)) (sym h.heard) follows);
       }
@@ -131,37 +140,38 @@ module _ (settings : Settings) (range : AreInRange settings) (first : ℕ) (mach
   entries_of_made b c = ap length c.carried.entries ∙ length-map c.block.transitions entry_of
 
   -- what the rules ask of a block answer that carries the block of the CPU's round
-  block_keeps : HasRoom settings → settings.per_block ≡ 255 → (number : ℕ) (b : BlockOf) → IsAsked first facts machine.round (commands.Poll number)
+  block_keeps : (limits : Limits) → SuitModule settings limits → (number : ℕ) (b : BlockOf) → IsAsked first facts machine.round (commands.Poll number)
       → b.number ≡ number → (facts.advanced ≡ true → says_again b.status ≡ false)
       → CarriesBlockOf first blocks b machine.round
-      → KeepsRules facts (seen.Block b.number b.status (length b.entries) (list_any (λ entry. is_absent entry.input) b.entries))
-  block_keeps wide full number b asked numbered again c tried.Pair = is_asked facts.awaited 182 asked.awaited
-  block_keeps wide full number b asked numbered again c tried.Number =
+      → KeepsRules limits facts (seen.Block b.number b.status (length b.entries) (list_any (λ entry. is_absent entry.input) b.entries))
+  block_keeps limits suit number b asked numbered again c tried.Pair = is_asked facts.awaited 182 asked.awaited
+  block_keeps limits suit number b asked numbered again c tried.Number =
       let polled = asked.polled number refl in
       has_number facts.polled number b.number polled.0 numbered
-  block_keeps wide full number b asked numbered again c tried.Same = not_both facts.advanced (says_again b.status) again
-  block_keeps wide full number b asked numbered again c tried.Sequence =
+  block_keeps limits suit number b asked numbered again c tried.Same = not_both facts.advanced (says_again b.status) again
+  block_keeps limits suit number b asked numbered again c tried.Sequence =
       ap (λ out. out && (says_again b.status || is_some facts.more)) c.in_sequence
-  block_keeps wide full number b asked numbered again c tried.Limits =
+  block_keeps limits suit number b asked numbered again c tried.Limits =
       let m = c.block in
-      let limits = each-at (KeepsLimits settings.per_block) blocks machine.round m
-      (blocks_keep settings (omega (arith, full, wide)) life) c.is_made in
-      let over : is_overfull b.status (length b.entries) ≡ false =
-      within_limits (says_lost b.status) (says_more b.status) (length b.entries)
-      (λ lost. c.carried.more ∙ limits.lost (sym c.carried.lost ∙ lost))
-      (λ more. entries_of_made b c ∙ limits.more (sym c.carried.more ∙ more) ∙ full) in
+      let keeps = each-at (KeepsLimits settings) blocks machine.round m (blocks_keep settings life) c.is_made in
+      let over : is_overfull_within limits b.status (length b.entries) ≡ false =
+      within_limits (nat_lt limits.per_block limits.waiting) (says_lost b.status) (says_more b.status) (length b.entries) limits.per_block
+      (λ fewer lost.
+      (let less : limits.per_block < limits.waiting = grind (arith, nat_tests) in
+      c.carried.more ∙ keeps.lost (omega (arith, suit.per_block, suit.waiting)) (sym c.carried.lost ∙ lost)))
+      (λ more. omega (arith, entries_of_made b c, keeps.more (sym c.carried.more ∙ more), suit.per_block)) in
       let absent : list_any (λ entry. is_absent entry.input) b.entries ≡ false =
-      ap (list_any (λ entry. is_absent entry.input)) c.carried.entries ∙ none_absent m.transitions limits.inputs in
+      ap (list_any (λ entry. is_absent entry.input)) c.carried.entries ∙ none_absent m.transitions keeps.inputs in
       ap (λ o. o || list_any (λ entry. is_absent entry.input) b.entries) over ∙ absent
-  block_keeps wide full number b asked numbered again c tried.Rest =
+  block_keeps limits suit number b asked numbered again c tried.Rest =
       let m = c.block in
-      let leaves = blocks_leave settings range.some_per_block (omega (arith, wide)) life in
+      let leaves = blocks_leave settings range.some_per_block life in
       let count = entries_of_made b c in
       has_rest facts.more (length b.entries) (λ is.
       (let t = f.more true is in
       let some = leaves.next t.earlier t.block m t.at_place (ap (slice_get blocks) (sym t.next) ∙ c.is_made) t.same in
       omega (arith, count, some)))
-  block_keeps wide full number b asked numbered again c rule = refl
+  block_keeps limits suit number b asked numbered again c rule = refl
 
   follows-block : (number : ℕ) (place : ℕ) (b : BlockOf) (entries : ℕ) (absent : Bool) → IsReceived settings first from life facts machine.to_module machine.to_cpu machine.last_to_module machine.round due (commands.Poll number)
       → due ≤ place + 1
@@ -212,10 +222,10 @@ module _ (settings : Settings) (range : AreInRange settings) (first : ℕ) (mach
       ap (after_delivered_block first (record machine { last_to_cpu = place + 1 })) h.spells
       ∙ ap (λ is. if is then after_taken machine place b else record machine { last_to_cpu = place + 1 }) met in
       record {
-        rules = λ wide full. (
-          ap (first_broken facts) said
-              ∙ no_rule_broken facts (seen.Block b.number b.status entries absent)
-              (block_keeps wide full number b r.asked h.numbered h.again c),
+        rules = λ limits suit. (
+          ap (first_broken_within limits facts) said
+              ∙ no_rule_broken limits facts (seen.Block b.number b.status entries absent)
+              (block_keeps limits suit number b r.asked h.numbered h.again c),
           tt,
         );
         follows = subst (λ m. Follows settings first life m due (facts_with facts (observation_in false frame.octets))) (sym taken)

@@ -1,6 +1,5 @@
 -- The rule `ignored` never accuses: an input that was settled as ignored has no entries until an item opens it.
-use Rattle.fio_ends.proofs.Names.{◌≡◌, ◌∙◌, ◌+◌, ◌<◌, ◌≤◌, ◌&&◌, ◌||◌, inl, inr, ℕ, Bool, true, false, not, List, [], ◌∷◌, length, Option, Some, None, refl, ap, sym, subst, arith, if◌then◌else◌, ◌==◌, slice_get, slice_get_within, nat_lt, Answer, Command, Block, command_in, command_octets, IsCommand, says_again, says_more, says_error, all_present, InputItem, ArrayVec, Settings, AreInRange, Life, Scanned, LineSynced, Raised, life_of, life_after_command, log_of, Transition, entry_of, MadeBlock, blocks_in, ContentFacts, InputAbove, content_with, Ended, Recorded, Sent, Gap, Event, SentFrame, Machine, after, after_sending, after_delivery_to_module, after_taken, Ignored, IsKept}
-use Rattle.fio_message.specs.declared.answers.Answer.TheVariants as answers
+use Rattle.fio_ends.proofs.Names.{◌≡◌, ◌∙◌, ◌+◌, ◌<◌, ◌≤◌, ◌&&◌, ◌||◌, inl, inr, ℕ, Bool, true, false, not, List, [], ◌∷◌, length, Option, Some, None, same_Some, refl, ap, sym, subst, arith, if◌then◌else◌, ◌==◌, slice_get, slice_get_within, nat_lt, Answer, Command, Block, command_in, command_octets, IsCommand, says_again, says_more, says_error, all_present, InputItem, ArrayVec, Settings, AreInRange, Life, Scanned, LineSynced, Raised, life_of, life_after_command, log_of, Transition, entry_of, MadeBlock, blocks_in, ContentFacts, InputAbove, content_with, Ended, Recorded, Sent, Gap, Event, SentFrame, Machine, start, after, after_sending, after_delivery_to_module, after_taken, Ignored, IsKept}
 use Rattle.fio_message.specs.declared.commands.Command.TheVariants as commands
 use Rattle.fio_message.specs.Blocks.{block_answer}
 use Rattle.fio_message.specs.Status.{error_status}
@@ -8,8 +7,7 @@ use Rattle.fio_message.proofs.StatusBits.{error_back}
 use Rattle.fio_input.specs.Widening.{wide_time_of}
 use Rattle.fio_module.specs.Blocks.{end_of_blocks}
 use Rattle.fio_check.specs.ContentSaid.{SentItem, accepts_items, are_some, items_for, items_sent, opens}
-use Rattle.fio_check.specs.ContentFacts.{input_below_clear, input_with_entry}
-use Rattle.fio_check.specs.ContentRules.{breaks_answer}
+use Rattle.fio_check.specs.ContentFacts.{content_begun, input_below_clear, input_with_entry}
 use Rattle.fio_link.specs.declared.event.Event.TheVariants as events
 use Rattle.fio_ends.specs.ContentRuns.{Always, ContentNeverAccuses, KeepsRule}
 use Rattle.fio_ends.proofs.Alternating.{NoneOf}
@@ -17,11 +15,13 @@ use Rattle.fio_ends.proofs.AlternateKept.{clear_open}
 use Rattle.fio_ends.proofs.Answered.{Says, says_of}
 use Rattle.fio_ends.proofs.BlockPlaces.{end_at, ends_within, is_next}
 use Rattle.fio_ends.proofs.BlockWalk.{IsWalk, entry_event, walk}
+use Rattle.fio_ends.proofs.ContentBegun.{begun_input}
+use Rattle.fio_ends.proofs.ContentFrame.{heard_keeps}
 use Rattle.fio_ends.proofs.ContentRuns.{content_never_accuses}
 use Rattle.fio_ends.proofs.ContentSteps.{HearsAnswer, IsInvariant, IsKnown, IsPastBus, Takes}
 use Rattle.fio_ends.proofs.Following.{IsSentLast, IsSince}
 use Rattle.fio_ends.proofs.Sends.{read_back}
-use Rattle.fio_ends.proofs.Settled.{KeepsItem, item-quiet, item-received, item-sent, item-taken, setting_of}
+use Rattle.fio_ends.proofs.Settled.{HasItem, KeepsItem, item-quiet, item-received, item-sent, item-taken, setting_of}
 use Rattle.fio_ends.proofs.Taken.{blocks_stay}
 use Rattle.fio_ends.proofs.Watching.{IsSilent, NoneHidden, input_at, rest_at}
 use Rattle.fio_ends.proofs.Shut.{KeepsBoth, ShutHolds, none_shut, shut-sent, silent-command, silent-further, silent-quiet}
@@ -210,13 +210,6 @@ module _ (settings : Settings) (range : AreInRange settings) (first : ℕ) (begi
       item-taken machine.to_module machine.last_to_module input (facts.inputs input).named (facts.inputs input).item (facts.inputs input).taken low h.life (life_of machine.history) a.0
       (subst (IsSentLast machine.to_module) a.1 h.sent_last) h.received (subst (λ c. IsSince c h.life (life_of machine.history)) a.1 h.since) a.2 some parts.1 k)) k
 
-  heard_ignored : (facts : ContentFacts) (answer : Answer) → breaks_answer facts answer Ignored ≡ false
-  heard_ignored facts (answers.LoadCounter status) = refl
-  heard_ignored facts (answers.ConfigureInputs status) = refl
-  heard_ignored facts (answers.Status flags receive transmit stamp) = refl
-  heard_ignored facts (answers.Watchdog status) = refl
-  heard_ignored facts other = refl
-
   ignored_is_invariant : IsInvariant settings first begin Ignored (Unit {0}) tt (λ state machine event. tt) (λ state machine later. Unit {0})
       (λ state from machine facts. ShutHolds settings machine facts)
   ignored_is_invariant = record {
@@ -229,18 +222,33 @@ module _ (settings : Settings) (range : AreInRange settings) (first : ℕ) (begi
     sends = λ state from machine facts event command known may within p. both-sends machine facts command within p;
     receives = λ state from machine facts place frame known new at reads p. both-receives machine facts place frame known.is_kept new at p;
     hears = λ state from machine facts place rest command answer known h holds p. (
-      heard_ignored facts answer,
+      (heard_keeps facts answer).ignored,
       λ input low. (let k = p input low in record { item = item-heard from machine facts place command answer h input low k.item; shut = k.shut }),
     );
     takes = λ state from machine facts place rest number answer block known t holds p.
         walk Ignored settings (life_of machine.history) machine.round answer block (Both from machine place number answer block known t)
         (ShutHolds settings (after_taken machine place answer)) (both_walk from machine place number answer block known t)
-        t.made t.carried facts (heard_ignored facts (block_answer answer)) (λ input low. (let k = p input low in
+        t.made t.carried facts ((heard_keeps facts (block_answer answer)).ignored) (λ input low. (let k = p input low in
         record { item = record { taken_one = k.item.taken_one; sent_last = λ is. absurd (cc is) }; shut = k.shut }));
   }
 
+-- at the start of both ends each input is ignored, as the item above says
+pub both_begun : (settings : Settings) → ShutHolds settings start content_begun
+both_begun settings input low =
+    subst (KeepsBoth [] [] 0 0 input) (sym (begun_input input low))
+    (record {
+      item = record {
+        taken_one = λ is kept at. (
+          λ place frame high there. absurd (cc there),
+          subst (HasItem [] input) (same_Some _ _ at) (record { ignore = refl; leading = refl; trailing = refl }),
+        );
+        sent_last = λ is. absurd (cc is);
+      };
+      shut = λ is. (λ place frame high there. absurd (cc there), record { ignored = refl; none = tt });
+    })
+
 pub ignored_never_accuses : ContentNeverAccuses Ignored Always
-ignored_never_accuses = content_never_accuses Ignored (Unit {0}) tt (λ state machine event. tt) Always
-    (λ settings first begin state machine later. Unit {0}) (λ settings first begin state from machine facts. ShutHolds settings machine facts)
-    (λ settings first machine last later range k none leads premise. tt)
+ignored_never_accuses = content_never_accuses Ignored (Unit {0}) tt (λ state machine event. tt)
+    (λ settings first begin state from machine facts. ShutHolds settings machine facts)
     (λ settings first begin range. ignored_is_invariant settings range first begin)
+    (λ settings first. both_begun settings)

@@ -1,6 +1,5 @@
 -- The least filters that can be in force for the changes of an input that are still to be recorded.
-use Rattle.fio_ends.proofs.Names.{◌≡◌, ◌∙◌, ◌+◌, ◌-◌, ◌<◌, ◌≤◌, ◌&&◌, ◌⊎◌, inl, inr, ℕ, Bool, true, false, List, [], ◌∷◌, ◌++◌, length, Option, Some, None, refl, ap, sym, subst, arith, append-nil, if◌then◌else◌, ◌==◌, slice_get, slice_get_within, AllByRecursion, nat_lt, nat_tests, same_Some, Command, command_in, InputItem, ArrayVec, Life, Occurrence, Scanned, LineSynced, Raised, Commanded, life_after_command, all_present, log_of, log_of-with_command, Transition, FilterPair, SentFrame, get_after_push, get_in_front}
-use Rattle.std.specs.Option.{option_or}
+use Rattle.fio_ends.proofs.Names.{◌≡◌, ◌∙◌, ◌+◌, ◌-◌, ◌<◌, ◌≤◌, ◌&&◌, inl, inr, ℕ, Bool, true, false, List, [], ◌∷◌, ◌++◌, length, Option, Some, None, refl, ap, sym, subst, arith, append-nil, if◌then◌else◌, ◌==◌, slice_get, slice_get_within, AllByRecursion, nat_lt, nat_tests, same_Some, Command, command_in, InputItem, ArrayVec, Life, Occurrence, Scanned, LineSynced, Raised, Commanded, life_after_command, all_present, log_of, log_of-with_command, Transition, FilterPair, SentFrame, get_after_push, get_in_front}
 use Rattle.std.proofs.lemmas.Bool.{cases_lt}
 use Rattle.fio_message.specs.declared.commands.Command.TheVariants as commands
 use Rattle.fio_input.specs.FilterHistory.{applied_items, last_item_of, setting_by}
@@ -13,6 +12,7 @@ use Rattle.fio_check.specs.ContentSaid.{filters_of, items_for, items_sent}
 use Rattle.fio_ends.proofs.Following.{GoesOn, IsNoCommand, goes_on-more}
 use Rattle.fio_ends.proofs.Lives.{logged_since}
 use Rattle.fio_ends.proofs.Settled.{setting-since, setting_of}
+use Rattle.fio_ends.proofs.Watching.{last_or}
 
 -- these filters are no more than those of a setting
 pub record AreNoMore (pair : FilterPair) (setting : Setting) : Type 0 where
@@ -172,12 +172,6 @@ module _ (frames : List SentFrame) (last upto input : ℕ) (pair : FilterPair) (
       let both = subst (λ b. AreBelowItems pair (if b then item ∷ items_for input items else items_for input items)) there all in
       (both.1, λ is. both.0)
   by_item item items false all = (all, λ is. absurd (cc is))
-
-  last_or : (found : Option InputItem) (item latest : InputItem) (named : Bool) → option_or found (if named then Some item else None) ≡ Some latest
-      → (found ≡ Some latest) ⊎ ((named ≡ true) × (item ≡ latest))
-  last_or (Some other) item latest named is = inl is
-  last_or None item latest true is = inr (refl, same_Some _ _ is)
-  last_or None item latest false is = absurd (cc is)
 
   last_below : (items : List InputItem) (latest : InputItem) → last_item_of input items ≡ Some latest → AreBelowItems pair (items_for input items)
       → (pair.leading ≤ filter_in_force latest.leading) × (pair.trailing ≤ filter_in_force latest.trailing)

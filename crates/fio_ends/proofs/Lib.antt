@@ -14,6 +14,8 @@ pub mod RunRecords
 pub mod ContentLines
 pub mod ContentSteps
 pub mod ContentFrame
+pub mod ContentBegun
+pub mod FirstLoads
 pub mod ContentRuns
 pub mod Lives
 pub mod MadeNow
@@ -46,7 +48,11 @@ pub mod ApartBlocks
 pub mod ApartKept
 pub mod StateRule
 pub mod StateKnown
+pub mod StateRests
+pub mod StateEntries
+pub mod StateEnds
 pub mod StateBlocks
+pub mod StateHeard
 pub mod StateKept
 pub mod FaultsOfLogs
 pub mod Calls

@@ -5,7 +5,7 @@ pub use Rattle.std.proofs.lemmas.Grind.{fold-append, flat_map-append}
 pub use Rattle.std.proofs.lemmas.List.{take-append-drop}
 pub use Rattle.std.proofs.lemmas.Option.{same_Some, slice_get_within}
 pub use Rattle.std.specs.Bool.{beq}
-pub use Rattle.std.specs.List.{AllZip, AllByRecursion, flat_map, list_any}
+pub use Rattle.std.specs.List.{AllByRecursion, flat_map, list_any}
 pub use Rattle.std.specs.Option.{option_map_or}
 pub use Rattle.std.specs.Prelude.{fold, option_map, nat_lt, ◌==◌, nat_le}
 pub use Rattle.arrayvec.specs.ArrayVec.{ArrayVec}
@@ -19,17 +19,16 @@ pub use Rattle.fio_message.specs.declared.commands.Command.{Command}
 pub use Rattle.fio_message.specs.declared.commands.Command.TheVariants.{Poll, LoadCounter}
 pub use Rattle.fio_message.specs.declared.fields.InputItem.{InputItem}
 pub use Rattle.fio_input.specs.Counter.{asked_number, one_more_if_loaded}
-pub use Rattle.fio_input.specs.Delivery.{NoneIsApplied}
 pub use Rattle.fio_input.specs.FilterHistory.{input_setting, all_present}
 pub use Rattle.fio_module.proofs.Ends.{last_end-append}
 pub use Rattle.fio_module.proofs.Growth.{filter_events-append}
 pub use Rattle.fio_module.proofs.LifeLaws.{log_of-with_command}
-pub use Rattle.fio_module.proofs.ListParts.{get_in_front, each-back}
+pub use Rattle.fio_module.proofs.ListParts.{get_in_front}
 pub use Rattle.fio_module.specs.Blocks.{MadeBlock, newest_poll, blocks_of, end_of_blocks, is_new, newest_end, next_block, start_after, count_from}
 pub use Rattle.fio_module.specs.Life.{Life, Occurrence, Scanned, LineSynced, Raised, filter_events, life_after_command, life_of, Commanded, scans_of, counter_events, loads_of}
 pub use Rattle.fio_module.specs.Log.{Transition, entry_of, log_of}
 pub use Rattle.fio_module.specs.Replies.{answer_to}
-pub use Rattle.fio_module.specs.Settings.{Settings, AreInRange, HasRoom}
+pub use Rattle.fio_module.specs.Settings.{Settings, AreInRange}
 pub use Rattle.fio_cpu.specs.Hearing.{after_hearing}
 pub use Rattle.fio_cpu.specs.Poller.{Polling}
 pub use Rattle.fio_cpu.specs.Record.{item_of, items_of_block}
@@ -47,27 +46,27 @@ pub use Rattle.fio_check.specs.Lines.{TranscriptLine}
 pub use Rattle.fio_check.specs.Observations.{answer_type_to, names_absent, is_absent, observation_of, observation_in, observation_on}
 pub use Rattle.fio_check.specs.Places.{is_some_and}
 pub use Rattle.fio_check.specs.Pollers.{block_on, poller_with, poller_of}
-pub use Rattle.fio_check.specs.Rules.{first_broken, rule_broken}
+pub use Rattle.fio_check.specs.Rules.{first_broken, first_broken_within, rule_broken, standard_limits}
 pub use Rattle.fio_check.specs.Verdicts.{verdict_on}
 pub use Rattle.fio_check.specs.declared.content_rules.ContentRule.{ContentRule}
 pub use Rattle.fio_check.specs.declared.content_rules.ContentRule.TheVariants.{Accepted, Alternate, Apart, Cleared, Clock, Done, Fresh, Ignored, Order, State, Watchdog}
 pub use Rattle.fio_check.specs.declared.facts.Facts.{Facts}
+pub use Rattle.fio_check.specs.declared.limits.Limits.{Limits}
 pub use Rattle.fio_check.specs.declared.observation.Observation.{Observation}
 pub use Rattle.fio_check.specs.declared.verdict.Verdict.TheVariants.{Good}
 pub use Rattle.fio_link.proofs.Events.{after_delivery}
 pub use Rattle.fio_link.proofs.HeardRows.{after_taken, in_order, same_round}
-pub use Rattle.fio_link.proofs.MadeBlocks.{each-at, HasInput, each_block, next_fits, each-append, each-map}
-pub use Rattle.fio_link.proofs.OneLife.{items_of_block-carried, recorded_of}
+pub use Rattle.fio_link.proofs.MadeBlocks.{each-at, HasInput, each_block, next_fits}
 pub use Rattle.fio_link.proofs.OneLifeRows.{IsKept, carries_own, kept_all, kept}
 pub use Rattle.fio_link.proofs.Places.{get_before_push, take_one_more, get_after_push, get_push}
 pub use Rattle.fio_link.proofs.RoundNumbers.{number_of-fits, number_of-next}
 pub use Rattle.fio_link.proofs.SentMessages.{none_more}
-pub use Rattle.fio_link.specs.Claims.{Source, From, Loss, blocks_in, sources_of}
+pub use Rattle.fio_link.specs.Claims.{blocks_in}
 pub use Rattle.fio_link.specs.Frames.{HasPoll, HasBlock}
 pub use Rattle.fio_link.specs.Headline.{IsNotRestart, HaveNoRestart}
-pub use Rattle.fio_link.specs.Link.{SentFrame, Machine, start, number_of, sending_refusal, after_sending, after_module_event, after_delivery_to_module, after_delivered_block, after_delivery_to_cpu, refusal, after, Leads, item_numbered}
+pub use Rattle.fio_link.specs.Link.{SentFrame, Machine, start, number_of, sending_refusal, after_sending, after_delivery_to_module, after_delivered_block, after_delivery_to_cpu, refusal, after, Leads, item_numbered}
 pub use Rattle.fio_link.specs.Rounds.{next_round, CarriesBlockOf}
 pub use Rattle.fio_link.specs.declared.event.Event.{Event}
 pub use Rattle.fio_link.specs.declared.event.Event.TheVariants.{ToModule, ToCpu}
-pub use Rattle.fio_ends.specs.PromptRuns.{due_after, IsPrompt, ArePrompt, IsWithinRanges}
+pub use Rattle.fio_ends.specs.PromptRuns.{due_after, IsPrompt, ArePrompt, IsWithinRanges, SuitModule}
 pub use Rattle.fio_ends.specs.Transcripts.{CpuFrame, frame_on, frame_heard, frames_at, frames_from}

@@ -1,9 +1,9 @@
--- The transcript of a prompt run is good.
-use Rattle.fio_ends.proofs.Names.{◌≡◌, arith, ℕ, List, [], ◌∷◌, ◌++◌, None, refl, sym, subst, AllByRecursion, Settings, AreInRange, HasRoom, facts_with, no_facts, Facts, Event, Machine, start, refusal, after, Leads, IsNotRestart, HaveNoRestart, IsKept, kept_all, kept, CpuFrame, frames_at, frames_from, due_after, IsPrompt, ArePrompt, IsWithinRanges, Life, Scanned, LineSynced, Raised}
+-- In the transcript of a prompt run a checker finds nothing.
+use Rattle.fio_ends.proofs.Names.{◌≡◌, arith, ℕ, List, [], ◌∷◌, ◌++◌, None, refl, sym, subst, AllByRecursion, Settings, AreInRange, facts_with, no_facts, standard_limits, Facts, Limits, Event, Machine, start, refusal, after, Leads, IsNotRestart, HaveNoRestart, IsKept, kept_all, kept, CpuFrame, frames_at, frames_from, due_after, IsPrompt, ArePrompt, IsWithinRanges, Life, Scanned, LineSynced, Raised, SuitModule}
 use Rattle.fio_module.specs.Life as module_events
 use Rattle.fio_link.specs.declared.event.Event.TheVariants as events
-use Rattle.fio_ends.specs.PromptRuns.{BeginsWithCommand, NeverAccuses, NeverAccusesLater}
-use Rattle.fio_ends.proofs.GoodLines.{KeepRules, lines_are_good, said_by}
+use Rattle.fio_ends.specs.PromptRuns.{BeginsWithCommand, HasNoBreach, IsGood, NeverAccuses, NeverAccusesLater}
+use Rattle.fio_ends.proofs.GoodLines.{KeepRules, good_if_none, nothing_found, said_by}
 use Rattle.fio_ends.proofs.Following.{Follows, Keeps, facts_below, from_after, follows-history, follows-start, may_begin, may_send}
 use Rattle.fio_ends.proofs.Sends.{sends-poll, sends-other}
 use Rattle.fio_ends.proofs.Receives.{follows-to_module}
@@ -13,7 +13,7 @@ module _ (settings : Settings) (range : AreInRange settings) (first : ℕ) where
   -- an event that adds no line
   no_line : (from : Life) (facts : Facts) (machine : Machine) (due : ℕ) → Follows settings first from machine due facts
       → Keeps settings first from facts [] machine due
-  no_line from facts machine due f = record { rules = λ wide full. tt; follows = f }
+  no_line from facts machine due f = record { rules = λ limits suit. tt; follows = f }
 
   -- each event keeps it
   pub keeps-event : (from : Life) (machine : Machine) (due : ℕ) (facts : Facts) → IsKept settings first machine
@@ -38,25 +38,25 @@ module _ (settings : Settings) (range : AreInRange settings) (first : ℕ) where
       keeps-to_cpu settings range first machine k from due facts f index fine (omega arith) (omega arith)
 
   -- frames that keep the rules, one part after another
-  both_keep : (facts : Facts) (frames more : List CpuFrame) → KeepRules facts frames
-      → KeepRules (facts_below facts frames) more → KeepRules facts (frames ++ more)
-  both_keep facts [] more above rest = rest
-  both_keep facts (frame ∷ frames) more above rest =
-      (above.0, both_keep (facts_with facts (said_by frame)) frames more above.1 rest)
+  both_keep : (limits : Limits) (facts : Facts) (frames more : List CpuFrame) → KeepRules limits facts frames
+      → KeepRules limits (facts_below facts frames) more → KeepRules limits facts (frames ++ more)
+  both_keep limits facts [] more above rest = rest
+  both_keep limits facts (frame ∷ frames) more above rest =
+      (above.0, both_keep limits (facts_with facts (said_by frame)) frames more above.1 rest)
 
   -- so all events do
-  all_keep : HasRoom settings → settings.per_block ≡ 255 → (events : List Event) (from : Life) (machine last : Machine) (due : ℕ) (facts : Facts) → IsKept settings first machine
+  all_keep : (limits : Limits) → SuitModule settings limits → (events : List Event) (from : Life) (machine last : Machine) (due : ℕ) (facts : Facts) → IsKept settings first machine
       → Follows settings first from machine due facts
       → Leads settings first machine events last → HaveNoRestart events → AllByRecursion IsWithinRanges events
       → ArePrompt settings first machine due events
-      → KeepRules facts (frames_from settings first machine events)
-  all_keep wide full [] from machine last due facts k f leads none within prompt = tt
-  all_keep wide full (event ∷ events) from machine last due facts k f leads none within prompt =
+      → KeepRules limits facts (frames_from settings first machine events)
+  all_keep limits suit [] from machine last due facts k f leads none within prompt = tt
+  all_keep limits suit (event ∷ events) from machine last due facts k f leads none within prompt =
       let here = keeps-event from machine due facts k f event leads.0 none.0 within.0 prompt.0 in
       let now : IsKept settings first (after settings first machine event) =
       kept_all settings range first (event ∷ []) machine (after settings first machine event) (none.0, tt) (leads.0, refl) k in
-      both_keep facts (frames_at first machine event) (frames_from settings first (after settings first machine event) events) (here.rules wide full)
-      (all_keep wide full events (from_after machine from event) (after settings first machine event) last (due_after machine due event)
+      both_keep limits facts (frames_at first machine event) (frames_from settings first (after settings first machine event) events) (here.rules limits suit)
+      (all_keep limits suit events (from_after machine from event) (after settings first machine event) last (due_after machine due event)
       (facts_below facts (frames_at first machine event)) now here.follows leads.1 none.1 within.1 prompt.1)
 
   -- what is known where a log begins later
@@ -88,37 +88,45 @@ module _ (settings : Settings) (range : AreInRange settings) (first : ℕ) where
       here.1 leads.1 none.1 within.1 prompt.1
 
   -- a command, and what is below it
-  after_command : HasRoom settings → settings.per_block ≡ 255 → (event : Event) (rest : List Event) (machine last : Machine) → (r : ReachesLater machine last (event ∷ rest))
+  after_command : (limits : Limits) → SuitModule settings limits → (event : Event) (rest : List Event) (machine last : Machine) → (r : ReachesLater machine last (event ∷ rest))
       → Keeps settings first (from_after machine r.from event) no_facts (frames_at first machine event) (after settings first machine event) (due_after machine r.due event)
-      → KeepRules no_facts (frames_from settings first machine (event ∷ rest))
-  after_command wide full event rest machine last r here =
+      → KeepRules limits no_facts (frames_from settings first machine (event ∷ rest))
+  after_command limits suit event rest machine last r here =
       let next = after settings first machine event in
       let now : IsKept settings first next = kept_all settings range first (event ∷ []) machine next (r.no_restart.0, tt) (r.leads.0, refl) r.is_kept in
-      both_keep no_facts (frames_at first machine event) (frames_from settings first next rest) (here.rules wide full)
-      (all_keep wide full rest (from_after machine r.from event) next last (due_after machine r.due event) (facts_below no_facts (frames_at first machine event))
+      both_keep limits no_facts (frames_at first machine event) (frames_from settings first next rest) (here.rules limits suit)
+      (all_keep limits suit rest (from_after machine r.from event) next last (due_after machine r.due event) (facts_below no_facts (frames_at first machine event))
       now here.follows r.leads.1 r.no_restart.1 r.within.1 r.prompt.1)
 
   -- a log that begins with a command keeps the rules
-  pub later_keep : HasRoom settings → settings.per_block ≡ 255 → (later : List Event) (machine last : Machine) → BeginsWithCommand later
-      → ReachesLater machine last later → KeepRules no_facts (frames_from settings first machine later)
-  later_keep wide full [] machine last begins r = absurd begins
-  later_keep wide full (events.Poll ∷ rest) machine last begins r =
-      after_command wide full events.Poll rest machine last r (sends-poll settings first machine no_facts (may_begin settings first r.from machine r.due r.facts r.follows))
-  later_keep wide full (events.Send command ∷ rest) machine last begins r =
-      after_command wide full (events.Send command) rest machine last r
+  pub later_keep : (limits : Limits) → SuitModule settings limits → (later : List Event) (machine last : Machine) → BeginsWithCommand later
+      → ReachesLater machine last later → KeepRules limits no_facts (frames_from settings first machine later)
+  later_keep limits suit [] machine last begins r = absurd begins
+  later_keep limits suit (events.Poll ∷ rest) machine last begins r =
+      after_command limits suit events.Poll rest machine last r (sends-poll settings first machine no_facts (may_begin settings first r.from machine r.due r.facts r.follows))
+  later_keep limits suit (events.Send command ∷ rest) machine last begins r =
+      after_command limits suit (events.Send command) rest machine last r
       (sends-other settings first machine no_facts (may_begin settings first r.from machine r.due r.facts r.follows) command r.leads.0 r.within.0)
-  later_keep wide full (other ∷ rest) machine last begins r = absurd begins
+  later_keep limits suit (other ∷ rest) machine last begins r = absurd begins
 
 -- no false accusation
-pub never_accuses : NeverAccuses 255
-never_accuses settings first events machine range wide full run lines has =
-    lines_are_good lines (subst (KeepRules no_facts) (sym has)
-    (all_keep settings range first wide full events [] start machine 0 no_facts
+pub never_accuses : NeverAccuses HasNoBreach
+never_accuses settings first events machine range run lines has limits suit =
+    nothing_found limits lines (subst (KeepRules limits no_facts) (sym has)
+    (all_keep settings range first limits suit events [] start machine 0 no_facts
     (kept settings range first [] start refl tt) (follows-start settings first) run.is_run run.no_restart run.within run.prompt))
 
+pub is_good : NeverAccuses IsGood
+is_good settings first events machine range run lines has suit =
+    good_if_none lines (never_accuses settings first events machine range run lines has standard_limits suit)
+
 -- nor in a log that begins later
-pub never_accuses_later : NeverAccusesLater 255
-never_accuses_later settings first before later machine last range wide full run leads begins lines has =
+pub never_accuses_later : NeverAccusesLater HasNoBreach
+never_accuses_later settings first before later machine last range run leads begins lines has limits suit =
     let r = reaches settings range first before later [] start machine last 0 no_facts (kept settings range first [] start refl tt) (follows-start settings first)
     leads run.is_run run.no_restart run.within run.prompt in
-    lines_are_good lines (subst (KeepRules no_facts) (sym has) (later_keep settings range first wide full later machine last begins r))
+    nothing_found limits lines (subst (KeepRules limits no_facts) (sym has) (later_keep settings range first limits suit later machine last begins r))
+
+pub is_good_later : NeverAccusesLater IsGood
+is_good_later settings first before later machine last range run leads begins lines has suit =
+    good_if_none lines (never_accuses_later settings first before later machine last range run leads begins lines has standard_limits suit)

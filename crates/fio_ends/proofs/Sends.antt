@@ -1,5 +1,5 @@
 -- The CPU's end sends a command: its line breaks no rule.
-use Rattle.fio_ends.proofs.Names.{◌≡◌, ◌∙◌, ◌+◌, ◌%◌, ◌<◌, inl, inr, ℕ, Bool, true, false, List, [], ◌∷◌, ◌++◌, length, Option, Some, None, refl, ap, sym, subst, arith, length-append, if◌then◌else◌, ◌==◌, not, option_map, option_map_or, nat_tests, same_Some, slice_get_within, Command, command_octets, IsCommand, command_in, poll_in, Settings, facts_with, number_due, answer_type_to, names_absent, observation_in, observation_of, first_broken, Facts, Observation, SentFrame, Machine, number_of, sending_refusal, after_sending, get_after_push, get_push, number_of-fits, none_more, CpuFrame, life_of}
+use Rattle.fio_ends.proofs.Names.{◌≡◌, ◌∙◌, ◌+◌, ◌%◌, ◌<◌, inl, inr, ℕ, Bool, true, false, List, [], ◌∷◌, ◌++◌, length, Option, Some, None, refl, ap, sym, subst, arith, length-append, if◌then◌else◌, ◌==◌, not, option_map, option_map_or, nat_tests, same_Some, slice_get_within, Command, command_octets, IsCommand, command_in, poll_in, Settings, facts_with, number_due, answer_type_to, names_absent, observation_in, observation_of, first_broken_within, Facts, Limits, Observation, SentFrame, Machine, number_of, sending_refusal, after_sending, get_after_push, get_push, number_of-fits, none_more, CpuFrame, life_of}
 use Rattle.fio_message.specs.declared.commands.Command.TheVariants as commands
 use Rattle.fio_message.proofs.MessageLaws.{command_back}
 use Rattle.fio_check.specs.Observations.{observation_of_command}
@@ -51,9 +51,9 @@ is_due (Some n) number same = let is : n ≡ number = same n refl in grind (arit
 
 -- a poll with the number that is due breaks no rule
 poll_keeps : (facts : Facts) (number : ℕ) → ((n : ℕ) → number_due facts ≡ Some n → n ≡ number)
-    → KeepsRules facts (seen.Poll number)
-poll_keeps facts number same tried.Advance = is_due (number_due facts) number same
-poll_keeps facts number same rule = refl
+    → (limits : Limits) → KeepsRules limits facts (seen.Poll number)
+poll_keeps facts number same limits tried.Advance = is_due (number_due facts) number same
+poll_keeps facts number same limits rule = refl
 
 -- a poll that has another number than the poll before it comes after a block answer
 was_answered : (polled : Option ℕ) (answered : Bool) (number : ℕ)
@@ -134,10 +134,12 @@ module _ (settings : Settings) (first : ℕ) (machine : Machine) (facts : Facts)
       let number = number_of first machine.round in
       let fits : number < 256 = omega (arith, number_of-fits first machine.round) in
       let said = said_of (commands.Poll number) fits in
-      let kept : first_broken facts (seen.Poll number) ≡ None =
-      no_rule_broken facts (seen.Poll number) (poll_keeps facts number f.number) in
       record {
-        rules = λ wide full. (ap (first_broken facts) said ∙ kept, tt);
+        rules = λ limits suit. (
+          ap (first_broken_within limits facts) said
+              ∙ no_rule_broken limits facts (seen.Poll number) (poll_keeps facts number f.number limits),
+          tt,
+        );
         follows = subst (λ o. Follows settings first (life_of machine.history) (after_sending machine (commands.Poll number)) 0 (facts_with facts o)) (sym said) follows-poll;
       }
 
@@ -166,7 +168,7 @@ module _ (settings : Settings) (first : ℕ) (machine : Machine) (facts : Facts)
   sends-other command fine within =
       let said = said_of command within ∙ other_said command fine in
       record {
-        rules = λ wide full. (ap (first_broken facts) said ∙ refl, tt);
+        rules = λ limits suit. (ap (first_broken_within limits facts) said ∙ refl, tt);
         follows = subst (λ o. Follows settings first (life_of machine.history) (after_sending machine command) 0 (facts_with facts o)) (sym said)
             (follows-other command fine within);
       }

@@ -1,6 +1,5 @@
 -- An input that is shut: it is ignored, and nothing that is still to be received opens it.
-use Rattle.fio_ends.proofs.Names.{◌≡◌, ◌≢◌, ◌∙◌, ◌-◌, ◌<◌, ◌≤◌, ◌&&◌, ◌||◌, ◌⊎◌, inl, inr, ℕ, Bool, true, false, not, List, [], ◌∷◌, ◌++◌, length, drop, Option, Some, None, refl, ap, sym, subst, arith, if◌then◌else◌, ◌==◌, slice_get, nat_lt, nat_tests, same_Some, Command, command_in, all_present, InputItem, ArrayVec, Settings, Life, Occurrence, Scanned, LineSynced, Raised, Commanded, life_of, life_after_command, log_of, ContentFacts, InputAbove, SentFrame, Machine, get_after_push}
-use Rattle.std.specs.Option.{option_or}
+use Rattle.fio_ends.proofs.Names.{◌≡◌, ◌≢◌, ◌∙◌, ◌-◌, ◌<◌, ◌≤◌, ◌&&◌, ◌||◌, inl, inr, ℕ, Bool, true, false, not, List, [], ◌∷◌, ◌++◌, length, drop, Option, Some, None, refl, ap, sym, subst, arith, if◌then◌else◌, ◌==◌, slice_get, nat_lt, nat_tests, same_Some, Command, command_in, all_present, InputItem, ArrayVec, Settings, Life, Occurrence, Scanned, LineSynced, Raised, Commanded, life_of, life_after_command, log_of, ContentFacts, InputAbove, SentFrame, Machine, get_after_push}
 use Rattle.fio_message.specs.declared.commands.Command.TheVariants as commands
 use Rattle.fio_input.specs.FilterHistory.{applied_items, last_item_of, setting_by}
 use Rattle.fio_input.specs.FilterRule.{Setting}
@@ -10,7 +9,7 @@ use Rattle.fio_ends.proofs.Alternating.{NoneOf}
 use Rattle.fio_ends.proofs.BlockPlaces.{end_at}
 use Rattle.fio_ends.proofs.Following.{IsNoCommand}
 use Rattle.fio_ends.proofs.Settled.{KeepsItem, setting_of}
-use Rattle.fio_ends.proofs.Watching.{IsSilent, drop_on, or_left, or_right, silent-scan}
+use Rattle.fio_ends.proofs.Watching.{IsSilent, drop_on, last_or, or_left, or_right, silent-scan}
 
 -- ---- what is shut
 
@@ -36,12 +35,6 @@ module _ (input : ℕ) (low : input < 64) where
       ap (λ b. opens (if b then item ∷ items_for input items else items_for input items)) (sym there) ∙ none in
       (or_right (not item.ignore) (opens (items_for input items)) both, λ is. or_left (not item.ignore) (opens (items_for input items)) both)
   by_item item items false none = (none, λ is. absurd (cc is))
-
-  last_or : (found : Option InputItem) (item last : InputItem) (named : Bool) → option_or found (if named then Some item else None) ≡ Some last
-      → (found ≡ Some last) ⊎ ((named ≡ true) × (item ≡ last))
-  last_or (Some other) item last named is = inl is
-  last_or None item last true is = inr (refl, same_Some _ _ is)
-  last_or None item last false is = absurd (cc is)
 
   is_shut : (b : Bool) → not b ≡ false → b ≡ true
   is_shut true is = refl

@@ -1,231 +1,36 @@
--- The events of a block keep the rule `state`, and what is known of the states that were asked for.
-use Rattle.fio_ends.proofs.Names.{◌≡◌, ◌∙◌, ◌+◌, ◌<◌, ◌≤◌, ◌&&◌, ◌||◌, ◌⊎◌, inl, inr, ℕ, zero, suc, Bool, true, false, not, List, [], ◌∷◌, ◌++◌, length, drop, Option, Some, None, refl, ap, sym, subst, arith, if◌then◌else◌, ◌==◌, nat_lt, nat_tests, eqb_tells, slice_get, slice_get_within, same_Some, length-append, Answer, Block, answer_in, answered_block, block_in, says_again, says_more, Settings, AreInRange, Life, life_of, log_of, scans_of, Transition, entry_of, MadeBlock, blocks_of, blocks_in, ContentFacts, content_with, Ended, Heard, Recorded, Gap, ContentEvent, SentFrame, Machine, after_taken, State, get_in_front}
-use Rattle.std.specs.Prelude.{is_some, option_and_then}
-use Rattle.std.proofs.lemmas.Bool.{cases_lt}
-use Rattle.std.proofs.Math.ListN.{drop_of_length-le}
-use Rattle.fio_message.specs.Bits.{is_set}
+-- The events of a block that the CPU takes keep the rule `state`, and what is known of the states that were asked for.
+use Rattle.fio_ends.proofs.Names.{◌≡◌, ◌+◌, ◌≤◌, ℕ, List, Some, refl, arith, Block, Settings, AreInRange, Life, life_of, scans_of, Transition, MadeBlock, ContentFacts, content_with, Heard, Recorded, Gap, Machine, after_taken, State}
 use Rattle.fio_message.specs.Blocks.{block_answer}
-use Rattle.fio_message.specs.declared.answers.Answer.TheVariants as answers
-use Rattle.fio_input.specs.Widening.{wide_time_of}
-use Rattle.fio_module.proofs.BlockLaws.{blocks_without_more_take_all}
-use Rattle.fio_module.proofs.LogOrder.{scans_within}
-use Rattle.fio_check.specs.ContentSaid.{Seen, is_before, is_later, states_heard}
-use Rattle.fio_check.specs.ContentFacts.{input_with_entry, seen_below}
-use Rattle.fio_check.specs.ContentRules.{broken_state}
-use Rattle.fio_link.proofs.Events.{frame_at_place}
 use Rattle.fio_link.specs.declared.event.Event.TheVariants as events
-use Rattle.fio_ends.specs.ContentPremises.{AreNear, EntriesNearStates, IsNearStates, WaitBriefly, block_taken, comes_with, hears_states, is_later_among, scans_left, scans_seen}
-use Rattle.fio_ends.specs.ContentRuns.{KeepsRule}
-use Rattle.fio_ends.proofs.Alternating.{Alternate}
-use Rattle.fio_ends.proofs.AlternateKept.{KeepsWatch, Watch, watch_ended, watch_entry, watch_gap}
-use Rattle.fio_ends.proofs.BlockPlaces.{end_at, ends_within, is_next}
-use Rattle.fio_ends.proofs.BlockWalk.{IsWalk, entry_event}
-use Rattle.fio_ends.proofs.Stamps.{none_since}
-use Rattle.fio_ends.proofs.Clocks.{clock, later_clock, not_before, offset_of}
+use Rattle.fio_ends.specs.ContentPremises.{IsNearStates, WaitBriefly}
+use Rattle.fio_ends.proofs.AlternateKept.{watch_gap}
+use Rattle.fio_ends.proofs.BlockPlaces.{end_at}
+use Rattle.fio_ends.proofs.BlockWalk.{IsWalk}
 use Rattle.fio_ends.proofs.ContentSteps.{IsKnown, Takes}
-use Rattle.fio_ends.proofs.BlockTimes.{block_time, clear_block, entry_time, made_later, made_with_entry}
-use Rattle.fio_ends.proofs.Following.{GoesOn, goes_on-both}
-use Rattle.fio_ends.proofs.Lives.{log_grows, logged_since, made_since, scans_grow}
 use Rattle.fio_ends.proofs.SeenStates.{WatchAt, watch_another, watch_asked, watch_own, watch_since}
 use Rattle.fio_ends.proofs.SeenStates as lives
 use Rattle.fio_ends.proofs.Steady.{IsSteady}
-use Rattle.fio_ends.proofs.Watching.{state_of}
-use Rattle.fio_ends.proofs.StateKnown.{IsSeen, KeepsState, StateState, state_after}
-use Rattle.fio_ends.proofs.StateRule.{before_clock, keeps_state, not_later, states_bit}
-
--- ---- the CPU takes a block
+use Rattle.fio_ends.proofs.StateKnown.{KeepsState, StateState, state_after}
+use Rattle.fio_ends.proofs.StateRests.{KeepsRest, seen_with}
+use Rattle.fio_ends.proofs.StateEntries.{entry_step}
+use Rattle.fio_ends.proofs.StateEnds.{end_keeps, ended}
 
 module _ (settings : Settings) (range : AreInRange settings) (first : ℕ) (begin : Machine) where
-  abbrev pub begin_life : Life
+  abbrev begin_life : Life
   begin_life = life_of begin.history
 
   module _ (state : StateState) (from : Life) (machine : Machine) (place number : ℕ) (answer : Block) (block : MadeBlock)
       (known : IsKnown settings first begin from machine) (t : Takes settings first from machine place number answer block)
       (brief : WaitBriefly block) (steady : IsSteady state.loaded begin_life (life_of machine.history)) where
-    abbrev pub now : Life
+    abbrev now : Life
     now = life_of machine.history
 
-    abbrev pub offset : ℕ
-    offset = offset_of begin_life
+    abbrev Rest : ℕ → List Transition → ContentFacts → Type 0
+    Rest = KeepsRest settings begin state from machine block
 
-    abbrev pub Seen_ : ℕ → ContentFacts → Seen → Type 0
-    Seen_ upto facts seen = IsSeen begin_life from state.loaded state.seen upto facts seen
-
-    -- the states, and what is asked of the rest of the block
-    pub record SeenRest (upto : ℕ) (rest : List Transition) (facts : ContentFacts) (seen : Seen) : Type 0 where
-      pub is_seen : Seen_ upto facts seen
-      pub near : EntriesNearStates (scans_of is_seen.life) rest
-      pub later : is_later_among (scans_of is_seen.life) rest ≡ is_later_among (scans_of is_seen.life) block.transitions
-      pub made : is_later_among (scans_of is_seen.life) block.transitions ≡ false → block.more ≡ false → AreNear (scans_of is_seen.life) block.scans
-
-    pub record KeepsRest (upto : ℕ) (rest : List Transition) (facts : ContentFacts) : Type 0 where
-      pub loaded_is : facts.loaded ≡ state.loaded
-      pub clear_is : (input : ℕ) (level : Bool) → (facts.inputs input).watched ≡ Some level → facts.clear ≡ true
-      pub below : facts.clear ≡ true → (length (log_of begin_life) ≤ upto) × (length (blocks_of settings begin_life) ≤ machine.round)
-      pub watch : Watch settings range first begin from machine place number answer block known t upto rest facts
-      pub seen : (states : Seen) → facts.seen ≡ Some states → SeenRest upto rest facts states
-
-    -- the life of the states, and now
-    since_states : (life : Life) → GoesOn life from → GoesOn life now
-    since_states life g = goes_on-both life from now g known.now
-
-    -- an entry that is in the log of a life, or later
-    logged_in : (life : Life) → GoesOn life now → (upto : ℕ) (transition : Transition) → slice_get (log_of now) upto ≡ Some transition → upto < length (log_of life)
-        → slice_get (log_of life) upto ≡ Some transition
-    logged_in life g upto transition at inside =
-        let grown = log_grows life now g in
-        get_in_front (log_of life) grown.0 upto transition inside (ap (λ log. slice_get log upto) (sym grown.1) ∙ at)
-
-    logged_after : (life : Life) → GoesOn life now → (upto : ℕ) (transition : Transition) → slice_get (log_of now) upto ≡ Some transition → length (log_of life) ≤ upto
-        → scans_of life < transition.scans
-    logged_after life g upto transition at later =
-        let l = logged_since life now upto transition g later at in
-        let grown = scans_grow life l.life l.begun in
-        let scans = ap (λ (t : Transition). t.scans) l.of_scan.is in
-        omega (arith, grown, scans)
-
-    -- all is recorded up to the states: the state of a watched input is its state then
-    watched_then : (upto : ℕ) (facts : ContentFacts) (seen : Seen) (s : Seen_ upto facts seen) (input : ℕ) (level : Bool) → input < 64 → length (log_of s.life) ≤ upto
-        → (facts.inputs input).watched ≡ Some level → level ≡ is_set seen.levels input
-    watched_then upto facts seen s input level low all is =
-        let w = (s.watch input low).watched_ones level is in
-        let none : drop upto (log_of s.life) ≡ [] = drop_of_length-le (log_of s.life) all in
-        let same : level ≡ state_of input s.life = subst (λ log. Alternate input level log (state_of input s.life)) none w.alternate in
-        same ∙ sym (states_bit s.life input low) ∙ ap (λ levels. is_set levels input) (sym s.levels)
-
-    -- ---- an entry
-
-    module _ (k : ℕ) (transition : Transition) (rest : List Transition) (facts : ContentFacts) (at : slice_get block.transitions k ≡ Some transition)
-        (logged : slice_get (log_of now) (block.start + k) ≡ Some transition) (q : KeepsRest (block.start + k) (transition ∷ rest) facts) where
-      abbrev pub wide : ℕ
-      wide = wide_time_of answer.stamp (entry_of transition).stamp
-
-      abbrev pub event : ContentEvent
-      event = entry_event answer.stamp transition
-
-      -- if it comes to states above which an input is watched, it was logged later
-      comes_later : (seen : Seen) (r : SeenRest (block.start + k) (transition ∷ rest) facts seen) → facts.clear ≡ true → is_later wide seen.stamp ≡ true
-          → length (log_of r.is_seen.life) ≤ block.start + k
-      comes_later seen r clear comes =
-          let s = r.is_seen in
-          elim (cases_lt (block.start + k) (length (log_of s.life))) as (λ _. length (log_of s.life) ≤ block.start + k) [
-            | inl inside ↦
-                let b = q.below clear in
-                let time = entry_time settings first begin from machine place number answer block known t brief (steady s.unloaded) k (block.start + k) transition at logged b.0 b.1 in
-                let there = logged_in s.life (since_states s.life s.goes_on) (block.start + k) transition logged inside in
-                let scans = scans_within s.life (block.start + k) transition there in
-                let never : is_later wide seen.stamp ≡ false =
-                ap (λ w. is_later w seen.stamp) time ∙ ap (is_later (clock offset transition.scans)) s.stamp ∙ not_later offset transition.scans (scans_of s.life) scans r.near.0.after in
-                absurd (cc (never, comes))
-            | inr later ↦ later
-          ]
-
-      -- one that was logged later comes to them
-      later_comes : (seen : Seen) (r : SeenRest (block.start + k) (transition ∷ rest) facts seen) → length (log_of r.is_seen.life) ≤ block.start + k
-          → is_later wide seen.stamp ≡ true
-      later_comes seen r later =
-          let s = r.is_seen in
-          let scans = logged_after s.life (since_states s.life s.goes_on) (block.start + k) transition logged later in
-          let grown = log_grows begin_life s.life s.begun in
-          let low : length (log_of begin_life) ≤ block.start + k = omega (arith, later, ap length grown.1, length-append (log_of begin_life) grown.0) in
-          let few = made_with_entry settings first begin from machine place number answer block known t k (slice_get_within block.transitions k transition at) low in
-          let time = entry_time settings first begin from machine place number answer block known t brief (steady s.unloaded) k (block.start + k) transition at logged low few in
-          ap (λ w. is_later w seen.stamp) time ∙ ap (is_later (clock offset transition.scans)) s.stamp ∙ later_clock offset (scans_of s.life) transition.scans scans r.near.0.before
-
-      entry_keeps : (seen : Option Seen) → facts.seen ≡ seen → broken_state facts event seen ≡ None
-      entry_keeps None is = refl
-      entry_keeps (Some seen) is = keeps_state facts event seen (λ comes input level low watched.
-          (let r = q.seen seen is in
-          watched_then (block.start + k) facts seen r.is_seen input level low (comes_later seen r (q.clear_is input level watched) comes) watched))
-
-      -- the states are still above the next entry
-      seen_next : (seen : Seen) → SeenRest (block.start + k) (transition ∷ rest) facts seen → is_later wide seen.stamp ≡ false
-          → SeenRest (block.start + (k + 1)) rest (content_with facts event) seen
-      seen_next seen r still =
-          let s = r.is_seen in
-          let inside : block.start + k < length (log_of s.life) =
-          elim (cases_lt (block.start + k) (length (log_of s.life))) as (λ _. block.start + k < length (log_of s.life)) [
-            | inl inside ↦ inside
-            | inr later ↦ (let comes = later_comes seen r later in absurd (cc (comes, still)))
-          ] in
-          let there = logged_in s.life (since_states s.life s.goes_on) (block.start + k) transition logged inside in
-          let scans = scans_within s.life (block.start + k) transition there in
-          record {
-            is_seen = record {
-              unloaded = s.unloaded;
-              life = s.life;
-              begun = s.begun;
-              goes_on = s.goes_on;
-              stamp = s.stamp;
-              levels = s.levels;
-              left_is = s.left_is;
-              watch = λ input low.
-                  (let next_place : (block.start + k) + 1 ≡ block.start + (k + 1) = omega arith in
-                  subst (λ n. WatchAt s.life n input facts.clear ((content_with facts event).inputs input).hidden ((content_with facts event).inputs input).watched) next_place
-                  (by s.life there input (s.watch input low) (eqb_tells input transition.input) low));
-            };
-            near = r.near.1 scans;
-            later = ap (λ b. b || is_later_among (scans_of s.life) rest) (sym (no-less (scans_of s.life) transition.scans scans)) ∙ r.later;
-            made = r.made;
-          }
-        where
-          no-less : (n m : ℕ) → m ≤ n → nat_lt n m ≡ false
-          no-less n m less = grind (arith, nat_tests)
-
-          by : (life : Life) → slice_get (log_of life) (block.start + k) ≡ Some transition → (input : ℕ)
-              → WatchAt life (block.start + k) input facts.clear (facts.inputs input).hidden (facts.inputs input).watched
-              → (((input == transition.input) ≡ true) × (input ≡ transition.input)) ⊎ (((input == transition.input) ≡ false) × (input ≡ transition.input → ⊥)) → input < 64
-              → WatchAt life ((block.start + k) + 1) input facts.clear
-              (if input == transition.input && nat_lt input 64 then input_with_entry facts transition.level wide (facts.inputs input) else facts.inputs input).hidden
-              (if input == transition.input && nat_lt input 64 then input_with_entry facts transition.level wide (facts.inputs input) else facts.inputs input).watched
-          by life there input w (inl same) low =
-              let met : (input == transition.input && nat_lt input 64) ≡ true = (let s : input ≡ transition.input = same.1 in grind (arith, nat_tests)) in
-              subst (λ b. WatchAt life ((block.start + k) + 1) input facts.clear
-              (if b then input_with_entry facts transition.level wide (facts.inputs input) else facts.inputs input).hidden
-              (if b then input_with_entry facts transition.level wide (facts.inputs input) else facts.inputs input).watched) (sym met)
-              (watch_own life (block.start + k) input transition facts.clear (facts.inputs input).hidden (facts.inputs input).watched there (sym same.1) w)
-          by life there input w (inr apart) low =
-              let met : (input == transition.input && nat_lt input 64) ≡ false = ap (λ b. b && nat_lt input 64) apart.0 in
-              subst (λ b. WatchAt life ((block.start + k) + 1) input facts.clear
-              (if b then input_with_entry facts transition.level wide (facts.inputs input) else facts.inputs input).hidden
-              (if b then input_with_entry facts transition.level wide (facts.inputs input) else facts.inputs input).watched) (sym met)
-              (watch_another life (block.start + k) input transition facts.clear (facts.inputs input).hidden (facts.inputs input).watched there (λ is. apart.1 (sym is)) w)
-
-      clear_next : (input : ℕ) (level : Bool) (own : Bool)
-          → (if own then input_with_entry facts transition.level wide (facts.inputs input) else facts.inputs input).watched ≡ Some level → facts.clear ≡ true
-      clear_next input level true is = by facts.clear (facts.inputs input).hidden is
-        where
-          by : (clear hidden : Bool) → (if clear && not hidden then Some transition.level else None) ≡ Some level → clear ≡ true
-          by true hidden is = refl
-          by false hidden is = absurd (cc is)
-      clear_next input level false is = q.clear_is input level is
-
-      still_seen : (above : Option Seen) → facts.seen ≡ above → (seen : Seen) → seen_below event above ≡ Some seen → SeenRest (block.start + (k + 1)) rest (content_with facts event) seen
-      still_seen None is seen still = absurd (cc still)
-      still_seen (Some above) is seen still = by (is_later wide above.stamp) refl still
-        where
-          by : (later : Bool) → is_later wide above.stamp ≡ later → (if later then None else Some above) ≡ Some seen → SeenRest (block.start + (k + 1)) rest (content_with facts event) seen
-          by true later still = absurd (cc still)
-          by false later still =
-              let same : above ≡ seen = same_Some _ _ still in
-              subst (SeenRest (block.start + (k + 1)) rest (content_with facts event)) same (seen_next above (q.seen above is) later)
-
-      entry_step : KeepsRule State facts event × KeepsRest (block.start + (k + 1)) rest (content_with facts event)
-      entry_step = (
-        entry_keeps facts.seen refl,
-        record {
-          loaded_is = q.loaded_is;
-          clear_is = λ input level is. clear_next input level (input == transition.input && nat_lt input 64) is;
-          below = λ clear. (let b = q.below clear in (omega (arith, b.0), b.1));
-          watch = (watch_entry settings range first begin from machine place number answer block known t k transition rest facts at logged q.watch).1;
-          seen = λ seen still. still_seen facts.seen refl seen still;
-        },
-      )
-
-    -- ---- a gap mark
-
-    gap_step : (facts : ContentFacts) → end_at settings now machine.round ≤ block.start → KeepsRest (end_at settings now machine.round) block.transitions facts
-        → KeepsRest block.start block.transitions (content_with facts (Recorded Gap))
+    -- a gap mark
+    gap_step : (facts : ContentFacts) → end_at settings now machine.round ≤ block.start → Rest (end_at settings now machine.round) block.transitions facts
+        → Rest block.start block.transitions (content_with facts (Recorded Gap))
     gap_step facts forward q = record {
       loaded_is = q.loaded_is;
       clear_is = λ input level is. absurd (cc is);
@@ -235,281 +40,28 @@ module _ (settings : Settings) (range : AreInRange settings) (first : ℕ) (begi
           (let r = q.seen seen is in
           let s = r.is_seen in
           record {
-            is_seen = record {
-              unloaded = s.unloaded;
-              life = s.life;
-              begun = s.begun;
-              goes_on = s.goes_on;
-              stamp = s.stamp;
-              levels = s.levels;
-              left_is = s.left_is;
-              watch = λ input low.
-                  lives.watch_gap s.life (end_at settings now machine.round) block.start input facts.clear (facts.inputs input).hidden (facts.inputs input).watched forward (s.watch input low);
-            };
+            is_seen = seen_with begin_life from state.loaded state.seen (end_at settings now machine.round) block.start facts (content_with facts (Recorded Gap)) seen s
+                (λ input low.
+                lives.watch_gap s.life (end_at settings now machine.round) block.start input facts.clear (facts.inputs input).hidden (facts.inputs input).watched forward (s.watch input low));
             near = r.near;
             later = r.later;
             made = r.made;
           });
     }
 
-    -- no states are heard with a block
-    no_states : (found : Option Answer) (heard : Block) → answered_block found ≡ Some heard → option_and_then (λ answer. states_heard (Heard answer)) found ≡ None
-    no_states None heard is = absurd (cc is)
-    no_states (Some (answers.Block number entries status stamp)) heard is = refl
-    no_states (Some other) heard is = absurd (cc is)
-
-    hears_none : hears_states machine (events.ToCpu (place + 1)) ≡ false
-    hears_none =
-        ap (λ found. is_some (option_and_then (λ (frame : SentFrame). option_and_then (λ answer. states_heard (Heard answer)) (answer_in frame.octets)) found))
-        (frame_at_place machine.to_cpu place ∙ t.heard.at_place)
-        ∙ ap is_some (no_states (answer_in t.heard.frame.octets) answer t.heard.spells)
-
-    pub takes_block : block_taken settings machine (events.ToCpu (place + 1)) ≡ Some block
-    takes_block =
-        ap (option_and_then (λ (frame : SentFrame). option_and_then (λ block. slice_get (blocks_in settings machine) machine.round) (block_in frame.octets)))
-        (frame_at_place machine.to_cpu place ∙ t.heard.at_place)
-        ∙ ap (option_and_then (λ block. slice_get (blocks_in settings machine) machine.round)) t.heard.spells ∙ t.made
-
-    -- ---- the end of the block
-
-    -- one at a place of a list
-    one_at : (xs : List Transition) (k : ℕ) → k < length xs → (x : Transition) × (slice_get xs k ≡ Some x)
-    one_at [] k inside = absurd (omega (arith, inside))
-    one_at (x ∷ xs) zero inside = (x, refl)
-    one_at (x ∷ xs) (suc k) inside = one_at xs k (omega (arith, inside))
-
-    stays_there : (xs ys : List Transition) (k : ℕ) (x : Transition) → slice_get xs k ≡ Some x → slice_get (xs ++ ys) k ≡ Some x
-    stays_there [] ys k x is = absurd (cc is)
-    stays_there (y ∷ xs) ys zero x is = is
-    stays_there (y ∷ xs) ys (suc k) x is = stays_there xs ys k x is
-
-    module _ (facts : ContentFacts) (q : KeepsRest block.end [] facts) where
-      abbrev pub event_end : ContentEvent
-      event_end = Ended answer.status answer.stamp
-
-      -- a block without C that was made no earlier than the states took all that was logged then
-      took_all : (life : Life) → GoesOn life now → length (blocks_of settings begin_life) ≤ machine.round → block.more ≡ false → scans_of life ≤ block.scans → length (log_of life) ≤ block.end
-      took_all life g few whole no_earlier =
-          let m = made_since settings begin_life now machine.round block (goes_on-both begin_life from now known.begun known.now) few t.made in
-          let took = blocks_without_more_take_all settings m.life (ap (λ (b : MadeBlock). b.more) (sym m.is) ∙ whole) in
-          let ends : block.end ≡ length (log_of m.life) = ap (λ (b : MadeBlock). b.end) m.is ∙ took in
-          let scans : block.scans ≡ scans_of m.life = ap (λ (b : MadeBlock). b.scans) m.is in
-          elim (cases_lt block.end (length (log_of life))) as (λ _. length (log_of life) ≤ block.end) [
-            | inl less ↦
-                let one = one_at (log_of life) block.end less in
-                let grown = log_grows life now g in
-                let there : slice_get (log_of now) block.end ≡ Some one.0 =
-                ap (λ log. slice_get log block.end) grown.1 ∙ stays_there (log_of life) grown.0 block.end one.0 one.1 in
-                let low = scans_within life block.end one.0 one.1 in
-                let high = logged_after m.life m.upto block.end one.0 there (omega (arith, ends)) in
-                absurd (omega (arith, low, high, scans, no_earlier))
-            | inr all ↦ all
-          ]
-
-      -- whether its stamp is before the states
-      no_before : (seen : Seen) (s : Seen_ block.end facts seen) → length (blocks_of settings begin_life) ≤ machine.round → AreNear (scans_of s.life) block.scans
-          → scans_of s.life ≤ block.scans → is_before answer.stamp seen.stamp ≡ false
-      no_before seen s few near no_earlier =
-          let time = block_time settings first begin from machine place number answer block known t (steady s.unloaded) few in
-          ap (λ stamp. is_before stamp seen.stamp) time ∙ ap (is_before (clock offset block.scans)) s.stamp ∙ not_before offset (scans_of s.life) block.scans no_earlier near.before
-
-      is_earlier : (seen : Seen) (s : Seen_ block.end facts seen) → length (blocks_of settings begin_life) ≤ machine.round → AreNear (scans_of s.life) block.scans
-          → block.scans < scans_of s.life → is_before answer.stamp seen.stamp ≡ true
-      is_earlier seen s few near earlier =
-          let time = block_time settings first begin from machine place number answer block known t (steady s.unloaded) few in
-          ap (λ stamp. is_before stamp seen.stamp) time ∙ ap (is_before (clock offset block.scans)) s.stamp ∙ before_clock offset block.scans (scans_of s.life) earlier near.after
-
-      near_block : (seen : Seen) (r : SeenRest block.end [] facts seen) → block.more ≡ false → AreNear (scans_of r.is_seen.life) block.scans
-      near_block seen r whole = r.made (sym r.later) whole
-
-      comes_whole : (more before : Bool) → (not more && not before) ≡ true → (more ≡ false) × (before ≡ false)
-      comes_whole true before is = absurd (cc is)
-      comes_whole false true is = absurd (cc is)
-      comes_whole false false is = (refl, refl)
-
-      end_keeps : (seen : Option Seen) → facts.seen ≡ seen → broken_state facts event_end seen ≡ None
-      end_keeps None is = refl
-      end_keeps (Some seen) is = keeps_state facts event_end seen (λ comes input level low watched.
-          (let r = q.seen seen is in
-          let s = r.is_seen in
-          let both = comes_whole (says_more answer.status) (is_before answer.stamp seen.stamp) comes in
-          let whole : block.more ≡ false = sym t.carried.more ∙ both.0 in
-          let few = (q.below (q.clear_is input level watched)).1 in
-          let near = near_block seen r whole in
-          let no_earlier : scans_of s.life ≤ block.scans =
-          elim (cases_lt block.scans (scans_of s.life)) as (λ _. scans_of s.life ≤ block.scans) [
-            | inl earlier ↦ (let before = is_earlier seen s few near earlier in absurd (cc (before, both.1)))
-            | inr le ↦ le
-          ] in
-          watched_then block.end facts seen s input level low (took_all s.life (since_states s.life s.goes_on) few whole no_earlier) watched))
-
-      -- the states are still above what follows the block
-      pub record StillSeen (below : ContentFacts) (seen : Seen) : Type 0 where
-        pub is_seen : Seen_ block.end below seen
-        pub stays : comes_with (scans_of is_seen.life) block ≡ false
-
-      same_seen : (below : ContentFacts) (seen : Seen) (r : SeenRest block.end [] facts seen) → ((input : ℕ) → input < 64
-          → WatchAt r.is_seen.life block.end input below.clear (below.inputs input).hidden (below.inputs input).watched)
-          → (not block.more && nat_lt (scans_of r.is_seen.life) block.scans) ≡ false → StillSeen below seen
-      same_seen below seen r watch stays =
-          let s = r.is_seen in
-          record {
-            is_seen = record {
-              unloaded = s.unloaded;
-              life = s.life;
-              begun = s.begun;
-              goes_on = s.goes_on;
-              stamp = s.stamp;
-              levels = s.levels;
-              left_is = s.left_is;
-              watch = watch;
-            };
-            stays = ap (λ b. b || (not block.more && nat_lt (scans_of s.life) block.scans)) (sym r.later) ∙ stays;
-          }
-
-      -- a block that comes to no states is not made later
-      not_later_made : (seen : Seen) (r : SeenRest block.end [] facts seen) → block.more ≡ false → is_before answer.stamp seen.stamp ≡ true
-          → nat_lt (scans_of r.is_seen.life) block.scans ≡ false
-      not_later_made seen r whole before =
-          let s = r.is_seen in
-          elim (cases_lt (scans_of s.life) block.scans) as (λ _. nat_lt (scans_of s.life) block.scans ≡ false) [
-            | inl later ↦
-                let grown = scans_grow begin_life s.life s.begun in
-                let few = made_later settings first begin from machine place number answer block known t (omega (arith, later, grown)) in
-                let none = no_before seen s few (near_block seen r whole) (omega (arith, later)) in
-                absurd (cc (none, before))
-            | inr le ↦ no-less (scans_of s.life) block.scans le
-          ]
-        where
-          no-less : (n m : ℕ) → m ≤ n → nat_lt n m ≡ false
-          no-less n m less = grind (arith, nat_tests)
-
-      before_if : (before : Bool) (above seen : Seen) → (if not before then None else Some above) ≡ Some seen → (before ≡ true) × (above ≡ seen)
-      before_if true above seen is = (refl, same_Some _ _ is)
-      before_if false above seen is = absurd (cc is)
-
-      -- with C
-      still_more : says_more answer.status ≡ true → (below : ContentFacts) → ((life : Life) (input : ℕ) → input < 64 → WatchAt life block.end input facts.clear (facts.inputs input).hidden (facts.inputs input).watched
-          → WatchAt life block.end input below.clear (below.inputs input).hidden (below.inputs input).watched)
-          → (above : Option Seen) → facts.seen ≡ above → (seen : Seen) → seen_below event_end above ≡ Some seen → StillSeen below seen
-      still_more more below same None is seen still = absurd (cc still)
-      still_more more below same (Some above) is seen still =
-          let r = q.seen above is in
-          let held : block.more ≡ true = sym t.carried.more ∙ more in
-          let left : Some above ≡ Some seen = rw more at still in
-          subst (StillSeen below) (same_Some _ _ left)
-          (same_seen below above r (λ input low. same r.is_seen.life input low (r.is_seen.watch input low)) (ap (λ m. not m && nat_lt (scans_of r.is_seen.life) block.scans) held))
-
-      -- without C
-      still_whole : says_more answer.status ≡ false → (below : ContentFacts) → ((life : Life) (input : ℕ) → input < 64 → WatchAt life block.end input facts.clear (facts.inputs input).hidden (facts.inputs input).watched
-          → WatchAt life block.end input below.clear (below.inputs input).hidden (below.inputs input).watched)
-          → (above : Option Seen) → facts.seen ≡ above → (seen : Seen) → seen_below event_end above ≡ Some seen → StillSeen below seen
-      still_whole more below same None is seen still = absurd (cc still)
-      still_whole more below same (Some above) is seen still =
-          let r = q.seen above is in
-          let whole : block.more ≡ false = sym t.carried.more ∙ more in
-          let left : (if not (is_before answer.stamp above.stamp) then None else Some above) ≡ Some seen = rw more at still in
-          let b = before_if (is_before answer.stamp above.stamp) above seen left in
-          subst (StillSeen below) b.1
-          (same_seen below above r (λ input low. same r.is_seen.life input low (r.is_seen.watch input low))
-          (ap (λ m. not m && nat_lt (scans_of r.is_seen.life) block.scans) whole ∙ not_later_made above r whole b.0))
-
-      -- a clear block comes to them
-      clear_comes : says_more answer.status ≡ false → says_again answer.status ≡ false → (below : ContentFacts)
-          → (above : Option Seen) → facts.seen ≡ above → (seen : Seen) → seen_below event_end above ≡ Some seen → StillSeen below seen
-      clear_comes more again below None is seen still = absurd (cc still)
-      clear_comes more again below (Some above) is seen still =
-          let r = q.seen above is in
-          let s = r.is_seen in
-          let whole : block.more ≡ false = sym t.carried.more ∙ more in
-          let c = clear_block settings first begin from machine place number answer block known t whole again in
-          let first_grown = scans_grow s.life from s.goes_on in
-          let grown = scans_grow from t.life t.goes_on in
-          let none = no_before above s c.blocks (near_block above r whole) (omega (arith, c.scans, first_grown, grown)) in
-          let left : (if not (is_before answer.stamp above.stamp) then None else Some above) ≡ Some seen = rw more at still in
-          let b = before_if (is_before answer.stamp above.stamp) above seen left in
-          absurd (cc (none, b.0))
-
-      -- what is known below the end of the block
-      pub record EndedParts (below : ContentFacts) : Type 0 where
-        pub loaded_is : below.loaded ≡ state.loaded
-        pub clear_is : (input : ℕ) (level : Bool) → (below.inputs input).watched ≡ Some level → below.clear ≡ true
-        pub below_clear : below.clear ≡ true → (length (log_of begin_life) ≤ block.end) × (length (blocks_of settings begin_life) ≤ machine.round)
-        pub seen : (seen : Seen) → below.seen ≡ Some seen → StillSeen below seen
-
-      ended_parts : (more again : Bool) → says_more answer.status ≡ more → says_again answer.status ≡ again → EndedParts (content_with facts event_end)
-      ended_parts true again more_is again_is = rw more_is (record {
-        loaded_is = q.loaded_is;
-        clear_is = q.clear_is;
-        below_clear = q.below;
-        seen = λ seen still. still_more more_is _ (λ life input low w. record { open_ones = w.open_ones; watched_ones = w.watched_ones }) facts.seen refl seen still;
-      })
-      ended_parts false true more_is again_is = rw (more_is, again_is) (record {
-        loaded_is = q.loaded_is;
-        clear_is = q.clear_is;
-        below_clear = q.below;
-        seen = λ seen still. still_whole more_is _ (λ life input low w. record { open_ones = w.open_ones; watched_ones = w.watched_ones }) facts.seen refl seen still;
-      })
-      ended_parts false false more_is again_is =
-          let c = clear_block settings first begin from machine place number answer block known t (sym t.carried.more ∙ more_is) again_is in
-          rw (more_is, again_is) (record {
-            loaded_is = q.loaded_is;
-            clear_is = λ input level is. refl;
-            below_clear = λ clear. (c.log, c.blocks);
-            seen = λ seen still. clear_comes more_is again_is _ facts.seen refl seen still;
-          })
-
-      left_then : (scans : ℕ) → state.seen ≡ Some scans → comes_with scans block ≡ false
-          → scans_seen settings machine state.asked state.seen (events.ToCpu (place + 1)) ≡ Some scans
-      left_then scans is stays =
-          ap (λ heard. if heard then Some state.asked else scans_left (block_taken settings machine (events.ToCpu (place + 1))) state.seen) hears_none
-          ∙ ap (λ taken. scans_left taken state.seen) takes_block ∙ ap (scans_left (Some block)) is ∙ ap (λ comes. if comes then None else Some scans) stays
-
-      ended : KeepsState settings begin (state_after settings state machine (events.ToCpu (place + 1))) now (after_taken machine place answer) (content_with facts event_end)
-      ended =
-          let parts = ended_parts (says_more answer.status) (says_again answer.status) refl refl in
-          let upto = (is_next settings now machine.round block t.made).ends in
-          record {
-            loaded_is = parts.loaded_is;
-            steady = steady;
-            clear_is = parts.clear_is;
-            below = λ clear. (let b = parts.below_clear clear in (omega (arith, b.0, upto), omega (arith, b.1)));
-            watch = subst (λ n. (input : ℕ) → input < 64 → KeepsWatch now machine.to_module machine.last_to_module n input (content_with facts event_end).clear
-                ((content_with facts event_end).inputs input).hidden ((content_with facts event_end).inputs input).watched) upto
-                (watch_ended settings range first begin from machine place number answer block known t facts (says_more answer.status) (says_again answer.status) refl refl q.watch);
-            received = λ all other life since goes_on. absurd (none_since other now life since goes_on);
-            recorded = ends_within settings now (machine.round + 1);
-            seen = λ seen is.
-                (let still = parts.seen seen is in
-                let s = still.is_seen in
-                record {
-                  unloaded = s.unloaded;
-                  life = s.life;
-                  begun = s.begun;
-                  goes_on = since_states s.life s.goes_on;
-                  stamp = s.stamp;
-                  levels = s.levels;
-                  left_is = left_then (scans_of s.life) s.left_is still.stays;
-                  watch = λ input low.
-                      subst (λ n. WatchAt s.life n input (content_with facts event_end).clear ((content_with facts event_end).inputs input).hidden ((content_with facts event_end).inputs input).watched)
-                      upto (s.watch input low);
-                });
-          }
-
-    -- ---- the block
-
-    pub state_walk : IsWalk State settings now machine.round answer block KeepsRest
+    -- the block
+    pub state_walk : IsWalk State settings now machine.round answer block Rest
         (KeepsState settings begin (state_after settings state machine (events.ToCpu (place + 1))) now (after_taken machine place answer))
     state_walk = record {
       gap = gap_step;
-      entry = entry_step;
-      ended = λ facts q. (end_keeps facts q facts.seen refl, ended facts q);
+      entry = entry_step settings range first begin state from machine place number answer block known t brief steady;
+      ended = λ facts q. (end_keeps settings range first begin state from machine place number answer block known t brief steady facts q facts.seen refl, ended settings range first begin state from machine place number answer block known t brief steady facts q);
     }
 
     -- the block is heard
     pub block_heard : (facts : ContentFacts) → KeepsState settings begin state from machine facts
         → ((scans : ℕ) → state.seen ≡ Some scans → IsNearStates scans block)
-        → KeepsRest (end_at settings now machine.round) block.transitions (content_with facts (Heard (block_answer answer)))
+        → Rest (end_at settings now machine.round) block.transitions (content_with facts (Heard (block_answer answer)))
     block_heard facts p near = record {
       loaded_is = p.loaded_is;
       clear_is = p.clear_is;
@@ -519,16 +71,8 @@ module _ (settings : Settings) (range : AreInRange settings) (first : ℕ) (begi
           (let s = p.seen seen is in
           let n = near (scans_of s.life) s.left_is in
           record {
-            is_seen = record {
-              unloaded = s.unloaded;
-              life = s.life;
-              begun = s.begun;
-              goes_on = s.goes_on;
-              stamp = s.stamp;
-              levels = s.levels;
-              left_is = s.left_is;
-              watch = s.watch;
-            };
+            is_seen = seen_with begin_life from state.loaded state.seen (end_at settings now machine.round) (end_at settings now machine.round) facts
+                (content_with facts (Heard (block_answer answer))) seen s s.watch;
             near = n.entries;
             later = refl;
             made = n.made;

@@ -1,5 +1,5 @@
 -- What is kept along a log of the states that were asked for.
-use Rattle.fio_ends.proofs.Names.{◌≡◌, ◌<◌, ◌≤◌, ℕ, Bool, true, false, List, [], ◌∷◌, ◌++◌, length, Option, Some, AllByRecursion, Command, Settings, Life, life_of, log_of, scans_of, MadeBlock, blocks_of, ContentFacts, Event, Machine}
+use Rattle.fio_ends.proofs.Names.{◌≡◌, ◌<◌, ◌≤◌, ℕ, Bool, true, false, List, length, Option, Some, AllByRecursion, Command, Settings, Life, life_of, log_of, scans_of, blocks_of, ContentFacts, Event, Machine}
 use Rattle.fio_check.specs.ContentSaid.{Seen}
 use Rattle.fio_ends.specs.ContentPremises.{StatesAreNear, WaitBriefly, scans_asked, scans_seen}
 use Rattle.fio_ends.proofs.AlternateKept.{WatchHolds}
@@ -56,11 +56,3 @@ pub record KeepsState (settings : Settings) (begin : Machine) (state : StateStat
 pub record AsksState (settings : Settings) (first : ℕ) (begin : Machine) (state : StateState) (machine : Machine) (later : List Event) : Type 0 where
   pub taken : Asks settings first begin (AllByRecursion WaitBriefly) state.loaded machine later
   pub near : StatesAreNear settings first machine state.asked state.seen later
-
-pub brief_front : (front more : List MadeBlock) → AllByRecursion WaitBriefly (front ++ more) → AllByRecursion WaitBriefly front
-brief_front [] more all = tt
-brief_front (block ∷ front) more all = (all.0, brief_front front more all.1)
-
-pub brief_last : (blocks : List MadeBlock) (block : MadeBlock) → AllByRecursion WaitBriefly (blocks ++ block ∷ []) → WaitBriefly block
-brief_last [] block all = all.0
-brief_last (first ∷ blocks) block all = brief_last blocks block all.1

@@ -1,5 +1,5 @@
 -- Until a load of the counter is sent in a log, the counter is not loaded in it.
-use Rattle.fio_ends.proofs.Names.{◌≡◌, ◌∙◌, ℕ, Bool, true, false, List, ◌∷◌, Option, Some, None, refl, ap, sym, Command, LoadCounter, one_more_if_loaded, Settings, Life, life_of, life_after_command, loads_of, Event, Machine, after}
+use Rattle.fio_ends.proofs.Names.{◌≡◌, ◌∙◌, ℕ, Bool, true, false, List, ◌∷◌, Option, Some, None, refl, ap, sym, Command, LoadCounter, one_more_if_loaded, Settings, Life, life_of, life_after_command, loads_of, ContentFacts, content_with, Sent, Event, Machine, after}
 use Rattle.fio_message.specs.declared.commands.Command.TheVariants as commands
 use Rattle.fio_link.specs.declared.event.Event.TheVariants as events
 use Rattle.fio_ends.specs.ContentPremises.{NoLoadTakesEffect}
@@ -45,6 +45,12 @@ steady-happens settings first loaded begin machine (events.Send command) rest pa
 steady-happens settings first loaded begin machine (events.ToModule index) rest past none steady = absurd past
 steady-happens settings first loaded begin machine (events.ToCpu index) rest past none steady = absurd past
 steady-happens settings first loaded begin machine events.Restart rest past none steady = absurd past
+
+-- the facts know of a load that is sent
+pub loaded_sent : (loaded : Bool) (facts : ContentFacts) (command : Command) → facts.loaded ≡ loaded
+    → (content_with facts (Sent command)).loaded ≡ loaded_by loaded command
+loaded_sent loaded facts (commands.LoadCounter load) is = refl
+loaded_sent loaded facts other is = is
 
 unloaded_by : (loaded : Bool) (command : Command) → loaded_by loaded command ≡ false → loaded ≡ false
 unloaded_by loaded (commands.LoadCounter load) is = absurd (cc is)

@@ -1,11 +1,11 @@
 -- What is asked of the blocks that the CPU takes in a log is asked of those that it has taken so far.
-use Rattle.fio_ends.proofs.Names.{◌≡◌, ◌∙◌, ◌+◌, ◌≤◌, ℕ, Bool, true, false, List, [], ◌∷◌, ◌++◌, length, take, drop, Option, Some, None, refl, ap, sym, subst, arith, append-nil, append_assoc, length-take, if◌then◌else◌, slice_get, slice_get_within, Block, Command, command_in, Settings, AreInRange, Life, life_of, life_after_command, MadeBlock, newest_poll, is_new, blocks_of, next_block, Event, Machine, Leads, HaveNoRestart, after, blocks_in, take_one_more, after_taken, IsKept, kept_all, carries_own}
+use Rattle.fio_ends.proofs.Names.{◌≡◌, ◌∙◌, ◌+◌, ◌≤◌, ℕ, Bool, true, false, List, [], ◌∷◌, ◌++◌, length, take, drop, Option, Some, None, refl, ap, sym, subst, arith, append-nil, append_assoc, length-take, if◌then◌else◌, slice_get, slice_get_within, AllByRecursion, Block, Command, command_in, Settings, AreInRange, Life, life_of, life_after_command, MadeBlock, newest_poll, is_new, blocks_of, next_block, Event, Machine, Leads, HaveNoRestart, after, blocks_in, take_one_more, after_taken, IsKept, kept_all, carries_own}
 use Rattle.std.proofs.lemmas.List.{take-append-le, drop-append-le}
 use Rattle.fio_message.specs.declared.commands.Command.TheVariants as commands
 use Rattle.fio_link.specs.declared.event.Event.TheVariants as events
 use Rattle.fio_link.proofs.Events.{IsKeptByEvents}
 use Rattle.fio_link.proofs.OneLifeRows.{kept_in_life}
-use Rattle.fio_ends.specs.ContentPremises.{NoLoadTakesEffect, blocks_taken}
+use Rattle.fio_ends.specs.ContentPremises.{NoLoadTakesEffect, WaitBriefly, blocks_taken}
 use Rattle.fio_ends.proofs.ContentSteps.{IsKnown, Takes}
 use Rattle.fio_ends.proofs.Steady.{loaded_after, no_load_on}
 
@@ -21,6 +21,15 @@ blocks_stay settings life (Some (commands.Poll number)) round few = if-new (is_n
     if-new true = take-append-le round (blocks_of settings life) (next_block settings life ∷ []) few
     if-new false = refl
 blocks_stay settings life (Some other) round few = refl
+
+-- entries that wait briefly in blocks do so in the first of them, and in the last
+pub brief_front : (front more : List MadeBlock) → AllByRecursion WaitBriefly (front ++ more) → AllByRecursion WaitBriefly front
+brief_front [] more all = tt
+brief_front (block ∷ front) more all = (all.0, brief_front front more all.1)
+
+pub brief_last : (blocks : List MadeBlock) (block : MadeBlock) → AllByRecursion WaitBriefly (blocks ++ block ∷ []) → WaitBriefly block
+brief_last [] block all = all.0
+brief_last (first ∷ blocks) block all = brief_last blocks block all.1
 
 -- all blocks that the CPU has taken
 abbrev all_taken : Settings → Machine → List MadeBlock

@@ -77,6 +77,13 @@ pub or_right : (a b : Bool) → (a || b) ≡ false → b ≡ false
 or_right true b is = absurd (cc is)
 or_right false b is = is
 
+-- the last item that names an input is this one, or one after it
+pub last_or : (found : Option InputItem) (item last : InputItem) (named : Bool) → option_or found (if named then Some item else None) ≡ Some last
+    → (found ≡ Some last) ⊎ ((named ≡ true) × (item ≡ last))
+last_or (Some other) item last named is = inl is
+last_or None item last true is = inr (refl, same_Some _ _ is)
+last_or None item last false is = absurd (cc is)
+
 -- the last item that names an input is one of those of the input
 module _ (input : ℕ) (low : input < 64) where
   by_item : (item : InputItem) (items : List InputItem) (named : Bool) → (item.input == input) ≡ named
@@ -88,12 +95,6 @@ module _ (input : ℕ) (low : input < 64) where
       ap (λ b. ignores (if b then item ∷ items_for input items else items_for input items)) (sym there) ∙ none in
       (or_right item.ignore (ignores (items_for input items)) both, λ is. or_left item.ignore (ignores (items_for input items)) both)
   by_item item items false named none = (none, λ is. absurd (cc is))
-
-  last_or : (found : Option InputItem) (item last : InputItem) (named : Bool) → option_or found (if named then Some item else None) ≡ Some last
-      → (found ≡ Some last) ⊎ ((named ≡ true) × (item ≡ last))
-  last_or (Some other) item last named is = inl is
-  last_or None item last true is = inr (refl, same_Some _ _ is)
-  last_or None item last false is = absurd (cc is)
 
   last_keeps_open : (items : List InputItem) (last : InputItem) → last_item_of input items ≡ Some last → ignores (items_for input items) ≡ false → last.ignore ≡ false
   last_keeps_open [] last is none = absurd (cc is)

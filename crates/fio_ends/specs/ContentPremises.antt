@@ -25,6 +25,10 @@ NoLoadTakesEffect settings first machine (LineSync ∷ events) =
 NoLoadTakesEffect settings first machine (event ∷ events) =
     NoLoadTakesEffect settings first (after settings first machine event) events
 
+-- no load that was sent before a log takes effect in it: none was sent before one that begins with both ends
+abbrev pub NoEarlierLoad : Bool → Settings → ℕ → Machine → List Event → Type 0
+NoEarlierLoad begun settings first machine events = begun ≡ false → NoLoadTakesEffect settings first machine events
+
 -- the blocks that the CPU takes from one machine of a run on to another
 abbrev pub blocks_taken : Settings → Machine → Machine → List MadeBlock
 blocks_taken settings begin last = drop begin.round (take last.round (blocks_in settings last))
@@ -37,6 +41,10 @@ WaitBriefly block = AllByRecursion (λ transition. block.scans < transition.scan
 abbrev pub IsNear : Option ℕ → ℕ → Type 0
 IsNear None scans = Unit {0}
 IsNear (Some before) scans = scans < before + 2 ^ 31
+
+-- the scans of what is above a log: none at the start of both ends, if it begins with it
+abbrev pub scans_above : Bool → Option ℕ
+scans_above begun = if begun then Some 0 else None
 
 -- the scans of the last of these entries, or what is before them
 abbrev pub scans_of_last : Option ℕ → List Transition → Option ℕ
@@ -61,10 +69,10 @@ BlocksAreNear before (block ∷ blocks) =
     EntriesAreNear before block.transitions × BlocksAreNear (scans_below before block) blocks
 
 -- what the rules `order` and `fresh` ask of a log
-pub record HasNearEntries (settings : Settings) (first : ℕ) (begin : Machine) (later : List Event) (last : Machine) : Type 0 where
-  pub no_load : NoLoadTakesEffect settings first begin later
+pub record HasNearEntries (begun : Bool) (settings : Settings) (first : ℕ) (begin : Machine) (later : List Event) (last : Machine) : Type 0 where
+  pub no_load : NoEarlierLoad begun settings first begin later
   pub brief : AllByRecursion WaitBriefly (blocks_taken settings begin last)
-  pub near : BlocksAreNear None (blocks_taken settings begin last)
+  pub near : BlocksAreNear (scans_above begun) (blocks_taken settings begin last)
 
 -- ---- successive stamps
 
@@ -92,9 +100,9 @@ StampsAreNear settings first machine asked before (event ∷ events) =
     (scans_stamped machine asked before event) events
 
 -- what the rule `clock` asks of a log
-pub record HasNearStamps (settings : Settings) (first : ℕ) (begin : Machine) (later : List Event) (last : Machine) : Type 0 where
-  pub no_load : NoLoadTakesEffect settings first begin later
-  pub near : StampsAreNear settings first begin 0 None later
+pub record HasNearStamps (begun : Bool) (settings : Settings) (first : ℕ) (begin : Machine) (later : List Event) (last : Machine) : Type 0 where
+  pub no_load : NoEarlierLoad begun settings first begin later
+  pub near : StampsAreNear settings first begin 0 (scans_above begun) later
 
 -- ---- successive entries of an input
 
@@ -116,8 +124,8 @@ InputsAreNear latest (transition ∷ transitions) =
     × InputsAreNear (latest_with latest transition) transitions
 
 -- what the rule `apart` asks of a log
-pub record HasNearInputs (settings : Settings) (first : ℕ) (begin : Machine) (later : List Event) (last : Machine) : Type 0 where
-  pub no_load : NoLoadTakesEffect settings first begin later
+pub record HasNearInputs (begun : Bool) (settings : Settings) (first : ℕ) (begin : Machine) (later : List Event) (last : Machine) : Type 0 where
+  pub no_load : NoEarlierLoad begun settings first begin later
   pub brief : AllByRecursion WaitBriefly (blocks_taken settings begin last)
   pub near : InputsAreNear (λ input. None) (flat_map (λ block. block.transitions) (blocks_taken settings begin last))
 
@@ -180,14 +188,14 @@ StatesAreNear settings first machine asked seen (event ∷ events) =
     (scans_seen settings machine asked seen event) events
 
 -- what the rule `state` asks of a log
-pub record HasNearStates (settings : Settings) (first : ℕ) (begin : Machine) (later : List Event) (last : Machine) : Type 0 where
-  pub no_load : NoLoadTakesEffect settings first begin later
+pub record HasNearStates (begun : Bool) (settings : Settings) (first : ℕ) (begin : Machine) (later : List Event) (last : Machine) : Type 0 where
+  pub no_load : NoEarlierLoad begun settings first begin later
   pub brief : AllByRecursion WaitBriefly (blocks_taken settings begin last)
   pub near : StatesAreNear settings first begin 0 None later
 
 -- what all rules ask of a log
-pub record HasNearTimes (settings : Settings) (first : ℕ) (begin : Machine) (later : List Event) (last : Machine) : Type 0 where
-  pub entries : HasNearEntries settings first begin later last
-  pub stamps : HasNearStamps settings first begin later last
-  pub inputs : HasNearInputs settings first begin later last
-  pub states : HasNearStates settings first begin later last
+pub record HasNearTimes (begun : Bool) (settings : Settings) (first : ℕ) (begin : Machine) (later : List Event) (last : Machine) : Type 0 where
+  pub entries : HasNearEntries begun settings first begin later last
+  pub stamps : HasNearStamps begun settings first begin later last
+  pub inputs : HasNearInputs begun settings first begin later last
+  pub states : HasNearStates begun settings first begin later last

@@ -1,5 +1,5 @@
--- The rules on content and the log of a prompt run, from any command on: none is broken.
-use Rattle.std.specs.Prelude.{◌≡◌, ℕ, false, List, ◌++◌, Some, None}
+-- The rules on content and the log of a prompt run, from its start or from any command on: none is broken.
+use Rattle.std.specs.Prelude.{◌≡◌, ℕ, Bool, true, false, List, [], ◌++◌, Some, None}
 use Rattle.fio_cpu.specs.declared.record.Item.TheVariants.{Entry}
 use Rattle.fio_module.specs.Settings.{Settings, AreInRange}
 use Rattle.fio_check.specs.ContentAbove.{ContentFacts, content_at}
@@ -21,33 +21,43 @@ KeepsRule rule facts (Recorded (Entry input level stamp wide)) =
     breaks_entry facts input (record { level = level; wide = wide }) rule ≡ false
 KeepsRule rule facts event = Unit {0}
 
--- no event of a log that may begin later breaks the rule
-abbrev pub NoneBreaks : List TranscriptLine → ContentRule → Type 0
-NoneBreaks lines rule =
-    let events = events_of_log false lines in
+-- no event of a log breaks the rule, by whether the log begins with both ends
+abbrev pub NoneBreaks : Bool → List TranscriptLine → ContentRule → Type 0
+NoneBreaks begun lines rule =
+    let events = events_of_log begun lines in
     (place : ℕ) (event : ContentEvent) → content_event_at events place ≡ Some event →
     KeepsRule rule (content_at events place) event
 
--- A rule never accuses, where this holds of a log, by the machine at which it begins, its events and the machine at its end:
--- what the CPU's end logs of each prompt run from any command on keeps the rule.
-abbrev pub ContentNeverAccuses : ContentRule → (Settings → ℕ → Machine → List Event → Machine → Type 0) → Type 0
+-- a log may begin with these events, after those: with both ends, if nothing was before, or with a command
+abbrev pub MayBegin : Bool → List Event → List Event → Type 0
+MayBegin true before later = before ≡ []
+MayBegin false before later = BeginsWithCommand later
+
+-- what is asked of a log, by whether it begins with both ends, the machine at which it begins, its events and the machine at
+-- its end
+abbrev pub Premise : Type 1
+Premise = Bool → Settings → ℕ → Machine → List Event → Machine → Type 0
+
+-- A rule never accuses, where this holds of a log: what the CPU's end logs of each prompt run keeps the rule, from the start of
+-- both ends or from any command on.
+unfoldable pub ContentNeverAccuses : ContentRule → Premise → Type 0
 ContentNeverAccuses rule Holds =
-    (settings : Settings) (first : ℕ) (before later : List Event) (machine last : Machine) →
+    (begun : Bool) (settings : Settings) (first : ℕ) (before later : List Event) (machine last : Machine) →
     AreInRange settings → IsPromptRun settings first (before ++ later) last →
-    Leads settings first start before machine → BeginsWithCommand later → Holds settings first machine later last →
+    Leads settings first start before machine → MayBegin begun before later → Holds begun settings first machine later last →
     (lines : List TranscriptLine) → HaveFrames lines (frames_from settings first machine later) →
-    NoneBreaks lines rule
+    NoneBreaks begun lines rule
 
 -- whatever holds of a log
-abbrev pub Always : Settings → ℕ → Machine → List Event → Machine → Type 0
-Always settings first machine later last = Unit {0}
+abbrev pub Always : Premise
+Always begun settings first machine later last = Unit {0}
 
--- The checker accuses no right link, where this holds of a log: what the CPU's end logs of each prompt run from any command on
--- has no fault.
-abbrev pub AccusesNone : (Settings → ℕ → Machine → List Event → Machine → Type 0) → Type 0
+-- The checker accuses no right link, where this holds of a log: what the CPU's end logs of each prompt run has no fault, from
+-- the start of both ends or from any command on.
+unfoldable pub AccusesNone : Premise → Type 0
 AccusesNone Holds =
-    (settings : Settings) (first : ℕ) (before later : List Event) (machine last : Machine) →
+    (begun : Bool) (settings : Settings) (first : ℕ) (before later : List Event) (machine last : Machine) →
     AreInRange settings → IsPromptRun settings first (before ++ later) last →
-    Leads settings first start before machine → BeginsWithCommand later → Holds settings first machine later last →
+    Leads settings first start before machine → MayBegin begun before later → Holds begun settings first machine later last →
     (lines : List TranscriptLine) → HaveFrames lines (frames_from settings first machine later) →
-    content_fault_in false lines ≡ None
+    content_fault_in begun lines ≡ None

@@ -1,10 +1,13 @@
 -- Prompt runs: no frame is delivered twice, and an answer reaches the CPU directly after its command or never.
-use Rattle.std.specs.Prelude.{◌≡◌, ℕ, ◌+◌, ◌<◌, ◌==◌, List, [], ◌∷◌, ◌++◌, length, if◌then◌else◌}
+use Rattle.std.specs.Prelude.{◌≡◌, ℕ, ◌+◌, ◌<◌, ◌≤◌, ◌==◌, List, [], ◌∷◌, ◌++◌, length, None, if◌then◌else◌}
 use Rattle.std.specs.List.{AllByRecursion}
 use Rattle.fio_message.specs.Commands.{IsCommand}
-use Rattle.fio_module.specs.Settings.{Settings, AreInRange, HasRoom}
+use Rattle.fio_module.specs.Settings.{Settings, AreInRange}
+use Rattle.fio_check.specs.Checkers.{found_at}
 use Rattle.fio_check.specs.Lines.{TranscriptLine}
+use Rattle.fio_check.specs.Rules.{standard_limits}
 use Rattle.fio_check.specs.Verdicts.{verdict_on}
+use Rattle.fio_check.specs.declared.limits.Limits.{Limits}
 use Rattle.fio_check.specs.declared.verdict.Verdict.TheVariants.{Good}
 use Rattle.fio_link.specs.declared.event.Event.{Event}
 use Rattle.fio_link.specs.declared.event.Event.TheVariants.{Poll, Send, ToModule, ToCpu}
@@ -49,14 +52,30 @@ pub record IsPromptRun (settings : Settings) (first : ℕ) (events : List Event)
   pub within : AllByRecursion IsWithinRanges events
   pub prompt : ArePrompt settings first start 0 events
 
--- No false accusation: the transcript of a prompt run is good, where a block takes so many entries.
-abbrev pub NeverAccuses : ℕ → Type 0
-NeverAccuses per_block =
+-- ---- what is found
+
+-- limits that a checker may be given for a module: a block of it takes that many entries, and that many may wait, or more
+pub record SuitModule (settings : Settings) (limits : Limits) : Type 0 where
+  pub per_block : settings.per_block ≡ limits.per_block
+  pub waiting : limits.waiting ≤ settings.waiting
+
+-- a checker with such limits finds nothing in these lines
+abbrev pub HasNoBreach : Settings → List TranscriptLine → Type 0
+HasNoBreach settings lines =
+    (limits : Limits) → SuitModule settings limits →
+    (place : ℕ) → place < length lines → found_at limits lines place ≡ None
+
+-- and where the limits of TEES 2009 are such limits, the transcript is good
+abbrev pub IsGood : Settings → List TranscriptLine → Type 0
+IsGood settings lines = SuitModule settings standard_limits → verdict_on lines ≡ Good (length lines)
+
+-- No false accusation: so it is with the transcript of each prompt run.
+abbrev pub NeverAccuses : (Settings → List TranscriptLine → Type 0) → Type 0
+NeverAccuses IsRight =
     (settings : Settings) (first : ℕ) (events : List Event) (machine : Machine) →
-    AreInRange settings → HasRoom settings → settings.per_block ≡ per_block →
-    IsPromptRun settings first events machine →
+    AreInRange settings → IsPromptRun settings first events machine →
     (lines : List TranscriptLine) → HaveFrames lines (transcript_of settings first events) →
-    verdict_on lines ≡ Good (length lines)
+    IsRight settings lines
 
 -- ---- a log that begins later
 
@@ -66,13 +85,12 @@ BeginsWithCommand (Poll ∷ events) = Unit {0}
 BeginsWithCommand (Send command ∷ events) = Unit {0}
 BeginsWithCommand events = ⊥
 
--- Nor is there a false accusation in a log that begins later: what the CPU's end logs of a prompt run from any command on
--- is good, where there is room and a block takes so many entries.
-abbrev pub NeverAccusesLater : ℕ → Type 0
-NeverAccusesLater per_block =
+-- Nor is there a false accusation in a log that begins later: so it is with what the CPU's end logs of a prompt run from any
+-- command on.
+abbrev pub NeverAccusesLater : (Settings → List TranscriptLine → Type 0) → Type 0
+NeverAccusesLater IsRight =
     (settings : Settings) (first : ℕ) (before later : List Event) (machine last : Machine) →
-    AreInRange settings → HasRoom settings → settings.per_block ≡ per_block →
-    IsPromptRun settings first (before ++ later) last →
+    AreInRange settings → IsPromptRun settings first (before ++ later) last →
     Leads settings first start before machine → BeginsWithCommand later →
     (lines : List TranscriptLine) → HaveFrames lines (frames_from settings first machine later) →
-    verdict_on lines ≡ Good (length lines)
+    IsRight settings lines

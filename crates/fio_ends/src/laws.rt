@@ -4,7 +4,7 @@ ghost use Rattle.fio_ends.specs.Calls.{CallsAreRuns};
 ghost use Rattle.fio_ends.specs.ContentPremises.{HasNearEntries, HasNearInputs, HasNearStamps, HasNearStates, HasNearTimes};
 ghost use Rattle.fio_ends.specs.ContentRuns.{AccusesNone, Always, ContentNeverAccuses};
 ghost use Rattle.fio_ends.specs.Pollers.{GoodIsOfPoller};
-ghost use Rattle.fio_ends.specs.PromptRuns.{NeverAccuses, NeverAccusesLater};
+ghost use Rattle.fio_ends.specs.PromptRuns.{HasNoBreach, IsGood, NeverAccuses, NeverAccusesLater};
 ghost use Rattle.fio_ends.specs.RunRecords.{KeepsRecord};
 
 /// A good transcript is that of a right CPU's end: a poller that starts with the first poll's number has
@@ -13,16 +13,19 @@ pub fn good_transcripts_are_of_pollers()
     ensures { GoodIsOfPoller }
 {}
 
-/// No false accusation: the transcript of a prompt run, of a module with 255 entries in a block, is good.
-#[tactic(auto, using(crate::proofs::PromptRuns::never_accuses))]
+/// No false accusation: a checker with the limits of the module, whatever they are, finds nothing in the transcript of a prompt
+/// run; where they are those of TEES 2009, or more may wait, the transcript is good.
+#[tactic(auto, using(crate::proofs::PromptRuns::never_accuses, crate::proofs::PromptRuns::is_good))]
 pub fn prompt_runs_are_good()
-    ensures { NeverAccuses 255 }
+    ensures any { NeverAccuses HasNoBreach }
+    ensures standard { NeverAccuses IsGood }
 {}
 
-/// No false accusation in a log that begins later: from any command of a prompt run on, what the CPU's end logs is good.
-#[tactic(auto, using(crate::proofs::PromptRuns::never_accuses_later))]
+/// No false accusation in a log that begins later: so it is with what the CPU's end logs from any command of a prompt run on.
+#[tactic(auto, using(crate::proofs::PromptRuns::never_accuses_later, crate::proofs::PromptRuns::is_good_later))]
 pub fn later_logs_are_good()
-    ensures { NeverAccusesLater 255 }
+    ensures any { NeverAccusesLater HasNoBreach }
+    ensures standard { NeverAccusesLater IsGood }
 {}
 
 /// The record of a prompt run's transcript is that of the run's CPU, item by item: a poller that starts with
@@ -32,7 +35,8 @@ pub fn prompt_runs_are_recorded()
     ensures { KeepsRecord }
 {}
 
-/// The rule `done` never accuses: what the CPU's end logs of a prompt run from any command on keeps it.
+/// The rule `done` never accuses: what the CPU's end logs of a prompt run, from the start of both ends or from any command on,
+/// keeps it.
 #[tactic(auto, using(crate::proofs::AnswersKept::done_never_accuses))]
 pub fn done_never_accuses()
     ensures { ContentNeverAccuses Done Always }
@@ -57,15 +61,15 @@ pub fn watchdog_never_accuses()
 {}
 
 /// The rule `clock` never accuses of a log in which no load that was sent before takes effect, and fewer than 2^31 scans lie
-/// between successive stamps.
+/// between successive stamps, and before the first one of a log that begins with both ends.
 #[tactic(auto, using(crate::proofs::ClockKept::clock_never_accuses))]
 pub fn clock_never_accuses()
     ensures { ContentNeverAccuses Clock HasNearStamps }
 {}
 
-/// The rule `order` never accuses: what the CPU's end logs of a prompt run from any command on keeps it, where no load that
-/// was sent before takes effect, an entry waits for fewer than 65,536 scans, and it comes fewer than 2^31 scans after the
-/// latest entry or block without C above it.
+/// The rule `order` never accuses of a log in which no load that was sent before takes effect, an entry waits for fewer than
+/// 65,536 scans, and it comes fewer than 2^31 scans after the latest entry or block without C above it, or after the start of
+/// both ends, if the log begins there.
 #[tactic(auto, using(crate::proofs::FloorsKept::order_never_accuses))]
 pub fn order_never_accuses()
     ensures { ContentNeverAccuses Order HasNearEntries }
@@ -77,7 +81,7 @@ pub fn fresh_never_accuses()
     ensures { ContentNeverAccuses Fresh HasNearEntries }
 {}
 
-/// The rule `alternate` never accuses: what the CPU's end logs of a prompt run from any command on keeps it, whatever its times.
+/// The rule `alternate` never accuses, of any log, whatever its times.
 #[tactic(auto, using(crate::proofs::AlternateKept::alternate_never_accuses))]
 pub fn alternate_never_accuses()
     ensures { ContentNeverAccuses Alternate Always }
@@ -104,7 +108,7 @@ pub fn state_never_accuses()
     ensures { ContentNeverAccuses State HasNearStates }
 {}
 
-/// So a checker of content accuses no right link, from any command on, where all this holds.
+/// So a checker of content accuses no right link, from the start of both ends or from any command on, where all this holds.
 #[tactic(auto, using(crate::proofs::FaultsOfLogs::accuses_none))]
 pub fn content_accuses_no_right_link()
     ensures { AccusesNone HasNearTimes }

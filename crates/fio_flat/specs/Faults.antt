@@ -1,4 +1,4 @@
--- Faults as C sees them, and what reading octets does.
+-- Faults in the flat form that C uses, and the reading of octets.
 use Rattle.std.specs.Prelude.{◌≡◌, ◌≤◌, ℕ, ◌==◌, List, [], Option, Some, None, Result, Ok, Err, if◌then◌else◌, replicate}
 use Rattle.fio_message.specs.declared.limits.TheConstants.{FRAME_OCTETS}
 use Rattle.fio_message.specs.declared.faults.DecodeError.{DecodeError}
@@ -9,18 +9,18 @@ use Rattle.fio_message.specs.Refusals.{Refuses}
 use Rattle.fio_message.specs.Texts.{fault_text}
 use Rattle.fio_flat.specs.declared.faults.Fault.{Fault}
 
--- octets that are a message have none
+-- the fault of octets that are a message: none
 abbrev pub no_fault : Fault
 no_fault = record { kind = 0; code = 0; needed = 0; reserved = replicate 4 0; got = 0 }
 
--- a fault of a decoder: its place in the order of the faults, and its numbers
+-- a fault of a decoder in flat form: its number in the order of the faults, and its figures
 abbrev pub fault_of : DecodeError → Fault
 fault_of Empty = record no_fault { kind = 1 }
 fault_of (TooLong got) = record no_fault { kind = 2; got = got }
 fault_of (UnknownType code) = record no_fault { kind = 3; code = code }
 fault_of (WrongLength needed got) = record no_fault { kind = 4; needed = needed; got = got }
 
--- the fault of a decoder that a fault of C is by its kind, whatever its other numbers are
+-- the fault of a decoder that a flat fault is by its kind, whatever its other figures are
 abbrev pub error_in : Fault → Option DecodeError
 error_in fault =
     if fault.kind == 1 then Some Empty
@@ -28,29 +28,29 @@ error_in fault =
     else (if fault.kind == 3 then Some (UnknownType fault.code)
     else (if fault.kind == 4 then Some (WrongLength fault.needed fault.got) else None)))
 
--- the words of a fault of a decoder, none where there is no fault
+-- the text of a fault of a decoder, empty if there is no fault
 abbrev pub text_of_error : Option DecodeError → List ℕ
 text_of_error None = []
 text_of_error (Some error) = fault_text error
 
--- the words of a fault of C, whatever its numbers are: those of its kind; none of kind 0, and of 5 and more
+-- the text of a flat fault, whatever its figures are: that of its kind; empty for kind 0, and for 5 and more
 abbrev pub text_of_fault : Fault → List ℕ
 text_of_fault fault = text_of_error (error_in fault)
 
--- what is needed instead of octets of a wrong length fits in a frame
+-- the length that is needed, in a fault of length, fits in a frame
 abbrev pub NeedFitsFrame : DecodeError → Type 0
 NeedFitsFrame (WrongLength needed got) = needed ≤ FRAME_OCTETS
 NeedFitsFrame other = Unit {0}
 
--- What a decoder answers, as C sees it: the message is put into the caller's struct in its flat
--- form, with no fault; or the struct stays as it was, with the fault.
+-- What a decoder returns, in flat form: the message is put into the caller's struct, with no fault; or the struct stays as
+-- it was, with the fault.
 abbrev pub Reads :
     {Message Flat : Type 0} → (Message → Flat) → Result Message DecodeError
     → Flat → Flat → Fault → Type 0
 Reads flat (Ok message) before after fault = (fault ≡ no_fault) × (after ≡ flat message)
 Reads flat (Err error) before after fault = (fault ≡ fault_of error) × (after ≡ before)
 
--- the same of octets that are read as a block answer, which spell a block or are refused
+-- the same for octets that are read as a block answer: they spell a block, or are refused
 pub record ReadsBlock {Flat : Type 0} (flat : Block → Flat)
     (octets : List ℕ) (before after : Flat) (fault : Fault) : Type 0 where
   pub spelled :

@@ -1,4 +1,4 @@
--- What the poller of a caller in C makes of octets.
+-- How the poller of a caller in C responds to octets.
 use Rattle.std.specs.Prelude.{◌≡◌, ℕ, ◌<◌, ◌≤◌, List, ◌++◌, length, map, drop, replicate, Option, Some, None}
 use Rattle.std.specs.Borrow.{MutBor}
 use Rattle.fio_message.specs.Bits.{bit_of}
@@ -13,7 +13,7 @@ use Rattle.fio_flat.specs.Faults.{no_fault, fault_of}
 use Rattle.fio_flat.specs.declared.poller.Heard.{Heard}
 use Rattle.fio_flat.specs.declared.poller.RecordItem.{RecordItem}
 
--- an item of the record as C sees it
+-- an item of the record in flat form
 abbrev pub flat_record_item : Item → RecordItem
 flat_record_item items.Gap = record { gap = 1; input = 0; state = 0; reserved = replicate 3 0; stamp = 0; wide = 0 }
 flat_record_item (items.Entry input level stamp wide) =
@@ -26,7 +26,7 @@ flat_record_item (items.Entry input level stamp wide) =
       wide = wide;
     }
 
--- nothing was heard of octets but that they add so many items
+-- nothing was heard except that the octets add `count` items
 abbrev pub heard_nothing : ℕ → Heard
 heard_nothing count = record {
   kind = 0;
@@ -40,8 +40,8 @@ heard_nothing count = record {
   fault = no_fault;
 }
 
--- what was heard of octets that add so many items to the record, as C sees it, without the number and the
--- stamp of their block
+-- what was heard of octets that add `count` items to the record, in flat form, without the number and the stamp of their
+-- block
 abbrev pub flat_heard : ℕ → HeardOf → Heard
 flat_heard count (outcomes.Block entries status) =
     record (heard_nothing count) { kind = 0; entries = entries; status = status }
@@ -50,26 +50,26 @@ flat_heard count (outcomes.Unreadable error) =
 flat_heard count (outcomes.Other code) = record (heard_nothing count) { kind = 2; code = code }
 flat_heard count (outcomes.Stale block) = record (heard_nothing count) { kind = 3 }
 
--- there is no room for so many items
+-- there is no room for `count` items
 abbrev pub heard_no_room : ℕ → Heard
 heard_no_room count = record (heard_nothing count) { kind = 4 }
 
--- the same with the number and the stamp of the block that the octets spell, if they spell one
+-- what was heard, with the number and the stamp of the block that the octets spell, if they spell one
 abbrev pub with_block : Option BlockOf → Heard → Heard
 with_block None heard = heard
 with_block (Some block) heard = record heard { number = block.number; stamp = block.stamp }
 
--- the caller's places after items were written to their front, for which there was room
+-- the caller's array after items were written to its front, for which there was room
 pub record Gain (before : MutBor (List RecordItem)) (items : List Item)
     (after : MutBor (List RecordItem)) : Type 0 where
   pub same : after.ghost_name ≡ before.ghost_name
   pub room : length items ≤ length before.now
   pub written : after.now ≡ map flat_record_item items ++ drop (length items) before.now
 
--- A poller with this number hears octets of which it reports this, and which spell this block, or none: what
--- they add to its record is written to the front of the caller's items, and its number is the next if a block
--- was taken. Where there is no room for all that they add, that is heard, and nothing changes. Of any block
--- the number and the stamp are said.
+-- A poller with this number hears octets of which it reports `what`, and which spell the block `found`, or no block. What
+-- they add to its record is written to the front of the caller's items, and its number becomes the next one if a block was
+-- taken. If there is no room for all that they add, the poller says so and nothing changes. The number and the stamp of any
+-- block are reported.
 pub record HearsAs (number : ℕ) (what : HeardOf) (found : Option BlockOf) (before after : List RecordItem)
     (next : ℕ) (heard : Heard) : Type 0 where
   pub room :

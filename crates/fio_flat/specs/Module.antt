@@ -1,4 +1,4 @@
--- Which history a module stands for whose entries wait in an array of the caller.
+-- The history that a module has been through whose entries wait in an array of the caller.
 use Rattle.std.specs.Prelude.{◌≡◌, ℕ, ◌+◌, ◌&&◌, min, nat_le, Bool, List, [], ◌∷◌, ◌++◌, length, take, drop, replicate, Option, Some, None}
 use Rattle.circular_buffer.specs.Buffer.{Buffer}
 use Rattle.fio_message.specs.declared.answers.Answer.{Answer}
@@ -21,7 +21,7 @@ pub data ErrorChange : Type 0 where
   OneMoreInReceiving : ErrorChange
   OneMoreInTransmitting : ErrorChange
 
--- what happens to a module of C: something reaches it, or its firmware changes the error counts
+-- what happens to a module in C: something reaches it, or its firmware changes the error counts
 pub data DeviceEvent : Type 0 where
   Reached : (event : lives.Event) → DeviceEvent
   ErrorsChanged : (change : ErrorChange) → DeviceEvent
@@ -30,7 +30,7 @@ pub data DeviceEvent : Type 0 where
 abbrev pub DeviceHistory : Type 0
 DeviceHistory = List DeviceEvent
 
--- what has reached it
+-- the events that have reached it
 abbrev pub events_reached : DeviceHistory → lives.History
 events_reached [] = []
 events_reached (Reached event ∷ history) = event ∷ events_reached history
@@ -53,27 +53,27 @@ errors_of (ErrorsChanged change ∷ history) = changed change (errors_of history
 errors_of (Reached Restart ∷ history) = record { receive = 0; transmit = 0 }
 errors_of (Reached other ∷ history) = errors_of history
 
--- an answer 177 with these error counts, any other as it is
+-- an answer 177 with these error counts, or any other answer unchanged
 abbrev pub with_errors : ErrorCounts → Option Answer → Option Answer
 with_errors errors (Some (answers.Status flags receive transmit stamp)) =
     Some (answers.Status flags errors.receive errors.transmit stamp)
 with_errors errors other = other
 
--- the reply to octets after a history: that of the module, with the error counts
+-- the reply to octets after a history: the module's own, with these error counts
 abbrev pub reply_after : Settings → DeviceHistory → List ℕ → Option Answer
 reply_after settings history octets =
     with_errors (errors_of history) (reply_to settings (events_reached history) octets)
 
--- 1 to 8,192 entries may wait, and a block has at most 1 to 255, which is the most that an octet is
+-- 1 to 8,192 entries may wait, and a block takes at most 1 to 255, the largest octet
 abbrev pub are_limits : Limits → Bool
 are_limits limits =
     nat_le 1 limits.waiting && (nat_le limits.waiting MOST_WAITING && nat_le 1 limits.per_block)
 
--- what a module is made with
+-- the settings that a module is made with
 abbrev pub settings_of : ℕ → Limits → Settings
 settings_of id limits = record { id = id; per_block = limits.per_block; waiting = limits.waiting }
 
--- a module as it is started, each of its octets given
+-- a module as it is started, with each of its octets given
 abbrev pub module_at_start : ℕ → Limits → SizedModule
 module_at_start id limits = record {
   state = state_at_start id limits.per_block;
@@ -83,30 +83,30 @@ module_at_start id limits = record {
   reserved = replicate 16 0;
 }
 
--- the ring of a module: the front of its array, as many slots as entries may wait
+-- the ring of a module: the front of its array, with one slot for each entry that may wait
 abbrev pub ring_of : SizedModule → List (List ℕ) → Buffer (List ℕ)
 ring_of value slots = ring_in value.place (take value.waiting slots)
 
--- The module was started with these settings, and with this array has been through this history since. The
--- array has room for as many entries as may wait.
+-- The module was started with these settings, and has since been through this history with this array, which has room for
+-- all entries that may wait.
 pub record IsDeviceAfter (settings : Settings) (value : SizedModule) (slots : List (List ℕ))
     (history : DeviceHistory) : Type 0 where
   pub state : IsAfterHistory settings value.state (ring_of value slots) (events_reached history)
   pub errors : value.errors ≡ errors_of history
   pub limit : value.waiting ≡ settings.waiting
 
--- after a call the module with its array has had one event more, whatever it has been through
+-- the call adds one event to the history of the module with its array, whatever it has been through
 abbrev pub AddsEvent : DeviceEvent → SizedModule → List (List ℕ) → SizedModule → List (List ℕ) → Type 0
 AddsEvent event old old_slots new new_slots = (settings : Settings) (history : DeviceHistory)
     → IsDeviceAfter settings old old_slots history
     → IsDeviceAfter settings new new_slots (event ∷ history)
 
--- after a call that leaves the array alone, whichever it is
+-- the same for a call that leaves the array unchanged, whichever array it is
 abbrev pub AddsEventAlone : DeviceEvent → SizedModule → SizedModule → Type 0
 AddsEventAlone event old new = (slots : List (List ℕ)) → AddsEvent event old slots new slots
 
--- the octets of the answer are written to the front of the buffer, and the count is how many they are: 0
--- where there is none
+-- the octets of the answer are written to the front of the buffer, and `count` is how many they are; if there is no answer,
+-- nothing is written and `count` is 0
 abbrev pub WritesReply : Option Answer → List ℕ → List ℕ → ℕ → Type 0
 WritesReply None before after count = (count ≡ 0) × (after ≡ before)
 WritesReply (Some answer) before after count =

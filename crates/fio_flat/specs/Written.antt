@@ -4,8 +4,7 @@ use Rattle.fio_message.specs.declared.answers.Answer.{Answer}
 use Rattle.fio_message.specs.Answers.{answer_octets}
 use Rattle.fio_flat.specs.declared.written.TheConstants.{NO_MESSAGE}
 
--- Octets, entries or items are written to the front of the array where it has room for them. The count
--- is how many they are.
+-- Octets, entries or items are written to the front of the array if it has room for them. `count` is how many they are.
 pub record Writes {T : Type 0} (items before after : List T) (count : ℕ) : Type 0 where
   -- with room or without
   pub counted : count ≡ length items
@@ -14,8 +13,8 @@ pub record Writes {T : Type 0} (items before after : List T) (count : ℕ) : Typ
   -- nothing is written
   pub no_room : length before < length items → after ≡ before
 
--- A text is written to the front of the array, with a zero octet behind it, where it has room for both.
--- The count is how many octets the text has.
+-- A text is written to the front of the array, with a zero octet after it, if there is room for both. `count` is how many
+-- octets the text has.
 pub record WritesText (text before after : List ℕ) (count : ℕ) : Type 0 where
   -- with room or without
   pub counted : count ≡ length text
@@ -25,28 +24,28 @@ pub record WritesText (text before after : List ℕ) (count : ℕ) : Type 0 wher
   -- nothing is written
   pub no_room : length before ≤ length text → after ≡ before
 
--- there is no such message: nothing is written, and the count is more than any array has
+-- there is no such message: nothing is written, and the count is larger than any array
 abbrev pub WritesNoMessage : {T : Type 0} → List T → List T → ℕ → Type 0
 WritesNoMessage before after count =
     (count ≡ NO_MESSAGE) × ((length before < count) × (after ≡ before))
 
--- the buffer with these octets in it from the place on
+-- the buffer with these octets in it from an index on
 abbrev pub buffer_with : ℕ → List ℕ → List ℕ → List ℕ
 buffer_with place octets before =
     take place before ++ (octets ++ drop (place + length octets) before)
 
--- Octets are written from the place on where there is room for them, and end at the other place.
+-- Octets are written from the index `place` on, if there is room for them, and end at the index `end`.
 pub record Appends (octets before after : List ℕ) (place end : ℕ) : Type 0 where
   -- where they end, with room or without
   pub counted : end ≡ place + length octets
-  -- where there is room the rest of the buffer is unchanged
+  -- if there is room, the rest of the buffer is unchanged
   pub written : end ≤ length before → after ≡ buffer_with place octets before
 
--- Octets are written like this, and whatever is written behind them is one text with them.
+-- Octets are written as by `Appends`, and whatever is written after them is one text with them.
 pub record WritesOn (octets before after : List ℕ) (place end : ℕ) : Type 0 where
   -- where they end, with room or without
   pub counted : end ≡ place + length octets
-  -- what is written from there on goes on after them
+  -- what is written from there on is appended to them
   pub joined :
       (more last : List ℕ) (at : ℕ)
       → Appends more after last end at → Appends (octets ++ more) before last place at
@@ -55,7 +54,7 @@ pub record WritesOn (octets before after : List ℕ) (place end : ℕ) : Type 0 
 abbrev pub WritesNothing : List ℕ → List ℕ → ℕ → Type 0
 WritesNothing before after count = (count ≡ 0) × (after ≡ before)
 
--- the octets of the answer are written, and nothing where there is none
+-- the octets of the answer are written, or nothing if there is no answer
 abbrev pub WritesAnswer : Option Answer → List ℕ → List ℕ → ℕ → Type 0
 WritesAnswer None before after count = WritesNothing before after count
 WritesAnswer (Some answer) before after count =

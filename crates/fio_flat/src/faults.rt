@@ -1,4 +1,4 @@
-//! Why octets are no message.
+//! Why octets spell no message.
 
 /// Why octets are no message: the first fault that applies (own profile).
 #[derive(Clone, Copy)]

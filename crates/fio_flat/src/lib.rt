@@ -1,9 +1,8 @@
-//! The flat structs of the two ends and of faults, as C sees them, and what calls do to them and to
-//! the arrays of a caller, as definitions. Nothing here runs: the calls are the exports of `fio_c`.
+//! The flat structs of the two ends and of faults, in the form that C uses, and definitions of what calls do to them and to
+//! the arrays of a caller. Nothing here runs: the calls are the exports of `fio_c`.
 //!
-//! The definitions are in `specs/`: faults and what reading does (`Faults`), octets and lists in the
-//! caller's arrays (`Written`), what a poller does (`Hearing`), which history a module stands for
-//! (`Module`).
+//! The definitions are in `specs/`: faults and what reading does (`Faults`), octets and lists in the caller's arrays
+//! (`Written`), what a poller does (`Hearing`), and the history that a module has been through (`Module`).
 #![tactic(auto)]
 
 mod faults;

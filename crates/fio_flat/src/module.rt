@@ -13,8 +13,8 @@ pub struct Limits {
     pub reserved: u8,
 }
 
-/// A field I/O module (TEES 2009, in this project's own profile of 64 inputs and 64 outputs), whose
-/// entries wait in an array of the caller. Its fields are opaque to C.
+/// A field I/O module (TEES 2009, in this project's own profile of 64 inputs and 64 outputs) whose entries wait in an array
+/// of the caller. Its fields are opaque to C.
 #[derive(Drop)]
 #[repr(C)]
 pub struct SizedModule {
@@ -30,7 +30,7 @@ pub struct SizedModule {
     pub reserved: [u8; 16],
 }
 
-/// The errors that the firmware counted, as the answer 177 has them.
+/// The error counts that the firmware keeps, as the answer 177 has them.
 #[derive(Clone, Copy)]
 #[repr(C)]
 pub struct ErrorCounts {

@@ -1,5 +1,5 @@
-//! What calls return that write into an array of the caller.
+//! What calls that write into an array of the caller return.
 
-/// How many octets a message has that there is not, and entries or items where the octets carry none: more
-/// than any array.
+/// The count of octets of a message that does not exist, and the count of entries or items if the octets carry none: more
+/// than any array can have.
 pub const NO_MESSAGE: usize = usize::MAX;

@@ -81,7 +81,7 @@ module _ (old : Filters) (item : InputItem) (ignored : ℕ) (items : List InputI
   pub item_carries : AreFiltersAfter new (Configure more ∷ history)
   item_carries = record { raw = s.raw; inputs = λ i h. after i h (cases_eq i item.input) }
 
--- filters that no item is applied to have been through the configuration as they are
+-- if no item is applied, the filters have been through the configuration as they are
 pub AreFiltersAfter-unapplied : (filters : Filters) (items : List InputItem) (history : List FilterEvent) → applied_items items ≡ []
     → AreFiltersAfter filters history → AreFiltersAfter filters (Configure items ∷ history)
 AreFiltersAfter-unapplied filters items history none s =

@@ -1,10 +1,10 @@
--- How many changes scans can make of inputs that count, as those that are open do, whatever configurations come between.
+-- How many changes scans can make of inputs that count, as the open ones do, whatever configurations come between.
 use Rattle.fio_input.proofs.Names.{◌≡◌, ℕ, zero, suc, ◌+◌, ◌-◌, ◌*◌, ◌/◌, ◌<◌, ◌≤◌, ◌⊎◌, Bool, true, false, ◌&&◌, List, [], ◌∷◌, ◌++◌, refl, ap, sym, subst, ◌∙◌, arith, inl, inr, append_assoc, div-lt_iff_lt-mul, cases_lt, bit_of, InputItem, Setting, FilterEvent, Configure, Scan, applies_to, input_setting, input_state, is_changed, NoneIsAppliedTo, scans_in, changes_in, HasFiltersOf, sum_below, AtEachScan}
 use Rattle.fio_input.proofs.Apart.{both, carried, changes_follow_configurations}
 use Rattle.fio_input.proofs.FewChanges.{least_filter, changes_times_filter}
 use Rattle.fio_input.proofs.FewReports.{sum-plus, sum-bound, sum-same, sum-none, bit-and}
 
--- what holds at each scan holds at each of the later ones and at each of the earlier ones
+-- what holds at each scan holds at each later and at each earlier one
 pub at_each_scan-back : (P : List FilterEvent → Type 0) (later events history : List FilterEvent)
     → AtEachScan P (later ++ events) history → AtEachScan P events history
 at_each_scan-back P [] events history each = each
@@ -41,7 +41,7 @@ record LatestConfiguration (input : ℕ) (events : List FilterEvent) : Type 0 wh
   pub leave : NoneIsAppliedTo input between
   pub applied : applies_to input items ≡ true
 
--- the same after an event that is none
+-- the same after an event that is not a configuration that applies to it
 one_later : (input : ℕ) (event : FilterEvent) (events : List FilterEvent) → NoneIsAppliedTo input (event ∷ [])
     → (NoneIsAppliedTo input events ⊎ LatestConfiguration input events)
     → NoneIsAppliedTo input (event ∷ events) ⊎ LatestConfiguration input (event ∷ events)
@@ -84,7 +84,7 @@ once_only (suc (suc changes)) least scans some short few =
     let more : suc (suc changes) * least ≡ changes * least + (least + least) = grind arith in
     absurd (omega arith)
 
--- the latest so many scans among events, or all of them
+-- the latest `most` scans among events, or all of them
 record Latest (most : ℕ) (events : List FilterEvent) : Type 0 where
   pub later : List FilterEvent
   pub raw : ℕ
@@ -142,18 +142,18 @@ counted_in counts input (Scan raw ∷ events) history =
     counted_in counts input events history + bit_of (is_counted counts input raw (events ++ history))
 counted_in counts input (Configure items ∷ events) history = counted_in counts input events history
 
--- of all inputs
+-- how many changes of all inputs that count there are among events
 abbrev pub all_counted : Counts → List FilterEvent → List FilterEvent → ℕ
 all_counted counts events history = sum_below 64 (λ input. counted_in counts input events history)
 
--- no more inputs than this count, with filters in force of at least so many samples
+-- at most `opened` inputs count, with filters in force of at least `least` samples
 pub record FewCount (counts : Counts) (opened least : ℕ) (history : List FilterEvent) : Type 0 where
   pub few : sum_below 64 (λ input. bit_of (counts input (input_setting input history))) ≤ opened
   pub filters :
       (input : ℕ) → input < 64 → counts input (input_setting input history) ≡ true
       → HasFiltersOf (input_setting input history) least
 
--- so it is at each scan
+-- few count at each scan
 abbrev pub FewStayCounted : Counts → ℕ → ℕ → List FilterEvent → List FilterEvent → Type 0
 FewStayCounted counts opened least events history = AtEachScan (FewCount counts opened least) events history
 
@@ -195,8 +195,8 @@ module _ (counts : Counts) where
       omega arith
   counted_are_changes input (Configure items ∷ events) history = counted_are_changes input events history
 
-  -- Where there are no more scans than a filter has samples, a change of each input is counted once at most, and only if the
-  -- input counted at the first of them: a configuration after that leaves too few.
+  -- If there are no more scans than a filter has samples, a change of each input is counted at most once, and only if the
+  -- input counted at the first of them: after a later configuration there are too few scans.
   counted_once : (opened least raw input : ℕ) (later history : List FilterEvent) → input < 64 → 1 ≤ least
       → FewStayCounted counts opened least (later ++ Scan raw ∷ []) history → scans_in later + 1 ≤ least
       → counted_in counts input (later ++ Scan raw ∷ []) history ≤ bit_of (counts input (input_setting input history))
@@ -260,7 +260,7 @@ module _ (counts : Counts) where
       (λ input low. let once = counted_once opened least raw input later history low some stay short in omega arith) in
       omega arith
 
-  -- so it is of each so many scans
+  -- this holds of each such number of scans
   few_of_each : (times opened least : ℕ) (events history : List FilterEvent) → 1 ≤ least
       → FewStayCounted counts opened least events history → scans_in events ≤ times * least
       → all_counted counts events history ≤ opened * times

@@ -32,7 +32,7 @@ reports_are_few opened least events history some stay =
 no_reports_any : (events history : List FilterEvent) → scans_in events ≡ 0 → all_reports_in events history ≡ 0
 no_reports_any events history none = all_reports_counted events history ∙ no_scan_counts_any open_count events history none
 
--- so they are, times the least filter
+-- the reports, times the least filter, are bounded
 pub reports_times_filter : (opened least : ℕ) (events history : List FilterEvent) → 1 ≤ least → FewStayOpen opened least events history
     → all_reports_in events history * least + opened * 1 ≤ opened * (scans_in events + least)
 reports_times_filter opened least events history some stay =
@@ -58,7 +58,7 @@ reports_times_filter opened least events history some stay =
     one_more opened least zero once = absurd (omega arith)
     one_more opened least (suc scans) once = let same : suc scans - 1 ≡ scans = omega arith in rw same (grind arith)
 
--- few stay open where configurations leave few
+-- few stay open if configurations leave few open
 pub configurations_leave_few_open : ConfigurationsLeaveFewOpen
 configurations_leave_few_open opened least events history begin each = (at_the_end events each).1
   where
@@ -84,7 +84,7 @@ configurations_leave_few_open opened least events history begin each = (at_the_e
         let before = at_the_end events each.1 in
         (configured items events (all_present items) refl each.0 before.0, before.1)
 
--- where none is applied, as many stay open as were
+-- if none is applied, the number of open inputs stays
 none_applied : (P : List FilterEvent → Type 0) (events history : List FilterEvent) → NoneIsApplied events → AfterEachApplied P events history
 none_applied P [] history none = tt
 none_applied P (Scan raw ∷ events) history none = none_applied P events history none.1
@@ -104,7 +104,7 @@ all_may_open least =
     at_each_scan-map (λ before. OpenHaveFiltersOf before least) (HasFewOpen 64 least)
     (λ before filters. record { few = open_inputs-few before; filters = filters })
 
--- where none is applied, their filters stay as they were
+-- if none is applied, their filters stay as they were
 pub filters_stay : (least : ℕ) (events history : List FilterEvent) → NoneIsApplied events → OpenHaveFiltersOf history least
     → OpenKeepFiltersOf least events history
 filters_stay least events history none filters =

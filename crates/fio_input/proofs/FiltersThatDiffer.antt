@@ -5,7 +5,7 @@ use Rattle.fio_input.proofs.Apart.{both, carried}
 use Rattle.fio_input.proofs.FewReports.{leaves_each, sum-plus, sum-none, bit-and}
 use Rattle.fio_input.proofs.Counted.{counted_in, all_counted, is_counted, FewCount, counted_are_few, at_each_scan-map, bit-and_left}
 
--- sums of numbers of which none is more
+-- a sum of numbers is at most a sum of numbers that are at least as large
 sum-more : (n : ℕ) (f g : ℕ → ℕ) → ((i : ℕ) → i < n → f i ≤ g i) → sum_below n f ≤ sum_below n g
 unfolding sum_below
 sum-more zero f g each = omega arith
@@ -137,7 +137,7 @@ most_reports-more plan a b more =
     (le-div_iff_mul-le {k = filter} {x = (a - 1) / filter} {y = b - 1} some).1 (omega arith) in
     mul-le-mul_left (plan.most_open group) (omega arith))
 
--- where no configuration is applied, those that are open stay as they are
+-- if no configuration is applied, the inputs that are open stay as they are
 as_present : (events history : List FilterEvent) → NoneIsApplied events → IsAsPlanned (present_plan history) (events ++ history)
 as_present events history none =
     record {

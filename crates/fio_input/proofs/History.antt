@@ -13,14 +13,14 @@ latest_is input (Configure items ∷ history) =
     latest_if (applies_to input items) (is_set (raw_levels history) input) (input_samples input history) (latest_is input history)
 latest_is input (Scan raw ∷ history) = refl
 
--- a setting and samples anew from the state leave the state
+-- with a setting and samples that start anew from the state, the state stays
 pub state_by : (named : Option InputItem) (before : Setting) (level : Bool) (older : List Bool)
     → filtered_state (setting_by named before) (if is_some named then filtered_state before level older else level) (if is_some named then [] else older)
     ≡ filtered_state before level older
 state_by None before level older = refl
 state_by (Some item) before level older = refl
 
--- a configuration leaves the filtered state of each input
+-- a configuration does not change the filtered state of any input
 pub state-configure : (input : ℕ) (items : List InputItem) (history : List FilterEvent)
     → input_state input (Configure items ∷ history) ≡ input_state input history
 state-configure input items history =

@@ -14,7 +14,7 @@ or_assoc : (a b c : Option InputItem) → option_or (option_or a b) c ≡ option
 or_assoc None b c = refl
 or_assoc (Some x) b c = refl
 
--- of items and one more: that one, if it names the input, and else the last one before
+-- with one more item, the last is that one if it names the input, and otherwise the last one before
 last_item_of-push : (input : ℕ) (items : List InputItem) (item : InputItem)
     → last_item_of input (items ++ item ∷ []) ≡ option_or (naming input item) (last_item_of input items)
 last_item_of-push input [] item = or_none (naming input item)
@@ -31,7 +31,7 @@ pub last_item_of-push_same : (input : ℕ) (items : List InputItem) (item : Inpu
 last_item_of-push_same input items item e =
     last_item_of-push input items item ∙ ap (if_named input items item) (eq-eqb item.input input e)
 
--- one more item that names another input leaves the last
+-- one more item that names another input does not change the last
 pub last_item_of-push_other : (input : ℕ) (items : List InputItem) (item : InputItem) → item.input ≢ input
     → last_item_of input (items ++ item ∷ []) ≡ last_item_of input items
 last_item_of-push_other input items item other =

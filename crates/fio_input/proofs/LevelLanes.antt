@@ -1,7 +1,7 @@
 -- The levels of 16 inputs as lanes of 0 and 1.
 use Rattle.fio_input.proofs.Names.{◌≡◌, ℕ, ◌+◌, ◌/◌, ◌^◌, ◌<◌, ◌==◌, min, Bool, true, false, cond, eqb, leb, if◌then◌else◌, refl, ap, ap₂, ◌∙◌, bit_and, is_set, bit_of, is_set_masked, is_set-low, is_set-shr, filter_in_force, next_length, meets_filter, top}
 
--- the lane that a compare gives, made 1 or 0
+-- the lane that a comparison returns, made 1 or 0
 abbrev compared_bit : Bool → ℕ
 compared_bit same = cond (top 7 (cond same 255 0)) 1 0
 
@@ -30,11 +30,11 @@ one_lane false = refl
 
 module _ (level_lane sample_lane : ℕ) (level sample : Bool)
     (level_is : level_lane ≡ bit_of level) (sample_is : sample_lane ≡ bit_of sample) where
-  -- a run's next length, where its level and the sample are lanes
+  -- a run's next length, if its level and the sample are lanes
   pub next_in_lanes : (n : ℕ) → (if level_lane == sample_lane then min (n + 1) 255 else 1) ≡ next_length n level sample
   next_in_lanes n = ap₂ (λ l s. if l == s then min (n + 1) 255 else 1) level_is sample_is ∙ same_lane n level sample
 
-  -- whether a run meets its filter, where the sample is a lane
+  -- whether a run meets its filter, if the sample is a lane
   pub meets_in_lanes : (leading trailing length : ℕ)
       → leb (filter_in_force (if sample_lane == 1 then trailing else leading)) length ≡ meets_filter leading trailing sample length
   meets_in_lanes leading trailing length =

@@ -32,7 +32,7 @@ row_of input level (Scan raw ∷ events) older row =
     (row_of input level events older row.1)
 row_of input level (Configure items ∷ events) older row = row_of input level events older row.1
 
--- as many as the filter end a run, and are the state
+-- a run as long as the filter ends, and its level is the state
 row_ends : (s : Setting) (level : Bool) (samples : List Bool) → latest_are (filter_to s level) level samples ≡ true
     → ends_run s samples ≡ true
 row_ends s true samples run =

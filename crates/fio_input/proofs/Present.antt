@@ -9,12 +9,12 @@ above item = leb 64 item.input
 abbrev present : InputItem → Bool
 present item = ltb item.input 64
 
--- one more item at the front, which is above 63 or not, before n of m others that are not
+-- one more item above 63 in front, and n of m others before the first that is above 63
 counted : (input n m : ℕ) (rest : Bool) → rest ≡ not (ltb n m)
     → (ltb input 64 && rest) ≡ not (ltb (cond (not (leb 64 input)) (1 + n) 0) (suc m))
 counted input n m rest h = grind (arith, nat_tests)
 
--- all items are present exactly if no place before their end has an item above 63
+-- all items are present exactly if no index before their end has an item above 63
 all_present-prefix_len : (items : List InputItem)
     → all_present items ≡ not (ltb (prefix_len (λ item. not (above item)) items) (length items))
 all_present-prefix_len [] = refl
@@ -40,7 +40,7 @@ all_present-some items place h = all_present-prefix_len items ∙ ap not (some_f
 pub applied_items-some : (items : List InputItem) (place : ℕ) → position above items ≡ Some place → applied_items items ≡ []
 applied_items-some items place h = ap (λ all. if all then items else []) (all_present-some items place h)
 
--- where all items are present, each of them names an input below 64
+-- if all items are present, each of them names an input below 64
 pub all_present-at : (items : List InputItem) (i : ℕ) (d : InputItem) → i < length items → all_present items ≡ true → (get_or items i d).input < 64
 all_present-at items i d h all = ltb-true (get_or items i d).input 64 (AllPass-from_list_all present items all i d h)
 
@@ -48,7 +48,7 @@ left_true : (a b : Bool) → (a && b) ≡ true → a ≡ true
 left_true true b h = refl
 left_true false b h = cc
 
--- where all items are present, the first n of them are
+-- if all items are present, so are the first n of them
 pub all_present-take : (n : ℕ) (items : List InputItem) → all_present items ≡ true → all_present (take n items) ≡ true
 all_present-take n items all =
     left_true _ _ (sym (list_all-append present (take n items) (drop n items)) ∙ ap (list_all present) (take-append-drop n items) ∙ all)
@@ -62,7 +62,7 @@ pub all_present-push : (items : List InputItem) (item : InputItem) → all_prese
 all_present-push items item all inside =
     list_all-append present items (item ∷ []) ∙ ap₂ (λ a b. a && b) all (is_present item.input inside)
 
--- where all items are present, all are applied
+-- if all items are present, all are applied
 pub applied_items-all : (items : List InputItem) → all_present items ≡ true → applied_items items ≡ items
 applied_items-all items all = ap (λ b. if b then items else []) all
 
@@ -82,7 +82,7 @@ not_less n m h = grind (arith, nat_tests)
 less : (n m : ℕ) → n < m → ltb n m ≡ true
 less n m h = grind (arith, nat_tests)
 
--- at a place up to the end of the front, the front goes on exactly if the item there is not above 63
+-- at an index up to the end of the front, the front goes on exactly if the item there is not above 63
 front_at : (items : List InputItem) (place : ℕ) (item : InputItem) → place < length items
     → item ≡ get_or items place item → place ≤ front items → ltb place (front items) ≡ not (above item)
 front_at items place item lt is le = step (ltb place (front items)) refl
@@ -95,13 +95,13 @@ front_at items place item lt is le = step (ltb place (front items)) refl
         let stops = prefix_len_stops (λ item. not (above item)) items item (omega (arith, same, lt)) in
         sym (ap (λ i. not (above i)) (is ∙ ap (λ k. get_or items k item) (sym same)) ∙ stops)
 
--- an item below 64 behind others lengthens the front
+-- an item below 64 after the front lengthens it
 pub front-more : (items : List InputItem) (place : ℕ) (item : InputItem) → place < length items
     → item ≡ get_or items place item → item.input < 64 → place ≤ front items → place + 1 ≤ front items
 front-more items place item lt is below le =
     omega (arith, ltb-true place (front items) (front_at items place item lt is le ∙ ap not (is_below item.input below)))
 
--- an item above 63 behind the front is the first
+-- an item above 63 after the front is the first such item
 pub position-front : (items : List InputItem) (place : ℕ) (item : InputItem) → place < length items
     → item ≡ get_or items place item → 64 ≤ item.input → place ≤ front items → position above items ≡ Some place
 position-front items place item lt is high le =
@@ -109,6 +109,6 @@ position-front items place item lt is high le =
     let same : front items ≡ place = omega (arith, ltb-false place (front items) stops, le) in
     ap (λ n. cond (ltb n (length items)) (Some n) None) same ∙ ap (λ b. cond b (Some place) None) (less place (length items) lt)
 
--- where the front is all of the items, none is above 63
+-- if the front has all of the items, none is above 63
 pub position-none : (items : List InputItem) → length items ≤ front items → position above items ≡ None
 position-none items le = ap (λ b. cond b (Some (front items)) None) (not_less (front items) (length items) le)

@@ -17,11 +17,11 @@ cases_beq true false = inr (λ e. cc)
 cases_beq false true = inr (λ e. cc)
 cases_beq false false = inl refl
 
--- a sample that is the state leaves it
+-- a sample that equals the state does not change it
 settled_state : (i : ℕ) (history : List FilterEvent) (raw : ℕ) → is_set raw i ≡ input_state i history → is_set raw i ≡ input_state i (Scan raw ∷ history)
 settled_state i history raw settled = either_way true (ends_run (input_setting i history) (is_set raw i ∷ input_samples i history)) settled
 
--- the filtered states after a scan: the samples where a run meets its filter, and else as before
+-- the filtered states after a scan: the sample if the run meets its filter, otherwise as before
 abbrev pub merged : Filters → ℕ → ℕ → ℕ
 merged old met raw = bit_or (bit_and old.filtered (bit_not w64 met)) (bit_and raw met)
 
@@ -116,7 +116,7 @@ unchanged true false true e = cc
 unchanged true false false e = refl
 unchanged false now before e = refl
 
--- samples that are the filtered states leave all as it was but the raw levels
+-- samples that equal the filtered states change nothing but the raw levels
 module _ (old : Filters) (raw : ℕ) (history : List FilterEvent) (same : raw ≡ old.filtered) (s : AreFiltersAfter old history) where
   settled_at : (i : ℕ) → i < 64 → is_set raw i ≡ input_state i history
   settled_at i h = ap (λ levels. is_set levels i) same ∙ (s.inputs i h).filtered

@@ -17,12 +17,12 @@ loads_in-append (LineSync ∷ later) history =
     let here = loads_grow (asked_number (later ++ history)) (loads_in (later ++ history)) in
     omega arith
 
--- a line sync that loads nothing leaves the number of loads
+-- a line sync that loads nothing does not change the number of loads
 same_loads : (asked : Option ℕ) (loads before : ℕ) → before ≤ loads → one_more_if_loaded asked loads ≡ before → loads ≡ before
 same_loads None loads before h e = e
 same_loads (Some number) loads before h e = absurd (omega arith)
 
--- a line sync that loads nothing leaves the counter
+-- a line sync that loads nothing does not change the counter
 same_counter : (asked : Option ℕ) (loads before loaded ticks : ℕ) → before ≤ loads → one_more_if_loaded asked loads ≡ before
     → (unwrap_or asked loaded + ticks_unless_loaded asked ticks) % 2 ^ 32 ≡ (loaded + ticks) % 2 ^ 32
 same_counter None loads before loaded ticks h e = refl

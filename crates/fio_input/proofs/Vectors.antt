@@ -1,7 +1,7 @@
--- One lane of vectors of 16 that are computed lane by lane.
+-- One lane of vectors of 16 lanes that are computed lane by lane.
 use Rattle.fio_input.proofs.Names.{◌≡◌, ℕ, ◌+◌, ◌-◌, ◌%◌, ◌^◌, ◌<◌, min, max, Bool, true, false, cond, ltb, List, [], ◌∷◌, map, length, get_or, replicate, refl, ap, ◌∙◌, arith, w8, Fits, nat_tests, tops_compared, length-zip2, get_or-zip2, length-sel_l, get_or-sel_l, mask_l-mod, mask_l-lt, Each1-get_or, get_or-replicate, get_or-map, length-map, zip2, sel_l, mask_l, top, Each1, is_set, is_set-mask_l}
 
--- a mask, as a test of two vectors' lanes gives it
+-- a mask, as a test of the lanes of two vectors returns it
 abbrev pub compared : (ℕ → ℕ → Bool) → List ℕ → List ℕ → List Bool
 compared test xs ys = map (top 7) (zip2 (λ a b. cond (test a b) 255 0) xs ys)
 
@@ -15,7 +15,7 @@ module _ (test : ℕ → ℕ → Bool) (xs ys : List ℕ) (xs_long : length xs �
   compared-lane : (i : ℕ) → i < 16 → get_or (compared test xs ys) i false ≡ test (get_or xs i 0) (get_or ys i 0)
   compared-lane i h = ap (λ l. get_or l i false) compared_is ∙ get_or-zip2 test xs ys i 0 0 false (omega arith) (omega arith)
 
-  -- a selection has the one lane where the test passes, and the other elsewhere
+  -- a selection has the one lane if the test passes, and the other otherwise
   pub select-lane : (chosen other : List ℕ) → length chosen ≡ 16 → length other ≡ 16 → (i : ℕ) → i < 16
       → get_or (sel_l (compared test xs ys) chosen other) i 0 ≡ cond (test (get_or xs i 0) (get_or ys i 0)) (get_or chosen i 0) (get_or other i 0)
   select-lane chosen other chosen_long other_long i h =
@@ -27,7 +27,7 @@ module _ (test : ℕ → ℕ → Bool) (xs ys : List ℕ) (xs_long : length xs �
   length-select chosen other chosen_long other_long =
       let long = compared_long in omega (arith, length-sel_l (compared test xs ys) chosen other (omega arith) (omega arith))
 
-  -- the mask as a number has a bit for each lane where the test passes
+  -- the mask as a number has a bit for each lane whose test passes
   pub bitmask-lane : (i : ℕ) → i < 16 → is_set (mask_l (compared test xs ys) % 2 ^ 64) i ≡ test (get_or xs i 0) (get_or ys i 0)
   bitmask-lane i h =
       let long = compared_long in
@@ -93,7 +93,7 @@ module _ (xs : List ℕ) (xs_long : length xs ≡ 16) (fits : Each1 (Fits w8) xs
   abbrev pub one_more : List ℕ
   one_more = zip2 (λ a b. (a + b) % 256) xs step
 
-  -- a lane and one more, held at 255
+  -- a lane plus one, at most 255
   pub one_more-lane : (i : ℕ) → i < 16 → get_or one_more i 0 ≡ min (get_or xs i 0 + 1) 255
   one_more-lane i h =
       let long = step_long in

@@ -9,8 +9,8 @@ use Rattle.fio_message.specs.declared.limits.TheConstants.{INPUTS}
 use Rattle.fio_input.specs.declared.filters.TheConstants.{DEFAULT_FILTER}
 use Rattle.fio_input.specs.FilterRule.{Setting, filtered_state}
 
--- what happens to the filters: a configuration that is received, applied or not, and a scan, whose
--- raw levels are bit i for input i
+-- what happens to the filters: a configuration is received, applied or not; or a scan reads the raw levels, bit i for input
+-- i
 pub data FilterEvent : Type 0 where
   Configure : (items : List InputItem) → FilterEvent
   Scan : (raw : ℕ) → FilterEvent
@@ -29,14 +29,14 @@ last_item_of input [] = None
 last_item_of input (item ∷ items) =
     option_or (last_item_of input items) (if item.input == input then Some item else None)
 
--- the setting by an item that names the input, and the one before where none does
+-- the setting by an item that names the input, or the one before if none does
 abbrev pub setting_by : Option InputItem → Setting → Setting
 setting_by None before = before
 setting_by (Some item) before =
     record { ignore = item.ignore; leading = item.leading; trailing = item.trailing }
 
--- the last item naming the input in the latest applied configuration that names it, and at the
--- start: ignored, both filters 5
+-- the setting of an input: by the last item that names it in the latest applied configuration that does, and before any,
+-- ignored with both filters 5
 abbrev pub input_setting : ℕ → List FilterEvent → Setting
 input_setting input [] = record { ignore = true; leading = DEFAULT_FILTER; trailing = DEFAULT_FILTER }
 input_setting input (Configure items ∷ history) =
@@ -47,16 +47,16 @@ input_setting input (Scan raw ∷ history) = input_setting input history
 abbrev pub applies_to : ℕ → List InputItem → Bool
 applies_to input items = is_some (last_item_of input (applied_items items))
 
--- the samples of the input: its levels at the scans since the latest configuration that applies to
--- it, or since the start, the newest first. So a configuration restarts the run.
+-- the samples of an input: its levels at the scans since the latest configuration that applies to it, or since the start,
+-- the newest first. So a configuration restarts the run.
 abbrev pub input_samples : ℕ → List FilterEvent → List Bool
 input_samples input [] = []
 input_samples input (Configure items ∷ history) =
     if applies_to input items then [] else input_samples input history
 input_samples input (Scan raw ∷ history) = is_set raw input ∷ input_samples input history
 
--- the filtered state of the input just before that configuration, and 1 with none. The samples since
--- then start from it, so that a configuration keeps the state.
+-- the filtered state of the input just before that configuration, or 1 if there was none. The samples since then start from
+-- this state, so a configuration keeps the state.
 abbrev pub state_at_configuration : ℕ → List FilterEvent → Bool
 state_at_configuration input [] = true
 state_at_configuration input (Configure items ∷ history) =

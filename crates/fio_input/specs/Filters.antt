@@ -8,8 +8,7 @@ use Rattle.fio_input.specs.FilterRule.{Setting}
 use Rattle.fio_input.specs.Runs.{run_length}
 use Rattle.fio_input.specs.FilterHistory.{FilterEvent, input_setting, input_samples, input_state, raw_levels}
 
--- what the filters keep of one input: the length of its latest run only where the run is towards
--- another state
+-- what the filters keep of one input: the length of its latest run, but only if the run is of a level other than the state
 pub record KeepsInput (filters : Filters) (input : ℕ)
     (setting : Setting) (samples : List Bool) (state : Bool) : Type 0 where
   pub run_length : (is_set filters.raw input ≡ state)
@@ -21,8 +20,8 @@ pub record KeepsInput (filters : Filters) (input : ℕ)
   pub ignored : is_set filters.ignored input ≡ setting.ignore
   pub filtered : is_set filters.filtered input ≡ state
 
--- filters before any scan, each of their octets given: no run is counted, all inputs are ignored, and
--- all levels and states are 1
+-- filters before any scan, with each of their octets given: no run is counted, all inputs are ignored, and all levels and
+-- states are 1
 abbrev pub filters_at_start : Filters
 filters_at_start = record {
   run_lengths = replicate INPUTS 0;
@@ -39,6 +38,6 @@ pub record AreFiltersAfter (filters : Filters) (history : List FilterEvent) : Ty
   pub inputs : (input : ℕ) → input < INPUTS
       → KeepsInput filters input (input_setting input history) (input_samples input history) (input_state input history)
 
--- the filters but that these inputs are ignored
+-- the same filters, but with these inputs ignored
 abbrev pub with_ignored : Filters → ℕ → Filters
 with_ignored filters ignored = record filters { ignored = ignored }

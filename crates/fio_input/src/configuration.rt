@@ -1,4 +1,4 @@
-//! The items of a configuration, wherever they are.
+//! The items of a configuration, in whatever form they are held.
 ghost use Rattle.std.specs.Prelude.{◌≡◌, ◌<◌, List, length, get_or};
 ghost use Rattle.fio_message.specs.declared.fields.InputItem.{InputItem as Item};
 
@@ -13,7 +13,7 @@ pub trait Configuration {
     fn len(&self) -> usize
         ensures { result ≡ length (items self.now) };
 
-    /// Returns the item at this place, counted from 0.
+    /// Returns the item at the index `place`.
     fn item(&self, place: usize) -> InputItem
         requires { place < length (items self.now) }
         ensures { result ≡ get_or (items self.now) place result };

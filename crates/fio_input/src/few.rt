@@ -1,4 +1,4 @@
-//! The lengths of a few inputs' latest runs of equal samples, stepped one after another.
+//! The lengths of the latest runs of equal samples of a few inputs, stepped one after another.
 ghost use Rattle.std.specs.Prelude.{◌≡◌, ◌≢◌, ◌<◌, ℕ, true, slice_index};
 ghost use Rattle.fio_message.specs.Bits.{is_set};
 ghost use Rattle.fio_message.specs.declared.limits.TheConstants.{INPUTS};
@@ -6,9 +6,9 @@ ghost use Rattle.fio_input.specs.Runs.{next_length, meets_filter};
 
 use fio_message::INPUTS;
 
-/// Steps the lengths of the latest runs of the inputs whose bits are one in `stepped`, each by one
-/// sample. `levels` has the levels of these runs, `raw` the samples. The result has a one for each of
-/// these inputs whose run now meets its filter; other inputs have a zero.
+/// Steps the lengths of the latest runs of the inputs whose bits are 1 in `stepped`, each by one sample. `levels` has the
+/// levels of these runs, `raw` the samples. The result has a 1 for each of these inputs whose run now meets its filter;
+/// other inputs have a 0.
 pub(crate) fn step_few(
     run_lengths: &mut [u8; INPUTS],
     leading: &[u8; INPUTS],

@@ -10,16 +10,16 @@ use crate::few::step_few;
 use fio_message::INPUTS;
 use std::simd::prelude::*;
 
-/// How many inputs are stepped at a time.
+/// The number of inputs that are stepped at a time.
 const LANES: usize = 16;
 
-/// Up to this many inputs are stepped one after another, which takes less time then.
+/// Up to this many inputs are stepped one after another, since that takes less time.
 const FEW: u32 = 3;
 
-/// Steps the length of each input's latest run by one sample, where that sample is not the input's
-/// filtered state: no other length is read before the input's level changes. `levels` has the levels
-/// of these runs, `raw` the samples, and `filtered` the filtered states. The result has a one for each
-/// input with such a sample whose run now meets its filter; other inputs may have a one or a zero.
+/// Steps the length of each input's latest run by one sample if that sample is not the input's filtered state: no other
+/// length is read before the input's level changes. `levels` has the levels of these runs, `raw` the samples, and `filtered`
+/// the filtered states. The result has a 1 for each input with such a sample whose run now meets its filter; other inputs
+/// may have a 1 or a 0.
 pub(crate) fn step_runs(
     run_lengths: &mut [u8; INPUTS],
     leading: &[u8; INPUTS],
@@ -28,7 +28,7 @@ pub(crate) fn step_runs(
     raw: u64,
     filtered: u64,
 ) -> u64
-    // A run goes on where the sample has its level, and its length stays at 255: it never wraps.
+    // A run goes on if the sample has its level. Its length stays at 255 and never wraps.
     ensures lengths { (input : ℕ) → input < INPUTS → is_set raw input ≢ is_set filtered input
         → slice_index run_lengths.new input
         ≡ next_length (slice_index run_lengths.old input) (is_set levels input) (is_set raw input) }
@@ -58,8 +58,8 @@ pub(crate) fn step_runs(
     met
 }
 
-/// Returns the lengths of 16 runs after one more sample: one more, held at 255, where the sample has the
-/// run's level, and else 1.
+/// Returns the lengths of 16 runs after one more sample: one more, at most 255, if the sample has the run's level, and 1
+/// otherwise.
 fn next_lengths(lengths: u8x16, levels: u8x16, samples: u8x16) -> u8x16
     ensures { (lane : ℕ) → lane < LANES
         → slice_index result lane
@@ -72,7 +72,7 @@ fn next_lengths(lengths: u8x16, levels: u8x16, samples: u8x16) -> u8x16
         .saturating_add(u8x16::splat(1))
 }
 
-/// Returns the filters of 16 inputs that their samples ask for, 0 as 1.
+/// Returns the filters that apply to 16 inputs given their samples, with 0 taken as 1.
 fn filters_in_force(leading: u8x16, trailing: u8x16, samples: u8x16) -> u8x16
     ensures { (lane : ℕ) → lane < LANES
         → slice_index result lane
@@ -83,7 +83,7 @@ fn filters_in_force(leading: u8x16, trailing: u8x16, samples: u8x16) -> u8x16
     samples.simd_eq(one).select(trailing, leading).simd_max(one)
 }
 
-/// Returns a bit for each of 16 runs that is as long as its filter.
+/// Returns a bit for each of 16 runs: 1 if the run is as long as its filter.
 fn runs_met(filters: u8x16, lengths: u8x16) -> u64
     ensures range { result < 2 ^ LANES }
     ensures lanes { (lane : ℕ) → lane < LANES

@@ -8,7 +8,7 @@ use Rattle.fio_link.proofs.Settled.{IsOpen, at_base}
 use Rattle.fio_link.proofs.KeptUp.{Reached, reached, heard_near}
 use Rattle.fio_link.proofs.KeptUpArrives.{whole, times, through, late, exactly, levels, near_now}
 
--- where a link is kept up with
+-- if a link is kept up with
 module _ (settings : Settings) (range : AreInRange settings) (first : ℕ) (machine : Machine) (o : IsOpen settings range first machine) where
   abbrev life : Life
   life = life_of machine.history

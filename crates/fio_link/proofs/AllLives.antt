@@ -18,7 +18,7 @@ abbrev pub behind : ℕ → MadeBlock → MadeBlock
 behind past block =
     record block { before = past + block.before; start = past + block.start; end = past + block.end }
 
--- the blocks of a life behind those of the lives before it
+-- the blocks of a life after those of the lives before it
 abbrev pub joined : Settings → List MadeBlock → ℕ → Life → List MadeBlock
 joined settings blocks past life = blocks ++ map (behind past) (blocks_of settings life)
 
@@ -34,7 +34,7 @@ abbrev pub all_blocks : Settings → History → List MadeBlock
 all_blocks settings history =
     joined settings (past_blocks settings history) (length (past_log history)) (life_of history)
 
--- from where on the next block may take
+-- the place from which the next block may take entries
 abbrev pub reached : Settings → History → ℕ
 reached settings history = length (past_log history) + newest_end settings (life_of history)
 
@@ -50,7 +50,7 @@ whole_log-split (Received octets ∷ history) =
 whole_log-split (Restart ∷ history) = sym (append-nil (whole_log history))
 whole_log-split (other ∷ history) = whole_log-split history
 
--- blocks that lie one behind the other, from one place up to another
+-- blocks that lie one after another, from one place up to another
 abbrev pub AreApart : ℕ → List MadeBlock → ℕ → Type 0
 AreApart from [] to = from ≤ to
 AreApart from (block ∷ blocks) to = (from ≤ block.start) × (block.start ≤ block.end) × AreApart block.end blocks to
@@ -62,7 +62,7 @@ apart-append from next to [] [] p q = omega arith
 apart-append from next to [] (y ∷ ys) p q = let low : next ≤ y.start = q.0 in (omega arith, q.1, q.2)
 apart-append from next to (x ∷ xs) ys p q = (p.0, p.1, apart-append x.end next to xs ys p.2 q)
 
--- blocks of a life that follow one another lie apart, behind what went before
+-- blocks of a life that follow one another lie apart, after what came before
 apart-follow : (log : List Transition) (per_block past before : ℕ) (blocks : List MadeBlock)
     → FollowOneAnother log per_block before blocks
     → AreApart (past + before) (map (behind past) blocks) (past + last_end before blocks)
@@ -79,7 +79,7 @@ apart-more : (from to later : ℕ) (blocks : List MadeBlock) → to ≤ later �
 apart-more from to later [] le p = omega arith
 apart-more from to later (block ∷ blocks) le p = (p.0, p.1, apart-more block.end to later blocks le p.2)
 
--- the blocks of a life lie apart behind those of the lives before it
+-- the blocks of a life lie apart, after those of the lives before it
 apart-joined : (settings : Settings) (blocks : List MadeBlock) (past : ℕ) (life : Life)
     → AreApart 0 blocks past
     → AreApart 0 (joined settings blocks past life) (past + newest_end settings life)
@@ -101,7 +101,7 @@ past_apart settings (Restart ∷ history) =
     (apart-joined settings (past_blocks settings history) (length (past_log history)) (life_of history) (past_apart settings history))
 past_apart settings (other ∷ history) = past_apart settings history
 
--- the blocks of all lives lie one behind the other, up to where the next may take
+-- the blocks of all lives lie one after another, up to where the next may begin
 pub blocks_apart : (settings : Settings) (history : History)
     → AreApart 0 (all_blocks settings history) (reached settings history)
 blocks_apart settings history =
@@ -156,7 +156,7 @@ stands-more : (log more : List Transition) (block : MadeBlock) → StandsIn log 
 stands-more log more block s =
     record { count = s.count; places = λ i t is. get_before_push log more (block.start + i) t (s.places i t is) }
 
--- a part of a life's log is behind the logs before it
+-- a part of a life's log comes after the logs before it
 stands-behind : (past log : List Transition) (per_block : ℕ) (block : MadeBlock)
     → IsPartOf log per_block block
     → StandsIn (past ++ log) (behind (length past) block)
@@ -170,7 +170,7 @@ stands-behind past log per_block block part =
           ∙ get_behind past log (block.start + i) t (part_stands log per_block block part i t is);
     }
 
--- so do blocks that follow one another
+-- so does each of the blocks that follow one another
 stand-follow : (past log : List Transition) (per_block before : ℕ) (blocks : List MadeBlock)
     → FollowOneAnother log per_block before blocks
     → AllByRecursion (StandsIn (past ++ log)) (map (behind (length past)) blocks)

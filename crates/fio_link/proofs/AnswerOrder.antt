@@ -3,7 +3,7 @@ use Rattle.fio_link.proofs.Names.{◌≡◌, ℕ, ◌+◌, ◌<◌, ◌≤◌, L
 use Rattle.fio_link.specs.Rounds.{BlockAnswersAreInOrder}
 use Rattle.fio_link.proofs.SentMessages.{each_more, none_more, rise_more}
 
--- where no frame was sent
+-- if no frame was sent
 pub answers-none : (next : ℕ) → BlockAnswersAreInOrder [] 0 0 next
 answers-none next =
     record {
@@ -26,8 +26,7 @@ module _ (frames : List SentFrame) (last round next : ℕ) (o : BlockAnswersAreI
         behind = o.behind;
       }
 
-  -- one more block answer is sent, to a poll that has been received now, whose round is not below
-  -- the newest
+  -- one more block answer is sent, to a poll that has just been received, whose round is not below that of the newest
   pub answers-more : (f : SentFrame) (r : ℕ) → f.round ≡ r → next ≤ r + 1
       → BlockAnswersAreInOrder (frames ++ f ∷ []) last round (r + 1)
   answers-more f r is high =

@@ -100,7 +100,7 @@ module _ (settings : Settings) (first filter behind between : ℕ) (last now : M
             ]
       ]
 
-  -- so is all from that end on
+  -- so is everything from that end on
   pub all_young_since : AllByRecursion (IsYoung (between + behind) filter (life_of now.history)) (drop end (log_of (life_of now.history)))
   all_young_since =
       let log = log_of (life_of now.history) in
@@ -111,7 +111,7 @@ module _ (settings : Settings) (range : AreInRange settings) (first filter behin
     (all_taken : next_round last.polls ≡ last.round) (a : IsAlong settings range first base last)
     (young : AllByRecursion (IsYoung behind filter (life_of last.history)) (drop (end_recorded settings last) (log_of (life_of last.history))))
     (t : LeadsInTime settings first between last last now) where
-  -- so is all that the record lacks
+  -- so is everything that the record lacks
   pub lacks_only_young_since : LacksOnlyYoung (between + behind) filter settings now
   lacks_only_young_since =
       let rises = end_recorded-later settings range first base last now t.leads_on.events t.leads_on.no_restart t.leads_on.leads all_taken a in

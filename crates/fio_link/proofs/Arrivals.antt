@@ -50,7 +50,7 @@ loads-grown (LineSynced ∷ later) life =
 loads-grown (Commanded (commands.LoadCounter load) ∷ later) life = loads-grown later life
 loads-grown (other ∷ later) life = loads-grown later life
 
--- what was logged since a time was logged after as many loads at least
+-- what was logged since a time was logged after at least that many loads
 abbrev HasLoadsSince : ℕ → Transition → Type 0
 HasLoadsSince least transition = least ≤ transition.loads
 
@@ -160,7 +160,7 @@ module _ (settings : Settings) (opened filter scans most : ℕ) (life later : Li
       got_punctual most filter made_since.made made_since.punctual
       ∙ ap (λ ts. map (λ transition. EntryPiece (entry_of transition)) ts) are_logged
 
-  -- each of them was logged after as many loads at least as there had been
+  -- each of them was logged after at least as many loads as there had been
   logged_loads : AllByRecursion (HasLoadsSince (loads_of life)) in_blocks
   logged_loads =
       let start = length (log_of life) in
@@ -198,7 +198,7 @@ module _ (settings : Settings) (opened filter scans most : ℕ) (life later : Li
   young_now =
       subst (λ n. AllByRecursion (IsYoung (scans_behind scans later life) filter now) (drop n (log_of now))) waits_from_end keeps_now.young
 
-  -- few are left at the end of a clean round
+  -- few remain at the end of a clean round
   pub few_left : (length (log_of now) - newest_end settings now) * filter
       ≤ opened * (scans_behind scans later life + (filter - 1))
   few_left =

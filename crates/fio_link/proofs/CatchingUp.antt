@@ -11,7 +11,7 @@ use Rattle.fio_link.proofs.Settled.{IsOpen, goes_on, recorded_end}
 abbrev pub waits : Settings → Life → ℕ
 waits settings life = length (waiting_of settings life)
 
--- a new poll takes as many as a block holds
+-- a new poll takes a whole block of entries, or all that wait
 new_poll_takes : (settings : Settings) (life : Life) (number : ℕ) → is_new (newest_poll life) number ≡ true
     → waits settings (Commanded (commands.Poll number) ∷ life) ≡ waits settings life - settings.per_block
 new_poll_takes settings life number new =
@@ -40,7 +40,7 @@ none_of_length : {A : Type 0} (xs : List A) → length xs ≡ 0 → xs ≡ []
 none_of_length [] none = refl
 none_of_length (x ∷ xs) none = absurd (omega arith)
 
--- where the CPU has taken all blocks, its next poll is new
+-- if the CPU has taken all blocks, its next poll is new
 next_is_new : (first round : ℕ) (polls : List ℕ) (new : Bool) → next_round polls ≡ round
     → is_new (newest_number first polls) (number_of first round) ≡ new → new ≡ true
 next_is_new first round polls true all is = refl
@@ -73,7 +73,7 @@ module _ (settings : Settings) (range : AreInRange settings) (some : 1 ≤ setti
         },
       )
 
-  -- so many clean rounds of a machine that has taken all blocks
+  -- clean rounds of a machine whose CPU has taken all blocks
   rounds : (k : ℕ) (machine : Machine) → IsOpen settings range first machine → HasTakenAll first machine
       → waits settings (life_of machine.history) ≤ k * settings.per_block
       → (later : Machine) × CleanRounds settings first k machine later × HasCaughtUp settings first machine later
@@ -101,7 +101,7 @@ module _ (settings : Settings) (range : AreInRange settings) (some : 1 ≤ setti
         record { same_log = rest.2.same_log ∙ ap log_of r.life; settled = rest.2.settled; recorded = rest.2.recorded },
       )
 
-  -- after one, and as many more as the waiting entries need, the CPU has caught up
+  -- after one clean round, and then one for each block of waiting entries, the CPU has caught up
   pub catches_up : (machine : Machine) → IsOpen settings range first machine → (k : ℕ)
       → waits settings (life_of machine.history) ≤ k * settings.per_block
       → (later : Machine) × CleanRounds settings first (suc k) machine later × HasCaughtUp settings first machine later

@@ -27,7 +27,7 @@ sent-block : (first : ℕ) (machine : Machine) (found : Option Block) → LastWe
 sent-block first machine None s = s
 sent-block first machine (Some block) s = sent-if machine block (block.number == number_of first machine.round) s
 
--- each row keeps it
+-- each event keeps it
 sent_after : (settings : Settings) (first : ℕ) (machine : Machine) (event : Event) → refusal machine event ≡ None
     → LastWereSent machine → LastWereSent (after settings first machine event)
 sent_after settings first machine events.Poll fine s =

@@ -14,8 +14,8 @@ use Rattle.fio_link.proofs.Kept.{after_frame, after_other, after_poll, blocks_if
 use Rattle.fio_link.proofs.HeardRows.{after_taken, InOrder}
 use Rattle.fio_link.proofs.Events.{IsKeptByEvents, once}
 
--- What a poll is answered with: the newest block after it, which is one more where the poll is new, and else the same
--- again.
+-- The answer to a poll: it carries the newest block after the poll, which is one more if the poll is new, and otherwise the
+-- same block again.
 pub record IsAnswered (settings : Settings) (life : Life) (number : ℕ) (new : Bool) : Type 0 where
   pub sending : Sending
   pub is_sent : sending_if settings life number new ≡ Some sending
@@ -146,7 +146,7 @@ module _ (settings : Settings) (range : AreInRange settings) (first : ℕ) where
     abbrev life : Life
     life = life_of machine.history
 
-    -- the frame is a poll with this number, or so it is read
+    -- the frame is a poll with this number, if it is read as one
     pub is_poll : (number : ℕ) → command_in frame.octets ≡ Some (commands.Poll number) → HasPoll machine.to_module place number frame.round
     is_poll number spells = record { frame = frame; at_place = at; spells = ap polled_number spells; of_round = refl }
 
@@ -169,7 +169,7 @@ module _ (settings : Settings) (range : AreInRange settings) (first : ℕ) where
     order_received : InOrder first (after_delivery_to_module settings machine (place + 1) (Some frame))
     order_received = order_frame (command_in frame.octets) refl
 
-  -- each row but a restart keeps it
+  -- each event but a restart keeps it
   pub order_rows : IsKeptByEvents settings first (InOrder first) (InOrder first)
   order_rows =
       record {

@@ -9,7 +9,7 @@ unfoldable pub done : Settings → Machine → List Event → Machine
 done settings machine [] = machine
 done settings machine (event ∷ events) = done settings (after settings 0 machine event) events
 
--- so many scans after so many
+-- n such scans after others
 unfoldable pub dense : ℕ → ℕ → ℕ → List Event
 dense filter from zero = []
 dense filter from (suc n) = events.Scan (levels_at filter from) ∷ dense filter (from + 1) n
@@ -28,13 +28,13 @@ unfolding dense
 no_restart filter from zero = tt
 no_restart filter from (suc n) = (tt, no_restart filter (from + 1) n)
 
--- and are as many as they are
+-- and the number of scans is at most that
 pub few_scans : (filter from n : ℕ) → scans_among (dense filter from n) ≤ n
 unfolding dense
 few_scans filter from zero = omega arith
 few_scans filter from (suc n) = omega (arith, few_scans filter (from + 1) n)
 
--- nor later than so many
+-- nor do they come later than that many scans
 pub dense_in_time : (settings : Settings) (earlier machine : Machine) (filter from n : ℕ) → IsWithin 0 earlier machine
     → LeadsInTime settings 0 n earlier machine (done settings machine (dense filter from n))
 dense_in_time settings earlier machine filter from n within =

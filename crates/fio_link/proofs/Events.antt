@@ -44,7 +44,7 @@ after_delivery P frames last index fine each =
     let here = sym (frame_at_place frames d.place ∙ d.found) in
     subst (λ n. P n (item_numbered frames n)) (sym at) (subst (P (d.place + 1)) here (each d.place d.frame le d.found))
 
--- What is to be shown of a property of machines, event by event, where these facts are known of the machine before.
+-- What has to be shown of a property of machines, event by event, if these facts are known of the machine before.
 pub record IsKeptByEvents (settings : Settings) (first : ℕ) (Known P : Machine → Type 0) : Type 0 where
   pub scans : (machine : Machine) (raw : ℕ) → Known machine
       → P machine → P (after_module_event machine (module_events.Scan raw))
@@ -97,7 +97,7 @@ module _ (settings : Settings) (first : ℕ) where
         (λ place frame le at. after_heard first machine (always machine i) P place frame le at
         (k.passes machine (place + 1) i le p) (λ answer has. k.takes machine place answer i has p))
 
-    -- and so do all events of a run, where each keeps what is known
+    -- and so do all events of a run, if each keeps what is known
     pub along : ((machine : Machine) → Known machine → (event : Event) → IsNotRestart event → refusal machine event ≡ None
         → Known (after settings first machine event))
         → (events : List Event) (machine last : Machine) → HaveNoRestart events → Leads settings first machine events last

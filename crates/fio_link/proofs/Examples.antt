@@ -31,7 +31,7 @@ opened input =
       items = record { input = input; ignore = false; leading = 1; trailing = 1 } ∷ [];
     }))
 
--- all inputs are 1 but for input 0
+-- all inputs are 1 except input 0
 abbrev zero_low : ℕ
 zero_low = 2 ^ 64 - 2
 
@@ -87,7 +87,7 @@ restarted : ending (done (standard_settings 2) 0 start (opened 0 ∷ ToModule 1 
 unfolding message_in is_set wide_time_of transitions_below
 restarted = refl
 
--- and where the answer from before the restart is lost, so is its entry, with no gap mark
+-- and if the answer from before the restart is lost, so is its entry, with no gap mark
 lost_over_restart : (done (standard_settings 2) 0 start (opened 0 ∷ ToModule 1 ∷ Scan zero_low ∷ Poll ∷ ToModule 2 ∷ Restart
     ∷ ToModule 2 ∷ ToCpu 3 ∷ [])).items
     ≡ []
@@ -102,16 +102,16 @@ not_sent_to_cpu = refl
 not_sent_to_module : refusal start (ToModule 0) ≡ Some (NotSent 0)
 not_sent_to_module = refl
 
--- a frame behind the one delivered last
+-- a frame before the one delivered last
 out_of_order : refusal (done (standard_settings 2) 0 start (Poll ∷ Poll ∷ ToModule 2 ∷ [])) (ToModule 1) ≡ Some (OutOfOrder 1 2)
 unfolding message_in
 out_of_order = refl
 
--- where both apply, that it was not sent comes first
+-- if both apply, the refusal is that it was not sent
 not_sent_comes_first : refusal (done (standard_settings 2) 0 start (Poll ∷ ToModule 1 ∷ [])) (ToModule 0) ≡ Some (NotSent 0)
 unfolding message_in
 not_sent_comes_first = refl
 
--- a poll that is given to be sent
+-- the command to send is a poll
 poll_is_ours : refusal start (Send (commands.Poll 0)) ≡ Some PollIsOurs
 poll_is_ours = refl

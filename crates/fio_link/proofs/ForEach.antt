@@ -123,7 +123,7 @@ module _ (settings : Settings) (range : AreInRange settings) (first : ℕ) (mach
         };
       }
 
--- where a link is polled in time for each input
+-- if a link is polled in time for each input
 pub all_arrives_for_each : (settings : Settings) (range : AreInRange settings) (first : ℕ) (machine : Machine) → IsOpen settings range first machine
     → AllArrivesForEach settings first machine
 all_arrives_for_each settings range first machine o = all_arrives_for settings range first machine o

@@ -23,7 +23,8 @@ low = Scan (2 ^ 64 - 2)
 abbrev high : Event
 high = Scan (2 ^ 64 - 1)
 
--- Input 0 is opened, and changes. Two answers to the poll for block 0 are sent; the first is taken, and block 1 is asked for.
+-- Input 0 is opened, and changes. Two answers to the poll for block 0 are sent; the first is taken, and block 1 is polled
+-- for.
 abbrev earlier : List Event
 earlier =
     Send (commands.ConfigureInputs (record { items = record { input = 0; ignore = false; leading = 1; trailing = 1 } ∷ [] }))
@@ -32,7 +33,7 @@ earlier =
 unfoldable machine1 : Machine
 machine1 = done start earlier
 
--- Now the CPU begins again. It hears the second answer, so that it asks for block 1 twice over; the first of these polls is
+-- Now the CPU begins again. It hears the second answer, so it polls for block 1 a second time. The first of these polls is
 -- from before, and makes the module number two blocks past those that the CPU takes.
 abbrev events : List Event
 events =

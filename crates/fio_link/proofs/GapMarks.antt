@@ -11,7 +11,7 @@ some_pushed before len limit lost = grind (arith, nat_tests)
 abbrev got : List Transition → List Piece
 got transitions = map (λ transition. EntryPiece (entry_of transition)) transitions
 
--- a gap mark is behind these entries
+-- a gap mark comes after these entries
 record StandsBehind (front back : List Piece) (place : ℕ) : Type 0 where
   pub behind : ℕ
   pub there : slice_get back behind ≡ Some Gap
@@ -25,7 +25,7 @@ behind_entries (t ∷ transitions) back (suc place) is =
     let rest = behind_entries transitions back place is in
     record { behind = rest.behind; there = rest.there; before = ap (λ ps. EntryPiece (entry_of t) ∷ ps) rest.before }
 
--- it is that of a block, or is behind what the block is in the record
+-- it is that of a block, or comes after what the block adds to the record
 behind_block : (lost : Bool) (transitions : List Transition) (back : List Piece) (place : ℕ)
     → slice_get (((if lost then Gap ∷ [] else []) ++ got transitions) ++ back) place ≡ Some Gap
     → ((place ≡ 0) × (lost ≡ true)) ⊎ StandsBehind ((if lost then Gap ∷ [] else []) ++ got transitions) back place

@@ -76,7 +76,7 @@ grown_alone low from next round polled base to (first ∷ own) block c high upto
       taken = ap (λ bs. bs ++ []) kept;
     }
 
--- behind the lives before it
+-- after the lives before it
 pub grown : (low from next round polled base to : ℕ) (past : List Span) (own : List MadeBlock) (block : MadeBlock)
     → Chain low from (past ++ Of own base to ∷ []) next round
     → next ≤ polled + 1 → polled ≤ round → round ≤ polled + 1 → (own ≡ []) ⊎ (polled ≡ next)
@@ -124,7 +124,7 @@ pub record EndsWith (made : List (List MadeBlock)) (own : List MadeBlock) (spans
   pub are : spans ≡ past ++ Of own base to ∷ []
   pub before : map made_in past ≡ made
 
--- behind one more
+-- after one more
 ends_behind : (blocks : List MadeBlock) (made : List (List MadeBlock)) (own others : List MadeBlock) (base to : ℕ) (spans : List Span)
     → others ≡ blocks → EndsWith made own spans → EndsWith (blocks ∷ made) own (Of others base to ∷ spans)
 ends_behind blocks made own others base to spans same rest =

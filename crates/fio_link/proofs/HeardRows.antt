@@ -43,8 +43,8 @@ module _ (first : ℕ) (machine : Machine) (i : InOrder first machine) where
       let high : next_round machine.polls ≤ machine.round + 1 = i.at_most in
       rounds_from_numbers first round machine.round (omega arith) near (sym named ∙ alike)
 
-  -- the CPU hears a frame: what holds of the machine where it takes nothing, and where it takes the
-  -- block of its round, holds of the machine after it
+  -- the CPU hears a frame: what holds of the machine if it takes nothing, and what holds if it takes the block of its round,
+  -- holds of the machine after it
   pub after_heard : (P : Machine → Type 0) (place : ℕ) (frame : SentFrame) → machine.last_to_cpu ≤ place + 1
       → slice_get machine.to_cpu place ≡ Some frame
       → P (record machine { last_to_cpu = place + 1 })

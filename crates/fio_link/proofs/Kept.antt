@@ -28,7 +28,7 @@ pub record Invariant (first : ℕ) (log : List Transition) (blocks : List MadeBl
   pub carry : AnswersCarryMade first blocks makers machine.to_cpu
   pub rising : RecordRises log blocks makers limit machine.round machine.items
 
--- the same for a machine, of what has reached its module
+-- the same for a machine, about what has reached its module
 abbrev pub HasInvariant : Settings → ℕ → Machine → Type 0
 HasInvariant settings first machine =
     Invariant first (whole_log machine.history) (all_blocks settings machine.history) (reached settings machine.history)
@@ -41,7 +41,7 @@ abbrev pub Meets : Bool → ℕ → Option ℕ → ℕ → ℕ → Type 0
 Meets true round latest number next = is_out_of_sequence latest number ≡ false
 Meets false round latest number next = round + 1 ≡ next
 
--- where a poll was received before
+-- if a poll was received before
 meets_some : (first round number before : ℕ) (polls older : List ℕ) (new : Bool)
     → map (number_of first) polls ≡ before ∷ older
     → number ≡ number_of first round → round ≤ next_round polls → next_round polls ≤ round + 1
@@ -73,8 +73,8 @@ meets first round number (Some before) polls numbers new known newest numbered l
     let n = newest before refl in
     meets_some first round number before polls n.0 new (known ∙ n.1) numbered low high is
 
--- it holds of a machine whose module has another history too, where the record rises through its log, and the
--- latest poll of its present life, if any, is the same
+-- it also holds of a machine whose module has another history, if the record rises through its log, and the latest poll of
+-- its present life, if any, is the same
 pub keeps_history : (first : ℕ) (log log' : List Transition) (blocks : List MadeBlock) (limit limit' : ℕ)
     (latest latest' : Option ℕ) (numbers makers : List ℕ) (machine : Machine) (history : History)
     → Invariant first log blocks limit latest numbers makers machine

@@ -1,4 +1,4 @@
--- Links that are kept up with: what holds at the end of each round, also where rounds are lost.
+-- Links that are kept up with: what holds at the end of each round, also if rounds are lost.
 use Rattle.fio_link.proofs.Names.{◌≡◌, ℕ, zero, suc, ◌+◌, ◌-◌, ◌*◌, ◌≤◌, List, [], ◌∷◌, ◌++◌, length, drop, Some, slice_get, refl, ap, sym, subst, ◌∙◌, arith, append_assoc, mul-le-mul_left, mul-le-mul_right, scans_in, Settings, AreInRange, Life, life_of, scans_of, filter_events, log_of, newest_end, blocks_of, AtEachTime, scans_behind, ends-grow, log-grown, behind_more, behind_each, after_block, scans_of-append, Machine, HasTakenAll, Pause, left_behind, BeginNear, IsWithin}
 use Rattle.fio_module.specs.KeepingUp.{KeepsUp}
 use Rattle.fio_link.specs.KeptUp.{scans_of_pause, RoundsAfter, receipts_of}
@@ -20,7 +20,7 @@ module _ (settings : Settings) (range : AreInRange settings) (first : ℕ) (base
     abbrev IsNear : Life → Type 0
     IsNear later = AtEachTime (λ l. scans_behind scans l life ≤ most) later
 
-    -- what holds at the end of a round, whose poll was received so many scans before
+    -- what holds at the end of a round whose poll was received some scans before
     pub record Reached (behind : ℕ → ℕ) (receipts : List Machine) (receipt last : Machine) (later : Life) : Type 0 where
       pub so_far : ℕ
       pub since_receipt : scans_of (life_of last.history) ≡ scans_of (life_of receipt.history) + so_far
@@ -52,7 +52,7 @@ module _ (settings : Settings) (range : AreInRange settings) (first : ℕ) (base
         let nothing_more : 0 * (settings.per_block * filter) ≡ 0 = grind arith in
         record { logged = omega arith; few = λ some_left. omega arith }
 
-    -- how far the blocks were behind when the poll so many rounds earlier was received
+    -- how far the blocks were behind when the poll that many rounds earlier was received
     abbrev behind_at : List Pause → ℕ → ℕ
     behind_at pauses rounds = left_behind scans (drop rounds pauses)
 
@@ -140,7 +140,7 @@ module _ (settings : Settings) (range : AreInRange settings) (first : ℕ) (base
         let s = has_stretch settings range first base pause rounds.0 rounds.1 receipt last r.1.at_end r.1.all_taken rounds.3 in
         next_reached pause pauses (receipts_of settings first base pauses rounds.0 rounds.1 rounds.2) rounds.0 rounds.1 receipt last r.0 r.1 s near.0
 
--- the blocks are never more behind than they may be
+-- the blocks are never further behind than they may be
 left_within : (scans most : ℕ) (pauses : List Pause) → BeginNear scans most pauses → left_behind scans pauses ≤ most
 left_within scans most [] near = omega arith
 left_within scans most (pause ∷ pauses) near = omega (arith, near.0)

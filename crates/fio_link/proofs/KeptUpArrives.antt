@@ -41,7 +41,7 @@ module _ (settings : Settings) (range : AreInRange settings) (first : ℕ) (base
       abbrev made : HasMade settings filter most life later
       made = made_since settings opened filter scans most life later ends kept (r.near near)
 
-      -- where the record stands
+      -- how far the record goes
       stands : end_recorded settings last ≡ newest_end settings (later ++ life)
       stands = recorded_end settings last r.all_taken.answered ∙ ap (newest_end settings) r.since
 

@@ -1,10 +1,10 @@
--- What blocks leave of what had been logged before an earlier time.
+-- What blocks do not take of what had been logged before an earlier time.
 use Rattle.fio_link.proofs.Names.{◌≡◌, ℕ, zero, suc, ◌+◌, ◌-◌, ◌*◌, ◌<◌, ◌≤◌, ◌++◌, length, refl, ap, arith, mul-le-mul_right, Settings, Life, log_of, newest_end, blocks_of, log-grown}
 use Rattle.std.proofs.Common.{min}
 use Rattle.fio_module.proofs.Stretches.{end_after_block}
 
--- What blocks take of what had been logged before an earlier time: all, or so many whole blocks of
--- what is left at most.
+-- What blocks take of what had been logged before an earlier time: everything, or `rounds` whole blocks of what at most
+-- remained.
 pub record LeftOf (settings : Settings) (filter most rounds : ℕ) (begin now : Life) : Type 0 where
   pub logged : length (log_of begin) ≤ length (log_of now)
   pub few :
@@ -38,7 +38,7 @@ module _ (settings : Settings) (filter : ℕ) where
             omega arith;
       }
 
-  -- so where nothing can be left after so many blocks, nothing is
+  -- so if nothing can remain after that many blocks, nothing does
   pub none_left : 1 ≤ filter → (limit rounds : ℕ) (begin now : Life) → LeftOf settings filter limit rounds begin now
       → limit ≤ rounds * (settings.per_block * filter) → length (log_of begin) ≤ newest_end settings now
   none_left some limit rounds begin now l few =

@@ -1,4 +1,4 @@
--- Where few rounds are lost, the blocks are never far behind.
+-- If few rounds are lost, the blocks are never far behind.
 use Rattle.fio_link.proofs.Names.{◌≡◌, ℕ, zero, suc, ◌+◌, ◌-◌, ◌*◌, ◌<◌, ◌≤◌, ◌⊎◌, max, Bool, true, false, List, [], ◌∷◌, ◌++◌, take, drop, refl, ap, ◌∙◌, arith, inl, inr, AllZip, mul-le-mul_left, mul-le-mul_right, cases_lt, Pause, left_behind, BeginNear}
 use Rattle.std.specs.Prelude.{replicate}
 use Rattle.fio_link.specs.LostRounds.{lost_among, FewAreLost, rounds_of, HasLost, LostRoundsArePossible}
@@ -47,12 +47,12 @@ split-lost (suc n) m [] = let same : suc n + m ≡ suc (n + m) = omega arith in 
 split-lost (suc n) m (true ∷ rounds) = let same : suc n + m ≡ suc (n + m) = omega arith in let here = ap (λ k. lost_among (take k (true ∷ rounds))) same in let rest = split-lost n m rounds in omega arith
 split-lost (suc n) m (false ∷ rounds) = let same : suc n + m ≡ suc (n + m) = omega arith in let here = ap (λ k. lost_among (take k (false ∷ rounds))) same in let rest = split-lost n m rounds in omega arith
 
--- the clean ones among the first so many, where there are so many
+-- the clean ones among the first n rounds, if there are n
 abbrev cleans : ℕ → List Bool → ℕ
 cleans n rounds = n - lost_among (take n rounds)
 
 module _ (scans pace each lost : ℕ) (slow : pace ≤ scans) (enough : each * pace + lost * scans ≤ each * scans) where
-  -- so many rounds make up for their scans, but for those of the lost ones
+  -- n rounds make up for their scans, except those of the lost ones
   record MakesUp (n : ℕ) (rounds : List Bool) : Type 0 where
     pub all : pace * n ≤ scans * cleans n rounds + pace * lost
     -- and for the scans that a block of an answer lost before them does not make up for
@@ -106,7 +106,7 @@ module _ (scans pace each lost : ℕ) (slow : pace ≤ scans) (enough : each * p
             (makes_up fuel (n - (each + 1)) (drop (each + 1) rounds) (omega arith) (few-later (each + 1) lost (each + 1) rounds few))
       ]
 
-  -- how far the blocks are behind after each round, lost ones too
+  -- how far the blocks are behind after each round, lost or not
   abbrev after_round : List Bool → ℕ
   after_round [] = 0
   after_round (false ∷ rounds) = after_round rounds + pace
@@ -223,7 +223,7 @@ module _ (scans pace each lost : ℕ) (slow : pace ≤ scans) (enough : each * p
       let spread : (lost + 1) * pace ≡ pace * lost + pace = grind arith in
       (omega (arith, all.0.settled, all.0.untaken), begin_near pauses losses all.1 (few-older l rounds few.1))
 
--- so many lost rounds are possible
+-- lost rounds within these limits are possible
 pub lost_rounds_are_possible : LostRoundsArePossible
 lost_rounds_are_possible scans pace each lost pauses l slow enough =
     begin_near scans pace each lost slow enough pauses l.0 l.1 l.2

@@ -2,7 +2,7 @@
 use Rattle.fio_link.proofs.Names.{◌≡◌, ℕ, zero, suc, ◌^◌, ◌<◌, ◌≤◌, Bool, true, false, List, [], ◌∷◌, ◌++◌, length, take, drop, map, Some, slice_get, subst, arith, length-take, if◌then◌else◌, AllByRecursion, IsEntry, Poll, Settings, Life, Scanned, Commanded, Transition, entry_of, log_of, transition_at, is_reported, filter_events, MadeBlock, newest_poll, is_new, blocks_of, next_block, newest_end, start_after, count_from}
 use Rattle.fio_module.specs.Log.{transitions_below}
 
--- all elements of two lists are all of both
+-- what holds of each element of two lists holds of each of both together
 pub each-append : {A : Type 0} (P : A → Type 0) (xs ys : List A) → AllByRecursion P xs → AllByRecursion P ys
     → AllByRecursion P (xs ++ ys)
 each-append P [] ys p q = q
@@ -15,7 +15,7 @@ each-take P zero xs p = tt
 each-take P (suc n) [] p = tt
 each-take P (suc n) (x ∷ xs) p = (p.0, each-take P n xs p.1)
 
--- and so are the last
+-- and of the last ones
 pub each-drop : {A : Type 0} (P : A → Type 0) (n : ℕ) (xs : List A) → AllByRecursion P xs
     → AllByRecursion P (drop n xs)
 each-drop P zero xs p = p
@@ -35,7 +35,7 @@ each-at P [] k x p is = absurd (cc is)
 each-at P (y ∷ ys) zero x p is = let same : y ≡ x = cc in subst P same p.0
 each-at P (y ∷ ys) (suc k) x p is = each-at P ys k x p.1 is
 
--- where one more block is made, or none
+-- if one more block is made, or none
 each_block-if : (P : MadeBlock → Type 0) (new : Bool) (blocks : List MadeBlock) (block : MadeBlock)
     → AllByRecursion P blocks → P block → AllByRecursion P (if new then blocks ++ block ∷ [] else blocks)
 each_block-if P true blocks block all one = each-append P blocks (block ∷ []) all (one, tt)
@@ -83,7 +83,7 @@ pub entries_fit : (transitions : List Transition) → AllByRecursion HasInput tr
 entries_fit [] p = tt
 entries_fit (transition ∷ transitions) p = ((omega (arith, p.0), omega arith), entries_fit transitions p.1)
 
--- a block whose answer is in its ranges
+-- a block whose answer is within its ranges
 pub record FitsAnswer (per_block : ℕ) (block : MadeBlock) : Type 0 where
   pub count : length block.transitions ≤ per_block
   pub inputs : AllByRecursion HasInput block.transitions

@@ -10,8 +10,8 @@ makers_after (Some number) latest makers [] = makers []
 makers_after (Some number) latest makers (round ∷ older) =
     if is_new latest number then makers older ++ round ∷ [] else makers older
 
--- the rounds of the polls that made the blocks of all lives, oldest first, where the polls received
--- have these rounds, newest first
+-- the rounds of the polls that made the blocks of all lives, oldest first, given the rounds of the polls received, newest
+-- first
 abbrev pub makers_of : History → List ℕ → List ℕ
 makers_of [] polls = []
 makers_of (Received octets ∷ history) polls =

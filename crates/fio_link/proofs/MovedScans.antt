@@ -36,7 +36,7 @@ heard-then settings first machine (Raise mask) index is =
     heard-frame first machine (module_events.Raise mask) index (item_numbered machine.to_cpu index)
 heard-then settings first machine other index is = absurd is
 
--- a poll moves behind such events
+-- a poll moves after such events
 poll_later : (settings : Settings) (first : ℕ) (machine last : Machine) (events rest : List Event)
     → AllByRecursion ReachesModule events → Leads settings first machine (Poll ∷ (events ++ rest)) last
     → Leads settings first machine (events ++ Poll ∷ rest) last

@@ -18,7 +18,7 @@ get_from_take (suc n) (y ∷ xs) (suc k) x low is = get_from_take n xs k x (omeg
 get_from_map : {A B : Type 0} (f : A → B) (xs : List A) (k : ℕ) (x : A) → slice_get xs k ≡ Some x → slice_get (map f xs) k ≡ Some (f x)
 get_from_map f xs k x is = slice_get-map f xs k ∙ ap (option_map f) is
 
--- where the record has gained all at the end of a clean round, and what it lacked then was young, so many scans before now
+-- if the record has gained everything at the end of a clean round, and what it lacked then, some scans before now, was young
 module _ (settings : Settings) (range : AreInRange settings) (first filter most behind between : ℕ) (machine last now : Machine) (some : 1 ≤ filter)
     (o : IsOpen settings range first last) (all_taken : next_round last.polls ≡ last.round)
     (whole : HasGainedAll settings machine last) (times : HaveTheirTimes settings filter most machine last)

@@ -36,7 +36,7 @@ abbrev pub InOneLife : ℕ → List Transition → List MadeBlock → List MadeB
 InOneLife first log past blocks latest makers machine =
     OneLife first log past blocks latest makers machine.polls machine.round machine.items machine.to_cpu
 
--- blocks behind nothing are where they were
+-- blocks moved by nothing are where they were
 behind_nothing : (blocks : List MadeBlock) → map (behind 0) blocks ≡ blocks
 behind_nothing [] = refl
 behind_nothing (block ∷ blocks) =
@@ -57,8 +57,8 @@ all_in_life settings history no_log no_blocks =
     ∙ ap (λ (log : List Transition). map (behind (length log)) own) no_log
     ∙ behind_nothing own
 
--- what a poll of a round is to a module whose polls, all of one life, have these rounds: a new one
--- is of the next round, and another repeats the newest
+-- what a poll of a round is to a module whose polls, all in one life, have these rounds: a new poll is of the next round,
+-- and any other repeats the newest
 abbrev pub Continues : Bool → ℕ → List ℕ → Type 0
 Continues true round polls = (round ≡ next_round polls) × (is_repeated round polls ≡ false)
 Continues false round polls = (round + 1 ≡ next_round polls) × (is_repeated round polls ≡ true)
@@ -80,7 +80,7 @@ continues first round number (s ∷ ss) false numbered low high is =
     let same : s ≡ round = rounds_from_numbers first s round (omega arith) (omega arith) (alike ∙ numbered) in
     (omega arith, grind (arith, nat_tests))
 
--- what is known of a poll that is received after these, where the latest of the present life is the newest of them
+-- what is known of a poll that is received after these, if the latest of the present life is the newest of them
 pub record ContinuesPolls (first : ℕ) (polls : List ℕ) (latest : Option ℕ) (number round : ℕ) : Type 0 where
   pub named : number ≡ number_of first round
   pub fits : number ≤ 255

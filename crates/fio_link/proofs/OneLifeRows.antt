@@ -1,4 +1,4 @@
--- Each row of the link machine but a restart keeps what runs without restarts keep.
+-- Each event of the link machine but a restart keeps what runs without restarts keep.
 use Rattle.fio_link.proofs.Names.{◌≡◌, ℕ, ◌+◌, ◌≤◌, Bool, true, false, List, [], ◌∷◌, length, Option, Some, slice_get, refl, ap, sym, subst, ◌∙◌, arith, option_map, Command, answer_octets, Block, command_in, polled_number, Settings, AreInRange, Life, life_of, life_after_command, newest_poll, is_new, blocks_of, next_block, Sending, answer_of_sending, first_sending, repeat_of, answer_if, Event, SentFrame, Machine, start, number_of, answer_frames, polls_with, after_delivery_to_module, after, Leads, IsRun, HasBlock, HaveNoRestart, blocks_in, next_round}
 use Rattle.fio_message.specs.declared.commands.Command.TheVariants as commands
 use Rattle.fio_link.specs.Rounds.{CarriesBlockOf}
@@ -118,7 +118,7 @@ pub record IsKept (settings : Settings) (first : ℕ) (machine : Machine) : Type
   pub one_life : HasOneLife settings first machine
 
 module _ (settings : Settings) (range : AreInRange settings) (first : ℕ) where
-  -- each row but a restart keeps it
+  -- each event but a restart keeps it
   one_life_rows : IsKeptByEvents settings first (HasInvariant settings first) (HasOneLife settings first)
   one_life_rows =
       record {

@@ -5,7 +5,7 @@ use Rattle.fio_link.specs.KeptUp.{AreInTime, RoundIsInTime, RoundWithNothingBetw
 use Rattle.fio_link.proofs.MadeBlocks.{each-map}
 use Rattle.fio_link.proofs.Grown.{grows, scans_grown, leads_on-then}
 
--- pauses in time leave no more behind than a lost answer keeps
+-- after pauses in time the blocks are no further behind than a lost answer can keep them
 pub left_in_time : (scans untaken : ℕ) (pauses : List Pause) → AreInTime scans untaken pauses → left_behind scans pauses ≤ untaken
 left_in_time scans untaken [] all = omega arith
 left_in_time scans untaken (pause ∷ pauses) all =
@@ -19,7 +19,7 @@ begin_in_time scans untaken most near (pause ∷ pauses) all =
     let rest = left_in_time scans untaken pauses all.1 in
     (omega (arith, all.0.few), begin_in_time scans untaken most near pauses all.1)
 
--- nor more than the outage left
+-- nor further than after the outage
 left_after : (scans untaken most : ℕ) (later earlier : List Pause) → AreInTime scans untaken later
     → left_behind scans earlier ≤ most - scans → scans + untaken ≤ most → left_behind scans (later ++ earlier) ≤ most - scans
 left_after scans untaken most [] earlier all low near = low
@@ -84,7 +84,7 @@ arrives-later settings first opened filter scans most behind more machine receip
           };
     }
 
--- where a link is polled in time
+-- if a link is polled in time
 pub all_arrives_in_time : (settings : Settings) → AreInRange settings → (first : ℕ) (machine : Machine)
     → AllArrivesWhereKeptUpWith settings first machine → AllArrivesInTime settings first machine
 all_arrives_in_time settings range first machine arrive wide opened filter scans untaken pauses receipt last later p =

@@ -17,7 +17,7 @@ pieces-append settings life from next to (Gap ∷ ps) qs p q =
 abbrev got : List Transition → List Piece
 got transitions = map (λ transition. EntryPiece (entry_of transition)) transitions
 
--- transitions that are in the log one after the other are pieces of it
+-- successive transitions of the log are pieces of it
 run_of_log : (settings : Settings) (life : Life) (from : ℕ) (ts : List Transition)
     → ((i : ℕ) (t : Transition) → slice_get ts i ≡ Some t → slice_get (log_of life) (from + i) ≡ Some t)
     → ArePieces settings life from (got ts) (from + length ts)
@@ -40,7 +40,7 @@ pub part_stands : (log : List Transition) (per_block : ℕ) (block : MadeBlock) 
 part_stands log per_block block part i t is =
     get_part (block.end - block.start) block.start log i t (ap (λ ts. slice_get ts i) (sym part.transitions) ∙ is)
 
--- and there are as many
+-- and their number is that of the places
 pub part_count : (log : List Transition) (per_block : ℕ) (block : MadeBlock) → IsPartOf log per_block block
     → block.start + length block.transitions ≡ block.end
 part_count log per_block block part =
@@ -116,7 +116,7 @@ taken_are_pieces settings life m within =
     blocks_pieces settings life 0 (take m blocks) (follow-take (log_of life) settings.per_block 0 m blocks (blocks_follow settings life))
     (λ k block is. contains_found blocks k block (get_in_take m blocks k block is))
 
--- the element at a place begins what is left from there
+-- the element at an index begins what remains of the list from there
 pub drop_found : {A : Type 0} (xs : List A) (k : ℕ) (x : A) → slice_get xs k ≡ Some x
     → drop k xs ≡ x ∷ drop (k + 1) xs
 drop_found [] k x is = absurd (cc is)
@@ -125,7 +125,7 @@ drop_found (y ∷ ys) (suc k) x is =
     let next : suc (k + 1) ≡ suc k + 1 = omega arith in
     drop_found ys k x is ∙ ap (λ n. x ∷ drop n (y ∷ ys)) next
 
--- pieces begin what is left of the log from their first place
+-- pieces begin what remains of the log from their first place
 begin_rest : (settings : Settings) (life : Life) (from : ℕ) (pieces : List Piece) (to : ℕ)
     → ArePieces settings life from pieces to
     → (rest : List Entry) × (drop from (map entry_of (log_of life)) ≡ until_gap pieces ++ rest)

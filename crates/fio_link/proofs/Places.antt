@@ -2,14 +2,14 @@
 use Rattle.fio_link.proofs.Names.{◌≡◌, ℕ, zero, suc, ◌+◌, ◌<◌, ◌⊎◌, List, [], ◌∷◌, ◌++◌, length, take, drop, Some, slice_get, refl, ap, ◌∙◌, arith, inl, inr, slice_get_within, get_or_from_slice_get}
 use Rattle.std.proofs.lemmas.List.{take_more}
 
--- what is in a list is there after a push
+-- what is in a list is still there after a push
 pub get_before_push : {A : Type 0} (xs ys : List A) (k : ℕ) (y : A) → slice_get xs k ≡ Some y
     → slice_get (xs ++ ys) k ≡ Some y
 get_before_push [] ys k y h = absurd cc
 get_before_push (x ∷ xs) ys zero y h = h
 get_before_push (x ∷ xs) ys (suc k) y h = get_before_push xs ys k y h
 
--- what is pushed is behind all others
+-- what is pushed comes after everything else
 pub get_push : {A : Type 0} (xs : List A) (x : A) → slice_get (xs ++ x ∷ []) (length xs) ≡ Some x
 get_push [] x = refl
 get_push (z ∷ zs) x = get_push zs x
@@ -28,7 +28,7 @@ pub take_one_more : {A : Type 0} (xs : List A) (k : ℕ) (x : A) → slice_get x
     → take (k + 1) xs ≡ take k xs ++ x ∷ []
 take_one_more xs k x h = take_more xs k x (slice_get_within xs k x h) ∙ ap (λ y. take k xs ++ y ∷ []) (get_or_from_slice_get xs k x x h)
 
--- something is at each place below the length
+-- there is an element at each index below the length
 pub some_block : {A : Type 0} (xs : List A) (m : ℕ) → m < length xs → (x : A) × (slice_get xs m ≡ Some x)
 some_block [] m h = absurd (omega arith)
 some_block (x ∷ xs) zero h = (x, refl)
@@ -48,7 +48,7 @@ get_part (suc n) (suc p) (y ∷ xs) i x is =
     let shift : suc p + i ≡ suc (p + i) = omega arith in
     ap (λ k. slice_get (y ∷ xs) k) shift ∙ get_part (suc n) p xs i x is
 
--- what is in a list is behind another
+-- what is in a list after another
 pub get_behind : {A : Type 0} (xs ys : List A) (k : ℕ) (y : A) → slice_get ys k ≡ Some y
     → slice_get (xs ++ ys) (length xs + k) ≡ Some y
 get_behind [] ys k y is = let same : 0 + k ≡ k = omega arith in ap (slice_get ys) same ∙ is

@@ -2,7 +2,7 @@
 use Rattle.fio_link.proofs.Names.{◌≡◌, ℕ, ◌+◌, ◌≤◌, List, [], ◌∷◌, ◌++◌, Some, ap, sym, ◌∙◌, arith, poll_in, SentFrame, number_of, HasPoll, PollsAreInOrder}
 use Rattle.fio_link.proofs.SentMessages.{each_more, rise_more}
 
--- where no frame was sent
+-- if no frame was sent
 pub polls-none : (first round next : ℕ) → PollsAreInOrder first [] 0 round next
 polls-none first round next =
     record {

@@ -79,7 +79,7 @@ unfolding life_after
 none_in zero = tt
 none_in (suc n) = none_applied 1 (2 * n) 2 (life_after n) (none_in n)
 
--- what holds after so many rounds
+-- what holds after n rounds
 record HasRun (n : ℕ) : Type 0 where
   is_open : IsOpen settings in_range 0 (after_rounds n)
   all_taken : HasTakenAll 0 (after_rounds n)

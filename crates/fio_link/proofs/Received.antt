@@ -75,24 +75,23 @@ carried_says sending block carried =
       stamp = carried.stamp;
     }
 
--- what is read says that the number was asked for again where the sending does
+-- what is read says that the number was requested again exactly if the sending does
 pub said_again : (sending : Sending) → says_again (said sending).status ≡ sending.again
 said_again sending = (status_back sending.more sending.lost sending.again sending.out_of_sequence).says_again
 
--- and likewise that it is out of sequence
+-- and that it is out of sequence exactly if the sending does
 pub said_out_of_sequence : (sending : Sending)
     → says_out_of_sequence (said sending).status ≡ sending.out_of_sequence
 said_out_of_sequence sending = (status_back sending.more sending.lost sending.again sending.out_of_sequence).says_out_of_sequence
 
--- a sending is there where there is a poll
+-- there is a sending if there is a poll
 sent_with : (latest : Option ℕ) (found : Option Sending) (number : ℕ)
     → latest ≡ option_map (λ sending. sending.number) found
     → latest ≡ Some number → (sending : Sending) × (found ≡ Some sending) × (sending.number ≡ number)
 sent_with latest None number same is = absurd (cc (same, is))
 sent_with latest (Some sending) number same is = (sending, refl, same_Some _ _ (sym same ∙ is))
 
--- the latest sending, where a poll was received: it has the number of the latest poll, and carries
--- the newest block
+-- the latest sending, if a poll was received: it has the number of the latest poll, and carries the newest block
 pub record IsLatestSending (settings : Settings) (life : Life) (polled : ℕ) (sending : Sending) : Type 0 where
   pub is : latest_sending settings life ≡ Some sending
   pub number : sending.number ≡ polled
@@ -101,7 +100,7 @@ pub record IsLatestSending (settings : Settings) (life : Life) (polled : ℕ) (s
   pub made : blocks_of settings life ≡ earlier ++ block ∷ []
   pub carried : Carries sending block
 
--- where a poll was received there is one
+-- if a poll was received, there is one
 pub latest_sent : (settings : Settings) (life : Life) (number : ℕ) → newest_poll life ≡ Some number
     → (sending : Sending) × IsLatestSending settings life number sending
 latest_sent settings life number is =

@@ -4,12 +4,12 @@ use Rattle.fio_link.specs.Restarts.{transitions_of_blocks, pushed_out_before, Lo
 use Rattle.fio_link.proofs.PieceLaws.{part_count}
 use Rattle.fio_link.proofs.StretchesOfLives.{NotBoth}
 
--- where blocks end, those behind them end
+-- the blocks after a first part end where all blocks end
 last_end-split : (start : ℕ) (xs ys : List MadeBlock) → last_end start (xs ++ ys) ≡ last_end (last_end start xs) ys
 last_end-split start [] ys = refl
 last_end-split start (x ∷ xs) ys = last_end-split x.end xs ys
 
--- of blocks that follow one another, those behind the first ones do
+-- if blocks follow one another, so do those after a first part
 follow-behind : (log : List Transition) (per_block start : ℕ) (xs ys : List MadeBlock)
     → FollowOneAnother log per_block start (xs ++ ys) → FollowOneAnother log per_block (last_end start xs) ys
 follow-behind log per_block start [] ys f = f
@@ -32,7 +32,7 @@ counted log per_block start (block ∷ blocks) f =
     let count : block.start + length block.transitions ≡ block.end = part_count log per_block block f.1 in
     omega (arith, length-append block.transitions (transitions_of_blocks blocks), counted log per_block block.end blocks f.2)
 
--- one block has at most so many entries as a block takes
+-- one block has at most the most entries of a block
 few_in_one : (log : List Transition) (per_block start : ℕ) (blocks : List MadeBlock) → length blocks ≤ 1
     → FollowOneAnother log per_block start blocks → length (transitions_of_blocks blocks) ≤ per_block
 few_in_one log per_block start [] le f = omega arith
@@ -128,7 +128,7 @@ has_before settings part stretch =
           none_pushed log settings.per_block 0 part.before front none;
     }
 
--- few are not pushed out, where not both blocks are passed over
+-- few are not pushed out, if not both blocks are missed
 few_of : (per_block waiting : ℕ) (after waits before : List Transition) → (after ≡ []) ⊎ (before ≡ [])
     → length after ≤ per_block → length waits ≤ waiting → length before ≤ per_block
     → length (after ++ (waits ++ before)) ≤ waiting + per_block

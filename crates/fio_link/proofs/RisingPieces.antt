@@ -42,7 +42,7 @@ rise-more entries more a b (EntryPiece e ∷ ps) p =
 abbrev got : List Entry → List Piece
 got entries = map (λ entry. EntryPiece entry) entries
 
--- entries that are one after the other rise
+-- successive entries rise
 rise_run : (entries : List Entry) (from at : ℕ) (es : List Entry) → from ≤ at
     → ((i : ℕ) (e : Entry) → slice_get es i ≡ Some e → slice_get entries (at + i) ≡ Some e)
     → RiseFrom entries from (got es) (at + length es)
@@ -71,7 +71,7 @@ rise_marked : (lost : Bool) (entries : List Entry) (from to stamp : ℕ) (es : L
 rise_marked true entries from to stamp es p = subst (λ ps. RiseFrom entries from ps to) (sym (got_items stamp es)) p
 rise_marked false entries from to stamp es p = subst (λ ps. RiseFrom entries from ps to) (sym (got_items stamp es)) p
 
--- a block that is in the log behind the record rises behind it
+-- a block that comes after the record in the log rises after it
 pub rise_taken : (log : List Transition) (to : ℕ) (record_items : List Item) (answer : Block) (block : MadeBlock)
     → RiseFrom (map entry_of log) 0 (map piece_of record_items) to → to ≤ block.start → StandsIn log block
     → CarriesBlock answer block

@@ -1,4 +1,4 @@
--- Each row of the link machine keeps what every run keeps.
+-- Each event of the link machine keeps what every run keeps.
 use Rattle.fio_link.proofs.Names.{◌≡◌, ℕ, ◌+◌, ◌≤◌, List, [], ◌∷◌, ◌++◌, length, None, Some, refl, ap, sym, subst, arith, length-append, append-nil, Command, command_octets, poll_in, Settings, AreInRange, History, life_of, Transition, log_of, whole_log, MadeBlock, newest_poll, newest_end, blocks_end_within, Event, SentFrame, Machine, start, number_of, refusal, after_module_event, after_sending, after, Leads, IsRun, received_numbers, HaveNoRestart, next_round}
 use Rattle.fio_module.specs.Life as module_events
 use Rattle.fio_module.specs.Log.{transitions_below}
@@ -92,7 +92,7 @@ module _ (settings : Settings) (range : AreInRange settings) (first : ℕ) (mach
       }
 
 module _ (settings : Settings) (range : AreInRange settings) (first : ℕ) where
-  -- each row keeps it
+  -- each event keeps it
   rows : IsKeptByEvents settings first (HasInvariant settings first) (HasInvariant settings first)
   rows =
       record {

@@ -1,4 +1,4 @@
--- Every run keeps what each row keeps, and what follows whatever restarts.
+-- Every run keeps what each event keeps, and what follows whatever restarts.
 use Rattle.fio_link.proofs.Names.{◌≡◌, ℕ, ◌+◌, ◌==◌, Bool, true, false, List, [], ◌∷◌, refl, ap, sym, ◌∙◌, arith, if◌then◌else◌, nat_tests, Block, Settings, AreInRange, Event, ToCpu, Machine, start, number_of, after_delivered_block, after_delivery_to_cpu, after, Leads, HasBlock, IsRising}
 use Rattle.std.proofs.Common.{◌↔◌}
 use Rattle.fio_link.specs.Claims.{TakesPresentRound, IsInSequence}

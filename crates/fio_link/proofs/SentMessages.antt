@@ -18,7 +18,7 @@ module _ {A : Type 0} (decoded : List ℕ → Option A) (frames : List SentFrame
             subst (λ n. P n a r) (sym last.0) (subst (P (length frames) a) round (new a spells))
       ]
 
-  -- the messages among frames and one frame more are those among the frames, where it is none
+  -- the messages among frames and one more are those among the frames, if the last frame is no message
   pub none_more : decoded f.octets ≡ None
       → (p : ℕ) (a : A) (r : ℕ) → HasMessage decoded (frames ++ f ∷ []) p a r → HasMessage decoded frames p a r
   none_more none = each_more (HasMessage decoded frames) (λ p a r old. old) (λ a spells. absurd (cc (none, spells)))

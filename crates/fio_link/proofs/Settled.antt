@@ -12,7 +12,7 @@ use Rattle.fio_link.proofs.NewestPolls.{newest_all}
 use Rattle.fio_link.proofs.Grown.{grows}
 use Rattle.fio_link.proofs.SinceRound.{IsSince, since_all}
 
--- where the CPU has taken all blocks, the record stands at the end of the newest
+-- if the CPU has taken all blocks, the record goes to the end of the newest
 pub recorded_end : (settings : Settings) (machine : Machine) → next_round machine.polls ≡ machine.round
     → end_recorded settings machine ≡ newest_end settings (life_of machine.history)
 recorded_end settings machine all =
@@ -100,7 +100,7 @@ module _ (settings : Settings) (range : AreInRange settings) (first : ℕ) where
         since = since_all settings range first base events machine last none leads a.is_open.always a.since;
       }
 
-  -- the blocks are those before, and as many as polls were received since
+  -- the blocks are those before, and one for each round of the polls received since
   pub count_blocks : (base machine : Machine) → IsAlong base machine
       → length (blocks_in settings machine) + base.round ≡ length (blocks_in settings base) + next_round machine.polls
   count_blocks base machine a =

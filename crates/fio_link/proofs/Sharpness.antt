@@ -133,7 +133,7 @@ late_22 = record {
   old = scans_now1;
 }
 
--- the same, where the answer to a poll just before is lost
+-- the same, if the answer to a poll just before is lost
 abbrev lost_first : List Event
 lost_first = events.Poll ∷ events.ToModule 2 ∷ dense 5 4 19
 

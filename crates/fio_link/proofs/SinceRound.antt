@@ -14,7 +14,7 @@ use Rattle.fio_link.proofs.Events.{after_delivery}
 use Rattle.fio_link.proofs.Rows.{keeps}
 use Rattle.fio_link.proofs.OneLife.{recorded_of, record_of, Continues, poll_continues, record_of-next}
 
--- a block answer of a round carries the block that is so many after these
+-- a block answer of a round carries the block with this index after these
 pub record CarriesSince (blocks : List MadeBlock) (place : ℕ) (answer : Block) : Type 0 where
   pub block : MadeBlock
   pub is_made : slice_get blocks place ≡ Some block
@@ -225,7 +225,7 @@ module _ (settings : Settings) (range : AreInRange settings) (first : ℕ) (base
       after_heard first machine i (IsSinceBlocks settings first base before) place frame le at
       (since_passed (place + 1)) (since_taken place)
 
-  -- each row but a restart keeps it
+  -- each event but a restart keeps it
   since_once : (event : Event) → IsNotRestart event → refusal machine event ≡ None
       → IsSinceBlocks settings first base before (after settings first machine event)
   since_once events.Restart none fine = absurd none

@@ -9,7 +9,7 @@ pub data Span : Type 0 where
 abbrev pub made_in : Span → List MadeBlock
 made_in (Of blocks base to) = blocks
 
--- the rounds of blocks, the first of which is of this one
+-- the rounds of blocks, counted up from the round of the first
 abbrev pub rounds_from : ℕ → List MadeBlock → List ℕ
 rounds_from base [] = []
 rounds_from base (block ∷ blocks) = base ∷ rounds_from (base + 1) blocks
@@ -27,8 +27,8 @@ abbrev pub taken_from : ℕ → List Span → List MadeBlock
 taken_from from [] = []
 taken_from from (Of blocks base to ∷ spans) = take (to - from) (drop (from - base) blocks) ++ taken_from to spans
 
--- Of so many blocks the CPU takes the rounds from one up to another: all but perhaps the first and perhaps the
--- last. They follow those of the lives before, up to `low`, or begin one before.
+-- Of `count` blocks the CPU takes the rounds from one up to another: all except perhaps the first and perhaps the last. They
+-- follow those of the lives before, up to `low`, or begin one before.
 pub record FitsSome (low from base to count : ℕ) : Type 0 where
   pub follows : low ≤ base + 1
   pub begins : base ≤ from
@@ -62,7 +62,7 @@ none_taken : (n : ℕ) (xs rest : List MadeBlock) → n ≡ 0 → rest ≡ [] �
 none_taken zero xs rest is none = none
 none_taken (suc n) xs rest is none = absurd (omega arith)
 
--- spans of which nothing is taken, where the CPU has taken one round more
+-- spans of which nothing is taken, if the CPU has taken one more round
 pub record Moved (low next round : ℕ) (spans : List Span) : Type 0 where
   pub moved : List Span
   pub same_blocks : map made_in moved ≡ map made_in spans
@@ -123,7 +123,7 @@ move low next round (Of (block ∷ blocks) base to ∷ spans) less c =
           (taken_from (round + 1) rest.moved) (omega arith) rest.none_moved;
     }
 
--- what is in two lists, one behind the other, is in one of them
+-- what is in two lists joined is in one of them
 get_either : {A : Type 0} (xs ys : List A) (p : ℕ) (y : A) → slice_get (xs ++ ys) p ≡ Some y
     → ((p < length xs) × (slice_get xs p ≡ Some y)) ⊎ ((k : ℕ) × (p ≡ length xs + k) × (slice_get ys k ≡ Some y))
 get_either [] ys p y is = inr (p, omega arith, is)
@@ -134,7 +134,7 @@ get_either {A} (x ∷ xs) ys (suc p) y is =
       | inr there ↦ let at : p ≡ length xs + there.0 = there.1 in inr (there.0, omega arith, there.2)
     ]
 
--- there are as many rounds as blocks, and they count up
+-- there is a round for each block, and the rounds count up
 length-rounds : (base : ℕ) (blocks : List MadeBlock) → length (rounds_from base blocks) ≡ length blocks
 length-rounds base [] = refl
 length-rounds base (block ∷ blocks) = ap suc (length-rounds (base + 1) blocks)
@@ -145,7 +145,7 @@ round_at base [] p r is = absurd (cc is)
 round_at base (block ∷ blocks) zero r is = let same : base ≡ r = cc in omega arith
 round_at base (block ∷ blocks) (suc p) r is = omega (arith, round_at (base + 1) blocks p r is)
 
--- what is in a list is in what is left of it
+-- what is in a list is in what remains of it
 get_dropped : {A : Type 0} (d : ℕ) (xs : List A) (k : ℕ) (x : A) → slice_get xs (d + k) ≡ Some x
     → slice_get (drop d xs) k ≡ Some x
 get_dropped zero xs k x is = let same : k ≡ 0 + k = omega arith in ap (slice_get xs) same ∙ is

@@ -14,7 +14,7 @@ use Rattle.fio_link.proofs.Promises.{runs_are_sound}
 pub standard_in_range : (id : ℕ) → id ≤ 255 → AreInRange (standard_settings id)
 standard_in_range id fits = record { id_fits = fits; some_per_block = omega arith; few_per_block = omega arith }
 
--- where the rounds leave the blocks no more behind than there is room for
+-- if the rounds leave the blocks no further behind than there is room for
 module _ (AreSuch : List Pause → Type 0) (most late : ℕ) (few : most ≤ 76) (long : most + 3 ≤ late)
     (near : (pauses : List Pause) → AreSuch pauses → BeginNear 19 most pauses) where
   -- all arrives
@@ -74,6 +74,6 @@ near_in_time = begin_in_time 19 0 19 (omega arith)
 pub near_where_answers_are_lost : (pauses : List Pause) → AreInTime 19 19 pauses → BeginNear 19 38 pauses
 near_where_answers_are_lost = begin_in_time 19 19 38 (omega arith)
 
--- where at most 5 of each 100 rounds are lost, begun at least every 12 scans
+-- if at most 5 of each 100 rounds are lost, and rounds begin at most 12 scans apart
 pub near_where_rounds_are_lost : (pauses : List Pause) → LoseFewRounds 12 100 5 pauses → BeginNear 19 72 pauses
 near_where_rounds_are_lost pauses few = lost_rounds_are_possible 19 12 99 5 pauses few (omega arith) (omega arith)

@@ -50,7 +50,7 @@ around low from (block ∷ blocks) base to le f =
     let late : base + suc (length blocks) ≤ to + 1 = f.ends_late in
     record { before = inl (omega arith); after = omega arith }
 
--- so it is one stretch
+-- so it is one contiguous run
 one_stretch : (settings : Settings) (low from : ℕ) (life : Life) (blocks : List MadeBlock) (base to : ℕ)
     → blocks ≡ blocks_of settings life → from ≤ to → Fits low from blocks base to
     → IsOneStretch settings (part_of life from blocks base to)
@@ -70,8 +70,7 @@ one_stretch settings low from life blocks base to is le f =
       one_after = omega (arith, length-drop (to - from) left, length-drop (from - base) blocks);
     }
 
--- where the last block of one life is not taken, nor the first of the next, the next would follow from an
--- earlier round
+-- if neither the last block of one life nor the first of the next is taken, the next would follow from an earlier round
 not_both : (low from : ℕ) (life next : Life) (blocks : List MadeBlock) (base to : ℕ) (more : List MadeBlock) (b t : ℕ)
     → from ≤ to → Fits low from blocks base to → Fits (low_after low blocks base) to more b t
     → NotBoth (part_of life from blocks base to) (part_of next to more b t)

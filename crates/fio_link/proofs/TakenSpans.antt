@@ -1,4 +1,4 @@
--- Each row of the link machine keeps which rounds the CPU has taken of each life.
+-- Each event of the link machine keeps which rounds the CPU has taken of each life.
 use Rattle.fio_link.proofs.Names.{◌≡◌, ℕ, zero, suc, ◌+◌, ◌≤◌, ◌⊎◌, Bool, true, false, List, [], ◌∷◌, ◌++◌, length, map, Option, Some, None, slice_get, refl, ap, sym, subst, ◌∙◌, arith, inl, inr, append_assoc, append-nil, option_map, flat_map, flat_map-append, map-append, slice_get-map, Command, Block, command_in, polled_number, Settings, AreInRange, Restart, History, Life, Commanded, life_of, life_after_command, MadeBlock, newest_poll, is_new, blocks_of, next_block, Item, items_of_block, Event, SentFrame, Machine, start, number_of, polls_with, after_module_event, after_delivery_to_module, IsRun, HasPoll, HasBlock, next_round, past_lives, newest_number}
 use Rattle.fio_message.specs.declared.commands.Command.TheVariants as commands
 use Rattle.fio_link.proofs.AllLives.{past_log, behind, past_blocks, all_blocks}
@@ -90,7 +90,7 @@ none_made settings [] is = refl
 none_made settings (Commanded (commands.Poll number) ∷ life) is = absurd (cc is)
 none_made settings (other ∷ life) is = none_made settings life is
 
--- the blocks of a life behind others are recorded as they are
+-- the blocks of a life after others are recorded as they are
 recorded_behind : (past : ℕ) (blocks : List MadeBlock)
     → map recorded_of (map (behind past) blocks) ≡ map recorded_of blocks
 recorded_behind past [] = refl
@@ -117,7 +117,7 @@ abbrev ArePastRecorded : Settings → History → Type 0
 ArePastRecorded settings history =
     map recorded_of (past_blocks settings history) ≡ map recorded_of (joined_lists (past_made settings history))
 
--- so are those of all lives then
+-- so are then those of all lives
 with_own : (settings : Settings) (history : History) → ArePastRecorded settings history
     → map recorded_of (all_blocks settings history)
     ≡ map recorded_of (joined_lists (past_made settings history ++ blocks_of settings (life_of history) ∷ []))
@@ -136,7 +136,7 @@ past_recorded settings (Restart ∷ history) =
     ∙ ap (λ bss. map recorded_of (joined_lists bss)) (sym (map-append (blocks_of settings) (past_lives history) (life_of history ∷ [])))
 past_recorded settings (other ∷ history) = past_recorded settings history
 
--- what is in a list of what elements give is given by an element
+-- an element of a list that is made from another comes from one of its elements
 from_map : {A B : Type 0} (f : A → B) (xs : List A) (p : ℕ) (y : B) → slice_get (map f xs) p ≡ Some y
     → (x : A) × (slice_get xs p ≡ Some x) × (f x ≡ y)
 from_map f [] p y is = absurd (cc is)
@@ -227,7 +227,7 @@ module _ (settings : Settings) (range : AreInRange settings) (first : ℕ) (mach
       (items_of_block-carried answer b.block b.carried ∙ sym found.2)
 
 module _ (settings : Settings) (range : AreInRange settings) (first : ℕ) where
-  -- each row keeps it
+  -- each event keeps it
   spans_rows : IsKeptByEvents settings first (HasInvariant settings first) (HasSpans settings)
   spans_rows =
       record {

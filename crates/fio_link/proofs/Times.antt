@@ -12,8 +12,7 @@ use Rattle.fio_link.specs.Claims.{Loss, From}
 use Rattle.fio_link.proofs.MadeBlocks.{each-append, each-take, each-drop, each-map, each_block}
 use Rattle.fio_link.proofs.OneLife.{recorded_of}
 
--- the counter, after so many scans and loads, is as many scans on as there were since the
--- transition, if none loaded since
+-- the counter, after these scans and loads, is ahead of that at the transition by the scans since then, if none loaded since
 pub record IsTimely (counter scans loads : ℕ) (transition : Transition) : Type 0 where
   pub fits : transition.counter < 2 ^ 32
   pub scanned_before : transition.scans ≤ scans
@@ -111,7 +110,7 @@ widened_back counter age fits recent =
     wide_time_of_only ((counter + age) % 2 ^ 32) (counter % 2 ^ 16) counter (omega arith) (omega arith)
     (record { in_range = fits; same_low = refl; age = age; is_recent = recent; stamped = refl })
 
--- the widened time of an entry is its counter, where it is in time
+-- the widened time of an entry is its counter, if the transition is in time
 pub wide_time : (block : MadeBlock) (t : Transition) → IsTimely block.stamp block.scans block.loads t
     → IsInTime t block
     → wide_time_of block.stamp (t.counter % 2 ^ 16) ≡ t.counter

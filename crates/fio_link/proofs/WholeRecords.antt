@@ -1,4 +1,4 @@
--- The record is whole where no block says that entries were lost.
+-- The record is whole if no block says that entries were lost.
 use Rattle.fio_link.proofs.Names.{◌≡◌, ℕ, suc, ◌+◌, ◌-◌, ◌≤◌, false, List, [], ◌∷◌, length, take, drop, map, refl, ap, sym, subst, ◌∙◌, arith, Contains, AllByRecursion, Settings, AreInRange, HasRoom, Life, life_of, entry_of, log_of, MadeBlock, blocks_of, NeverTooMany, nothing_is_lost, Machine, Piece, Gap, EntryPiece, piece_of, ArePieces, end_taken}
 use Rattle.std.proofs.lemmas.Option.{slice_get_read}
 use Rattle.fio_module.specs.Delivery.{NoBlockLost}
@@ -42,7 +42,7 @@ part_of_entries settings life from (EntryPiece entry ∷ pieces) to none p =
     (omega arith, ap (λ ps. EntryPiece entry ∷ ps) rest.1 ∙ sym whole)
 part_of_entries settings life from (Gap ∷ pieces) to none p = absurd none.0
 
--- where no block says that entries were lost, no piece is a gap mark
+-- if no block says that entries were lost, no piece is a gap mark
 no_gaps : (settings : Settings) (life : Life) (from : ℕ) (pieces : List Piece) (to : ℕ) → NoBlockLost settings life
     → ArePieces settings life from pieces to → AllByRecursion IsEntry pieces
 no_gaps settings life from [] to none p = tt
@@ -66,14 +66,14 @@ whole_unless_full settings machine pieces few =
     (part_of_entries settings life 0 (map piece_of machine.items) to (no_gaps settings life 0 (map piece_of machine.items) to (nothing_is_lost settings life few) pieces) pieces).1
     ∙ ap (λ n. map EntryPiece (take n (map entry_of (log_of life)))) all
 
--- where the module is polled often
+-- if the module is polled often
 pub whole_where_polled_often : (settings : Settings) → AreInRange settings → HasRoom settings → (machine : Machine)
     → RecordIsPieces settings machine → IsWholeWherePolledOften settings machine
 whole_where_polled_often settings range wide machine pieces opened filter scans life later is few often =
     whole_unless_full settings machine pieces
     (subst (NeverTooMany settings) (sym is) (polled_often_stays_few settings opened filter scans life later range wide often few))
 
--- where it is polled often for each input
+-- if it is polled often for each input
 pub whole_where_polled_for_each : (settings : Settings) → AreInRange settings → settings.per_block ≤ settings.waiting → (machine : Machine)
     → RecordIsPieces settings machine → IsWholeWherePolledForEach settings machine
 whole_where_polled_for_each settings range wide machine pieces plan scans life later is few often =

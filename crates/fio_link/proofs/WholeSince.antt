@@ -40,7 +40,7 @@ made settings (Commanded (Poll number) ∷ later) life few =
     (holds_now (λ l. FewBeyond settings (l ++ life)) later few.1) (made settings later life few.1)
 made settings (other ∷ later) life few = made settings later life few.1
 
--- what follows blocks follows where they end
+-- what follows the last of some blocks follows from where they end
 follow-back : (log : List Transition) (per_block before : ℕ) (blocks more : List MadeBlock)
     → FollowOneAnother log per_block before (blocks ++ more) → FollowOneAnother log per_block (last_end before blocks) more
 follow-back log per_block before [] more follow = follow
@@ -80,7 +80,7 @@ as_entries from to log le =
     ∙ ap (map (λ transition. EntryPiece (entry_of transition))) (sym (drop-take from n log) ∙ ap (λ k. drop from (take k log)) whole)
 
 module _ (settings : Settings) (range : AreInRange settings) (first : ℕ) (machine : Machine) (o : IsOpen settings range first machine) where
-  -- the record has gained all where few are beyond
+  -- the record has gained everything if few lie beyond
   pub gains_all : GainsAllWhere StaysFew settings first machine
   gains_all some s now later t is few =
       let life = life_of machine.history in

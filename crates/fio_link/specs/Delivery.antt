@@ -1,5 +1,5 @@
--- What arrives: clean rounds deliver blocks, nothing is lost unless the buffer was full, and it never
--- is where the module is polled often.
+-- What arrives: clean rounds deliver blocks, nothing is lost unless the buffer was full, and if the module is polled often
+-- the buffer never is full.
 use Rattle.std.specs.Prelude.{◌≡◌, ℕ, ◌+◌, ◌<◌, true, List, [], ◌∷◌, ◌++◌, map, length, take, slice_get, Some}
 use Rattle.std.specs.List.{AllByRecursion, flat_map}
 use Rattle.fio_message.specs.declared.commands.Command.TheVariants as commands
@@ -22,8 +22,8 @@ use Rattle.fio_link.specs.Rounds.{CarriesBlock}
 use Rattle.fio_link.specs.Pieces.{EntryPiece, piece_of, pieces_of}
 use Rattle.fio_link.specs.Headline.{end_taken}
 
--- a clean round with nothing between: the CPU polls, the module receives the frame just sent, and the
--- CPU hears the answer just sent
+-- a clean round with nothing between its steps: the CPU polls, the module receives the frame just sent, and the CPU hears
+-- the answer just sent
 abbrev pub clean_round : Machine → List Event
 clean_round machine =
     Poll ∷ ToModule (length machine.to_module + 1) ∷ ToCpu (length machine.to_cpu + 1) ∷ []
@@ -35,7 +35,7 @@ pub record TakesBlock (settings : Settings) (first : ℕ) (machine later : Machi
   -- the answer just sent is a block answer to a poll of the CPU's round
   pub answer : Block
   pub answered : HasBlock later.to_cpu (length machine.to_cpu) answer machine.round
-  -- the round is one more, and the record is longer by what the block adds
+  -- the round goes up by one, and the record grows by what the block adds
   pub round : later.round ≡ machine.round + 1
   pub items : later.items ≡ machine.items ++ items_of_block answer
   -- it carries the newest block of the module's present life
@@ -49,18 +49,18 @@ abbrev pub CleanRoundTakesBlock : Settings → ℕ → Machine → Type 0
 CleanRoundTakesBlock settings first machine =
     (later : Machine) × TakesBlock settings first machine later
 
--- an event within a clean round: no other poll is sent, and nothing is restarted
+-- an event within a clean round: no other poll is sent, and nothing restarts
 abbrev pub IsWithinRound : Event → Type 0
 IsWithinRound Poll = ⊥
 IsWithinRound Restart = ⊥
 IsWithinRound other = Unit {0}
 
--- A clean round: the CPU polls, the module receives the poll, and the CPU hears the answer to it before it
--- polls again. Scans, other commands and older answers come between as they may, but no restart. `receipt`
--- is the machine at which the module receives the poll.
+-- A clean round: the CPU polls, the module receives the poll, and the CPU hears the answer to it before it polls again.
+-- Scans, other commands and older answers may come between, but no restart. `receipt` is the machine when the module
+-- receives the poll.
 pub record IsCleanRound (settings : Settings) (first : ℕ) (begin receipt last : Machine)
     : Type 0 where
-  -- what comes before the poll is received, and after
+  -- the events before and after the receipt of the poll
   pub before : List Event
   pub after : List Event
   pub none_before : AllByRecursion IsWithinRound before
@@ -71,13 +71,13 @@ pub record IsCleanRound (settings : Settings) (first : ℕ) (begin receipt last 
       (ToModule (length begin.to_module + 1) ∷ (after ++ ToCpu (length receipt.to_cpu + 1) ∷ []))
       last
 
--- in a clean round nothing comes between
+-- nothing comes between the steps of this clean round
 abbrev pub HasNothingBetween : (settings : Settings) (first : ℕ) (begin receipt last : Machine) →
     IsCleanRound settings first begin receipt last → Type 0
 HasNothingBetween settings first begin receipt last round =
     (round.before ≡ []) × (round.after ≡ [])
 
--- a clean round with nothing between is one
+-- a clean round with nothing between its steps is a clean round
 abbrev pub RoundWithNothingBetweenIsClean : Settings → ℕ → Machine → Type 0
 RoundWithNothingBetweenIsClean settings first machine = (last : Machine) →
     Leads settings first machine (clean_round machine) last →
@@ -88,7 +88,7 @@ pub record TakesOne (machine later : Machine) : Type 0 where
   pub answer : Block
   pub place : ℕ
   pub answered : HasBlock later.to_cpu place answer machine.round
-  -- the round is one more, and the record is longer by what the block adds
+  -- the round goes up by one, and the record grows by what the block adds
   pub round : later.round ≡ machine.round + 1
   pub items : later.items ≡ machine.items ++ items_of_block answer
 
@@ -97,22 +97,20 @@ abbrev pub EachCleanRoundTakesOne : Settings → ℕ → Machine → Type 0
 EachCleanRoundTakesOne settings first machine = (receipt later : Machine) →
     IsCleanRound settings first machine receipt later → TakesOne machine later
 
--- the record has no gap mark, and is the front of the transition log, whole, through the last block
--- taken
+-- the record has no gap mark: it is the whole transition log through the last block taken
 abbrev pub RecordIsWhole : Settings → Machine → Type 0
 RecordIsWhole settings machine =
     map piece_of machine.items
     ≡ map EntryPiece (take (end_taken settings machine) (map entry_of (log_of (life_of machine.history))))
 
--- Nothing is lost unless the buffer was full: the record is whole where never more stood beyond the
--- newest block than may wait.
+-- Nothing is lost unless the buffer was full: the record is whole if never more lay beyond the newest block than may wait.
 abbrev pub IsWholeUnlessFull : Settings → Machine → Type 0
 IsWholeUnlessFull settings machine =
     NeverTooMany settings (life_of machine.history) → RecordIsWhole settings machine
 
--- A gap mark at a place of the record has its own block: a new poll made it, the record before the mark
--- is what all blocks before it are, and it says that entries were lost. When it was made, more stood
--- beyond the end of the newest block than may wait.
+-- A gap mark at a place of the record belongs to a block: a new poll made this block, the record before the mark is what all
+-- blocks before this one add to it, and the block says that entries were lost. When it was made, more transitions lay beyond
+-- the end of the newest block than may wait.
 pub record MarksLossAt (settings : Settings) (machine : Machine) (place : ℕ) : Type 0 where
   pub later : Life
   pub number : ℕ
@@ -125,25 +123,25 @@ pub record MarksLossAt (settings : Settings) (machine : Machine) (place : ℕ) :
   pub said : (next_block settings earlier).lost ≡ true
   pub more : newest_end settings earlier + settings.waiting < length (log_of earlier)
 
--- conversely, each gap mark has such a block, and its own time
+-- conversely, each gap mark belongs to such a block, and so to a time
 abbrev pub GapsNameTimes : Settings → Machine → Type 0
 GapsNameTimes settings machine = (place : ℕ) →
     slice_get machine.items place ≡ Some items.Gap → MarksLossAt settings machine place
 
--- Poll often enough, and nothing is lost, ever: the record is whole where the module is polled often
--- from a time of its life on at which nothing waits.
+-- Poll often enough, and nothing is ever lost: the record is whole if the module is polled often from a time of its life on
+-- at which nothing waits.
 abbrev pub IsWholeWherePolledOften : Settings → Machine → Type 0
 IsWholeWherePolledOften settings machine = (opened filter scans : ℕ) (life later : Life) →
     life_of machine.history ≡ later ++ life → NeverTooMany settings life →
     IsPolledOften settings opened filter scans life later → RecordIsWhole settings machine
 
--- so it is where the module is polled often for each input, with the filters of its group
+-- the record is whole if the module is polled often by a plan, in which each input has the filters of its group
 abbrev pub IsWholeWherePolledForEach : Settings → Machine → Type 0
 IsWholeWherePolledForEach settings machine = (plan : Plan) (scans : ℕ) (life later : Life) →
     life_of machine.history ≡ later ++ life → NeverTooMany settings life →
     IsPolledForEach settings plan scans life later → RecordIsWhole settings machine
 
--- so is it after an outage that the buffer has room for
+-- the record is whole after an outage for which the buffer has room
 abbrev pub IsWholeAfterOutage : Settings → Machine → Type 0
 IsWholeAfterOutage settings machine = (opened filter : ℕ) (life later : Life) →
     life_of machine.history ≡ later ++ life → NeverTooMany settings life →

@@ -1,4 +1,5 @@
--- Links of which the open inputs' filters differ, by a plan of which may be open, kept up with after pauses.
+-- Links that are kept up with after pauses although the filters of the open inputs differ, by a plan of which inputs may be
+-- open.
 use Rattle.std.specs.Prelude.{◌≡◌, ℕ, ◌+◌, ◌*◌, ◌≤◌, List, ◌++◌, length}
 use Rattle.fio_input.specs.FiltersThatDiffer.{Plan, StaysAsPlanned}
 use Rattle.fio_module.specs.Settings.{Settings}
@@ -10,9 +11,9 @@ use Rattle.fio_link.specs.Settled.{HasTakenAll, IsWithin, LeadsInTime, HasGained
 use Rattle.fio_link.specs.NewLevels.{RecordsNewLevels}
 use Rattle.fio_link.specs.KeptUp.{Pause, RoundsAfter, AreInTime, LacksOnlyYoung}
 
--- Polled in time for each input, from a settled point on: with pauses of at most n scans, of which at most u come after
--- the CPU had last taken all, a block takes all that the open inputs can report in n scans, while they stay as planned, and
--- two may wait.
+-- Polled in time, by the plan, from a settled point on: the pauses are of at most n scans, at most u of them after a time
+-- whose blocks the CPU had all taken; a block takes all that the open inputs can report in n scans, while they stay as
+-- planned; and two blocks may wait.
 pub record IsPolledInTimeForEach (settings : Settings) (plan : Plan) (first scans untaken : ℕ)
     (machine : Machine) (pauses : List Pause) (receipt last : Machine) (later : Life) : Type 0 where
   pub room : 2 * settings.per_block ≤ settings.waiting
@@ -24,8 +25,8 @@ pub record IsPolledInTimeForEach (settings : Settings) (plan : Plan) (first scan
   pub few_change : FewChangeEach settings plan scans (life_of machine.history) later
   pub heard_in_time : IsWithin scans receipt last
 
--- What holds n scans after the newest poll was received at most: the record lacks nothing older than n + u - 1 scans,
--- and no more wait than the blocks take that make up for n + u.
+-- What holds up to n scans after the newest poll was received: the record lacks nothing older than n + u - 1 scans, and no
+-- more entries wait than are taken by the blocks that make up for n + u scans.
 pub record IsLateForEach (settings : Settings) (plan : Plan) (scans untaken : ℕ) (machine last now : Machine) (later : Life)
     : Type 0 where
   pub late : LacksOnlyYoung (scans + untaken) 1 settings now
@@ -38,7 +39,7 @@ pub record IsLateForEach (settings : Settings) (plan : Plan) (scans untaken : �
       → StaysAsPlanned plan (filter_events (stretch ++ later)) (filter_events (life_of machine.history))
       → length (waiting_of settings (life_of now.history)) ≤ blocks * settings.per_block
 
--- then all arrives in time
+-- then everything arrives in time
 pub record ArrivesForEach (settings : Settings) (plan : Plan) (first scans untaken : ℕ) (machine receipt last : Machine) (later : Life)
     : Type 0 where
   pub whole : HasGainedAll settings machine last
@@ -47,7 +48,7 @@ pub record ArrivesForEach (settings : Settings) (plan : Plan) (first scans untak
       (now : Machine) → LeadsInTime settings first scans receipt last now
       → IsLateForEach settings plan scans untaken machine last now later
 
--- where a link is polled in time for each input, all arrives in time
+-- if a link is polled in time by a plan, everything arrives in time
 abbrev pub AllArrivesForEach : Settings → ℕ → Machine → Type 0
 AllArrivesForEach settings first machine =
     (plan : Plan) (scans untaken : ℕ) (pauses : List Pause) (receipt last : Machine) (later : Life) →

@@ -1,4 +1,4 @@
--- That the premises can be met, and so say something: a link whose module has restarted is kept up with.
+-- The premises can be met, so the laws say something: there is a link whose module has restarted and that is kept up with.
 use Rattle.std.specs.Prelude.{◌≡◌, ℕ, ◌+◌, List, length}
 use Rattle.fio_input.specs.FiltersThatDiffer.{Plan}
 use Rattle.fio_module.specs.Settings.{Settings, HasRoom}
@@ -10,13 +10,13 @@ use Rattle.fio_link.specs.Settled.{IsSettled, transitions_arrived}
 use Rattle.fio_link.specs.KeptUp.{Pause, IsKeptUpWith, IsPolledInTime}
 use Rattle.fio_link.specs.ForEach.{IsPolledInTimeForEach}
 
--- the plan of one group: so many inputs may be open, with filters of at least so many samples
+-- the plan with one group: `opened` inputs may be open, with filters of at least `filter` samples
 abbrev pub one_group : ℕ → ℕ → Plan
 one_group opened filter =
     record { group_of = λ input setting. 0; groups = 1; most_open = λ group. opened; filter_of = λ group. filter }
 
--- After so many restarts of the module, from a settled point on, a link is kept up with for so many rounds, in time, and in
--- time for each input; and its record gains so many transitions.
+-- After `restarts` restarts of the module, from a settled point on, a link is kept up with for `rounds` rounds, in time, and
+-- in time by a plan of one group; and its record gains `gained` transitions.
 pub record IsKeptUpAfterRestarts (settings : Settings) (opened filter scans untaken restarts rounds gained : ℕ) : Type 0 where
   pub room : HasRoom settings
   pub first : ℕ

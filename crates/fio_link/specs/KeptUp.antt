@@ -1,4 +1,4 @@
--- Links that are kept up with: clean rounds after pauses, of whatever length, whatever is lost between.
+-- Links that are kept up with: clean rounds after pauses of any length, whatever is lost between.
 use Rattle.std.specs.Prelude.{◌≡◌, ℕ, ◌+◌, ◌-◌, ◌*◌, ◌/◌, ◌≤◌, max, List, [], ◌∷◌, ◌++◌, length, drop, slice_get, Some}
 use Rattle.std.specs.List.{AllByRecursion}
 use Rattle.fio_message.specs.declared.limits.TheConstants.{INPUTS}
@@ -15,17 +15,17 @@ use Rattle.fio_link.specs.Delivery.{clean_round, IsCleanRound, HasNothingBetween
 use Rattle.fio_link.specs.Settled.{HasTakenAll, end_recorded, IsWithin, LeadsOn, LeadsInTime, HasGainedAll, HaveTheirTimes}
 use Rattle.fio_link.specs.NewLevels.{RecordsNewLevels}
 
--- The scans before the module receives the poll of a clean round, since it received that of the one before: so
--- many to a time of which the CPU had taken all blocks when it sent the poll, and so many more.
+-- The scans from the module's receipt of the poll of one clean round to its receipt of that of the next: `settled` scans up
+-- to a time whose blocks the CPU had all taken when it sent this poll, and `untaken` scans after that.
 pub record Pause : Type 0 where
   pub settled : ℕ
   pub untaken : ℕ
 
--- all of them
+-- all scans of a pause
 abbrev pub scans_of_pause : Pause → ℕ
 scans_of_pause pause = pause.settled + pause.untaken
 
--- A clean round after such a pause, since an earlier machine.
+-- A clean round after such a pause, counted from an earlier machine.
 pub record IsRoundAfter (settings : Settings) (first : ℕ) (pause : Pause)
     (earlier done receipt last : Machine) : Type 0 where
   pub begin : Machine
@@ -36,7 +36,7 @@ pub record IsRoundAfter (settings : Settings) (first : ℕ) (pause : Pause)
   pub all_taken : next_round between.polls ≤ begin.round
   pub untaken : LeadsInTime settings first pause.untaken between between receipt
 
--- Clean rounds after such pauses, newest first, lead from one machine to another; the module receives the
+-- Clean rounds after such pauses, which are given newest first, lead from one machine to another. The module receives the
 -- newest poll at `receipt`.
 abbrev pub RoundsAfter : Settings → ℕ → Machine → List Pause → Machine → Machine → Type 0
 RoundsAfter settings first machine [] receipt last = (receipt ≡ machine) × (last ≡ machine)
@@ -51,18 +51,18 @@ receipts_of settings first machine [] receipt last rounds = []
 receipts_of settings first machine (pause ∷ pauses) receipt last rounds =
     receipt ∷ receipts_of settings first machine pauses rounds.0 rounds.1 rounds.2
 
--- a pause of at most so many scans, of which at most so many come after the CPU had last taken all
+-- a pause of at most `scans` scans, at most `untaken` of them after the time whose blocks the CPU had all taken
 pub record IsPauseOf (scans untaken : ℕ) (pause : Pause) : Type 0 where
   pub few : scans_of_pause pause ≤ scans
   pub few_untaken : pause.untaken ≤ untaken
 
--- in time: all of these are such pauses
+-- in time: each of these pauses is of at most this many scans
 abbrev pub AreInTime : ℕ → ℕ → List Pause → Type 0
 AreInTime scans untaken pauses = AllByRecursion (IsPauseOf scans untaken) pauses
 
--- A clean round of which the module receives the poll at most so many scans after an earlier machine is one after a
--- pause of so many, and of so many after a time of which the CPU had taken all blocks when it sent the poll: the end
--- of the round before, or where no answer is lost the receipt itself.
+-- Suppose that the module receives the poll of a clean round at most `scans` scans after an earlier machine, and at most
+-- `untaken` scans after a time whose blocks the CPU had all taken when it sent the poll: the end of the round before or, if
+-- no answer is lost, the receipt itself. Then the round comes after a pause of at most these scans.
 abbrev pub RoundIsInTime : Settings → ℕ → Machine → Type 0
 RoundIsInTime settings first machine =
     (scans untaken : ℕ) (earlier between begin receipt last : Machine) →
@@ -73,7 +73,8 @@ RoundIsInTime settings first machine =
     (pause : Pause) × IsPauseOf scans untaken pause
     × IsRoundAfter settings first pause earlier machine receipt last
 
--- A clean round with nothing between is one after the pause before it, and ends as soon as its poll has been received.
+-- A clean round with nothing between its steps comes after the pause before it, and ends as soon as its poll has been
+-- received.
 abbrev pub RoundWithNothingBetweenIsAfter : Settings → ℕ → Machine → Type 0
 RoundWithNothingBetweenIsAfter settings first machine = (pause : Pause) (earlier between begin last : Machine) →
     LeadsInTime settings first pause.settled earlier machine between →
@@ -85,21 +86,21 @@ RoundWithNothingBetweenIsAfter settings first machine = (pause : Pause) (earlier
     × HasNothingBetween settings first round.begin receipt last round.round
     × IsWithin 0 receipt last
 
--- By how many scans the blocks are behind at most when the newest of these polls has been received, where each
--- round makes up for so many: by those left and those of the pause, less those that the round makes up for; but by
--- no fewer than came after the CPU had last taken all, since its block may be as old as that.
+-- How many scans the blocks are behind, at most, when the newest of these polls has been received, if each round makes up
+-- for `scans` scans: what was left before, plus the pause, less `scans`; but at least the untaken scans of the pause, since
+-- the block taken may be that old.
 abbrev pub left_behind : ℕ → List Pause → ℕ
 left_behind scans [] = 0
 left_behind scans (pause ∷ pauses) =
     max (left_behind scans pauses + scans_of_pause pause - scans) pause.untaken
 
--- when each of these polls is received, they are no more than `most` scans behind
+-- when each of these polls is received, the blocks are at most `most` scans behind
 abbrev pub BeginNear : ℕ → ℕ → List Pause → Type 0
 BeginNear scans most [] = Unit {0}
 BeginNear scans most (pause ∷ pauses) =
     (left_behind scans pauses + scans_of_pause pause ≤ most) × BeginNear scans most pauses
 
--- Clean rounds from a settled point on, since when few change.
+-- Clean rounds since a settled point, after which few change.
 pub record HasRounds (settings : Settings) (first opened filter scans : ℕ)
     (machine : Machine) (pauses : List Pause) (receipt last : Machine) (later : Life) : Type 0 where
   pub all_taken : HasTakenAll first machine
@@ -108,27 +109,27 @@ pub record HasRounds (settings : Settings) (first opened filter scans : ℕ)
   pub since : life_of last.history ≡ later ++ life_of machine.history
   pub few_change : FewChange settings opened filter scans (life_of machine.history) later
 
--- Kept up with: each round makes up for `scans` scans, with blocks never more than `most` behind, as many as the
--- buffer has room for.
+-- Kept up with: each round makes up for `scans` scans, and the blocks are never more than `most` scans behind, for which the
+-- buffer has room.
 pub record IsKeptUpWith (settings : Settings) (first opened filter scans most : ℕ)
     (machine : Machine) (pauses : List Pause) (receipt last : Machine) (later : Life) : Type 0 where
   pub some_wait : 1 ≤ settings.waiting
   pub room : opened * (most + (filter - 1)) ≤ settings.waiting * filter
   pub near : BeginNear scans most pauses
   pub from : HasRounds settings first opened filter scans machine pauses receipt last later
-  -- nor are they more than that when the CPU hears the answer to the newest poll
+  -- nor are they further behind when the CPU hears the answer to the newest poll
   pub heard_near : IsWithin (most - left_behind scans pauses) receipt last
 
--- the log has nothing that the record has not, but what the latest scans reported: at most
--- b + f - 2 scans came after its own
+-- the record lacks only transitions of the latest scans: at most b + f - 2 scans came after that of each, where b is
+-- `behind` and f `filter`
 abbrev pub LacksOnlyYoung : ℕ → ℕ → Settings → Machine → Type 0
 LacksOnlyYoung behind filter settings machine =
     AllByRecursion (IsYoung behind filter (life_of machine.history))
     (drop (end_recorded settings machine) (log_of (life_of machine.history)))
 
--- Like `LacksOnlyYoung`, with blocks counted whole: for some number j of them the record lacks nothing that is more than
--- j s + m - 1 - f (j b / k) scans old, for k inputs, filters of f, blocks of b that each make up for s scans,
--- and m scans behind.
+-- Like `LacksOnlyYoung`, with blocks counted whole. Take k open inputs, filters of f, blocks of b entries that each make up
+-- for s scans, and m scans behind: for some number j of blocks, nothing that the record lacks is more than j s + m - 1 - f
+-- (j b / k) scans old.
 pub record LacksOnlyYoungExactly (settings : Settings) (opened filter scans behind : ℕ) (machine : Machine)
     : Type 0 where
   pub blocks : ℕ
@@ -139,40 +140,40 @@ pub record LacksOnlyYoungExactly (settings : Settings) (opened filter scans behi
       ≤ transition.scans + (scans * blocks + behind))
       (drop (end_recorded settings machine) (log_of (life_of machine.history)))
 
--- What holds at any time after the newest round, with blocks so many scans behind at most.
+-- What holds at any time after the newest round, if the blocks are at most `behind` scans behind.
 pub record IsLateBy (settings : Settings) (opened filter scans most behind : ℕ) (machine last now : Machine)
     (later : Life) : Type 0 where
   pub late : LacksOnlyYoung behind filter settings now
   pub exactly : LacksOnlyYoungExactly settings opened filter scans behind now
-  -- a new level is recorded b + f - 2 scans after the last of its samples
+  -- a new level is recorded at most b + f - 2 scans after the last of its samples, where b is `behind` and f `filter`
   pub levels :
       RecordsNewLevels (behind + filter) machine now
       ((loads_of (life_of last.history) ≡ loads_of (life_of machine.history)) × (most + filter ≤ 65537))
-  -- and the module is kept up with, while it is no further behind and few stay open
+  -- and the module is kept up with, as long as it is no further behind and few inputs stay open
   pub keeps_up :
       (stretch : Life) → behind ≤ most → life_of now.history ≡ stretch ++ (later ++ life_of machine.history)
       → FewStayOpen opened filter (filter_events (stretch ++ later)) (filter_events (life_of machine.history))
       → IsKeptUp settings opened filter scans most (life_of machine.history) (stretch ++ later)
 
--- What has arrived at the end of clean rounds, with blocks so many scans behind at most when the poll so many rounds
--- earlier was received.
+-- What has arrived at the end of clean rounds. When the poll `rounds` rounds earlier was received, the blocks were at most
+-- `behind rounds` scans behind.
 pub record Arrives (settings : Settings) (first opened filter scans most : ℕ) (behind : ℕ → ℕ)
     (machine : Machine) (receipts : List Machine) (receipt last : Machine) (later : Life) : Type 0 where
   pub whole : HasGainedAll settings machine last
   pub times : HaveTheirTimes settings filter most machine last
-  -- through all that had been logged when the module received the poll of the clean round so many rounds
-  -- earlier, which are as many as blocks that take what may be left
+  -- the record goes through all that had been logged when the module received the poll of the clean round `rounds` rounds
+  -- earlier, if that many blocks take what may have been left then
   pub through :
       (rounds : ℕ) (earlier : Machine)
       → opened * (behind rounds + (filter - 1)) ≤ rounds * (settings.per_block * filter)
       → slice_get receipts rounds ≡ Some earlier
       → length (log_of (life_of earlier.history)) ≤ end_recorded settings last
-  -- and at any time after it, so many scans after that poll was received
+  -- and what holds at any time at most `between` scans after the newest poll was received
   pub at :
       (between : ℕ) (now : Machine) → LeadsInTime settings first between receipt last now
       → IsLateBy settings opened filter scans most (between + behind 0) machine last now later
 
--- Where a link is kept up with, all arrives: whole, and late by no more than the blocks are behind.
+-- If a link is kept up with, everything arrives: whole, and no later than the blocks are behind.
 abbrev pub AllArrivesWhereKeptUpWith : Settings → ℕ → Machine → Type 0
 AllArrivesWhereKeptUpWith settings first machine =
     (opened filter scans most : ℕ) (pauses : List Pause) (receipt last : Machine) (later : Life)
@@ -180,8 +181,8 @@ AllArrivesWhereKeptUpWith settings first machine =
     Arrives settings first opened filter scans most (λ rounds. left_behind scans (drop rounds pauses))
     machine (receipts_of settings first machine pauses receipt last kept.from.rounds) receipt last later
 
--- Polled in time: the pauses are of at most as many scans as a round makes up for, with at most so many after the CPU
--- had last taken all: none where no answer is lost.
+-- Polled in time: the pauses are of at most as many scans as a round makes up for, at most `untaken` of them after a time
+-- whose blocks the CPU had all taken. If no answer is lost, `untaken` is 0.
 pub record IsPolledInTime (settings : Settings) (first opened filter scans untaken : ℕ)
     (machine : Machine) (pauses : List Pause) (receipt last : Machine) (later : Life) : Type 0 where
   pub inputs : opened ≤ INPUTS
@@ -190,7 +191,7 @@ pub record IsPolledInTime (settings : Settings) (first opened filter scans untak
   pub from : HasRounds settings first opened filter scans machine pauses receipt last later
   pub heard_in_time : IsWithin scans receipt last
 
--- Where a link is polled in time, all arrives in time.
+-- If a link is polled in time, everything arrives in time.
 abbrev pub AllArrivesInTime : Settings → ℕ → Machine → Type 0
 AllArrivesInTime settings first machine = HasRoom settings →
     (opened filter scans untaken : ℕ) (pauses : List Pause) (receipt last : Machine) (later : Life)
@@ -198,9 +199,8 @@ AllArrivesInTime settings first machine = HasRoom settings →
     Arrives settings first opened filter scans (scans + untaken) (λ rounds. untaken)
     machine (receipts_of settings first machine pauses receipt last polled.from.rounds) receipt last later
 
--- An outage within a pace: pauses of no more scans than a round makes up for, and one that is longer.
--- The longest is as many scans as the blocks may be behind, less those through which a lost answer can
--- keep a block.
+-- An outage is possible: one pause may be longer than the others, which are of no more scans than a round makes up for. It
+-- may have as many scans as the blocks may be behind, less those for which a lost answer can hold up a block.
 abbrev pub OutagesArePossible : Type 0
 OutagesArePossible =
     (scans untaken most : ℕ) (later : List Pause) (outage : Pause) (earlier : List Pause) →
@@ -208,8 +208,8 @@ OutagesArePossible =
     AreInTime scans untaken later → scans + untaken ≤ most →
     BeginNear scans most (later ++ outage ∷ earlier)
 
--- Rounds catch up: with pauses of no more scans than a round makes up for, each makes up for the
--- difference, until the blocks are no more behind than a lost answer keeps them.
+-- Rounds catch up: if pauses are of no more scans than a round makes up for, each round makes up for the difference, until
+-- the blocks are no further behind than a lost answer can keep them.
 abbrev pub RoundsCatchUp : Type 0
 RoundsCatchUp =
     (scans pace untaken : ℕ) (later earlier : List Pause) → pace ≤ scans →
@@ -217,8 +217,8 @@ RoundsCatchUp =
     left_behind scans (later ++ earlier)
     ≤ max (left_behind scans earlier - length later * (scans - pace)) untaken
 
--- At the standard limits, with filters of 5: a round makes up for 19 scans, and the blocks may be 76
--- behind.
+-- At the standard limits, with filters of 5, a round makes up for `scans` scans, and the buffer has room for blocks that are
+-- `most` scans behind. This holds for 19 and 76.
 abbrev pub StandardLimitsHaveRoom : ℕ → ℕ → Type 0
 StandardLimitsHaveRoom scans most =
     (id opened : ℕ) → opened ≤ INPUTS →

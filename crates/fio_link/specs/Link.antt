@@ -1,4 +1,4 @@
--- The link machine: the two ends and the bus between them, event by event.
+-- The link machine: the two ends and the bus between them, changed by one event after another.
 use Rattle.std.specs.Prelude.{◌≡◌, ℕ, zero, suc, ◌+◌, ◌%◌, ◌==◌, ◌||◌, nat_lt, List, [], ◌∷◌, ◌++◌, length, slice_get, Option, Some, None, if◌then◌else◌}
 use Rattle.fio_message.specs.declared.commands.Command.{Command}
 use Rattle.fio_message.specs.declared.commands.Command.TheVariants as commands
@@ -17,8 +17,8 @@ use Rattle.fio_cpu.specs.Record.{items_of_block}
 use Rattle.fio_link.specs.declared.event.Event.{Event}
 use Rattle.fio_link.specs.declared.event.Event.TheVariants.{Scan, LineSync, Raise, Poll, Send, ToModule, ToCpu, Restart}
 
--- why an event is refused: no such frame was sent, a later one was delivered already, a poll is
--- given to be sent
+-- why an event is refused: no frame with this number was sent, a later frame was delivered already, or the command to send
+-- is a poll, which only the machine itself sends
 pub data Refusal : Type 0 where
   NotSent : (index : ℕ) → Refusal
   OutOfOrder : (index last : ℕ) → Refusal
@@ -30,7 +30,7 @@ pub record SentFrame : Type 0 where
   pub octets : List ℕ
   pub round : ℕ
 
--- what the link has come to after some events
+-- the state of the link after some events
 pub record Machine : Type 0 where
   -- what has reached the module, newest first
   pub history : History
@@ -65,28 +65,28 @@ start =
 abbrev pub number_of : ℕ → ℕ → ℕ
 number_of first round = (first + round) % 256
 
--- what the machine has of the CPU
+-- the CPU's end of the machine
 abbrev pub polling_of : ℕ → Machine → Polling
 polling_of first machine = record { number = number_of first machine.round; items = machine.items }
 
--- the item with this number: the first has number 1, and number 0 has none
+-- the item with this number: the first has number 1, and no item has number 0
 abbrev pub item_numbered : {A : Type 0} → List A → ℕ → Option A
 item_numbered items zero = None
 item_numbered items (suc place) = slice_get items place
 
--- why a frame is not delivered, of so many sent, after the one with the number delivered last
+-- why a frame is not delivered, given how many were sent and which number was delivered last
 abbrev pub delivery_refusal : ℕ → ℕ → ℕ → Option Refusal
 delivery_refusal sent last index =
     if index == 0 || nat_lt sent index
     then Some (NotSent index)
     else (if nat_lt index last then Some (OutOfOrder index last) else None)
 
--- why a command is not sent: the machine's own polls are the only ones
+-- why a command is not sent: only the machine itself sends polls
 abbrev pub sending_refusal : Command → Option Refusal
 sending_refusal (commands.Poll number) = Some PollIsOurs
 sending_refusal other = None
 
--- why an event is refused, if it is
+-- why an event is refused, if it is refused
 abbrev pub refusal : Machine → Event → Option Refusal
 refusal machine (ToModule index) =
     delivery_refusal (length machine.to_module) machine.last_to_module index
@@ -94,27 +94,27 @@ refusal machine (ToCpu index) = delivery_refusal (length machine.to_cpu) machine
 refusal machine (Send command) = sending_refusal command
 refusal machine other = None
 
--- something reaches the module that is no frame
+-- the machine after an event that reaches the module other than as a frame
 abbrev pub after_module_event : Machine → module_events.Event → Machine
 after_module_event machine event = record machine { history = event ∷ machine.history }
 
--- the CPU sends a command
+-- the machine after the CPU has sent a command
 abbrev pub after_sending : Machine → Command → Machine
 after_sending machine command =
     let frame : SentFrame = record { octets = command_octets command; round = machine.round } in
     record machine { to_module = machine.to_module ++ frame ∷ [] }
 
--- the frame that an answer is sent in, where there is one
+-- the frame in which an answer is sent, if there is an answer
 abbrev pub answer_frames : Option Answer → ℕ → List SentFrame
 answer_frames None round = []
 answer_frames (Some answer) round = record { octets = answer_octets answer; round = round } ∷ []
 
--- the rounds of the polls received, with that of a frame which is a poll, newest first
+-- the rounds of the polls received, newest first, after a frame: its round is added if it is a poll
 abbrev pub polls_with : Option ℕ → ℕ → List ℕ → List ℕ
 polls_with None round polls = polls
 polls_with (Some number) round polls = round ∷ polls
 
--- the module receives the frame with this number, and its reply, if any, is sent
+-- the machine after the module has received the frame with this number: the reply, if any, is sent
 abbrev pub after_delivery_to_module : Settings → Machine → ℕ → Option SentFrame → Machine
 after_delivery_to_module settings machine index None = machine
 after_delivery_to_module settings machine index (Some frame) =
@@ -127,8 +127,8 @@ after_delivery_to_module settings machine index (Some frame) =
       polls = polls_with (poll_in frame.octets) frame.round machine.polls;
     }
 
--- a block with the CPU's number is taken: it is recorded, and the round is one more. Any other
--- changes nothing
+-- The machine after a block answer: if it has the CPU's number, its block is taken, that is, recorded, and the round goes up
+-- by one. Otherwise nothing changes.
 abbrev pub after_delivered_block : ℕ → Machine → Option Block → Machine
 after_delivered_block first machine None = machine
 after_delivered_block first machine (Some block) =
@@ -136,7 +136,7 @@ after_delivered_block first machine (Some block) =
     then record machine { round = machine.round + 1; items = machine.items ++ items_of_block block }
     else machine
 
--- the CPU hears the frame with this number
+-- the machine after the CPU has heard the frame with this number
 abbrev pub after_delivery_to_cpu : ℕ → Machine → ℕ → Option SentFrame → Machine
 after_delivery_to_cpu first machine index None = machine
 after_delivery_to_cpu first machine index (Some frame) =

@@ -6,15 +6,15 @@ use Rattle.fio_link.specs.declared.event.Event.{Event}
 use Rattle.fio_link.specs.declared.event.Event.TheVariants.{Scan, LineSync, Raise, Poll, ToModule, ToCpu}
 use Rattle.fio_link.specs.Link.{Machine, Leads}
 
--- an event that reaches the module past the bus: a scan, a line sync, flags that are raised
+-- an event that reaches the module other than by the bus: a scan, a line sync, flags that are raised
 abbrev pub ReachesModule : Event → Type 0
 ReachesModule (Scan raw) = Unit {0}
 ReachesModule LineSync = Unit {0}
 ReachesModule (Raise mask) = Unit {0}
 ReachesModule other = ⊥
 
--- A poll and its answer take their time: scans after the poll is sent and before it is received lead
--- where they lead before it is sent, and scans before the answer is received where they lead after.
+-- A poll and its answer take their time. Scans between the sending and the receipt of the poll lead to the same machine as
+-- scans before its sending, and scans before the receipt of the answer lead to the same machine as scans after it.
 abbrev pub ScansMoveOut : Settings → ℕ → Machine → Type 0
 ScansMoveOut settings first machine =
     (before later : List Event) (command answer : ℕ) (last : Machine) →

@@ -8,7 +8,7 @@ use Rattle.fio_link.specs.Link.{Machine}
 use Rattle.fio_link.specs.Pieces.{EntryPiece, piece_of}
 use Rattle.fio_link.specs.Settled.{timed_item}
 
--- the record has gained this transition since a machine; with its time, where that is in time
+-- since a machine, the record has gained this transition, and with its time if it is in time
 pub record HasGained (machine now : Machine) (transition : Transition) (in_time : Type 0)
     : Type 0 where
   pub place : ℕ
@@ -16,8 +16,8 @@ pub record HasGained (machine now : Machine) (transition : Transition) (in_time 
   pub there : slice_get (map piece_of now.items) place ≡ Some (EntryPiece (entry_of transition))
   pub timed : in_time → slice_get now.items place ≡ Some (timed_item transition)
 
--- the log has a transition of this input to this state, at one of these samples, which came after a
--- life; and the record has gained it
+-- the log has a transition of this input to this level, at one of these samples, which came after `life`; and the record has
+-- gained it
 pub record IsRecorded (input : ℕ) (level : Bool) (life samples : Life) (machine now : Machine)
     (in_time : Type 0) : Type 0 where
   pub place : ℕ
@@ -25,9 +25,9 @@ pub record IsRecorded (input : ℕ) (level : Bool) (life samples : Life) (machin
   pub logged : IsLoggedAt input level life samples place transition
   pub gained : HasGained machine now transition in_time
 
--- New levels since a machine are recorded: an open input that keeps a new level for as many samples in a row as its
--- filter asks for is in the record once more than so many scans less 2 came after the last of them; with its time
--- where that is so.
+-- New levels since a machine are recorded: if an open input keeps a new level for a run of samples as long as its filter
+-- requires, the change is in the record as soon as more than `late` - 2 scans came after the last of these samples, and with
+-- its time if `in_time` holds.
 abbrev pub RecordsNewLevels : ℕ → Machine → Machine → Type 0 → Type 0
 RecordsNewLevels late machine now in_time =
     (input : ℕ) (level : Bool) (before samples after : Life) →

@@ -9,30 +9,28 @@ use Rattle.fio_module.specs.Blocks.{MadeBlock, end_of_blocks, blocks_of}
 use Rattle.fio_cpu.specs.declared.record.Item.{Item}
 use Rattle.fio_cpu.specs.declared.record.Item.TheVariants as items
 
--- an item of the record without its wide time: a gap mark, or the entry that was got
+-- an item of the record without its wide time: a gap mark, or an entry
 pub data Piece : Type 0 where
   Gap : Piece
   EntryPiece : (entry : Entry) → Piece
 
--- an item of the record without its wide time
+-- the piece that an item of the record is: the item without its wide time
 abbrev pub piece_of : Item → Piece
 piece_of items.Gap = Gap
 piece_of (items.Entry input level stamp wide) =
     EntryPiece (record { input = input; level = level; stamp = stamp })
 
--- what a block is in the record: a gap mark if it says that entries were lost before it, then its
--- entries
+-- the pieces that a block adds to the record: a gap mark if it says that entries were lost before it, then its entries
 abbrev pub pieces_of : MadeBlock → List Piece
 pieces_of block =
     (if block.lost then Gap ∷ [] else [])
     ++ map (λ transition. EntryPiece (entry_of transition)) block.transitions
 
--- what the first m blocks are in the record
+-- the pieces that the first m blocks add to the record
 abbrev pub pieces_of_blocks : ℕ → List MadeBlock → List Piece
 pieces_of_blocks m blocks = flat_map pieces_of (take m blocks)
 
--- one of these blocks says that entries were lost before it, from where the block before it ended
--- up to its own start
+-- one of these blocks says that entries were lost before it, from the place where the block before it ended to its own start
 pub record HasLoss (blocks : List MadeBlock) (before start : ℕ) : Type 0 where
   pub block : MadeBlock
   pub is_made : Contains blocks block
@@ -41,9 +39,8 @@ pub record HasLoss (blocks : List MadeBlock) (before start : ℕ) : Type 0 where
   pub ends : block.start ≡ start
   pub forward : before < start
 
--- The pieces are a life's transition log from one place up to another: each entry is the one that
--- is next in the log, and only a gap mark passes some over, from where a block ended to where
--- the next one, which says so, starts.
+-- The pieces are a life's transition log from one place up to another. Each entry is the next one in the log, and entries
+-- are left out only at a gap mark: those from where a block ended to the start of the next block, which says so.
 abbrev pub ArePieces : Settings → Life → ℕ → List Piece → ℕ → Type 0
 ArePieces settings life from [] to = to ≡ from
 ArePieces settings life from (EntryPiece entry ∷ pieces) to =
@@ -53,8 +50,8 @@ ArePieces settings life from (Gap ∷ pieces) to =
     (next : ℕ) × HasLoss (blocks_of settings life) from next
     × ArePieces settings life next pieces to
 
--- the law of pieces: what the first m blocks of a life are in the record are pieces of its log from
--- the start through the end of the m-th, and from 0 to 0 for m = 0
+-- the law of pieces: the pieces that the first m blocks of a life add to the record are the pieces of its log up to where
+-- the m-th block ends, or up to 0 if m is 0
 abbrev pub TakenArePieces : Type 0
 TakenArePieces = (settings : Settings) (life : Life) (m : ℕ) →
     let blocks = blocks_of settings life in
@@ -66,11 +63,11 @@ until_gap [] = []
 until_gap (Gap ∷ pieces) = []
 until_gap (EntryPiece entry ∷ pieces) = entry ∷ until_gap pieces
 
--- these entries begin the log of a life
+-- the log of a life begins with these entries
 abbrev pub BeginLog : Life → List Entry → Type 0
 BeginLog life entries = (rest : List Entry) × (map entry_of (log_of life) ≡ entries ++ rest)
 
--- until the first gap mark, pieces of the log from its start are a prefix of it
+-- up to the first gap mark, pieces of the log from its start are a prefix of it
 abbrev pub PiecesBeginLog : Type 0
 PiecesBeginLog = (settings : Settings) (life : Life) (pieces : List Piece) (to : ℕ) →
     ArePieces settings life 0 pieces to → BeginLog life (until_gap pieces)

@@ -1,4 +1,4 @@
--- The rising record, through any number of restarts.
+-- The record rises through the log, however often the module restarts.
 use Rattle.std.specs.Prelude.{◌≡◌, ℕ, List, [], ◌∷◌, map, slice_get, Some}
 use Rattle.std.specs.List.Sorted.{IsStrictlyIncreasing}
 use Rattle.fio_message.specs.declared.fields.Entry.{Entry}
@@ -12,14 +12,14 @@ entries_got [] = []
 entries_got (Gap ∷ pieces) = entries_got pieces
 entries_got (EntryPiece entry ∷ pieces) = entry ∷ entries_got pieces
 
--- The pieces rise through a log: there are strictly rising places in it, one for each entry in
--- order, and each entry is the one that is there.
+-- The pieces rise through a log: it has strictly rising places, one for each entry in order, and at each of these places is
+-- that entry.
 pub record Rises (log : List Transition) (pieces : List Piece) : Type 0 where
   pub places : List ℕ
   pub rise : IsStrictlyIncreasing places
   pub stand : map (slice_get (map entry_of log)) places ≡ map Some (entries_got pieces)
 
--- Whatever restarts, the record rises through the transition logs of all the module's lives,
--- joined: nothing is doubled, reordered or invented.
+-- Whatever restarts, the record rises through the transition logs of all the module's lives, joined: nothing is doubled,
+-- reordered or invented.
 abbrev pub IsRising : Machine → Type 0
 IsRising machine = Rises (whole_log machine.history) (map piece_of machine.items)

@@ -1,5 +1,5 @@
--- That the bounds are sharp: links that are as late as the bounds say, and one that is polled a scan too seldom
--- and loses transitions.
+-- The bounds are sharp: there are links that are as late as the bounds say, and one that is polled one scan too seldom and
+-- loses transitions.
 use Rattle.std.specs.Prelude.{◌≡◌, ℕ, ◌+◌, ◌*◌, ◌≤◌, List, [], ◌∷◌, ◌++◌, drop, slice_get, Some}
 use Rattle.fio_input.specs.Delivery.{open_inputs, OpenHaveFiltersOf, NoneIsApplied}
 use Rattle.fio_module.specs.Settings.{Settings, AreInRange, HasRoom, standard_settings}
@@ -14,7 +14,7 @@ use Rattle.fio_link.specs.Settled.{IsSettled, end_recorded, LeadsInTime}
 use Rattle.fio_link.specs.KeptUp.{Pause, scans_of_pause, RoundsAfter, AreInTime}
 use Rattle.fio_link.specs.StandardLinks.{IsStandardLink}
 
--- in none of these clean rounds anything comes between
+-- nothing comes between the steps of any of these clean rounds
 abbrev pub HaveNothingBetween : (settings : Settings) (first : ℕ) (machine : Machine) (pauses : List Pause)
     (receipt last : Machine) → RoundsAfter settings first machine pauses receipt last → Type 0
 HaveNothingBetween settings first machine [] receipt last rounds = Unit {0}
@@ -22,8 +22,7 @@ HaveNothingBetween settings first machine (pause ∷ pauses) receipt last rounds
     HasNothingBetween settings first rounds.3.begin receipt last rounds.3.round
     × HaveNothingBetween settings first machine pauses rounds.0 rounds.1 rounds.2
 
--- A standard link without restarts, with pauses of at most so many scans, that lacks a transition which is so many
--- scans old.
+-- A standard link without restarts, with pauses of at most `scans` scans, that lacks a transition which is `late` scans old.
 pub record StandardLinkIsAsLate (scans untaken late : ℕ) : Type 0 where
   pub id : ℕ
   pub first : ℕ
@@ -43,16 +42,16 @@ pub record StandardLinkIsAsLate (scans untaken late : ℕ) : Type 0 where
   pub not_applied : NoneIsApplied (filter_events later)
   pub nothing_between :
       HaveNothingBetween (standard_settings id) first machine pauses receipt last link.rounds
-  -- the first that the record lacks
+  -- the oldest one that the record lacks
   pub transition : Transition
   pub lacking :
       slice_get (drop (end_recorded (standard_settings id) now) (log_of (life_of now.history))) 0
       ≡ Some transition
   pub old : scans_of (life_of now.history) ≡ transition.scans + late
 
--- A link that is polled a scan too seldom, from a settled point on. Since then the module has received the poll of a
--- clean round at least every n + 1 scans, where n would be often enough, no answer was lost, and it has applied no
--- configuration; and the record has a gap mark.
+-- A link that is polled one scan too seldom from a settled point on. Since then the module has received the poll of a clean
+-- round at least every n + 1 scans, although n would be often enough, no answer was lost, and no configuration was applied.
+-- Yet the record has a gap mark.
 pub record LosesWhereAScanLater (settings : Settings) (filter scans : ℕ) : Type 0 where
   pub in_range : AreInRange settings
   pub room : HasRoom settings

@@ -12,7 +12,7 @@ use Rattle.fio_link.specs.Delivery.{CleanRoundTakesBlock, EachCleanRoundTakesOne
 use Rattle.fio_link.specs.Settled.{StandsWithoutRestart, CleanRoundTakesAll, RoundsMakeBlocks, CleanRoundsCatchUp}
 use Rattle.fio_link.specs.KeptUp.{AllArrivesWhereKeptUpWith}
 
--- all that is promised of what arrives, whatever restarts
+-- everything that is promised of what arrives, whatever restarts
 pub record Delivers (settings : Settings) (first : ℕ) (machine : Machine) : Type 0 where
   pub takes_block : CleanRoundTakesBlock settings first machine
   pub takes_one : EachCleanRoundTakesOne settings first machine
@@ -21,7 +21,7 @@ pub record Delivers (settings : Settings) (first : ℕ) (machine : Machine) : Ty
   pub catches_up : CleanRoundsCatchUp settings first machine
   pub kept_up_with : AllArrivesWhereKeptUpWith settings first machine
 
--- what holds of a machine without restarts
+-- what holds of a machine after events without restarts
 pub record IsSound (settings : Settings) (first : ℕ) (machine : Machine) : Type 0 where
   -- the headline
   pub headline : RecordIsLog settings machine
@@ -51,17 +51,17 @@ abbrev pub HoldsOfRuns : (Settings → ℕ → List Event → Machine → Type 0
 HoldsOfRuns Holds = (settings : Settings) (first : ℕ) (events : List Event) (machine : Machine) →
     AreInRange settings → IsRun settings first events machine → Holds settings first events machine
 
--- the same of the machine alone
+-- a promise for every run, about the machine alone
 abbrev pub HoldsWhateverRestarts : (Settings → ℕ → Machine → Type 0) → Type 0
 HoldsWhateverRestarts Holds = HoldsOfRuns (λ settings first events machine. Holds settings first machine)
 
--- the same for every run without restarts
+-- a promise for every run without restarts, about the machine alone
 abbrev pub HoldsWithoutRestart : (Settings → ℕ → Machine → Type 0) → Type 0
 HoldsWithoutRestart Holds =
     HoldsOfRuns (λ settings first events machine.
     HaveNoRestart events → Holds settings first machine)
 
--- events lead to one machine at most
+-- events lead to at most one machine
 abbrev pub LeadToOneMachine : Type 0
 LeadToOneMachine =
     (settings : Settings) (first : ℕ) (events : List Event) (machine other : Machine) →

@@ -11,9 +11,8 @@ use Rattle.fio_link.specs.Settled.{IsSettled, end_recorded, LeadsInTime, HasGain
 use Rattle.fio_link.specs.NewLevels.{RecordsNewLevels}
 use Rattle.fio_link.specs.KeptUp.{Pause, scans_of_pause, RoundsAfter}
 
--- A standard link: under the standard limits, after any run, restarts included, that ended at a settled point. Since
--- then clean rounds have come after pauses, and the filters of the open inputs stay at least 5, whatever
--- configurations come.
+-- A standard link: it has the standard limits, and any run, restarts included, has ended at a settled point. Since then
+-- clean rounds have come after pauses, and the filters of the open inputs stay at least 5, whatever configurations come.
 pub record IsStandardLink (id first : ℕ) (events : List Event) (machine : Machine) (pauses : List Pause)
     (receipt last : Machine) (later : Life) : Type 0 where
   pub id_fits : id ≤ 255
@@ -24,7 +23,7 @@ pub record IsStandardLink (id first : ℕ) (events : List Event) (machine : Mach
   pub filters :
       OpenKeepFiltersOf 5 (filter_events later) (filter_events (life_of machine.history))
 
--- what holds of each standard link with such pauses, the last of them the one that lasts
+-- what holds of each standard link with such pauses, of which the newest is still going on
 abbrev pub HoldsOfStandardLinks : (List Pause → Type 0)
     → ((id : ℕ) (machine last now : Machine) → Type 0) → Type 0
 HoldsOfStandardLinks AreSuch Holds =
@@ -35,8 +34,7 @@ HoldsOfStandardLinks AreSuch Holds =
     LeadsInTime (standard_settings id) first (scans_of_pause next) receipt last now →
     Holds id machine last now
 
--- Such a link loses nothing, and is never later than so many scans: at any time what the record lacks is at most so
--- many scans old.
+-- Such a link loses nothing, and is never later than this: at any time what the record lacks is at most `late` scans old.
 abbrev pub StandardLinkIsNeverLater : (List Pause → Type 0) → ℕ → Type 0
 StandardLinkIsNeverLater AreSuch late =
     HoldsOfStandardLinks AreSuch (λ id machine last now.
@@ -45,8 +43,8 @@ StandardLinkIsNeverLater AreSuch late =
     (λ transition. scans_of (life_of now.history) ≤ transition.scans + late)
     (drop (end_recorded (standard_settings id) now) (log_of (life_of now.history))))
 
--- Such a link has recorded a new level, with its time, once more than so many scans came after the last of its
--- samples: with a filter of f samples, f - 1 more after the first.
+-- Such a link has recorded a new level, with its time, as soon as more than `late` scans came after the last of its samples.
+-- With a filter of f samples, that is f - 1 scans more after the first of them.
 abbrev pub StandardLinkRecordsNewLevels : (List Pause → Type 0) → ℕ → Type 0
 StandardLinkRecordsNewLevels AreSuch late =
     HoldsOfStandardLinks AreSuch (λ id machine last now.

@@ -1,4 +1,4 @@
--- What arrives since a settled point, however seldom rounds come: all, unless the buffer was full.
+-- What arrives since a settled point, however seldom rounds come: everything, unless the buffer was full.
 use Rattle.std.specs.Prelude.{◌≡◌, ℕ, ◌≤◌, ◌++◌}
 use Rattle.fio_input.specs.FiltersThatDiffer.{Plan}
 use Rattle.fio_module.specs.Settings.{Settings}
@@ -8,14 +8,15 @@ use Rattle.fio_module.specs.FiltersThatDiffer.{IsPolledForEach}
 use Rattle.fio_link.specs.Link.{Machine}
 use Rattle.fio_link.specs.Settled.{IsSettled, LeadsOn, HasGainedAll}
 
--- What has happened to the module since a settled point, without a restart, is so; then the record has gained all.
+-- If this is so of what has happened to the module since a settled point, without a restart, the record has gained
+-- everything.
 abbrev pub GainsAllWhere : (Settings → Life → Life → Type 0) → Settings → ℕ → Machine → Type 0
 GainsAllWhere IsSo settings first machine = 1 ≤ settings.waiting → IsSettled settings first machine →
     (now : Machine) (later : Life) → LeadsOn settings first machine now →
     life_of now.history ≡ later ++ life_of machine.history →
     IsSo settings (life_of machine.history) later → HasGainedAll settings machine now
 
--- no more transitions stood beyond the newest block than may wait, at each time of what happened after a life
+-- at each time of what happened after a life, no more transitions lay beyond the newest block than may wait
 abbrev pub StaysFew : Settings → Life → Life → Type 0
 StaysFew settings life later = AtEachTime (λ l. FewBeyond settings (l ++ life)) later
 
@@ -23,7 +24,7 @@ StaysFew settings life later = AtEachTime (λ l. FewBeyond settings (l ++ life))
 abbrev pub IsRoomyOutage : ℕ → ℕ → Settings → Life → Life → Type 0
 IsRoomyOutage opened filter settings life later = IsOutage settings opened filter life later
 
--- polled often for each input, where a whole block may wait
+-- polled often by the plan, and a whole block may wait
 abbrev pub IsOftenForEach : Plan → ℕ → Settings → Life → Life → Type 0
 IsOftenForEach plan scans settings life later =
     (settings.per_block ≤ settings.waiting) × IsPolledForEach settings plan scans life later

@@ -1,4 +1,4 @@
--- One bit of a word, through each operation on words of 64 bits: what the crates above cite for inputs, masks and flags.
+-- One bit of a word through each operation on words of 64 bits. The crates above cite this for inputs, masks and flags.
 use Rattle.fio_message.proofs.Names.{◌≡◌, ℕ, zero, suc, ◌+◌, ◌-◌, ◌*◌, ◌/◌, ◌%◌, ◌^◌, ◌<◌, min, max, Bool, true, false, not, ◌&&◌, ◌||◌, ◌==◌, if◌then◌else◌, refl, sym, subst, add-zero, ◌≤◌, ap, ap₂, ◌∙◌, arith, mod-lt, zero-lt-suc, le_of_suc-le-suc, not-suc-le-zero, List, get_or, cond, bit_at, bit_not, shr-shr, eq-eqb, ne_eqb, is_set}
 use Rattle.std.proofs.Common.{w64}
 use Rattle.std.specs.Bool.{beq}
@@ -19,7 +19,7 @@ bit_cases P p q (suc (suc r)) h = absurd (not-suc-le-zero (le_of_suc-le-suc (le_
 bit_lt : (n i : ℕ) → bit_at n i < 2
 bit_lt n i = mod-lt (n / 2 ^ i) (zero-lt-suc 1)
 
--- what holds at each two bits holds at those of two words at a place
+-- what holds of any two bits holds of those of two words at a position
 two_bits : (P : ℕ → ℕ → Type 0) → P 0 0 → P 0 1 → P 1 0 → P 1 1
     → (a b i : ℕ) → P (bit_at a i) (bit_at b i)
 two_bits P p q r s a b i =
@@ -41,7 +41,7 @@ is_set-or a b i =
     ap (λ n. n == 1) (bit_at_or a b i)
     ∙ two_bits (λ x y. (max x y == 1) ≡ ((x == 1) || (y == 1))) refl refl refl refl a b i
 
--- `a ^ b`: set where the two differ
+-- `a ^ b`: set if the two differ
 pub is_set-xor : (a b i : ℕ) → is_set (bit_xor a b) i ≡ not (beq (is_set a i) (is_set b i))
 unfolding is_set
 is_set-xor a b i =
@@ -60,7 +60,7 @@ pub is_set-ones : (i : ℕ) → i < 64 → is_set (2 ^ 64 - 1) i ≡ true
 unfolding is_set
 is_set-ones i within = ap (λ n. n == 1) (bit_at_ones 64 i within)
 
--- `old & !mask | new & mask`: the bits of one word where a mask is set, and of another elsewhere
+-- `old & !mask | new & mask`: the bits of `new` where the mask is set, and of `old` elsewhere
 pub is_set-merged : (old new mask i : ℕ) → mask < 2 ^ 64 → i < 64
     → is_set (bit_or (bit_and old (bit_not w64 mask)) (bit_and new mask)) i
     ≡ (if is_set mask i then is_set new i else is_set old i)
@@ -92,7 +92,7 @@ pub is_set_read : (n i : ℕ) → (bit_and (n / 2 ^ i) 1 == 1) ≡ is_set n i
 unfolding is_set
 is_set_read n i = ap (λ x. x == 1) (shr_and_one n i)
 
--- `n | 1 << k` and `n & !(1 << k)`: a bit is set or cleared, and the others stay
+-- `n | 1 << k` and `n & !(1 << k)`: one bit is set or cleared, and the others stay
 module _ (n k : ℕ) (within : k < 64) where
   -- `1 << k`
   abbrev pub one_at : ℕ
@@ -103,7 +103,7 @@ module _ (n k : ℕ) (within : k < 64) where
   unfolding is_set
   is_set-set_same = ap (λ x. x == 1) (bit_at_set_same w64 n k within)
 
-  -- the others beside it
+  -- the other bits
   pub is_set-set_other : (i : ℕ) → (i ≡ k → ⊥)
       → is_set (bit_or n one_at) i ≡ is_set n i
   unfolding is_set
@@ -114,7 +114,7 @@ module _ (n k : ℕ) (within : k < 64) where
   unfolding is_set
   is_set-clear_same = ap (λ x. x == 1) (bit_at_clear_same w64 n k within)
 
-  -- the others beside it
+  -- the other bits
   pub is_set-clear_other : (i : ℕ) → i < 64 → (i ≡ k → ⊥)
       → is_set (bit_and n (bit_not w64 one_at)) i ≡ is_set n i
   unfolding is_set
@@ -145,7 +145,7 @@ pub is_set-shr : (n k i : ℕ) → is_set (n / 2 ^ k) i ≡ is_set n (k + i)
 unfolding is_set
 is_set-shr n k i = ap (λ x. x % 2 == 1) (shr-shr n k i)
 
--- `n & (1 << k) - 1`, below place k
+-- `n & (1 << k) - 1`, below position k
 pub is_set-low : (n k i : ℕ) → i < k → is_set (bit_and n (2 ^ k - 1)) i ≡ is_set n i
 unfolding is_set
 is_set-low n k i h =
@@ -161,26 +161,26 @@ is_set-mod n i h =
     let same = ap (λ x. x % 2) (field n (m + 1) i) ∙ mod-mod-pow (n / 2 ^ i) m 1 in
     ap (λ x. x == 1) (subst (λ w. bit_at (n % 2 ^ w) i ≡ bit_at n i) e same)
 
--- `n << k`, from place k on
+-- `n << k`, from position k on
 pub is_set-shl_high : (n k i : ℕ) → k + i < 64 → is_set (n * 2 ^ k % 2 ^ 64) (k + i) ≡ is_set n i
 unfolding is_set
 is_set-shl_high n k i h =
     is_set-mod (n * 2 ^ k) (k + i) h
     ∙ ap (λ x. x % 2 == 1) (sym (shr-shr (n * 2 ^ k) k i) ∙ ap (λ x. x / 2 ^ i) (shl-shr n k))
 
--- `n << k`, below place k
+-- `n << k`, below position k
 pub is_set-shl_low : (n k i : ℕ) → i < k → i < 64 → is_set (n * 2 ^ k % 2 ^ 64) i ≡ false
 unfolding is_set
 is_set-shl_low n k i below within =
     let none = ap (λ x. bit_at x i) (sym (add-zero (n * 2 ^ k))) ∙ bit_at_cat_low n k 0 i below ∙ bit_at-zero i in
     is_set-mod (n * 2 ^ k) i within ∙ ap (λ x. x == 1) none
 
--- a number below 2^k has no bit from place k on
+-- a number below 2^k has no bit from position k on
 pub is_set-above : (n k i : ℕ) → n < 2 ^ k → k ≤ i → is_set n i ≡ false
 unfolding is_set
 is_set-above n k i small above = ap (λ x. x == 1) (bit_at_above n k i small above)
 
--- `a | n << k`, below place k
+-- `a | n << k`, below position k
 pub is_set-placed_below : (a n k i : ℕ) → i < k → i < 64
     → is_set (bit_or a (n * 2 ^ k % 2 ^ 64)) i ≡ is_set a i
 is_set-placed_below a n k i below within =
@@ -192,7 +192,7 @@ is_set-placed_below a n k i below within =
     or_false true = refl
     or_false false = refl
 
--- `a | n << k`, from place k on, where a has no bit there
+-- `a | n << k`, from position k on, if a has no bit there
 pub is_set-placed_at : (a n k i : ℕ) → k + i < 64 → is_set a (k + i) ≡ false
     → is_set (bit_or a (n * 2 ^ k % 2 ^ 64)) (k + i) ≡ is_set n i
 is_set-placed_at a n k i within free =

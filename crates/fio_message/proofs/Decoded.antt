@@ -1,7 +1,7 @@
--- What a decoder answers says what is read of the octets.
+-- What a decoder returns says what is read from the octets.
 use Rattle.fio_message.proofs.Names.{◌≡◌, ℕ, List, Option, Some, None, Ok, ok_or, Command, DecodeError, command_length, command_in, decoded_command, fault_in}
 
--- where it answers a message, that message is read
+-- if it returns a message, that message is read
 message_read : {V : Type 0} (found : Option V) (fault : DecodeError) (message : V)
     → ok_or found fault ≡ Ok message → found ≡ Some message
 message_read None fault message is = absurd (cc is)

@@ -1,10 +1,11 @@
--- Decoding as a function: whole octets give what is read of them, and all others the fault that they are refused for.
+-- Decoding as a function: whole octets decode to what is read from them, and all others to the fault for which they are
+-- refused.
 use Rattle.fio_message.proofs.Names.{◌≡◌, ℕ, suc, ◌+◌, ◌<◌, ◌≤◌, true, false, List, [], ◌∷◌, length, Option, Some, None, Result, Ok, Err, refl, sym, ap, subst, ◌∙◌, arith, inl, inr, eq-eqb, nat_le, ok_or, and_right, le-leb, lt-leb, lt-ltb, le-ltb, ne_eqb, BODY_OCTETS, FRAME_OCTETS, DecodeError, Refuses, IsWhole, is_length, message_in, fault_in}
 use Rattle.fio_message.specs.declared.faults.DecodeError.TheVariants.{Empty, TooLong, UnknownType, WrongLength}
 use Rattle.fio_message.proofs.Whole.{fields_fit, fields_needed, whole_or_refused}
 
 module _ {V : Type 0} (length_of : List ℕ → Option ℕ) (read : ℕ → List ℕ → V) where
-  -- a code and fields that have the length needed, and fit in a frame, are what is read of them
+  -- a code and fields that have the length needed, and fit in a frame, decode to what is read from them
   message_in-fitting : (code : ℕ) (fields : List ℕ) → length fields ≤ BODY_OCTETS
       → length_of (code ∷ fields) ≡ Some (suc (length fields))
       → message_in length_of read (code ∷ fields) ≡ Some (read code fields)
@@ -14,7 +15,7 @@ module _ {V : Type 0} (length_of : List ℕ → Option ℕ) (read : ℕ → List
       rw needed (eq-eqb (suc (length fields)) (1 + length fields) (omega arith)) in
       rw (le-leb (length fields) BODY_OCTETS le, fits) refl
 
-  -- whole octets are what is read of them
+  -- whole octets decode to what is read from them
   pub message_in-whole : (octets : List ℕ) (code : ℕ) (fields : List ℕ)
       → IsWhole (length_of octets) octets code fields → message_in length_of read octets ≡ Some (read code fields)
   message_in-whole octets code fields whole =
@@ -41,17 +42,17 @@ module _ {V : Type 0} (length_of : List ℕ → Option ℕ) (read : ℕ → List
   message_in-unfit code fields unfit =
       rw (and_right (nat_le (length fields) BODY_OCTETS) (is_length (length_of (code ∷ fields)) (1 + length fields)) unfit) refl
 
-  -- what a decoder of these messages answers
+  -- what a decoder of these messages returns
   abbrev pub decoded : List ℕ → Result V DecodeError
   decoded octets = ok_or (message_in length_of read octets) (fault_in (length_of octets) octets)
 
-  -- where octets are whole, the answer is what is read of them
+  -- if octets are whole, the result is what is read from them
   pub decoded-whole : (octets : List ℕ) (code : ℕ) (fields : List ℕ)
       → IsWhole (length_of octets) octets code fields → decoded octets ≡ Ok (read code fields)
   decoded-whole octets code fields whole =
       ap (λ (o : Option V). ok_or o (fault_in (length_of octets) octets)) (message_in-whole octets code fields whole)
 
-  -- where octets are refused for a fault, the answer is that fault
+  -- if octets are refused for a fault, the result is that fault
   pub decoded-refused : (octets : List ℕ) (fault : DecodeError)
       → Refuses (length_of octets) octets fault → decoded octets ≡ Err fault
   decoded-refused [] Empty r = ap (λ (o : Option V). ok_or o Empty) message_in-empty
@@ -76,7 +77,7 @@ module _ {V : Type 0} (length_of : List ℕ → Option ℕ) (read : ℕ → List
       let within = le-ltb FRAME_OCTETS (1 + length fields) (omega (arith, r.0.1, same)) in
       rw (none, within, r.2) (ap (λ (n : ℕ). Err (WrongLength needed n)) (sym same))
 
-  -- a fault is the answer only where octets are refused for it
+  -- a fault is the result only if octets are refused for it
   pub refused-decoded : (octets : List ℕ) (fault : DecodeError)
       → decoded octets ≡ Err fault → Refuses (length_of octets) octets fault
   refused-decoded octets fault e =
@@ -88,7 +89,7 @@ module _ {V : Type 0} (length_of : List ℕ → Option ℕ) (read : ℕ → List
             subst (λ (f : DecodeError). Refuses (length_of octets) octets f) same other.1
       ]
 
-  -- both, where what is needed is computed before
+  -- both, if the length needed is computed first
   pub whole-by : (needed : Option ℕ) (octets : List ℕ) (code : ℕ) (fields : List ℕ) → needed ≡ length_of octets
       → IsWhole needed octets code fields → decoded octets ≡ Ok (read code fields)
   whole-by needed octets code fields is whole = decoded-whole octets code fields (rw is at whole)

@@ -3,7 +3,7 @@ use Rattle.fio_message.proofs.Names.{◌≡◌, ℕ, ◌-◌, ◌+◌, List, ◌
 use Rattle.std.proofs.Math.Seq.{take-append-add, take-length}
 use Rattle.std.proofs.lemmas.Bool.Decides.{leb_tells}
 
--- as many of the first part as there may be, and then of the second
+-- the front: from the first part as far as it goes, then from the second
 pub take-two_parts : {X : Type 0} (count : ℕ) (first second : List X)
     → take (min (length first) count) first ++ take (min (length second) (count - min (length first) count)) second
     ≡ take count (first ++ second)

@@ -1,4 +1,4 @@
--- What the laws and the decoders take from each kind of message: what is spelled is read back, and whole octets are spelled.
+-- What the laws and the decoders need of each kind of message: what is spelled is read back, and whole octets are spelled.
 use Rattle.fio_message.proofs.Names.{◌≡◌, ℕ, suc, ◌≤◌, List, ◌∷◌, length, Option, Some, sym, ap, subst, ◌∙◌, arith, BODY_OCTETS, IsOctets, IsWhole}
 use Rattle.fio_message.proofs.Whole.{fields_fit, fields_needed}
 
@@ -10,7 +10,7 @@ pub record IsReadAs {V : Type 0} (length_of : List ℕ → Option ℕ) (read : �
   pub whole : IsWhole (length_of octets) octets code fields
   pub again : read code fields ≡ message
 
--- octets with this code and the length needed are spelled by what is read of them
+-- octets with this code and the length needed are spelled by what is read from them
 abbrev pub Takes : {V : Type 0} → (V → List ℕ → Type 0) → (List ℕ → Option ℕ) → (ℕ → List ℕ → V) → ℕ → Type 0
 Takes Spells length_of read code =
     (fields : List ℕ) → IsOctets fields → length fields ≤ BODY_OCTETS
@@ -47,7 +47,7 @@ read_as_again {length_of = length_of} {code = code} {fields = fields} a octets i
       again = a.again;
     }
 
--- whole octets are spelled by what is read of them
+-- whole octets are spelled by what is read from them
 pub whole_is_spelled : {V : Type 0} {Spells : V → List ℕ → Type 0} {length_of : List ℕ → Option ℕ}
     {read : ℕ → List ℕ → V} → IsGrammar Spells length_of read
     → (octets : List ℕ) (code : ℕ) (fields : List ℕ) → IsOctets octets

@@ -3,7 +3,7 @@ use Rattle.fio_message.proofs.Names.{◌≡◌, ◌↔◌, ℕ, zero, suc, ◌+�
 use Rattle.std.proofs.Common.{bit_and}
 use Rattle.std.proofs.Math.Nat.{mod-eq_of_lt}
 
--- the bits of a word below place k are those of its remainder
+-- the bits of a word below position k are those of its remainder
 bit_below : (n k b : ℕ) → b < k → bit_and (n % 2 ^ k) (2 ^ b) ≡ bit_and n (2 ^ b)
 bit_below n k b lt =
     let small : 2 ^ b < 2 ^ k = pow_below b k lt in
@@ -22,7 +22,7 @@ bit_shifted n j b =
       λ s. here.0 (ap (λ (m : ℕ). bit_and m 1) same ∙ there.1 s),
     )
 
--- bit b of the octet of a word that begins at place j is bit j + b of the word
+-- bit b of the octet of a word that begins at position j is bit j + b of the word
 bit_of_octet : (n j b : ℕ) → b < 8 → IsBitSet (n / 2 ^ j % 256) b ↔ IsBitSet n (j + b)
 bit_of_octet n j b lt =
     let same = bit_below (n / 2 ^ j) 8 b lt in

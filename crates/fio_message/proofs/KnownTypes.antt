@@ -13,7 +13,7 @@ module _ (length_of : List ℕ → Option ℕ) (low high : ℕ) (fields : List �
   abbrev Needs : ℕ → Type 0
   Needs code = length_of (code ∷ fields) ≡ None → ⊥
 
-  -- a code needs no length exactly where it is not within these
+  -- a code needs no length exactly if it is outside these
   abbrev Known : ℕ → Type 0
   Known code = (length_of (code ∷ fields) ≡ None) ↔ ((low ≤ code) × (code ≤ high) → ⊥)
 
@@ -25,7 +25,7 @@ module _ (length_of : List ℕ → Option ℕ) (low high : ℕ) (fields : List �
     known_from (suc from) n (omega (arith, le)) (omega (arith, end)) each.1,
   )
 
-  -- so many types from low on are the known ones, where each of these needs a length and no other does
+  -- n successive types from `low` on are the known ones, if each of these needs a length and no other does
   known_within : (n code : ℕ) → low + n ≡ suc high → HoldsFrom Needs low n
       → (IsNoneFrom code low n → length_of (code ∷ fields) ≡ None) → Known code
   known_within n code end each other =
@@ -50,7 +50,7 @@ answer_codes code fields =
 pub block_codes : IsKnownWithin block_length 182 182
 block_codes code fields = known_within block_length 182 182 fields 1 code refl (needed _, tt) (λ none. rw none.0 refl)
 
--- what a block answer needs is what it needs among all answers
+-- a block answer needs the same length among all answers
 pub block_answer_needs : NeedsTheSame
 block_answer_needs [] needed e = absurd cc
 block_answer_needs (code ∷ fields) needed e =

@@ -1,4 +1,4 @@
--- What proves the laws that need no answer: the module `laws` names this list.
+-- The proofs of those laws that need no answer: the module `laws` names this list.
 use Rattle.fio_message.proofs.InputsLayout.{inputs_layout}
 use Rattle.fio_message.proofs.KnownTypes.{command_codes, answer_codes, block_codes, block_answer_needs}
 use Rattle.fio_message.proofs.MessageLaws.{each_command, each_answer, never_both}

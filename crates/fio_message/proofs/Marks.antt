@@ -9,13 +9,13 @@ use Rattle.fio_message.proofs.PartLists.{length-parts}
 use Rattle.fio_message.proofs.PartKinds.{entry_is_part}
 use Rattle.fio_message.proofs.StatusBits.{again_status-fits}
 
--- a block of entries by their octets is the block answer of these entries
+-- a block whose entries are given as octets is the block answer of these entries
 pub keeps_block_answers : KeepsBlockAnswers
 keeps_block_answers number entries status stamp =
     let ending = status ∷ to_be_bytes w32 stamp in
     ap₂ (λ (count : ℕ) (body : List ℕ). 182 ∷ number ∷ count ∷ (body ++ ending)) (length-map entries entry_octets) (flat_map-map (λ entry. entry) entry_octets entries)
 
--- the item behind a list
+-- setting the item that follows a list
 set-behind : (xs ys : List ℕ) (x y : ℕ) → slice_set (xs ++ x ∷ ys) (length xs) y ≡ xs ++ y ∷ ys
 set-behind [] ys x y = refl
 set-behind (z ∷ xs) ys x y = ap (λ zs. z ∷ zs) (set-behind xs ys x y)
@@ -34,7 +34,7 @@ marked-behind a b c body tail status place is =
     (ap (λ x. slice_set (body ++ status ∷ tail) (length body) (again_status x)) (index-behind body tail status)
     ∙ set-behind body tail status (again_status status)))
 
--- marking the octets of a block gives those of it sent again
+-- marking the octets of a block gives the octets of the block sent again
 marked-answer : (block : Block) → marked_octets (answer_octets (block_answer block)) ≡ answer_octets (block_answer (block_sent_again block))
 marked-answer block =
     let body = flat_map entry_octets block.entries in
@@ -43,7 +43,7 @@ marked-answer block =
     omega (arith, length-parts entry_is_part block.entries) in
     marked-behind 182 block.number (length block.entries) body tail block.status _ place
 
--- the marked octets of a block spell it sent again
+-- the marked octets of a block spell the block sent again
 pub spells-marked : (block : Block) (octets : List ℕ) → SpellsBlock block octets
     → SpellsBlock (block_sent_again block) (marked_octets octets)
 spells-marked block octets spells = record {
@@ -61,7 +61,7 @@ spells-marked block octets spells = record {
 length-marked : (octets : List ℕ) → length (marked_octets octets) ≡ length octets
 length-marked octets = length-set octets _ _
 
--- as many of a list in two parts as the first has
+-- if of a list in two parts the length of the first is taken, that is the first part
 take-kept : (count : ℕ) (kept others : List ℕ) → length kept ≡ min count (length kept + length others)
     → take count (kept ++ others) ≡ kept
 take-kept count kept others is =
@@ -69,7 +69,7 @@ take-kept count kept others is =
     ∙ ap (λ n. take n (kept ++ others)) (ap (min count) (length-append kept others) ∙ sym is)
     ∙ take-append_seam kept others
 
--- where the octets that are kept are marked in their place, the marked octets are kept
+-- if the octets that are kept are marked in place, they are the marked octets that would be kept
 pub marked-kept : (count size : ℕ) (octets front back marked : List ℕ) → size ≡ min count (length octets)
     → front ≡ take size octets → length front ≡ size → length back + size ≡ length octets
     → marked ≡ marked_octets front → take count (marked ++ back) ≡ marked_octets (take count octets)

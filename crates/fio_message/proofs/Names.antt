@@ -1,4 +1,4 @@
--- The names that most proofs of this crate cite, passed on from one place. Declares nothing.
+-- The names that most proofs of this crate cite, re-exported in one place.
 pub use Rattle.std.proofs.Common.{Bool, Err, List, None, Ok, Option, Result, Some, [], add-zero, ap, append_assoc, ap₂, arith, cond, drop, eq-eqb, eqb, false, get_or, if◌then◌else◌, inl, inr, le_of_suc-le-suc, leb, length, max, min, mod-lt, nat_le, not, not-suc-le-zero, refl, set, subst, suc, sym, take, true, zero, zero-lt-suc, ℕ, ◌%◌, ◌&&◌, ◌*◌, ◌++◌, ◌+◌, ◌-◌, ◌/◌, ◌<◌, ◌==◌, ◌^◌, ◌||◌, ◌↔◌, ◌∙◌, ◌∷◌, ◌≡◌, ◌≤◌, ◌⊎◌}
 pub use Rattle.std.proofs.lemmas.Bool.{and_right, cases_Bool, cases_eq, cases_lt, eqb-false, eqb-true, le-leb, le-ltb, leb-false, leb-true, lt-leb, lt-ltb, ne_eqb}
 pub use Rattle.std.proofs.lemmas.List.{append-nil, drop-drop, drop_all, drop_at, length-append, length-drop, length-map, length-set, length-take, nil_from_length, take-append-drop, take-append-le, take_at, take_min, take_more, take_more_set, take_rest}

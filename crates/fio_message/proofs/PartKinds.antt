@@ -10,7 +10,7 @@ flag_again : (b : Bool) (n : ℕ) → n < 128
 flag_again true n lt = (omega arith, le-leb 128 (128 + n) (omega arith))
 flag_again false n lt = (omega arith, lt-leb 128 (0 + n) (omega arith))
 
--- together they are an octet
+-- a flag and such a number together are an octet
 flag_octet : (b : Bool) (n : ℕ) → n < 128 → IsOctet (128 * bit_of b + n)
 flag_octet true n lt = omega arith
 flag_octet false n lt = omega arith
@@ -23,7 +23,7 @@ flag_split a lt =
       | inr e ↦ let below : a < 128 = leb-false 128 a e in rw e (omega arith)
     ]
 
--- the item that is read of three octets spells them
+-- the item that is read from three octets spells them
 item-spelled : (o : List ℕ) → 3 ≤ length o → IsOctets o → item_octets (item_at o) ≡ take 3 o
 item-spelled [] le h = absurd (omega arith)
 item-spelled (a ∷ []) le h = absurd (omega arith)
@@ -44,7 +44,7 @@ item_is_part = record {
   spelled = item-spelled;
 }
 
--- the entry that is read of three octets spells them
+-- the entry that is read from three octets spells them
 entry-spelled : (o : List ℕ) → 3 ≤ length o → IsOctets o → entry_octets (entry_at o) ≡ take 3 o
 entry-spelled [] le h = absurd (omega arith)
 entry-spelled (a ∷ []) le h = absurd (omega arith)

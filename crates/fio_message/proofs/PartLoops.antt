@@ -1,4 +1,4 @@
--- A loop that puts the octets of parts one after the other.
+-- A loop that writes the octets of parts one after another.
 use Rattle.fio_message.proofs.Names.{◌≡◌, ℕ, ◌+◌, ◌*◌, ◌<◌, ◌≤◌, List, [], ◌∷◌, ◌++◌, length, get_or, set, take, refl, sym, ap, ◌∙◌, arith, append_assoc, AllByRecursion, flat_map, length-set, append-nil, take_more, take_more_set}
 
 -- one more item of a list that has the fact
@@ -14,7 +14,7 @@ flat_map_push f [] x = sym (append-nil (f x))
 flat_map_push f (y ∷ ys) x =
     append_assoc (f y) (flat_map f ys) (f x) ∙ ap (λ (o : List ℕ). f y ++ o) (flat_map_push f ys x)
 
--- three octets more are put
+-- three more octets are put
 put_three : (slots : List ℕ) (p a b c : ℕ) → p + 2 < length slots
     → take (p + 3) (set (set (set slots p a) (p + 1) b) (p + 2) c) ≡ take p slots ++ a ∷ b ∷ c ∷ []
 put_three slots p a b c below =
@@ -32,7 +32,7 @@ put_three slots p a b c below =
     ∙ ap (λ (o : List ℕ). o ++ c ∷ []) (append_assoc (take p slots) (a ∷ []) (b ∷ []))
     ∙ append_assoc (take p slots) (a ∷ b ∷ []) (c ∷ [])
 
--- three octets are those at the places 0, 1 and 2
+-- three octets are those at the indexes 0, 1 and 2
 pub three_octets : (octets : List ℕ) → length octets ≡ 3 → octets ≡ get_or octets 0 0 ∷ get_or octets 1 0 ∷ get_or octets 2 0 ∷ []
 three_octets (a ∷ b ∷ c ∷ []) len = refl
 three_octets [] len = absurd (omega (arith, len))

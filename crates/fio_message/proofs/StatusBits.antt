@@ -8,24 +8,24 @@ bit_of_small : (flag : Bool) → bit_of flag ≤ 1
 bit_of_small true = omega arith
 bit_of_small false = omega arith
 
--- and it is 1 exactly where the flag is set
+-- and it is 1 exactly if the flag is set
 bit_of_set : (flag : Bool) → (bit_of flag == 1) ≡ flag
 bit_of_set true = refl
 bit_of_set false = refl
 
--- a bit that is a flag's says whether the flag is set
+-- the bit of a flag says whether the flag is set
 set_by : (word place : ℕ) (flag : Bool) → bit_at word place ≡ bit_of flag → is_set word place ≡ flag
 unfolding is_set
 set_by word place flag same = ap (λ (n : ℕ). n == 1) same ∙ bit_of_set flag
 
--- S says what was put there, and so does Y
+-- S and Y read back as they were put there
 pub error_back : ErrorReadsBack
 error_back error = set_by (error_status error) 0 error (omega (arith, bit_of_small error))
 
 pub set_before_back : SetBeforeReadsBack
 set_before_back before = set_by (set_before_status before) 0 before (omega (arith, bit_of_small before))
 
--- each named bit of a block's status says what was put there
+-- each named bit of a block's status reads back as it was put there
 pub status_back : (more lost again out_of_sequence : Bool) → StatusReadsBack more lost again out_of_sequence
 status_back more lost again out_of_sequence =
     let status = block_status more lost again out_of_sequence in
@@ -49,7 +49,7 @@ block_status-fits more lost again out_of_sequence =
 pub again_status-fits : (status : ℕ) → IsOctet (again_status status)
 again_status-fits status = omega (arith, and_le_r (bit_or status 2) 254)
 
--- a status that is marked has E, and no G
+-- a status that is marked has E set and G clear
 pub status_again : SetsAgainAlone
 status_again true true true true = refl
 status_again true true true false = refl

@@ -2,12 +2,12 @@
 use Rattle.fio_message.proofs.Names.{◌≡◌, ◌⊎◌, ℕ, suc, ◌≤◌, List, [], ◌∷◌, length, Option, Some, None, refl, sym, ap, ◌∙◌, arith, inl, inr, cases_lt, cases_eq, BODY_OCTETS, FRAME_OCTETS, DecodeError, Refuses, IsWhole}
 use Rattle.fio_message.specs.declared.faults.DecodeError.TheVariants.{Empty, TooLong, UnknownType, WrongLength}
 
--- beside the code, whole octets have at most 772 others
+-- after the code, whole octets have at most 772 others
 pub fields_fit : (needed : Option ℕ) (octets : List ℕ) (code : ℕ) (fields : List ℕ)
     → IsWhole needed octets code fields → length fields ≤ BODY_OCTETS
 fields_fit needed octets code fields whole = omega (arith, whole.frame, ap length whole.parts)
 
--- the code and the fields of whole octets need as many octets as they are
+-- the length that the code and the fields of whole octets need is the number of these octets
 pub fields_needed : (length_of : List ℕ → Option ℕ) (octets : List ℕ) (code : ℕ) (fields : List ℕ)
     → IsWhole (length_of octets) octets code fields → length_of (code ∷ fields) ≡ Some (suc (length fields))
 fields_needed length_of octets code fields whole =
@@ -19,7 +19,7 @@ AreWhole needed octets = (code : ℕ) × (fields : List ℕ) × IsWhole needed o
 abbrev AreRefused : Option ℕ → List ℕ → Type 0
 AreRefused needed octets = (fault : DecodeError) × Refuses needed octets fault
 
--- octets that fit in a frame are whole, or of an unknown type, or of another length than is needed
+-- octets that fit in a frame are whole, or of an unknown type, or of another length than they need
 fitting_or_refused : (needed : Option ℕ) (code : ℕ) (fields : List ℕ) → length (code ∷ fields) ≤ FRAME_OCTETS
     → AreWhole needed (code ∷ fields) ⊎ AreRefused needed (code ∷ fields)
 fitting_or_refused None code fields le = inr (UnknownType code, ((omega arith, le), refl, refl))

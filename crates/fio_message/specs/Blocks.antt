@@ -1,4 +1,4 @@
--- A block answer as its view shows it, which leaves the entries in the octets.
+-- A block answer as its view shows it. The view does not copy the entries out of the octets.
 use Rattle.std.specs.Prelude.{ℕ, List, drop, slice_index_or}
 use Rattle.std.specs.Int.{w32, from_be_bytes}
 use Rattle.fio_message.specs.declared.fields.Entry.{Entry}
@@ -15,17 +15,17 @@ pub record Block : Type 0 where
   pub status : ℕ
   pub stamp : ℕ
 
--- the answer that the view is of
+-- the answer that the view shows
 abbrev pub block_answer : Block → Answer
 block_answer block =
     answers.Block block.number (record { items = block.entries }) block.status block.stamp
 
--- The octets are spelled by the answer that the view is of.
+-- The octets are the encoding of the answer that the view shows.
 abbrev pub SpellsBlock : Block → List ℕ → Type 0
 SpellsBlock block octets = SpellsAnswer (block_answer block) octets
 
--- What is read of a block answer's fields: the private step from octets to the view cites it.
--- Crates above speak of `SpellsBlock`.
+-- the block that the fields of a block answer encode. Only the private step from octets to the view cites this; crates above
+-- use `SpellsBlock`.
 abbrev pub block_of_fields : List ℕ → Block
 block_of_fields fields = record {
   number = slice_index_or fields 0 0;
@@ -34,6 +34,6 @@ block_of_fields fields = record {
   stamp = from_be_bytes w32 (drop 1 (block_ending fields));
 }
 
--- the entries in octets that hold entries alone
+-- the entries in octets that hold nothing but entries
 abbrev pub entries_in : List ℕ → List Entry
 entries_in = parts_in entry_at

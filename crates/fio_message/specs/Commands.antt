@@ -1,5 +1,5 @@
--- What each command spells: its type, 49 to 60, and its fields in order (TEES 2009; the lengths are
--- of this project's own profile of 64 inputs and outputs).
+-- What each command spells: its octets are its type, 49 to 60, and its fields in order (TEES 2009; the lengths are own
+-- profile: this project's choice for 64 inputs and outputs).
 use Rattle.std.specs.Prelude.{◌≡◌, ℕ, ◌+◌, ◌*◌, ◌<◌, ◌≤◌, ◌^◌, List, [], ◌∷◌, ◌++◌, length, Option, Some, None, if◌then◌else◌, ◌==◌, slice_index_or}
 use Rattle.std.specs.List.{AllByRecursion, flat_map}
 use Rattle.std.specs.Int.{w32, to_be_bytes}
@@ -11,13 +11,13 @@ use Rattle.fio_message.specs.declared.commands.OtherCommand.TheVariants.{TrackIn
 use Rattle.fio_message.specs.declared.types.TheConstants.{STATUS, LOAD_COUNTER, CONFIGURE_INPUTS, RAW_INPUTS, FILTERED_INPUTS, POLL, SET_OUTPUTS, TRACK_INPUTS, COMPLEX_OUTPUTS, WATCHDOG, CONTROLLER_ID, IDENTIFY}
 use Rattle.fio_message.specs.declared.limits.TheConstants.{BODY_OCTETS, CONFIGURATION_ITEMS}
 
--- the type of a command that has a body only
+-- the type of a command that has only a body
 abbrev pub other_command_code : OtherCommand → ℕ
 other_command_code TrackInputs = TRACK_INPUTS
 other_command_code ComplexOutputs = COMPLEX_OUTPUTS
 other_command_code ControllerId = CONTROLLER_ID
 
--- which command of this type has a body only
+-- which command with only a body has this type, if any
 abbrev pub other_command_of : ℕ → Option OtherCommand
 other_command_of code =
     if code == TRACK_INPUTS then Some TrackInputs
@@ -37,9 +37,9 @@ command_code (Watchdog _) = WATCHDOG
 command_code Identify = IDENTIFY
 command_code (Other kind _) = other_command_code kind
 
--- The octets after the type: a number most significant octet first, a count before its items, the
--- data octets of the outputs before the control octets, a body as it is. Flags to clear are
--- in the places of the flags of an answer: from bit 7 down P, E, K, R, T, M, L and W (own profile).
+-- The octets after the type: a number most significant octet first, a count before its items, the data octets of the outputs
+-- before the control octets, a body as it is. The flags to clear have the bit positions of the flags of an answer: from bit
+-- 7 down P, E, K, R, T, M, L and W (own profile).
 abbrev pub command_fields : Command → List ℕ
 command_fields (Status clear) = clear ∷ []
 command_fields (LoadCounter load) = to_be_bytes w32 load
@@ -56,8 +56,8 @@ command_fields (Other _ body) = body.items
 abbrev pub command_octets : Command → List ℕ
 command_octets command = command_code command ∷ command_fields command
 
--- The numbers and lists of a command are within the ranges of their types: an octet is below 256, a
--- number to load below 2^32, at most 255 items, a body of at most 772 octets.
+-- The numbers and lists of a command are within the ranges of their types: an octet is below 256, a number to load is below
+-- 2^32, there are at most 255 items, and a body has at most 772 octets.
 abbrev pub IsCommand : Command → Type 0
 IsCommand (Status clear) = IsOctet clear
 IsCommand (LoadCounter load) = load < 2 ^ 32
@@ -75,9 +75,8 @@ pub record SpellsCommand (command : Command) (octets : List ℕ) : Type 0 where
   pub within : IsCommand command
   pub spelled : octets ≡ command_octets command
 
--- How many octets a command with this first octet and this count has; None where no command has
--- this type. A count whose octet is missing is taken as 0. A command that has a body only is as
--- long as it is.
+-- how many octets a command with this first octet and this count has, or None if no command has this type. If the octet of
+-- the count is missing, the count is taken as 0. A command that has only a body may have any length.
 abbrev pub command_length : List ℕ → Option ℕ
 command_length [] = None
 command_length (code ∷ fields) =

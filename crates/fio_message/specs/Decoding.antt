@@ -1,5 +1,5 @@
--- Decoding as functions on octets: the message that they spell, if any, and what a decoder answers.
--- The laws tie both to spelling and to refusals.
+-- Decoding as functions on octets: the message that they spell, if any, and what a decoder returns. The laws tie both to
+-- spelling and to refusals.
 use Rattle.std.specs.Prelude.{ℕ, ◌+◌, ◌==◌, ◌&&◌, nat_le, nat_lt, Bool, false, List, [], ◌∷◌, length, Option, Some, None, Result, Ok, Err, if◌then◌else◌}
 use Rattle.std.specs.Option.{ok_or}
 use Rattle.fio_message.specs.declared.commands.Command.{Command}
@@ -14,13 +14,12 @@ use Rattle.fio_message.specs.Blocks.{Block}
 use Rattle.fio_message.specs.Reading.{command_at, answer_at}
 use Rattle.fio_message.specs.declared.limits.TheConstants.{BODY_OCTETS, FRAME_OCTETS}
 
--- whether so many octets are the number needed; None says that no message has their type
+-- whether `count` octets are the number needed; None says that no message has their type
 abbrev pub is_length : Option ℕ → ℕ → Bool
 is_length None count = false
 is_length (Some needed) count = needed == count
 
--- The message that octets spell: what is read of them, where they have the length needed and fit in
--- a frame.
+-- The message that octets spell: what is read from them, if they have the length needed and fit in a frame.
 unfoldable pub message_in :
     {V : Type 0} → (List ℕ → Option ℕ) → (ℕ → List ℕ → V) → List ℕ → Option V
 message_in length_of read [] = None
@@ -37,7 +36,7 @@ command_in octets = message_in command_length command_at octets
 abbrev pub answer_in : List ℕ → Option Answer
 answer_in octets = message_in answer_length answer_at octets
 
--- the fault of octets that fit in a frame: their type is unknown, or they do not have the length needed
+-- the fault of octets that fit in a frame and spell nothing: their type is unknown, or they do not have the length needed
 abbrev pub mismatch : Option ℕ → ℕ → ℕ → DecodeError
 mismatch None code got = UnknownType code
 mismatch (Some needed) code got = WrongLength needed got
@@ -69,11 +68,11 @@ fault_in needed (code ∷ fields) =
     then TooLong (1 + length fields)
     else mismatch needed code (1 + length fields)
 
--- what a decoder of commands answers: the command that the octets spell, or the first fault
+-- what a decoder of commands returns: the command that the octets spell, or the first fault
 abbrev pub decoded_command : List ℕ → Result Command DecodeError
 decoded_command octets = ok_or (command_in octets) (fault_in (command_length octets) octets)
 
--- the same for answers
+-- what a decoder of answers returns: the answer that the octets spell, or the first fault
 abbrev pub decoded_answer : List ℕ → Result Answer DecodeError
 decoded_answer octets = ok_or (answer_in octets) (fault_in (answer_length octets) octets)
 

@@ -1,5 +1,4 @@
--- Laws of messages and their octets, as words: each function of the module `laws` promises one of
--- them.
+-- Laws of messages and their octets: each function of the module `laws` promises one of them.
 use Rattle.std.specs.Prelude.{◌≡◌, ◌↔◌, ℕ, ◌+◌, ◌*◌, ◌<◌, ◌≤◌, Bool, true, false, List, ◌∷◌, length, map, slice_index_or, Option, Some, None, Result, Ok, Err}
 use Rattle.std.specs.Int.{IsBitSet}
 use Rattle.fio_message.specs.Octets.{IsOctets, IsFrameLength, entry_octets, inputs_octets}
@@ -15,16 +14,16 @@ use Rattle.fio_message.specs.declared.answers.Answer.{Answer}
 use Rattle.fio_message.specs.declared.answers.Answer.TheVariants as answers
 use Rattle.fio_message.specs.declared.fields.Entry.{Entry}
 
--- of commands, or of answers, by which octets they spell
+-- for commands and for answers alike, given which octets each message spells
 module _ {V : Type 0} (Spells : V → List ℕ → Type 0) where
-  -- each message within the ranges of its type spells exactly one list, of 1 to 773 octets
+  -- each message within the ranges of its type spells exactly one list of octets, of 1 to 773
   abbrev pub EachSpellsOneList : (V → Type 0) → Type 0
   EachSpellsOneList Fits =
       (message : V) → Fits message →
       (octets : List ℕ) × Spells message octets × IsFrameLength (length octets) × IsOctets octets
       × ((others : List ℕ) → Spells message others → others ≡ octets)
 
-  -- no two messages spell one list
+  -- no two messages spell the same list
   abbrev pub NoTwoSpellOneList : Type 0
   NoTwoSpellOneList = (a b : V) (octets : List ℕ) → Spells a octets → Spells b octets → a ≡ b
 
@@ -35,45 +34,45 @@ module _ {V : Type 0} (Spells : V → List ℕ → Type 0) where
       length_of octets ≡ Some needed →
       ((message : V) × Spells message octets) ↔ (length octets ≡ needed)
 
-  -- octets are spelled by a message exactly if they are refused for no fault
+  -- octets are spelled by a message exactly if they are not refused for any fault
   abbrev pub IsSpelledOrRefused : (List ℕ → Option ℕ) → Type 0
   IsSpelledOrRefused length_of =
       (octets : List ℕ) → IsOctets octets →
       ((message : V) × Spells message octets)
       ↔ ((fault : DecodeError) → Refuses (length_of octets) octets fault → ⊥)
 
-  -- what is spelled is what is read of the octets
+  -- the message that spells octets is the one that is read from them
   abbrev pub IsReadBack : (List ℕ → Option V) → Type 0
   IsReadBack found =
       (message : V) (octets : List ℕ) → Spells message octets → found octets ≡ Some message
 
-  -- what is read of octets spells them
+  -- the message that is read from octets spells them
   abbrev pub SpellsWhatIsRead : (List ℕ → Option V) → Type 0
   SpellsWhatIsRead found =
       (octets : List ℕ) (message : V) → IsOctets octets → found octets ≡ Some message
       → Spells message octets
 
-  -- a decoder answers a message exactly if it spells the octets
+  -- a decoder returns a message exactly if it spells the octets
   abbrev pub AnswersWhatIsSpelled : (List ℕ → Result V DecodeError) → Type 0
   AnswersWhatIsSpelled decoded =
       (octets : List ℕ) (message : V) → IsOctets octets
       → (decoded octets ≡ Ok message) ↔ Spells message octets
 
--- a decoder answers a fault exactly if octets are refused for it
+-- a decoder returns a fault exactly if the octets are refused for it
 abbrev pub AnswersRefusals :
     {V : Type 0} → (List ℕ → Option ℕ) → (List ℕ → Result V DecodeError) → Type 0
 AnswersRefusals length_of decoded =
     (octets : List ℕ) (fault : DecodeError)
     → (decoded octets ≡ Err fault) ↔ Refuses (length_of octets) octets fault
 
--- Octets of a block answer's type need as many octets where all answers are read: so where they are
+-- Octets with the type of a block answer need the same length whether block answers or all answers are read. So if they are
 -- refused as a block answer, they are refused as an answer for the same fault.
 abbrev pub NeedsTheSame : Type 0
 NeedsTheSame =
     (octets : List ℕ) (needed : ℕ)
     → block_length octets ≡ Some needed → answer_length octets ≡ Some needed
 
--- each named bit of a block's status says what was put there
+-- each named bit of a block's status reads back as it was put there
 pub record StatusReadsBack (more lost again out_of_sequence : Bool) : Type 0 where
   pub says_more : status.says_more (block_status more lost again out_of_sequence) ≡ more
   pub says_lost : status.says_lost (block_status more lost again out_of_sequence) ≡ lost
@@ -81,7 +80,7 @@ pub record StatusReadsBack (more lost again out_of_sequence : Bool) : Type 0 whe
   pub says_out_of_sequence :
       status.says_out_of_sequence (block_status more lost again out_of_sequence) ≡ out_of_sequence
 
--- and so do S and Y
+-- S and Y read back as they were put there
 abbrev pub ErrorReadsBack : Type 0
 ErrorReadsBack = (error : Bool) → status.says_error (error_status error) ≡ error
 
@@ -89,14 +88,14 @@ ErrorReadsBack = (error : Bool) → status.says_error (error_status error) ≡ e
 abbrev pub SetBeforeReadsBack : Type 0
 SetBeforeReadsBack = (before : Bool) → status.says_set_before (set_before_status before) ≡ before
 
--- the status of a block that is sent again has E and no G, and C and F as before
+-- the status of a block that is sent again has E set and G clear, and C and F as before
 abbrev pub SetsAgainAlone : Type 0
 SetsAgainAlone =
     (more lost again out_of_sequence : Bool)
     → again_status (block_status more lost again out_of_sequence)
     ≡ block_status more lost true false
 
--- the octets of a block of entries by their octets are those of the block answer
+-- the octets of a block whose entries are given as octets are those of the block answer
 abbrev pub KeepsBlockAnswers : Type 0
 KeepsBlockAnswers =
     (number : ℕ) (entries : List Entry) (status stamp : ℕ)
@@ -115,7 +114,7 @@ IsInputsLayout =
     (inputs j b : ℕ) → j < 8 → b < 8
     → IsBitSet (slice_index_or (inputs_octets inputs) j 0) b ↔ IsBitSet inputs (8 * j + b)
 
--- the known types are those from low to high: for the others there is no needed length
+-- the known types are those from `low` to `high`: no other type has a needed length
 abbrev pub IsKnownWithin : (List ℕ → Option ℕ) → ℕ → ℕ → Type 0
 IsKnownWithin length_of low high =
     (code : ℕ) (fields : List ℕ)

@@ -1,5 +1,4 @@
--- Octets, and the parts of messages as octets. Numbers of several octets go most significant octet
--- first (TEES 2009).
+-- Octets, and the parts of messages as octets. A number of several octets has its most significant octet first (TEES 2009).
 use Rattle.std.specs.Prelude.{◌≡◌, ℕ, ◌+◌, ◌*◌, ◌^◌, ◌<◌, ◌≤◌, List, [], ◌∷◌, length}
 use Rattle.std.specs.List.{AllByRecursion}
 use Rattle.std.specs.Int.{w16, w64, to_be_bytes, to_le_bytes}
@@ -13,15 +12,15 @@ use Rattle.fio_message.specs.declared.limits.TheConstants.{FRAME_OCTETS}
 abbrev pub IsOctet : ℕ → Type 0
 IsOctet n = n < 2 ^ 8
 
--- a list of such numbers
+-- a list of octets
 abbrev pub IsOctets : List ℕ → Type 0
 IsOctets octets = AllByRecursion IsOctet octets
 
--- how many octets a frame holds (own profile: 773 is the length of a block answer with 255 entries)
+-- a number of octets that a frame can hold (own profile: 773 is the length of a block answer with 255 entries)
 abbrev pub IsFrameLength : ℕ → Type 0
 IsFrameLength n = (1 ≤ n) × (n ≤ FRAME_OCTETS)
 
--- exactly eight octets, as each half of the outputs has
+-- exactly eight octets: the length of each half of the outputs
 abbrev pub IsEight : List ℕ → Type 0
 IsEight octets = (length octets ≡ 8) × IsOctets octets
 

@@ -1,7 +1,6 @@
--- What is read of octets, field by field, where they have the length that their message needs. Only the
--- definitions of decoding and of the block view rest on these: crates above speak of `command_in`
--- and `answer_in`, or of spelling. Where an octet is missing it is read as 0, which no claim rests
--- on.
+-- What is read from octets, field by field, if they have the length that their message needs. Only the definitions of
+-- decoding and of the block view rest on these; crates above use `command_in` and `answer_in`, or spelling. A missing octet
+-- is read as 0, on which no claim rests.
 use Rattle.std.specs.Prelude.{ℕ, zero, suc, ◌*◌, ◌/◌, ◌%◌, List, [], ◌∷◌, length, take, drop, slice_index_or, if◌then◌else◌, ◌==◌, nat_le}
 use Rattle.std.specs.Int.{w16, w32, w64, from_be_bytes, from_le_bytes}
 use Rattle.fio_message.specs.declared.fields.InputItem.{InputItem}
@@ -32,17 +31,17 @@ entry_at octets = record {
   stamp = from_be_bytes w16 (drop 1 octets);
 }
 
--- so many items, or entries, of three octets each, one after the other
+-- `count` items, or entries, of three octets each, one after the other
 abbrev pub parts_at : {X : Type 0} → (List ℕ → X) → ℕ → List ℕ → List X
 parts_at part_at zero octets = []
 parts_at part_at (suc n) octets = part_at octets ∷ parts_at part_at n (drop 3 octets)
 
--- the parts in octets that hold parts alone, three octets for each: so a view, and what is left of its
--- parts, are seen through the octets that they borrow
+-- the parts in octets that hold nothing but parts, three octets for each. So a view, and what is left of its parts, can be
+-- described by the octets that they borrow.
 abbrev pub parts_in : {X : Type 0} → (List ℕ → X) → List ℕ → List X
 parts_in part_at octets = parts_at part_at (length octets / 3) octets
 
--- the items in octets that hold items alone
+-- the items in octets that hold nothing but items
 abbrev pub items_in : List ℕ → List InputItem
 items_in = parts_in item_at
 
@@ -66,11 +65,11 @@ command_at code fields =
     else (if code == CONTROLLER_ID then commands.Other other_commands.ControllerId (record { items = fields })
     else commands.Identify))))))))))
 
--- the entries of a block answer with these fields: after the number and the count
+-- the entries of a block answer with these fields: they follow the number and the count
 abbrev pub block_entries : List ℕ → List Entry
 block_entries fields = parts_at entry_at (slice_index_or fields 1 0) (drop 2 fields)
 
--- what follows its entries: the status and the stamp
+-- the fields after the entries: the status and the stamp
 abbrev pub block_ending : List ℕ → List ℕ
 block_ending fields = drop (3 * slice_index_or fields 1 0) (drop 2 fields)
 

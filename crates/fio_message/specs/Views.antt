@@ -1,4 +1,4 @@
--- The message that a view shows, whose items, entries and body stay in the octets.
+-- The message that a view shows. Its items, entries and body stay in the octets that the view borrows.
 use Rattle.std.specs.Prelude.{ℕ, List, Result, Ok, Err}
 use Rattle.fio_message.specs.declared.fields.InputItem.{InputItem}
 use Rattle.fio_message.specs.declared.fields.Entry.{Entry}
@@ -33,7 +33,7 @@ items_of view = items_in view.octets.now
 abbrev pub entries_of : EntriesView → List Entry
 entries_of view = entries_in view.octets.now
 
--- the octets after the type of a message that is not read further
+-- the octets after the type of a message of which only the body is read
 abbrev pub body_of : BodyView → List ℕ
 body_of view = view.octets.now
 
@@ -66,12 +66,12 @@ answer_of (answer_views.Block block entries status stamp) =
 answer_of (answer_views.Watchdog status) = answers.Watchdog status
 answer_of (answer_views.Other kind body) = answers.Other kind (record { items = body_of body })
 
--- what a reader of commands answers: the command that its view shows, or the fault
+-- what a reader of commands returns: the command that its view shows, or the fault
 abbrev pub command_read : Result CommandView DecodeError → Result Command DecodeError
 command_read (Ok view) = Ok (command_of view)
 command_read (Err fault) = Err fault
 
--- the same for answers
+-- what a reader of answers returns: the answer that its view shows, or the fault
 abbrev pub answer_read : Result AnswerView DecodeError → Result Answer DecodeError
 answer_read (Ok view) = Ok (answer_of view)
 answer_read (Err fault) = Err fault

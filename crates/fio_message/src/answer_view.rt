@@ -24,13 +24,12 @@ use crate::types::{
     SET_OUTPUTS_ANSWER, STATUS_ANSWER, TRACK_INPUTS_ANSWER, WATCHDOG_ANSWER,
 };
 
-/// An answer whose entries and body stay in the octets that it was read from. What the fields mean
-/// is said at `Answer`.
+/// An answer whose entries and body stay in the octets that it was read from. `Answer` documents the fields.
 #[derive(Clone, Copy, Debug)]
 pub enum AnswerView<'a> {
     /// Type 177.
     Status {
-        /// The flags that are left.
+        /// The flags that remain set.
         flags: u8,
         /// How many errors in receiving were counted.
         receive_errors: u8,
@@ -65,7 +64,7 @@ pub enum AnswerView<'a> {
     },
     /// Type 182.
     Block {
-        /// The block number that was asked for.
+        /// The block number of the poll.
         block: u8,
         /// The transitions in the order in which they happened.
         entries: EntriesView<'a>,
@@ -81,7 +80,7 @@ pub enum AnswerView<'a> {
     },
     /// Types 183, 184, 185, 187 and 188.
     Other {
-        /// Which of these it is.
+        /// The type.
         kind: OtherAnswer,
         /// The octets after the type.
         body: BodyView<'a>,
@@ -199,7 +198,7 @@ fn block(fields: &[u8]) -> AnswerView<'_>
     }
 }
 
-/// Returns an answer with a body only.
+/// Returns an answer that has only a body.
 #[inline(always)]
 fn other(kind: OtherAnswer, fields: &[u8]) -> AnswerView<'_>
     requires { length fields.now ≤ BODY_OCTETS }
@@ -211,13 +210,11 @@ fn other(kind: OtherAnswer, fields: &[u8]) -> AnswerView<'_>
     }
 }
 
-/// Returns the answer that the octets spell, of types 177 to 188, read in place: nothing is copied but its
-/// numbers.
+/// Returns the answer that the octets spell, of types 177 to 188, read in place: only its numbers are copied.
 ///
 /// # Errors
-/// The first that applies: `Empty`; `TooLong` over 773 octets; `UnknownType` for any other first
-/// octet; `WrongLength` where the type and the count need another length. Bits that have no name
-/// are kept as they come and never refused (own profile).
+/// The first that applies: `Empty`; `TooLong` over 773 octets; `UnknownType` for any other first octet; `WrongLength` if the
+/// type and the count need another length. Bits that have no name are kept as they come and never refused (own profile).
 #[inline(always)]
 pub fn read_answer(octets: &[u8]) -> Result<AnswerView<'_>, DecodeError>
     ensures accepted { (answer : Answer)

@@ -1,4 +1,4 @@
-//! The octets after the type of a message that is not read further, in place.
+//! The octets after the type of a message of which only the body is read, in place.
 ghost use Rattle.std.specs.Prelude.{◌≡◌, ◌≤◌, ◌==◌, length};
 ghost use Rattle.fio_message.specs.declared.limits.TheConstants.{BODY_OCTETS};
 
@@ -40,7 +40,7 @@ impl<'a> BodyView<'a> {
         self.octets.len()
     }
 
-    /// Returns whether there is no octet.
+    /// Returns whether the body is empty.
     pub fn is_empty(&self) -> bool
         ensures { result ≡ (length (body_of self.now) == 0) }
     {

@@ -21,8 +21,7 @@ use crate::types::{
     POLL, RAW_INPUTS, SET_OUTPUTS, STATUS, TRACK_INPUTS, WATCHDOG,
 };
 
-/// A command whose items, outputs and body stay in the octets that it was read from. What the fields
-/// mean is said at `Command`.
+/// A command whose items, outputs and body stay in the octets that it was read from. `Command` documents the fields.
 #[derive(Clone, Copy, Debug)]
 pub enum CommandView<'a> {
     /// Type 49.
@@ -37,7 +36,7 @@ pub enum CommandView<'a> {
     },
     /// Type 51.
     ConfigureInputs {
-        /// What is said of each input that is named.
+        /// The settings of the inputs that are named.
         items: ItemsView<'a>,
     },
     /// Type 52.
@@ -58,14 +57,14 @@ pub enum CommandView<'a> {
     },
     /// Type 58.
     Watchdog {
-        /// The timeout in milliseconds as it is sent.
+        /// The timeout in milliseconds, as sent.
         timeout: u8,
     },
     /// Type 60.
     Identify,
     /// Types 56, 57 and 59.
     Other {
-        /// Which of these it is.
+        /// The type.
         kind: OtherCommand,
         /// The octets after the type.
         body: BodyView<'a>,
@@ -150,7 +149,7 @@ fn view_of(code: u8, fields: &[u8]) -> CommandView<'_>
     }
 }
 
-/// Returns a command with a body only.
+/// Returns a command that has only a body.
 #[inline(always)]
 fn other(kind: OtherCommand, fields: &[u8]) -> CommandView<'_>
     requires { length fields.now ≤ BODY_OCTETS }
@@ -162,13 +161,11 @@ fn other(kind: OtherCommand, fields: &[u8]) -> CommandView<'_>
     }
 }
 
-/// Returns the command that the octets spell, of types 49 to 60, read in place: nothing is copied but its
-/// numbers.
+/// Returns the command that the octets spell, of types 49 to 60, read in place: only its numbers are copied.
 ///
 /// # Errors
-/// The first that applies: `Empty`; `TooLong` over 773 octets; `UnknownType` for any other first
-/// octet; `WrongLength` where the type and the count need another length. Bits that have no name
-/// are kept as they come and never refused (own profile).
+/// The first that applies: `Empty`; `TooLong` over 773 octets; `UnknownType` for any other first octet; `WrongLength` if the
+/// type and the count need another length. Bits that have no name are kept as they come and never refused (own profile).
 #[inline(always)]
 pub fn read_command(octets: &[u8]) -> Result<CommandView<'_>, DecodeError>
     ensures accepted { (command : Command)

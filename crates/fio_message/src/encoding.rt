@@ -1,5 +1,5 @@
-//! Encoding: messages as the octets that they spell. All is inlined into the caller: where it writes a message of one
-//! type, as the module does, only the fields of that type are left.
+//! Encoding: messages as the octets that they spell. Everything is inlined into the caller: if it only writes messages of
+//! one type, as the module does, only the code for the fields of that type remains.
 ghost use Rattle.std.specs.Prelude.{◌≡◌, ◌≤◌, ◌+◌, ◌*◌, ◌++◌, length};
 ghost use Rattle.std.specs.Int.{w32, to_be_bytes};
 ghost use Rattle.std.specs.List.{AllByRecursion, flat_map};
@@ -15,7 +15,7 @@ use crate::limits::FRAME_OCTETS;
 use crate::parts::Part;
 use byteorder::{BigEndian, ByteOrder};
 
-/// Appends octets, for which there is room.
+/// Appends octets, for which the frame has room.
 fn append(frame: &mut Frame, octets: &[u8])
     requires { length frame.old.items + length octets.now ≤ FRAME_OCTETS }
     ensures appended { frame.new.items ≡ frame.old.items ++ octets.now }
@@ -38,7 +38,7 @@ fn append_u32(frame: &mut Frame, number: u32)
 }
 
 /// Appends all parts, three octets each.
-// They are put together first, and then appended at once: an append of each would store the frame's length each time.
+// They are put together first and appended at once: appending each by itself would store the frame's length each time.
 #[inline(never)]
 fn append_parts<T: Part>(frame: &mut Frame, parts: &[T])
     requires { length frame.old.items + 3 * length parts.now ≤ FRAME_OCTETS }
@@ -83,8 +83,8 @@ fn append_command_fields(frame: &mut Frame, command: &Command)
     }
 }
 
-/// Writes the octets that a command spells, which replace what the frame holds. They are those of
-/// `encode_command`, with no frame moved.
+/// Writes the octets that a command spells over what the frame holds: the same octets as `encode_command`, without moving a
+/// frame.
 #[inline(always)]
 pub fn write_command(command: &Command, frame: &mut Frame)
     ensures { SpellsCommand command.now frame.new.items }
@@ -94,9 +94,9 @@ pub fn write_command(command: &Command, frame: &mut Frame)
     append_command_fields(frame, command);
 }
 
-/// Returns the octets that a command spells, 1 to 773: its type, then its fields in the order of TEES 2009,
-/// with the lengths of this project's own profile. The new frame of 784 octets is cleared and returned by
-/// value, which costs several times what `write_command` does for a short message.
+/// Returns the octets that a command spells, 1 to 773: its type, then its fields in the order of TEES 2009, with the lengths
+/// of this project's own profile. The new frame of 784 octets is cleared and returned by value, which for a short message
+/// costs several times what `write_command` does.
 #[inline(always)]
 pub fn encode_command(command: &Command) -> Frame
     ensures { SpellsCommand command.now result.items }
@@ -146,8 +146,8 @@ fn append_answer_fields(frame: &mut Frame, answer: &Answer)
     }
 }
 
-/// Writes the octets that an answer spells, which replace what the frame holds. They are those of
-/// `encode_answer`, with no frame moved.
+/// Writes the octets that an answer spells over what the frame holds: the same octets as `encode_answer`, without moving a
+/// frame.
 #[inline(always)]
 pub fn write_answer(answer: &Answer, frame: &mut Frame)
     ensures { SpellsAnswer answer.now frame.new.items }
@@ -157,9 +157,9 @@ pub fn write_answer(answer: &Answer, frame: &mut Frame)
     append_answer_fields(frame, answer);
 }
 
-/// Returns the octets that an answer spells, 1 to 773: its type, then its fields in the order of TEES 2009,
-/// with the lengths of this project's own profile. The new frame of 784 octets is cleared and returned by
-/// value, which costs several times what `write_answer` does for a short message.
+/// Returns the octets that an answer spells, 1 to 773: its type, then its fields in the order of TEES 2009, with the lengths
+/// of this project's own profile. The new frame of 784 octets is cleared and returned by value, which for a short message
+/// costs several times what `write_answer` does.
 #[inline(always)]
 pub fn encode_answer(answer: &Answer) -> Frame
     ensures { SpellsAnswer answer.now result.items }

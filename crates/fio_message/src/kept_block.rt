@@ -9,7 +9,7 @@ use crate::layouts::{before_entries, status_and_stamp};
 use crate::limits::{BLOCK_ENTRIES, FRAME_OCTETS};
 use crate::status::BlockStatus;
 
-/// The octets of one block answer, or none. It takes no memory of its own, so C may hold one.
+/// The octets of one block answer, or of none. It allocates nothing, so C can hold one.
 #[derive(Debug, Drop)]
 #[repr(C)]
 pub struct KeptBlock {
@@ -20,7 +20,7 @@ pub struct KeptBlock {
 }
 
 impl KeptBlock {
-    /// Returns no block.
+    /// Returns a value that keeps no block.
     pub fn new() -> KeptBlock
         ensures none { kept_octets result ≡ [] }
         ensures cleared { result ≡ no_block }
@@ -40,8 +40,8 @@ impl KeptBlock {
         &self.octets[..length]
     }
 
-    /// Keeps a block, which replaces what is there. Its entries are those of the first part and then of
-    /// the second, no more than `most`.
+    /// Keeps a block in place of the one kept before. Its entries are those of the first part and then of the second, at
+    /// most `most`.
     pub fn write(
         &mut self,
         number: u8,
@@ -90,7 +90,7 @@ impl KeptBlock {
         self.length = to as u16;
     }
 
-    /// Returns the number of the block, `None` where there is no block.
+    /// Returns the number of the block, or `None` if there is no block.
     pub fn number(&self) -> Option<u8>
         ensures block { (block : Block)
             → SpellsBlock block (kept_octets self.now) → result ≡ Some block.number }
@@ -99,8 +99,8 @@ impl KeptBlock {
         self.as_slice().get(1).copied()
     }
 
-    /// Marks the block as sent again: E is set, G is clear, and all else is as it was. Where there
-    /// is no block nothing changes.
+    /// Marks the block as sent again: E is set, G is clear, and all else is as it was. If there is no block, nothing
+    /// changes.
     pub fn mark_again(&mut self)
         ensures block { (block : Block)
             → SpellsBlock block (kept_octets self.old)
@@ -112,13 +112,13 @@ impl KeptBlock {
         mark_again(kept);
     }
 
-    /// Writes the octets, which replace what the frame holds.
+    /// Writes the octets over what the frame holds.
     pub fn copy_to(&self, frame: &mut Frame)
         ensures { frame.new.items ≡ kept_octets self.now }
     {
         let octets = self.as_slice();
         frame.truncate(octets.len());
-        // What is left is written over, since `clear` would write zeros first.
+        // The octets that the frame already has are overwritten in place, since `clear` would write zeros first.
         let (over, after) = octets.split_at(frame.len());
         frame.as_mut_slice().copy_from_slice(over);
         // There is room, so this never fails.
@@ -134,7 +134,7 @@ impl Default for KeptBlock {
     }
 }
 
-/// Returns the first entries, no more than `most`, in two parts.
+/// Returns the first entries, at most `most`, in two parts.
 fn front<'a>(
     first: &'a [EntryOctets],
     second: &'a [EntryOctets],

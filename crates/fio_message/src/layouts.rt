@@ -1,5 +1,5 @@
-//! The octets round the lists of messages, each written here alone: whatever gives the list, a writer puts
-//! these before it and behind it.
+//! The octets around the lists of messages. They are written only here: a writer puts these before and after its list,
+//! however it holds the list.
 ghost use Rattle.std.specs.Prelude.{◌≡◌, [], ◌∷◌, ◌++◌};
 ghost use Rattle.std.specs.Int.{w32, to_be_bytes};
 ghost use Rattle.fio_message.specs.Octets.{inputs_octets};
@@ -9,7 +9,7 @@ use crate::inputs::inputs_to_octets;
 use crate::types::{BLOCK_ANSWER, CONFIGURE_INPUTS};
 use byteorder::{BigEndian, ByteOrder};
 
-/// Returns what is before the items of a configuration: its type, and how many items follow.
+/// Returns the octets before the items of a configuration: its type, and how many items follow.
 #[inline]
 pub fn before_items(count: u8) -> [u8; 2]
     ensures { result ≡ CONFIGURE_INPUTS ∷ count ∷ [] }
@@ -17,7 +17,7 @@ pub fn before_items(count: u8) -> [u8; 2]
     [CONFIGURE_INPUTS, count]
 }
 
-/// Returns what is before the entries of a block answer: its type, its number, and how many entries follow.
+/// Returns the octets before the entries of a block answer: its type, its number, and how many entries follow.
 #[inline]
 pub fn before_entries(number: u8, count: u8) -> [u8; 3]
     ensures { result ≡ BLOCK_ANSWER ∷ number ∷ count ∷ [] }
@@ -25,7 +25,7 @@ pub fn before_entries(number: u8, count: u8) -> [u8; 3]
     [BLOCK_ANSWER, number, count]
 }
 
-/// Returns a status and a stamp, most significant octet first: what is behind the entries of a block answer.
+/// Returns the octets after the entries of a block answer: a status and a stamp, most significant octet first.
 #[inline]
 pub fn status_and_stamp(status: u8, stamp: u32) -> [u8; 5]
     ensures { result ≡ status ∷ to_be_bytes w32 stamp }
@@ -35,8 +35,8 @@ pub fn status_and_stamp(status: u8, stamp: u32) -> [u8; 5]
     octets
 }
 
-/// Returns the flags, the error counts and the stamp, most significant octet first: what is behind the type of an
-/// answer 177.
+/// Returns the octets after the type of an answer 177: the flags, the error counts and the stamp, most significant octet
+/// first.
 #[inline]
 pub fn flags_and_counts(flags: u8, receive_errors: u8, transmit_errors: u8, stamp: u32) -> [u8; 7]
     ensures { result ≡ flags ∷ receive_errors ∷ transmit_errors ∷ to_be_bytes w32 stamp }
@@ -46,8 +46,8 @@ pub fn flags_and_counts(flags: u8, receive_errors: u8, transmit_errors: u8, stam
     octets
 }
 
-/// Returns the levels of the inputs and the stamp, most significant octet first: what is behind the type of an answer
-/// 180 or 181.
+/// Returns the octets after the type of an answer 180 or 181: the levels of the inputs and the stamp, most significant octet
+/// first.
 #[inline]
 pub fn inputs_and_stamp(inputs: u64, stamp: u32) -> [u8; 12]
     ensures { result ≡ inputs_octets inputs ++ to_be_bytes w32 stamp }

@@ -60,7 +60,7 @@ impl<T, const N: usize> Clone for PartsView<'_, T, N> {
 }
 
 impl<'a, T: Part, const N: usize> PartsView<'a, T, N> {
-    /// Returns the parts in octets that hold parts alone.
+    /// Returns the parts in octets that hold nothing but parts.
     pub(crate) fn of_octets(octets: &'a [u8]) -> PartsView<'a, T, N>
         requires { length octets.now ≤ 3 * N }
         ensures { result.octets.now ≡ octets.now }
@@ -80,14 +80,14 @@ impl<'a, T: Part, const N: usize> PartsView<'a, T, N> {
         self.octets.len() / 3
     }
 
-    /// Returns whether there is no part.
+    /// Returns whether there are no parts.
     pub fn is_empty(&self) -> bool
         ensures { result ≡ (length (parts_in T.part_at self.now.octets.now) == 0) }
     {
         self.len() == 0
     }
 
-    /// Returns the parts in order, each read as it is asked for.
+    /// Returns the parts in order, each read when it is asked for.
     pub fn iter(&self) -> Parts<'a, T>
         ensures value { result ≡ parts_in T.part_at self.now.octets.now }
         ensures fits { length (parts_in T.part_at self.now.octets.now) ≤ N }
@@ -98,7 +98,7 @@ impl<'a, T: Part, const N: usize> PartsView<'a, T, N> {
         }
     }
 
-    /// Returns the part at `place`, counted from 0.
+    /// Returns the part at the index `place`.
     #[inline]
     pub fn item(&self, place: usize) -> T
         requires { place < length (parts_in T.part_at self.now.octets.now) }
@@ -119,17 +119,17 @@ impl<'a, T: Part, const N: usize> PartsView<'a, T, N> {
     }
 }
 
-/// The parts of a list that are left to be taken. Contracts see it as the list of these.
+/// The parts of a list that remain to be taken. Contracts describe it as the list of these.
 #[derive(Debug, Drop)]
 pub struct Parts<'a, T: Part> {
     octets: &'a [u8],
     of: PhantomData<T>,
 }
 
-/// The items of a configuration that are left to be taken.
+/// The items of a configuration that remain to be taken.
 pub type ConfigurationItems<'a> = Parts<'a, InputItem>;
 
-/// The entries of a block answer that are left to be taken.
+/// The entries of a block answer that remain to be taken.
 pub type BlockEntries<'a> = Parts<'a, Entry>;
 
 impl<'a, T: Part> Model for Parts<'a, T> {
@@ -161,7 +161,7 @@ impl<T: Part> Iterator for Parts<'_, T> {
         Some(part)
     }
 
-    /// Returns the number of parts that are left, as both bounds.
+    /// Returns the number of parts that remain, as both bounds.
     fn size_hint(&self) -> (usize, Option<usize>)
         ensures lower { IsWithinCount result.0 (at_most (length self.now)) }
         ensures upper { IfSome result.1 (UpTo (at_most (length self.now))) }

@@ -1,5 +1,5 @@
 //! The status octets of answers. Bits that have no name are kept as they come. The calls are `#[inline]`: each is an
-//! instruction or two, and other crates make them for each block.
+//! instruction or two, and other crates call them for each block.
 ghost use Rattle.std.specs.Prelude.{◌≡◌, ◌<◌};
 ghost use Rattle.fio_message.specs.Bits.{is_set};
 ghost use Rattle.fio_message.specs.Status.{says_error, error_status, says_set_before, set_before_status};
@@ -12,7 +12,7 @@ const MORE: u32 = 3;
 /// F of a block: entries that waited directly before the block were pushed out.
 const LOST: u32 = 2;
 
-/// E of a block: the same block number was asked for again.
+/// E of a block: the same block number was requested again.
 const AGAIN: u32 = 1;
 
 /// G of a block: the number is out of sequence.
@@ -24,8 +24,7 @@ const ERROR: u32 = 0;
 /// Y of a watchdog: it had been set before.
 const SET_BEFORE: u32 = 0;
 
-/// The status of a block answer (letters TEES 2009, places own profile). Contracts see it as its
-/// octet.
+/// The status of a block answer (letters TEES 2009, positions own profile). Contracts describe it by its octet.
 #[derive(Clone, Copy, Debug, Default, PartialEq, Eq, Hash)]
 #[repr(transparent)]
 pub struct BlockStatus {
@@ -59,7 +58,7 @@ impl BlockStatus {
         }
     }
 
-    /// Returns the status that an octet is.
+    /// Returns the status whose octet this is.
     #[inline]
     pub fn from_octet(octet: u8) -> BlockStatus
         ensures { result ≡ octet }
@@ -91,7 +90,7 @@ impl BlockStatus {
         is_set(self.octet, LOST)
     }
 
-    /// Returns whether E is set: the same block number was asked for again.
+    /// Returns whether E is set: the same block number was requested again.
     #[inline]
     pub fn again(self) -> bool
         ensures { result ≡ says_again self }
@@ -107,8 +106,8 @@ impl BlockStatus {
         is_set(self.octet, OUT_OF_SEQUENCE)
     }
 
-    /// Returns the status of the same block where it is sent again: E is set, G is clear, and the other bits
-    /// are as they were.
+    /// Returns the status of the same block when it is sent again: E is set, G is clear, and the other bits are as they
+    /// were.
     pub(crate) fn sent_again(self) -> BlockStatus
         ensures { result ≡ again_status self }
     {
@@ -126,7 +125,7 @@ pub fn says_error(status: u8) -> bool
     is_set(status, ERROR)
 }
 
-/// Returns the status of such an answer with S as it is given, and no other bit.
+/// Returns the status of such an answer with S as given, and no other bit.
 #[inline]
 pub fn error_status(error: bool) -> u8
     ensures { result ≡ error_status error }
@@ -142,7 +141,7 @@ pub fn says_set_before(status: u8) -> bool
     is_set(status, SET_BEFORE)
 }
 
-/// Returns the status of such an answer with Y as it is given, and no other bit.
+/// Returns the status of such an answer with Y as given, and no other bit.
 #[inline]
 pub fn set_before_status(before: bool) -> u8
     ensures { result ≡ set_before_status before }
@@ -150,7 +149,7 @@ pub fn set_before_status(before: bool) -> u8
     (1 << SET_BEFORE) * u8::from(before)
 }
 
-/// Returns whether the bit at this place of an octet is set.
+/// Returns whether the bit at this position of an octet is set.
 #[tactic(auto, using(crate::proofs::Bits::is_set_read))]
 #[inline]
 fn is_set(octet: u8, place: u32) -> bool

@@ -1,5 +1,5 @@
-//! The types of messages, which are their first octets (TEES 2009): of commands 49 to 60, of answers
-//! those of the commands that they answer plus 128.
+//! The types of messages, which are their first octets (TEES 2009). The type of an answer is that of the command that it
+//! answers plus 128.
 
 /// Asks for the flags and the error counts, and clears flags.
 pub const STATUS: u8 = 49;
@@ -34,7 +34,7 @@ pub const WATCHDOG: u8 = 58;
 /// Identifies the controller.
 pub const CONTROLLER_ID: u8 = 59;
 
-/// Asks which module it is.
+/// Asks for the module's identification.
 pub const IDENTIFY: u8 = 60;
 
 /// An answer's type is its command's plus this.
@@ -43,10 +43,10 @@ pub const ANSWER: u8 = 128;
 /// The flags and the error counts.
 pub const STATUS_ANSWER: u8 = STATUS + ANSWER;
 
-/// The load of the counter is asked for.
+/// The load of the counter has been requested.
 pub const LOAD_COUNTER_ANSWER: u8 = LOAD_COUNTER + ANSWER;
 
-/// The inputs are configured, or not.
+/// The inputs have been configured, or not.
 pub const CONFIGURE_INPUTS_ANSWER: u8 = CONFIGURE_INPUTS + ANSWER;
 
 /// The levels of the inputs.
@@ -58,20 +58,20 @@ pub const FILTERED_INPUTS_ANSWER: u8 = FILTERED_INPUTS + ANSWER;
 /// A block of transitions.
 pub const BLOCK_ANSWER: u8 = POLL + ANSWER;
 
-/// The outputs are set.
+/// The outputs have been set.
 pub const SET_OUTPUTS_ANSWER: u8 = SET_OUTPUTS + ANSWER;
 
-/// To the configuration of input tracking.
+/// The answer to the configuration of input tracking.
 pub const TRACK_INPUTS_ANSWER: u8 = TRACK_INPUTS + ANSWER;
 
-/// To the configuration of complex outputs.
+/// The answer to the configuration of complex outputs.
 pub const COMPLEX_OUTPUTS_ANSWER: u8 = COMPLEX_OUTPUTS + ANSWER;
 
-/// The watchdog is set.
+/// The watchdog has been set.
 pub const WATCHDOG_ANSWER: u8 = WATCHDOG + ANSWER;
 
-/// To the identification of the controller.
+/// The answer to the identification of the controller.
 pub const CONTROLLER_ID_ANSWER: u8 = CONTROLLER_ID + ANSWER;
 
-/// Which module it is.
+/// The module's identification.
 pub const IDENTIFY_ANSWER: u8 = IDENTIFY + ANSWER;

@@ -10,7 +10,7 @@ pub scans_in-append : (later life : Life)
 scans_in-append later life =
     ap scans_in (filter_events-append later life) ∙ scans-append (filter_events later) (filter_events life)
 
--- The time at which the transition at a place of the log was logged.
+-- The time at which the transition at an index of the log was logged.
 pub record WasLogged (since rest : Life) (place : ℕ) (transition : Transition) : Type 0 where
   pub after : Life
   pub upto : Life
@@ -18,7 +18,7 @@ pub record WasLogged (since rest : Life) (place : ℕ) (transition : Transition)
   pub logged : place < length (log_of (upto ++ rest))
   pub age : scans_of (since ++ rest) ≡ transition.scans + scans_in (filter_events after)
 
--- so it was after one more occurrence
+-- this still holds after one more occurrence
 logged_before : (occurrence : Occurrence) (since rest : Life) (place : ℕ) (transition : Transition)
     (w : WasLogged since rest place transition)
     → scans_of (occurrence ∷ (since ++ rest)) ≡ transition.scans + scans_in (filter_events (occurrence ∷ w.after))

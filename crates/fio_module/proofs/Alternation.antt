@@ -11,7 +11,7 @@ use Rattle.fio_module.proofs.ListParts.{get_in_front, get_in_back, get_from_fron
 use Rattle.fio_module.proofs.NewLevels.{reported_there}
 use Rattle.fio_module.proofs.ScanTransitions.{of_scan, ascending}
 
--- an input of which a scan has no transition is not reported
+-- if a scan has no transition of an input, that input is not reported
 not_reported : (raw : ℕ) (life : Life) (input : ℕ) → input < 64
     → ((k : ℕ) (t : Transition) → slice_get (transitions_below 64 raw life) k ≡ Some t → t.input ≢ input)
     → (reported : Bool) → is_reported input raw (filter_events life) ≡ reported → reported ≡ false
@@ -141,7 +141,7 @@ latest input life (other ∷ later) place transition none l = latest input life 
 
 -- ---- successive transitions
 
--- the one after the latest, where no configuration was applied since a life
+-- the next one after the latest, if no configuration was applied since a life
 next_alternates : (raw : ℕ) (life later : Life) (k : ℕ) (older newer : Transition) → NoneIsApplied (filter_events later)
     → IsLatestOf newer.input (later ++ life) older
     → slice_get (transitions_below 64 raw (later ++ life)) k ≡ Some newer → Alternates newer.input life older newer

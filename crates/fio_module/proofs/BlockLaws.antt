@@ -96,7 +96,7 @@ lost_then_more : (before len limit count : ℕ) → count < limit → nat_lt bef
     → nat_lt count (len - max before (len - limit)) ≡ true
 lost_then_more before len limit count fewer lost = grind (arith, nat_tests)
 
--- a block after a loss leaves some waiting
+-- entries remain waiting after a block that follows a loss
 pub losses_leave_more : LossesLeaveMore
 losses_leave_more settings life fewer lost =
     lost_then_more (newest_end settings life) (length (log_of life)) settings.waiting settings.per_block fewer lost

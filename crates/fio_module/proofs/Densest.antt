@@ -10,11 +10,11 @@ items_below filter zero = []
 items_below filter (suc input) =
     record { input = input; ignore = false; leading = filter; trailing = filter } ∷ items_below filter input
 
--- the raw levels at the scan after so many: f scans with all inputs 0 and f with all 1, in turn
+-- the raw levels at the scan after n others: f scans with all inputs 0 and f with all 1, in turn
 abbrev pub levels_at : ℕ → ℕ → ℕ
 levels_at filter scans = if scans / filter % 2 == 0 then 0 else 2 ^ 64 - 1
 
--- so many scans after so many
+-- n such scans after others
 unfoldable pub densest : ℕ → ℕ → ℕ → Life
 densest filter from zero = []
 densest filter from (suc n) = Scanned (levels_at filter (from + n)) ∷ densest filter from n
@@ -30,7 +30,7 @@ unfolding densest
 none_applied filter from zero rest none = none
 none_applied filter from (suc n) rest none = (tt, none_applied filter from n rest none)
 
--- where an item names an input, both its filters are at least f
+-- if an item names an input, both its filters are at least f
 abbrev HasFilters : ℕ → Option InputItem → Type 0
 HasFilters filter None = Unit {0}
 HasFilters filter (Some item) = (filter ≤ item.leading) × (filter ≤ item.trailing)

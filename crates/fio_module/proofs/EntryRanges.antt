@@ -3,7 +3,7 @@ use Rattle.fio_module.proofs.Names.{ℕ, List, [], ◌∷◌, map, take, drop, a
 use Rattle.fio_module.proofs.ListParts.{each-take, each-drop}
 use Rattle.fio_module.proofs.ScanTransitions.{each_logged}
 
--- each of these transitions gives an entry that is within its ranges
+-- the entry of each of these transitions is within its ranges
 abbrev pub GiveEntries : List Transition → Type 0
 GiveEntries transitions = AllByRecursion (λ transition. IsEntry (entry_of transition)) transitions
 
@@ -18,7 +18,7 @@ log-fits =
     (λ raw life transition of. (omega (arith, of.low), omega arith))
     (λ occurrence life transition fits. fits)
 
--- and so do the entries of a part of them
+-- and so are the entries of a part of them
 pub part-fits : (life : Life) (count start : ℕ)
     → AllByRecursion IsEntry (map entry_of (take count (drop start (log_of life))))
 part-fits life count start =

@@ -15,7 +15,7 @@ more_filters a b filter some more =
     let low = div-mul-le_self a filter in
     (le-div_iff_mul-le {k = filter} {x = a / filter} {y = b} some).1 (omega arith)
 
--- blocks that are fewer than so many filters of each open input
+-- if there are fewer blocks than open inputs times a number, there are at most that many for each input
 fewer_filters : (blocks opened count : ℕ) → blocks < opened * (1 + count) → blocks / opened ≤ count
 fewer_filters blocks opened count less =
     elim (cases_lt 0 opened) as (λ _. blocks / opened ≤ count) [

@@ -1,4 +1,4 @@
--- Each new block takes all that waits, where the filters of the open inputs let no more come than it takes.
+-- Each new block takes everything that waits, if the filters of the open inputs let no more come than it takes.
 use Rattle.fio_module.proofs.Names.{◌≡◌, ℕ, ◌*◌, ◌≤◌, [], ◌∷◌, ◌++◌, subst, arith, Settings, Life, AtEachTime, FewBeyond, scans_behind}
 use Rattle.fio_module.specs.FiltersThatDiffer.{WaitsForOneBlock, PolledForEachLosesNone, KeepsUpForEach}
 use Rattle.fio_module.proofs.Polling.{each_time-append, behind_each}
@@ -9,7 +9,7 @@ pub each_few : (settings : Settings) (life later : Life) → AtEachTime (λ l. W
 each_few settings life [] each = each.few_beyond
 each_few settings life (occurrence ∷ later) each = (each.0.few_beyond, each_few settings life later each.1)
 
--- blocks that are made often are one block behind at most
+-- blocks that are made often are at most one block behind
 waits_for_one : (settings : Settings) (scans : ℕ) (life later : Life) → scans_behind scans later life ≤ 1 * scans
     → KeepsUpForEach settings scans life later → WaitsForOneBlock settings (later ++ life)
 waits_for_one settings scans life later near k =

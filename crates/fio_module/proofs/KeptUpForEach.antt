@@ -1,4 +1,4 @@
--- What waits where a module is kept up with, each input with its own filters: what the latest scans reported.
+-- What waits if a module is kept up with, each input with its own filters: what the latest scans reported.
 use Rattle.fio_module.proofs.Names.{◌≡◌, ℕ, zero, suc, ◌+◌, ◌-◌, ◌*◌, ◌≤◌, Bool, true, false, [], ◌∷◌, ◌++◌, length, drop, Some, slice_get, refl, ap, sym, ◌∙◌, subst, arith, inl, inr, append_assoc, length-append, length-drop, cases_lt, Poll, ConfigureInputs, scans_in, Settings, Life, Occurrence, Scanned, Commanded, scans_of, filter_events, Transition, log_of, newest_poll, is_new, blocks_of, next_block, newest_end, waiting_from, AtEachTime, scans_behind, IsYoung}
 use Rattle.fio_input.specs.FiltersThatDiffer.{Plan, IsAsPlanned, StaysAsPlanned, most_reports}
 use Rattle.fio_input.proofs.FiltersThatDiffer.{reports_are_few_of_each, most_reports-more}
@@ -10,7 +10,7 @@ use Rattle.fio_module.proofs.ListParts.{each-from_get, get_in_drop}
 use Rattle.fio_module.proofs.Pace.{each_before, each_since, nothing_left}
 use Rattle.fio_module.proofs.Stretches.{blocks_new, behind_new, end_after_block, log-grown}
 
--- a stretch in two: at most so many of its scans came first
+-- a stretch in two parts, of which the first has at most n scans
 record Parts (n : ℕ) (since : Life) : Type 0 where
   new : Life
   old : Life
@@ -40,7 +40,7 @@ module _ (settings : Settings) (plan : Plan) (scans : ℕ) (life : Life) (enough
   abbrev IsPlanned : Life → Type 0
   IsPlanned later = StaysAsPlanned plan (filter_events later) (filter_events life)
 
-  -- so many scans report what a block takes
+  -- `scans` scans report no more than a block takes
   gained : (since before : Life) → IsPlanned (since ++ before) → scans_in (filter_events since) ≤ scans
       → length (log_of (since ++ (before ++ life))) ≤ length (log_of (before ++ life)) + settings.per_block
   gained since before stay few =
@@ -53,7 +53,7 @@ module _ (settings : Settings) (plan : Plan) (scans : ℕ) (life : Life) (enough
         | inr never ↦ omega (arith, no_scan since rest (omega arith))
       ]
 
-  -- and so many times as many what so many blocks take
+  -- and a multiple of these scans no more than that many blocks take
   gained_in : (blocks : ℕ) (since before : Life) → IsPlanned (since ++ before) → scans_in (filter_events since) ≤ blocks * scans
       → length (log_of (since ++ (before ++ life))) ≤ length (log_of (before ++ life)) + blocks * settings.per_block
   gained_in zero since before stay few = omega (arith, no_scan since (before ++ life) (omega arith))
@@ -71,7 +71,7 @@ module _ (settings : Settings) (plan : Plan) (scans : ℕ) (life : Life) (enough
       let same : length (log_of ((p.old ++ before) ++ life)) ≡ length (log_of (p.old ++ (before ++ life))) = ap (λ l. length (log_of l)) (append_assoc p.old before life) in
       omega arith
 
-  -- all that was logged before the latest scans, as many as the blocks are behind, is in blocks
+  -- everything that was logged before the latest scans, by which the blocks are behind, is in blocks
   record IsTaken (later : Life) : Type 0 where
     since : Life
     before : Life
@@ -180,7 +180,7 @@ module _ (settings : Settings) (plan : Plan) (scans : ℕ) (life : Life) (enough
   keeps_each blocks (occurrence ∷ later) room ends stay near =
       (keeps_up blocks (occurrence ∷ later) room ends stay near.0, keeps_each blocks later room ends (each_before (IsAsPlanned plan) (occurrence ∷ []) later life stay) near.1)
 
--- so it is at each time
+-- this holds at each time
 pub kept_up_for_each : (settings : Settings) (plan : Plan) (scans blocks : ℕ) (life later : Life) → 1 ≤ settings.waiting
     → IsKeptUpForEach settings plan scans blocks life later → AtEachTime (KeepsUpForEach settings scans life) later
 kept_up_for_each settings plan scans blocks life later some k =

@@ -37,7 +37,7 @@ module _ {A : Type 0} (P : A → Type 0) where
   each-drop (suc n) [] all = tt
   each-drop (suc n) (x ∷ xs) all = each-drop n xs all.1
 
-  -- what holds of what is at each place holds of each
+  -- what holds of the element at each index holds of each element
   pub each-from_get : (xs : List A) → ((k : ℕ) (x : A) → slice_get xs k ≡ Some x → P x) → AllByRecursion P xs
   each-from_get [] at = tt
   each-from_get (x ∷ xs) at = (at 0 x refl, each-from_get xs (λ k. at (suc k)))
@@ -61,7 +61,7 @@ module _ {A : Type 0} (xs ys : List A) (k : ℕ) (x : A) where
 pub get_last : {A : Type 0} (xs : List A) (x : A) → slice_get (xs ++ x ∷ []) (length xs) ≡ Some x
 get_last xs x = slice_get-last xs x (length xs) refl
 
--- what is left of a list was there before
+-- what remains of a list was in it before
 pub get_in_drop : {A : Type 0} (n : ℕ) (xs : List A) (k : ℕ) (x : A) → slice_get (drop n xs) k ≡ Some x
     → slice_get xs (n + k) ≡ Some x
 get_in_drop zero xs k x is = let same : 0 + k ≡ k = omega arith in ap (slice_get xs) same ∙ is

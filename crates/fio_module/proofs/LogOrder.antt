@@ -40,7 +40,7 @@ log_is_in_order (other ∷ life) place next older newer le first second =
 
 -- ---- counters
 
--- the counter is the scans, where none was loaded
+-- the counter is the number of scans, if no number was loaded
 counted : (events : List CounterEvent) → loads_in events ≡ 0 → counter events ≡ ticks_in events % 2 ^ 32
 counted events none =
     let whole = append-nil events in

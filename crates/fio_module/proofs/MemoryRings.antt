@@ -10,6 +10,6 @@ first_in-inside first room some = grind (arith, nat_tests)
 pub first_in-same : (first room : ℕ) → first < room → first_in first room ≡ first
 first_in-same first room inside = grind (arith, nat_tests)
 
--- also where there is no room
+-- this holds also if there is no room
 pub first_in-next : (next room : ℕ) → next ≤ room → (0 < room → next < room) → first_in next room ≡ next
 first_in-next next room few inside = grind (arith, nat_tests)

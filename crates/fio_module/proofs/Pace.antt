@@ -1,4 +1,4 @@
--- Blocks that keep up with the scans leave few entries, and young ones.
+-- If blocks keep up with the scans, few entries wait, and they are young.
 use Rattle.fio_module.proofs.Names.{◌≡◌, ℕ, zero, suc, ◌+◌, ◌-◌, ◌*◌, ◌≤◌, Bool, true, false, List, [], ◌∷◌, ◌++◌, length, Some, slice_get, refl, ap, sym, subst, ◌∙◌, arith, inl, inr, append_assoc, length-drop, mul-le-mul_left, mul-le-mul_right, le_of_mul-le-mul_right, cases_lt, Poll, ConfigureInputs, scans_in, all_reports_in, AtEachScan, HasFewOpen, FewStayOpen, FilterEvent, at_each_scan-back, at_each_scan-front, reports_times_filter, Settings, Life, Occurrence, Scanned, Commanded, scans_of, filter_events, Transition, log_of, newest_poll, is_new, blocks_of, next_block, newest_end, start_after, count_from, waiting_from, waiting_of, AtEachTime, FewBeyond, scans_behind, IsYoung, KeepsUp}
 use Rattle.fio_module.proofs.Ends.{last_end-append}
 use Rattle.fio_module.proofs.BlockLaws.{blocks_end_within}
@@ -21,7 +21,7 @@ each_since P later before life each =
     (at_each_scan-front P (filter_events later) (filter_events before) (filter_events life)
     (subst (λ es. AtEachScan P es (filter_events life)) (filter_events-append later before) each))
 
--- where nothing waits, the newest block ends the log
+-- if nothing waits, the newest block ends where the log ends
 pub nothing_left : (settings : Settings) → 1 ≤ settings.waiting → (life : Life) → length (waiting_of settings life) ≡ 0
     → newest_end settings life ≡ length (log_of life)
 nothing_left settings some life none =
@@ -29,8 +29,7 @@ nothing_left settings some life none =
     let within : newest_end settings life ≤ length (log_of life) = blocks_end_within settings life in
     omega arith
 
--- Since a time at which all were taken, `full` whole blocks were taken, each of which made up for so
--- many scans.
+-- Since a time at which everything was taken, `full` whole blocks were taken, each of which made up for `scans` scans.
 pub record IsPaced (settings : Settings) (scans : ℕ) (life later : Life) : Type 0 where
   pub since : Life
   pub before : Life
@@ -39,8 +38,7 @@ pub record IsPaced (settings : Settings) (scans : ℕ) (life later : Life) : Typ
   pub ended : newest_end settings (later ++ life) ≡ length (log_of (before ++ life)) + settings.per_block * full
   pub scanned : scans_in (filter_events since) ≤ scans * full + scans_behind scans later life
 
--- Reports that are few for their scans are few for the blocks: those that so many blocks leave, `age`
--- scans later.
+-- Reports that are few for their scans are few for the blocks: a bound on those that the blocks leave, `age` scans later.
 few_at_pace : (reports left filter opened scans count age full behind per_block : ℕ)
     → reports * filter + opened * 1 ≤ opened * (count + filter)
     → count + age ≤ scans * full + behind → opened * scans ≤ per_block * filter
@@ -54,7 +52,7 @@ few_at_pace reports left filter opened scans count age full behind per_block few
     let times : (left + per_block * full) * filter ≤ reports * filter = mul-le-mul_right filter more in
     omega arith
 
--- so none is left `age` scans later, where that is no fewer than there are behind and the filter's
+-- so none is left `age` scans later, if that is at least the scans behind and the filter together
 young_at_pace : (left filter opened age behind : ℕ) → 1 ≤ left → 1 ≤ filter
     → left * filter + opened * (age + 1) ≤ opened * (behind + filter) → age + 2 ≤ behind + filter
 young_at_pace left filter opened age behind one some few =
@@ -104,7 +102,7 @@ module _ (settings : Settings) (opened filter scans most : ℕ) (life : Life) (s
       (scans_behind scans later life) settings.per_block g.few (omega (arith, p.scanned)) enough
       (omega (arith, g.gained, p.ended))
 
-  -- so no more than may wait
+  -- so no more wait than may
   few_beyond : (later : Life) → scans_behind scans later life ≤ most
       → beyond later * filter + opened * 1 ≤ opened * (scans_behind scans later life + filter)
       → FewBeyond settings (later ++ life)
@@ -266,7 +264,7 @@ module _ (settings : Settings) (opened filter scans most : ℕ) (life : Life) (s
       one_more a zero le = absurd (omega arith)
       one_more a (suc b) le = let same : suc b - 1 ≡ b = omega arith in rw same (grind arith)
 
-  -- and at each time
+  -- this holds at each time
   pub keeps_up_each : (later : Life) → newest_end settings life ≡ length (log_of life) → IsFew later
       → AtEachTime IsNear later → AtEachTime (KeepsUp settings opened filter scans life) later
   keeps_up_each [] ends stay near = keeps_up [] ends stay near

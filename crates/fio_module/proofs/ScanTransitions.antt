@@ -70,7 +70,7 @@ ascending (suc input) raw life k n older newer less is after =
       ]
     ]
 
--- what holds of each transition of a scan then, and still after each occurrence, holds of each of a log
+-- what holds of each transition at its scan, and still after each later occurrence, holds of each transition of a log
 module _ (P : Life → Transition → Type 0)
     (now : (raw : ℕ) (life : Life) (transition : Transition) → IsOfScan 64 raw life transition → P (Scanned raw ∷ life) transition)
     (still : (occurrence : Occurrence) (life : Life) (transition : Transition) → P life transition → P (occurrence ∷ life) transition) where

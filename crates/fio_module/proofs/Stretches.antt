@@ -16,7 +16,7 @@ log-grown (occurrence ∷ later) life =
     let here = log-later occurrence (later ++ life) in
     omega arith
 
--- what a poll that is new, or not, makes of the blocks and of how far they are behind
+-- what a poll, new or not, does to the blocks and to how far they are behind
 pub blocks_new : (settings : Settings) (life : Life) (number : ℕ) → is_new (newest_poll life) number ≡ true
     → blocks_of settings (Commanded (Poll number) ∷ life) ≡ blocks_of settings life ++ next_block settings life ∷ []
 blocks_new settings life number is = rw is refl
@@ -47,7 +47,7 @@ module _ (scans : ℕ) (life before : Life) where
   abbrev scanned : Life → ℕ
   scanned stretch = scans_in (filter_events stretch)
 
-  -- a poll puts them no further behind
+  -- a poll does not put them further behind
   behind_poll : (number : ℕ) (stretch : Life) (new : Bool) → is_new (newest_poll ((stretch ++ before) ++ life)) number ≡ new
       → behind (Commanded (Poll number) ∷ stretch) ≤ behind stretch
   behind_poll number stretch true is =
@@ -55,7 +55,7 @@ module _ (scans : ℕ) (life before : Life) where
   behind_poll number stretch false is =
       let same = behind_old scans (stretch ++ before) life number is in omega arith
 
-  -- the blocks fall no more behind than there are scans
+  -- over a stretch the blocks fall behind by no more than its scans
   pub behind_more : (stretch : Life) → behind stretch ≤ scans_behind scans before life + scanned stretch
   behind_more [] = omega arith
   behind_more (Scanned raw ∷ stretch) = let rest = behind_more stretch in omega arith
@@ -66,7 +66,7 @@ module _ (scans : ℕ) (life before : Life) where
   behind_more (Commanded (ConfigureInputs items) ∷ stretch) = behind_more stretch
   behind_more (other ∷ stretch) = behind_more stretch
 
-  -- so at each time of a stretch
+  -- so this holds at each time of a stretch
   pub behind_each : (limit : ℕ) (stretch : Life) → scans_behind scans before life + scanned stretch ≤ limit
       → AtEachTime (λ l. scans_behind scans l life ≤ limit) before
       → AtEachTime (λ l. scans_behind scans l life ≤ limit) (stretch ++ before)
@@ -104,8 +104,8 @@ module _ (settings : Settings) (scans : ℕ) (life before : Life) where
       let few = rest (omega arith) in
       omega arith
 
-  -- after a stretch in which a block was made, the blocks are no more behind than its scans, or as many
-  -- less as a block makes up for than they were with them
+  -- after a stretch in which a block was made, the blocks are behind by at most its scans, or by what they were with these
+  -- scans, less what one block makes up for
   pub after_block : (stretch : Life) → length (blocks_of settings (before ++ life)) < count stretch
       → scans_behind scans (stretch ++ before) life ≤ max (scans_behind scans before life + scanned_in stretch - scans) (scanned_in stretch)
   after_block [] more = absurd (omega arith)
@@ -162,7 +162,7 @@ pub record HasMade (settings : Settings) (filter most : ℕ) (life later : Life)
       ≡ drop (newest_end settings life) (take (newest_end settings (later ++ life)) (log_of (later ++ life)))
   pub punctual : AllByRecursion (IsPunctual most filter) made
 
--- what holds of the first so many, with a higher limit
+-- what holds of the first n, with a higher limit
 young-take : (life : Life) (behind most filter n : ℕ) (ts : List Transition) → behind ≤ most
     → AllByRecursion (IsYoung behind filter life) ts
     → AllByRecursion (λ (transition : Transition). scans_of life + 2 ≤ transition.scans + (most + filter)) (take n ts)

@@ -1,4 +1,4 @@
--- What waits gains each new transition, and gives its first to a new poll.
+-- The waiting entries gain each new transition, and a new poll takes the oldest of them.
 use Rattle.fio_module.proofs.Names.{◌≡◌, ℕ, suc, inl, inr, ◌+◌, ◌-◌, ◌≤◌, Bool, List, [], ◌∷◌, ◌++◌, length, take, drop, refl, ap, sym, ◌∙◌, arith, append_assoc, append-nil, length-append, if◌then◌else◌, fold, take-append-drop, drop-drop, drop-append-le, length-drop, leb_tells, Poll, Settings, Scanned, Commanded, Transition, log_of, transitions_below, blocks_of, newest_end, next_block, start_after, count_from, with_waiting, ScansAddWaiting, NewPollsTakeWaiting, OthersLeaveWaiting}
 use Rattle.fio_module.proofs.Ends.{last_end-append, end-later}
 use Rattle.fio_module.proofs.BlockLaws.{newest_end_within}
@@ -57,7 +57,7 @@ new_polls_take_waiting settings life number new =
     sym (take-append-drop count (drop start log))
     ∙ ap (λ rest. take count (drop start log) ++ rest) (drop-drop count start log ∙ ap (λ n. drop n log) (sym begins))
 
--- all else leaves what waits
+-- everything else leaves the waiting entries unchanged
 pub others_leave_waiting : OthersLeaveWaiting
 others_leave_waiting settings life (Scanned raw) same = absurd (cc same)
 others_leave_waiting settings life (Commanded (Poll number)) same = rw same refl

@@ -7,7 +7,7 @@ bit_of-above : (b : Bool) (place below : ℕ) → below < 2 ^ place → bit_of b
 bit_of-above true place below fits = rw (pow-suc 2 place) (omega arith)
 bit_of-above false place below fits = rw (pow-suc 2 place) (omega arith)
 
--- a word of so many bits fits in them
+-- a word of n bits is below 2^n
 pub word_of-fits : (place : ℕ) (bit : ℕ → Bool) → word_of place bit < 2 ^ place
 unfolding word_of
 word_of-fits zero bit = omega arith
@@ -17,7 +17,7 @@ bit_at-bit_of : (b : Bool) → bit_at (bit_of b) 0 ≡ bit_of b
 bit_at-bit_of true = refl
 bit_at-bit_of false = refl
 
--- each bit of the word is the one that it was made of
+-- each bit of the word is the one given for it
 pub bit_at-word_of : (places : ℕ) (bit : ℕ → Bool) (place : ℕ) → place < places → bit_at (word_of places bit) place ≡ bit_of (bit place)
 unfolding word_of
 bit_at-word_of zero bit place below = absurd (omega arith)

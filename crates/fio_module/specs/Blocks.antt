@@ -1,4 +1,4 @@
--- The blocks of a life, by places in its transition log.
+-- The blocks of a life, by their places in its transition log.
 use Rattle.std.specs.Prelude.{ℕ, ◌+◌, ◌-◌, ◌==◌, Bool, true, not, List, [], ◌∷◌, ◌++◌, length, take, drop, min, max, nat_lt, Option, Some, None, if◌then◌else◌}
 use Rattle.fio_message.specs.declared.commands.Command.TheVariants.{Poll}
 use Rattle.fio_module.specs.Settings.{Settings}
@@ -11,33 +11,33 @@ newest_poll [] = None
 newest_poll (Commanded (Poll number) ∷ life) = Some number
 newest_poll (other ∷ life) = newest_poll life
 
--- whether a poll is new after the poll received before it: it is the first, or its number differs
+-- whether a poll is new, given the poll received before it: it is the first, or its number differs
 abbrev pub is_new : Option ℕ → ℕ → Bool
 is_new None number = true
 is_new (Some before) number = not (before == number)
 
--- a block that was made, and where it lies in the transition log
+-- a block that was made, and its place in the transition log
 pub record MadeBlock : Type 0 where
   -- where the block before it ended, 0 for the first
   pub before : ℕ
-  -- the places from which and up to which its transitions are
+  -- its transitions are those at the indexes from `start` up to but not including `end`
   pub start : ℕ
   pub end : ℕ
   pub transitions : List Transition
-  -- F: some entries between `before` and `start` were pushed out
+  -- F: some entries between `before` and `start` were pushed out of the buffer
   pub lost : Bool
-  -- C: more waited than a block takes
+  -- C: more entries waited than a block takes
   pub more : Bool
-  -- the counter when it was made, and how many scans and loads of the counter there had been
+  -- the counter when it was made, and the numbers of scans and of loads of the counter up to then
   pub stamp : ℕ
   pub scans : ℕ
   pub loads : ℕ
 
--- where the waiting entries begin, if the newest block ended at `before`
+-- the place of the oldest waiting entry, if the newest block ended at `before`
 abbrev pub start_after : Settings → List Transition → ℕ → ℕ
 start_after settings log before = max before (length log - settings.waiting)
 
--- how many of them a block takes
+-- how many entries a block takes, if the waiting ones begin at `start`
 abbrev pub count_from : Settings → List Transition → ℕ → ℕ
 count_from settings log start = min settings.per_block (length log - start)
 
@@ -59,16 +59,16 @@ block_after settings life before =
       loads = loads_of life;
     }
 
--- where the last of these blocks ends, and this place if there is none
+-- where the last of these blocks ends, or `place` if there is none
 abbrev pub last_end : ℕ → List MadeBlock → ℕ
 last_end place [] = place
 last_end place (block ∷ blocks) = last_end block.end blocks
 
--- where the last of these blocks ends, 0 if there is none
+-- where the last of these blocks ends, or 0 if there is none
 abbrev pub end_of_blocks : List MadeBlock → ℕ
 end_of_blocks blocks = last_end 0 blocks
 
--- the blocks of a life, oldest first: each new poll makes one, from the transition log before it
+-- the blocks of a life, oldest first: each new poll makes one, from the transition log as it was before the poll
 abbrev pub blocks_of : Settings → Life → List MadeBlock
 blocks_of settings [] = []
 blocks_of settings (Commanded (Poll number) ∷ life) =
@@ -86,7 +86,7 @@ newest_end settings life = end_of_blocks (blocks_of settings life)
 abbrev pub next_block : Settings → Life → MadeBlock
 next_block settings life = block_after settings life (newest_end settings life)
 
--- where the waiting entries begin
+-- the place of the oldest waiting entry
 abbrev pub waiting_from : Settings → Life → ℕ
 waiting_from settings life = start_after settings (log_of life) (newest_end settings life)
 

@@ -1,4 +1,4 @@
--- How many entries wait at most, and how late they are, with blocks and filters counted whole.
+-- The largest number of entries that wait, and their greatest age, in whole blocks and whole filter lengths.
 use Rattle.std.specs.Prelude.{ℕ, ◌+◌, ◌-◌, ◌*◌, ◌/◌, ◌≤◌, ◌++◌, length}
 use Rattle.std.specs.List.{AllByRecursion}
 use Rattle.fio_module.specs.Settings.{Settings, AreInRange}
@@ -7,9 +7,9 @@ use Rattle.fio_module.specs.Blocks.{waiting_of}
 use Rattle.fio_module.specs.Delivery.{AtEachTime}
 use Rattle.fio_module.specs.KeepingUp.{scans_behind, IsKeptUp}
 
--- For some number j of whole blocks, which made up for j s scans: what waits and these blocks are no more
--- than the open inputs can report in those scans and the m behind, 1 + (j s + m - 1) / f each; and what
--- waits is at most j s + m - 1 - f (b j / k) scans old.
+-- For some number j of blocks, each of b entries and making up for s scans, with k open inputs, filters of f, and m scans
+-- behind: the entries that wait and those of the j blocks are together no more than the open inputs can report in j s + m
+-- scans, 1 + (j s + m - 1) / f each; and an entry that waits is at most j s + m - 1 - f (b j / k) scans old.
 pub record KeepsUpExactly (settings : Settings) (opened filter scans : ℕ) (life later : Life)
     : Type 0 where
   pub blocks : ℕ
@@ -23,7 +23,7 @@ pub record KeepsUpExactly (settings : Settings) (opened filter scans : ℕ) (lif
       ≤ transition.scans + (scans * blocks + scans_behind scans later life))
       (waiting_of settings (later ++ life))
 
--- Where rounds keep up, the module keeps up so at each time.
+-- If rounds keep up, the module keeps up in this sense at each time.
 abbrev pub KeptUpKeepsUpExactly : Type 0
 KeptUpKeepsUpExactly =
     (settings : Settings) (opened filter scans most : ℕ) (life later : Life) →

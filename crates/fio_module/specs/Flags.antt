@@ -6,8 +6,8 @@ use Rattle.fio_module.specs.declared.outputs.Outputs.{Outputs}
 use Rattle.fio_module.specs.declared.limits.TheConstants.{LEAST_TIMEOUT, MOST_TIMEOUT}
 use Rattle.fio_module.specs.Life.{Raised, Commanded, Life}
 
--- whether the flag in this bit is up: of the start, the raises and the clearings that hold the bit,
--- the latest is no clearing. The start raises P alone, bit 7
+-- Whether the flag in this bit is up: among the start, the raises and the clearings whose mask has the bit, the latest is
+-- not a clearing. The start raises P alone, bit 7.
 abbrev pub is_flag_up : ℕ → Life → Bool
 is_flag_up place [] = place == 7
 is_flag_up place (Raised mask ∷ life) =
@@ -16,7 +16,7 @@ is_flag_up place (Commanded (Status clear) ∷ life) =
     if is_set clear place then false else is_flag_up place life
 is_flag_up place (other ∷ life) = is_flag_up place life
 
--- the word with these bits below a place, and none above
+-- the word whose bits below a position are as given, and whose other bits are 0
 unfoldable pub word_of : ℕ → (ℕ → Bool) → ℕ
 word_of zero bit = 0
 word_of (suc place) bit = bit_of (bit place) * 2 ^ place + word_of place bit
@@ -25,7 +25,7 @@ word_of (suc place) bit = bit_of (bit place) * 2 ^ place + word_of place bit
 abbrev pub flags_of : Life → ℕ
 flags_of life = word_of 8 (λ place. is_flag_up place life)
 
--- the latest timeout of the watchdog in ms, at least 10 and at most 100; None before the first
+-- the latest timeout of the watchdog in ms, brought into the range 10 to 100; None before the first
 abbrev pub watchdog_of : Life → Option ℕ
 watchdog_of [] = None
 watchdog_of (Commanded (Watchdog timeout) ∷ life) = Some (min MOST_TIMEOUT (max LEAST_TIMEOUT timeout))

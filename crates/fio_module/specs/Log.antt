@@ -5,8 +5,8 @@ use Rattle.fio_input.specs.FilterHistory.{is_reported, input_state}
 use Rattle.fio_module.specs.Life.{Scan, History, Scanned, Life, life_of, counter_of, scans_of, loads_of, filter_events}
 use Rattle.fio_message.specs.declared.limits.TheConstants.{INPUTS}
 
--- a change of an input's filtered state: the state after it, the counter at its scan, already
--- stepped, and how many scans, this one among them, and loads of the counter there had been
+-- a change of an input's filtered state: the state after it; the counter at its scan, already stepped; and the numbers of
+-- scans, including this one, and of loads of the counter up to then
 pub record Transition : Type 0 where
   pub input : ℕ
   pub level : Bool

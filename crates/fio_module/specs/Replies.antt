@@ -22,7 +22,7 @@ answer_to settings life (Status clear) =
     Some (answers.Status (flags_of (Commanded (Status clear) ∷ life)) 0 0 (counter_of life))
 -- S is clear: a load is never refused
 answer_to settings life (LoadCounter load) = Some (answers.LoadCounter (error_status false))
--- S is set where an item names an input above 63, so that the configuration is not applied
+-- S is set if an item names an input above 63: then the configuration is not applied
 answer_to settings life (ConfigureInputs items) =
     Some (answers.ConfigureInputs (error_status (not (all_present items.items))))
 answer_to settings life RawInputs =
@@ -33,15 +33,14 @@ answer_to settings life FilteredInputs =
 answer_to settings life (Poll number) =
     option_map answer_of_sending (latest_sending settings (Commanded (Poll number) ∷ life))
 answer_to settings life (SetOutputs levels controls) = Some (outputs_answer (counter_of life))
--- Y is set where the watchdog had been set before
+-- Y is set if the watchdog had been set before
 answer_to settings life (Watchdog timeout) =
     Some (answers.Watchdog (set_before_status (is_some (watchdog_of life))))
 answer_to settings life Identify = Some (identity_answer settings.id)
--- 56, 57 and 59 get none
+-- commands 56, 57 and 59 get no answer
 answer_to settings life (Other kind body) = None
 
--- how many octets the longest answer has that is ever given: a block with the most entries, or inputs and
--- a stamp
+-- how many octets the longest answer has that a module ever gives: a block with the most entries, or inputs and a stamp
 abbrev pub longest_answer : ℕ → ℕ
 longest_answer per_block = max 13 (8 + 3 * per_block)
 
@@ -54,7 +53,7 @@ answer_if settings life (Some command) = answer_to settings life command
 abbrev pub reply_to : Settings → History → List ℕ → Option Answer
 reply_to settings history octets = answer_if settings (life_of history) (command_in octets)
 
--- the frame, if there is one, spells the answer, and there is one exactly if there is an answer
+-- there is a frame exactly if there is an answer, and the frame spells it
 abbrev pub Encodes : Option Answer → Option (ArrayVec ℕ) → Type 0
 Encodes None frame = frame ≡ None
 Encodes (Some answer) None = ⊥

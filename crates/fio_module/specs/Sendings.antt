@@ -1,4 +1,4 @@
--- The answers to polls: each block is sent first, and again for each further poll with its number.
+-- The answers to polls: each block is sent once for the poll that made it, and again for each further poll with its number.
 use Rattle.std.specs.Prelude.{ℕ, ◌+◌, ◌%◌, ◌==◌, Bool, true, false, not, List, [], ◌∷◌, map, Option, Some, None, option_map, if◌then◌else◌}
 use Rattle.fio_message.specs.declared.fields.Entry.{Entry}
 use Rattle.fio_message.specs.declared.answers.Answer.{Answer}
@@ -10,7 +10,7 @@ use Rattle.fio_module.specs.Life.{Commanded, Life}
 use Rattle.fio_module.specs.Log.{entry_of}
 use Rattle.fio_module.specs.Blocks.{MadeBlock, newest_poll, is_new, next_block}
 
--- one sending of a block: its number, its entries, C, F, E and G, and its stamp
+-- one sending of a block: its number, its entries, the status bits C, F, E and G, and its stamp
 pub record Sending : Type 0 where
   pub number : ℕ
   pub entries : List Entry
@@ -20,7 +20,7 @@ pub record Sending : Type 0 where
   pub out_of_sequence : Bool
   pub stamp : ℕ
 
--- the answer that a sending is
+-- the answer that carries a sending
 abbrev pub answer_of_sending : Sending → Answer
 answer_of_sending sending =
     answers.Block
@@ -29,13 +29,12 @@ answer_of_sending sending =
     (block_status sending.more sending.lost sending.again sending.out_of_sequence)
     sending.stamp
 
--- whether a number is out of sequence after the poll received before it: not that one plus one,
--- 0 after 255
+-- whether a number is out of sequence after the poll received before: it is not that poll's number plus one, 0 after 255
 abbrev pub is_out_of_sequence : Option ℕ → ℕ → Bool
 is_out_of_sequence None number = false
 is_out_of_sequence (Some before) number = not (number == (before + 1) % 256)
 
--- a block as it is sent first, for a poll with this number
+-- a block as it is first sent, for a poll with this number
 abbrev pub sending_of : MadeBlock → ℕ → Bool → Sending
 sending_of block number out_of_sequence =
     record {
@@ -48,12 +47,12 @@ sending_of block number out_of_sequence =
       stamp = block.stamp;
     }
 
--- the next block as it is sent first, for a new poll with this number
+-- the next block as it is first sent, for a new poll with this number
 abbrev pub first_sending : Settings → Life → ℕ → Sending
 first_sending settings life number =
     sending_of (next_block settings life) number (is_out_of_sequence (newest_poll life) number)
 
--- the same sent again: with E set and G clear, all else as it was
+-- a sending as it is sent again: E is set, G is clear, and all else is as it was
 abbrev pub repeat_of : Sending → Sending
 repeat_of sending =
     record {

@@ -1,18 +1,18 @@
-//! How many entries a block has, how many may wait, and how long a watchdog waits.
+//! The limits of a module: how many entries a block has, how many may wait, and how long a watchdog waits.
 use fio_message::BLOCK_ENTRIES;
 use std::marker::Model;
 
-/// How many entries wait at most where the caller gives no limits (TEES 2009), and the least that a
-/// caller may give (own profile).
+/// The most entries that wait if the caller gives no limits (TEES 2009), and the least that a caller may give as that limit
+/// (own profile).
 pub const STANDARD_WAITING: u16 = 1024;
 
-/// The most that a caller may give (own profile).
+/// The most that a caller may give as that limit (own profile).
 pub const MOST_WAITING: u16 = 8192;
 
 /// The least timeout of the watchdog in milliseconds: less is taken as this (TEES 2009).
 pub const LEAST_TIMEOUT: u8 = 10;
 
-/// The most: more is taken as this (TEES 2009).
+/// The greatest timeout of the watchdog in milliseconds: more is taken as this (TEES 2009).
 pub const MOST_TIMEOUT: u8 = 100;
 
 /// The limits of a module: the most entries of one block, 1 to 255, and the most entries that wait
@@ -45,7 +45,7 @@ impl Default for Limits {
 
     ghost is_default = { λ limits. limits ≡ standard_limits };
 
-    /// Those of TEES 2009.
+    /// Returns the limits of TEES 2009.
     fn default() -> Self {
         Self::STANDARD
     }
@@ -55,7 +55,7 @@ impl Limits {
     ghost use Rattle.std.specs.Prelude.{◌≡◌, Some, None, if◌then◌else◌};
     ghost use Rattle.fio_module.specs.Limits.{are_limits};
 
-    /// Those of TEES 2009, which a module has where the caller gives none.
+    /// The limits of TEES 2009, which a module has if the caller gives none.
     pub const STANDARD: Limits = Limits {
         per_block: BLOCK_ENTRIES as u8,
         waiting: STANDARD_WAITING,

@@ -5,13 +5,13 @@ ghost use Rattle.fio_module.specs.Rings.{empty_place, slot_entries, first_in, ri
 use crate::ring::EntryRing;
 use fio_message::EntryOctets;
 
-/// Where in its array a ring has its entries. Any octets are such a place.
+/// Where a ring has its entries in its array. Any octets are a valid place.
 #[derive(Clone, Copy, Debug)]
 #[repr(C)]
 pub struct RingPlace {
-    /// The index of the oldest entry; one that the array does not have is taken as 0.
+    /// The index of the oldest entry; an index beyond the array is taken as 0.
     first: u16,
-    /// How many entries there are; more than the array's length is taken as that.
+    /// The number of entries; more than the array's length is taken as that length.
     count: u16,
 }
 
@@ -41,9 +41,9 @@ impl RingPlace {
     }
 }
 
-/// A ring in an array of the caller, whose length is its capacity, at most 65,535. It takes no memory
-/// of its own. Any contents are a valid ring. With capacity 0 each entry is pushed out at once.
-// Numbers of 16 bits: on a processor of 32 bits those of 64 are slow.
+/// A ring in an array of the caller, whose length is the ring's capacity, at most 65,535. It allocates nothing, and any
+/// contents are a valid ring. With capacity 0 each entry is pushed out at once.
+// The numbers have 16 bits, since those of 64 bits are slow on a processor of 32 bits.
 #[derive(Debug, Drop)]
 pub struct MemoryRing<'a> {
     entries: &'a mut [EntryOctets],
@@ -52,7 +52,7 @@ pub struct MemoryRing<'a> {
 }
 
 impl<'a> MemoryRing<'a> {
-    /// Returns the ring that this array has at this place.
+    /// Returns the ring that is at this place of this array.
     pub fn new(entries: &'a mut [EntryOctets], place: &'a mut RingPlace) -> MemoryRing<'a>
         requires { length entries.old < 65536 }
         ensures same_entries { result.entries.ghost_name ≡ entries.entry.ghost_name }
@@ -70,7 +70,7 @@ impl<'a> MemoryRing<'a> {
         self.entries.len() as u16
     }
 
-    /// Returns how many entries there are.
+    /// Returns the number of entries.
     fn count(&self) -> u16
         ensures { result ≡ min self.now.place.now.count (length self.now.entries.now) }
     {

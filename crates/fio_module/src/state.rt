@@ -1,4 +1,4 @@
-//! A module but for the ring of its waiting entries: what reaches it, and what it answers.
+//! A module without the ring of its waiting entries: how it responds to events and commands.
 
 mod commands;
 mod polls;
@@ -13,9 +13,8 @@ use fio_message::KeptBlock;
 /// P in the status flags: the module was reset.
 const RESET: u8 = 0x80;
 
-/// All of a module but the ring in which its entries wait, in plain memory: its counter, its
-/// filters and the block that it sent last. The ring is given to each call that reaches it, and
-/// is always the same one.
+/// All of a module except the ring in which its entries wait, in plain memory: its counter, its filters and the block that
+/// it sent last. The ring is passed to each call that needs it, and has to be the same one each time.
 #[derive(Debug, Drop)]
 #[repr(C)]
 pub struct ModuleState {
@@ -24,7 +23,7 @@ pub struct ModuleState {
     flags: u8,
     /// The timeout, 0 before the first command that sets it.
     watchdog: u8,
-    /// 1 where an entry was pushed out since the newest block was made, else 0.
+    /// 1 if an entry was pushed out since the newest block was made, otherwise 0.
     pushed_out: u8,
     /// Padding that aligns the fields below.
     reserved: [u8; 7],
@@ -45,8 +44,7 @@ impl ModuleState {
     ghost use Rattle.fio_module.specs.Flags.{flags_of, watchdog_of, outputs_of};
     ghost use Rattle.fio_module.specs.State.{IsAfter, IsAfterHistory, state_at_start};
 
-    /// Returns a module whose blocks have at most `per_block` entries, and whose ring is empty, of any
-    /// capacity.
+    /// Returns a module whose blocks have at most `per_block` entries, and whose ring is empty, of any capacity.
     #[tactic(auto, unfolding(crate::specs::Flags::word_of))]
     pub fn new(id: u8, per_block: u8) -> ModuleState
         ensures life { (waiting : ℕ)
@@ -68,7 +66,7 @@ impl ModuleState {
         }
     }
 
-    /// As `Module::restart`.
+    /// Does what `Module::restart` does.
     pub fn restart<R: EntryRing>(&mut self, ring: &mut R)
         ensures carried { (settings : Settings) (history : History)
             → IsAfterHistory settings self.old (R.held ring.old) history
@@ -79,7 +77,7 @@ impl ModuleState {
         ring.clear();
     }
 
-    /// As `Module::restart`, but that the caller clears the ring.
+    /// Does what `Module::restart` does, except that the caller clears the ring.
     #[tactic(auto, unfolding(crate::specs::Flags::word_of))]
     pub fn start_anew(&mut self)
         ensures { (settings : Settings) (ring : Buffer (List ℕ)) (history : History)
@@ -95,7 +93,7 @@ impl ModuleState {
         self.sent = KeptBlock::new();
     }
 
-    /// As `Module::scan`.
+    /// Does what `Module::scan` does.
     pub fn scan<R: EntryRing>(&mut self, ring: &mut R, raw: u64)
         ensures carried { (settings : Settings) (history : History)
             → IsAfterHistory settings self.old (R.held ring.old) history
@@ -114,7 +112,7 @@ impl ModuleState {
         );
     }
 
-    /// As `Module::line_sync`.
+    /// Does what `Module::line_sync` does.
     pub fn line_sync(&mut self)
         ensures { (settings : Settings) (ring : Buffer (List ℕ)) (history : History)
             → IsAfterHistory settings self.old ring history
@@ -123,7 +121,7 @@ impl ModuleState {
         self.counter.line_sync();
     }
 
-    /// As `Module::raise`.
+    /// Does what `Module::raise` does.
     pub fn raise(&mut self, mask: u8)
         ensures { (settings : Settings) (ring : Buffer (List ℕ)) (history : History)
             → IsAfterHistory settings self.old ring history
@@ -132,7 +130,7 @@ impl ModuleState {
         self.flags |= mask;
     }
 
-    /// Returns the status flags, from bit 7 down P, E, K, R, T, M, L and W (own profile: their places).
+    /// Returns the status flags, from bit 7 down P, E, K, R, T, M, L and W (own profile: their positions).
     pub fn flags(&self) -> u8
         ensures { (settings : Settings) (ring : Buffer (List ℕ)) (history : History)
             → IsAfterHistory settings self.now ring history
@@ -141,7 +139,7 @@ impl ModuleState {
         self.flags
     }
 
-    /// As `Module::outputs`.
+    /// Returns what `Module::outputs` returns.
     pub fn outputs(&self) -> Outputs
         ensures { (settings : Settings) (ring : Buffer (List ℕ)) (history : History)
             → IsAfterHistory settings self.now ring history
@@ -150,7 +148,7 @@ impl ModuleState {
         self.outputs
     }
 
-    /// As `Module::watchdog_ms`.
+    /// Returns what `Module::watchdog_ms` returns.
     pub fn watchdog_ms(&self) -> Option<u8>
         ensures { (settings : Settings) (ring : Buffer (List ℕ)) (history : History)
             → IsAfterHistory settings self.now ring history
@@ -172,7 +170,7 @@ impl ModuleState {
         self.counter.now()
     }
 
-    /// As `Module::filtered`.
+    /// Returns what `Module::filtered` returns.
     pub fn filtered(&self) -> u64
         ensures { (settings : Settings) (ring : Buffer (List ℕ)) (history : History)
             → IsAfterHistory settings self.now ring history

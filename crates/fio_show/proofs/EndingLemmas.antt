@@ -54,7 +54,7 @@ module _ (margin : List ℕ) (input : ℕ) (level : Bool) where
       let from_state = codes " state " ++ decimal (bit_of level) in
       omega (arith, few, three, one_digit level, length-append margin (codes "input " ++ (decimal input ++ from_state)), length-append (decimal input) from_state)
 
-  -- before an ending of so many octets in its room, the line is both
+  -- an ending of `count` octets in its room: the line is what precedes it, and the ending
   pub line-part : (line room ending : List ℕ) (start count : ℕ) → drop start line ≡ front ++ room → take count room ≡ ending
       → start + length front ≡ 64
       → take (64 - start + count) (drop start line)

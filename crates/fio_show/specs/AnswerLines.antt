@@ -1,4 +1,4 @@
--- The lines for each answer.
+-- The lines of each answer.
 use Rattle.std.specs.Prelude.{ℕ, List, ◌++◌, length, codes, decimal}
 use Rattle.std.specs.List.{flat_map}
 use Rattle.fio_message.specs.Octets.{inputs_octets}
@@ -11,36 +11,36 @@ use Rattle.fio_text.specs.Digits.{digits_of, octet_digits}
 use Rattle.fio_show.specs.EntryLines.{entry_line}
 use Rattle.fio_show.specs.CommandLines.{other_text}
 
--- how many errors there were, and when
+-- the error counts, and the stamp
 abbrev pub errors_text : ℕ → ℕ → ℕ → List ℕ
 errors_text receive_errors transmit_errors stamp =
     codes " receive " ++ (decimal receive_errors
     ++ (codes " transmit " ++ (decimal transmit_errors
     ++ (codes " stamp " ++ (decimal stamp ++ codes "\n")))))
 
--- the line for an answer with the status flags
+-- the line of an answer with the status flags
 abbrev pub flags_text : ℕ → ℕ → ℕ → ℕ → List ℕ
 flags_text flags receive_errors transmit_errors stamp =
     codes "status flags "
     ++ (octet_digits flags ++ errors_text receive_errors transmit_errors stamp)
 
--- a status octet, behind the name of the answer that has it
+-- the line of an answer with a status octet: the name of the answer, then the status
 abbrev pub status_text : List ℕ → ℕ → List ℕ
 status_text name status = name ++ (codes " status " ++ (octet_digits status ++ codes "\n"))
 
--- the levels of all inputs, behind their name
+-- the line of an answer with the levels of all inputs: its name, then the levels and the stamp
 abbrev pub levels_text : List ℕ → ℕ → ℕ → List ℕ
 levels_text name inputs stamp =
     name ++ (codes " inputs " ++ (digits_of (inputs_octets inputs)
     ++ (codes " stamp " ++ (decimal stamp ++ codes "\n"))))
 
--- an entry of a block answer with this stamp: as the record has it, behind two blanks
+-- the line of an entry of a block answer with this stamp: as in a record, after two blanks
 abbrev pub entry_text : ℕ → Entry → List ℕ
 entry_text stamp entry =
     codes "  "
     ++ entry_line entry.input entry.level entry.stamp (wide_time_of stamp entry.stamp)
 
--- the first line for a block answer
+-- the first line of a block answer
 abbrev pub block_head_text : ℕ → ℕ → ℕ → ℕ → List ℕ
 block_head_text block count status stamp =
     codes "block " ++ (decimal block
@@ -48,12 +48,12 @@ block_head_text block count status stamp =
     ++ (codes " status " ++ (octet_digits status
     ++ (codes " stamp " ++ (decimal stamp ++ codes "\n")))))))
 
--- the lines for a block answer: the first, and one for each entry
+-- the lines of a block answer: the first, and one for each entry
 abbrev pub block_text : ℕ → List Entry → ℕ → ℕ → List ℕ
 block_text block entries status stamp =
     block_head_text block (length entries) status stamp ++ flat_map (entry_text stamp) entries
 
--- the lines for an answer
+-- the lines of an answer
 abbrev pub answer_text : Answer → List ℕ
 answer_text (Status flags receive_errors transmit_errors stamp) =
     flags_text flags receive_errors transmit_errors stamp

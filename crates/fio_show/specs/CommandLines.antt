@@ -1,4 +1,4 @@
--- The lines for each command.
+-- The lines of each command.
 use Rattle.std.specs.Prelude.{ℕ, List, [], ◌∷◌, ◌++◌, length, codes, decimal}
 use Rattle.std.specs.List.{flat_map}
 use Rattle.fio_message.specs.Bits.{bit_of}
@@ -8,11 +8,11 @@ use Rattle.fio_message.specs.declared.commands.Command.{Command}
 use Rattle.fio_message.specs.declared.commands.Command.TheVariants.{Status, LoadCounter, ConfigureInputs, RawInputs, FilteredInputs, Poll, SetOutputs, Watchdog, Identify, Other}
 use Rattle.fio_text.specs.Digits.{digits_of, octet_digits}
 
--- a number behind words
+-- a line of these words and a number
 abbrev pub number_text : List ℕ → ℕ → List ℕ
 number_text words number = words ++ (decimal number ++ codes "\n")
 
--- how one input is to be read
+-- the line of an item: the settings of one input
 abbrev pub item_text : InputItem → List ℕ
 item_text item =
     codes "  input " ++ (decimal item.input
@@ -20,32 +20,32 @@ item_text item =
     ++ (codes " leading " ++ (decimal item.leading
     ++ (codes " trailing " ++ (decimal item.trailing ++ codes "\n")))))))
 
--- the line for a command that clears status flags
+-- the line of a command that clears status flags
 abbrev pub clearing_text : ℕ → List ℕ
 clearing_text clear = codes "status clear " ++ (octet_digits clear ++ codes "\n")
 
--- the lines for a configuration: the first, and one for each item
+-- the lines of a configuration: the first, and one for each item
 abbrev pub configuration_text : List InputItem → List ℕ
 configuration_text items =
     number_text (codes "configure inputs ") (length items) ++ flat_map item_text items
 
--- the line for a command that sets outputs
+-- the line of a command that sets outputs
 abbrev pub outputs_text : List ℕ → List ℕ → List ℕ
 outputs_text levels controls =
     codes "set outputs data " ++ (digits_of levels
     ++ (codes " control " ++ (digits_of controls ++ codes "\n")))
 
--- the octets of a body, or a dash where it has none
+-- the octets of a body, or a dash if it has none
 abbrev pub body_text : List ℕ → List ℕ
 body_text [] = codes "-"
 body_text (octet ∷ octets) = digits_of (octet ∷ octets)
 
--- a message that is not read further than its type
+-- the line of a message of which only the type and the body are read
 abbrev pub other_text : ℕ → List ℕ → List ℕ
 other_text code body =
     codes "other " ++ (decimal code ++ (codes " body " ++ (body_text body ++ codes "\n")))
 
--- the lines for a command
+-- the lines of a command
 abbrev pub command_text : Command → List ℕ
 command_text (Status clear) = clearing_text clear
 command_text (LoadCounter load) = number_text (codes "load counter ") load

@@ -5,7 +5,7 @@ use Rattle.fio_cpu.specs.declared.poller.Heard.{Heard}
 use Rattle.fio_cpu.specs.declared.poller.Heard.TheVariants.{Unreadable, Other, Stale, Block}
 use Rattle.fio_text.specs.Digits.{octet_digits}
 
--- the words for what was heard, with no line end
+-- the text of what was heard, without a line end
 abbrev pub heard_text : Heard → List ℕ
 heard_text (Block entries status) =
     codes "block entries " ++ (decimal entries ++ (codes " status " ++ octet_digits status))

@@ -1,4 +1,4 @@
-//! The lines for each answer.
+//! The lines of each answer.
 ghost use Rattle.std.specs.Prelude.{◌≡◌, ◌≤◌, ◌++◌, length, drop, codes};
 ghost use Rattle.fio_message.specs.Views.{answer_of, entries_of};
 ghost use Rattle.fio_show.specs.AnswerLines.{answer_text, block_text};
@@ -11,9 +11,8 @@ use crate::lines::{put_block_head, put_flags, put_levels, put_status};
 use fio_message::AnswerView;
 use fio_text::LINE_OCTETS;
 
-/// Puts the first line for an answer at the end of its room. Returns where it starts, and what follows
-/// it.
-// Inlined, as it is called for each frame of a capture.
+/// Puts the first line of an answer at the end of its room. Returns the index at which it starts, and what follows it.
+// Inlined, since it is called for each frame of a capture.
 #[inline(always)]
 pub(crate) fn put_answer<'a>(
     line: &mut [u8; LINE_OCTETS],

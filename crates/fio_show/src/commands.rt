@@ -1,4 +1,4 @@
-//! The lines for each command.
+//! The lines of each command.
 ghost use Rattle.std.specs.Prelude.{◌≡◌, ◌≤◌, ◌++◌, length, drop, codes, decimal};
 ghost use Rattle.fio_message.specs.Views.{body_of, command_of, items_of};
 ghost use Rattle.fio_show.specs.CommandLines.{command_text, configuration_text, other_text};
@@ -10,9 +10,8 @@ use crate::lines::{put_clearing, put_one_number, put_outputs, put_words};
 use fio_message::{BodyView, CommandView, ItemsView};
 use fio_text::{LINE_OCTETS, line_end, put_pieces};
 
-/// Puts the first line for a command at the end of its room. Returns where it starts, and what follows
-/// it.
-// Inlined, as it is called for each frame of a capture.
+/// Puts the first line of a command at the end of its room. Returns the index at which it starts, and what follows it.
+// Inlined, since it is called for each frame of a capture.
 #[inline(always)]
 pub(crate) fn put_command<'a>(
     line: &mut [u8; LINE_OCTETS],
@@ -38,7 +37,7 @@ pub(crate) fn put_command<'a>(
     (start, FurtherLines::Nothing)
 }
 
-/// Puts the first line for a configuration.
+/// Puts the first line of a configuration.
 fn put_configuration<'a>(
     line: &mut [u8; LINE_OCTETS],
     items: ItemsView<'a>,
@@ -51,7 +50,7 @@ fn put_configuration<'a>(
     (start, FurtherLines::Items { items })
 }
 
-/// Puts the beginning of the line for a message that is not read further than its type.
+/// Puts the beginning of the line of a message of which only the type and the body are read.
 pub(crate) fn put_other<'a>(
     line: &mut [u8; LINE_OCTETS],
     code: u8,

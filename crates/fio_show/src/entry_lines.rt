@@ -9,25 +9,25 @@ use fio_message::Entry;
 use fio_text::{LINE_OCTETS, put, put_pieces};
 use std::marker::Model;
 
-/// Where the ending of a line starts, after room for what is before it.
+/// The index at which the ending of a line starts, after room for what precedes it.
 const ENDING: usize = 64;
 
-/// Room for the line of an entry. All of it is copied: a constant length needs no call to `memcpy`.
+/// The room for the line of an entry. All of it is copied: a constant length needs no call to `memcpy`.
 pub(crate) const ENTRY_OCTETS: usize = 64;
 
-/// Room for an ending, which has at most 29 octets.
+/// The room for an ending, which has at most 29 octets.
 const ENDING_ROOM: usize = 32;
 
-/// Room for the line of an entry from its state on, copied whole too.
+/// The room for the line of an entry from its state on, which is copied whole too.
 pub(crate) const STATE_OCTETS: usize = ENDING_ROOM;
 
-/// Room for the line of an entry. The entries of one scan have one stamp and one wide time, so the
-/// ending of a line, ` stamp S wide W` and its line feed, stays for the next entry of the same scan.
-/// It starts at a known place, and what is put before it ends there.
+/// The room for the line of an entry. The entries of one scan have the same stamp and the same wide time, so the ending of a
+/// line, ` stamp S wide W` and its line feed, stays for the next entry of the same scan. It starts at a fixed index, and
+/// what is put before it ends there.
 #[derive(Debug, Drop)]
 pub(crate) struct EntryLines {
     line: [u8; LINE_OCTETS],
-    /// How many octets the ending has.
+    /// The number of octets of the ending.
     ending: usize,
     stamp: u16,
     wide: u32,
@@ -38,7 +38,7 @@ impl Model for EntryLines {
     ghost use Rattle.fio_show.specs.EntryLines.{scan_ending};
     ghost use Rattle.fio_show.specs.declared.entry_lines.TheConstants.{ENDING, ENDING_ROOM};
 
-    // Contracts see nothing of the room.
+    // Contracts say nothing about the room.
     ghost Value = { Unit {0} };
 
     ghost view = { λ v. tt };
@@ -49,7 +49,7 @@ impl Model for EntryLines {
 }
 
 impl EntryLines {
-    /// Returns room that holds no entry's line.
+    /// Returns room that does not hold the line of an entry yet.
     pub(crate) fn new() -> EntryLines {
         let mut line = [0; LINE_OCTETS];
         let ending = put_ending(&mut line, 0, 0);
@@ -61,10 +61,9 @@ impl EntryLines {
         }
     }
 
-    /// Returns the line of an entry with this wide time, after a margin of at most 8 octets:
-    /// `input I state L stamp S wide W`. It has as many octets as the number says, at the front of
-    /// `ENTRY_OCTETS`.
-    // Inlined, so that the length of the margin is known when it is compiled.
+    /// Returns the line of an entry with this wide time, after a margin of at most 8 octets: `input I state L stamp S wide
+    /// W`. It is at the front of the `ENTRY_OCTETS`, and the number is how many octets it has.
+    // Inlined, so that the length of the margin is known at compile time.
     #[inline(always)]
     pub(crate) fn line<const N: usize>(
         &mut self,
@@ -89,9 +88,9 @@ impl EntryLines {
         (&room[start..start + ENTRY_OCTETS], count)
     }
 
-    /// Returns the line of an entry with this state, stamp and wide time from its state on: `L stamp S wide W`. It has
-    /// as many octets as the number says, at the front of `STATE_OCTETS`.
-    // Inlined, as it is called for each entry.
+    /// Returns the line of an entry with this state, stamp and wide time from its state on: `L stamp S wide W`. It is at the
+    /// front of the `STATE_OCTETS`, and the number is how many octets it has.
+    // Inlined, since it is called for each entry.
     #[inline(always)]
     pub(crate) fn from_state(&mut self, level: bool, stamp: u16, wide: u32) -> (&[u8], usize)
         ensures room { length result.0.now ≡ STATE_OCTETS }
@@ -111,7 +110,7 @@ impl EntryLines {
 }
 
 /// Returns the digit of a state.
-// Inlined, as it is called for each entry.
+// Inlined, since it is called for each entry.
 #[inline(always)]
 fn digit_of(level: bool) -> u8
     ensures { result ∷ [] ≡ decimal (bit_of level) }
@@ -119,9 +118,9 @@ fn digit_of(level: bool) -> u8
     b'0' + u8::from(level)
 }
 
-/// Puts a margin of at most 8 octets and `input I state L`, at most 25 octets together, before the
-/// ending of a line, and returns where they start.
-// Inlined, so that the length of the margin is known when it is compiled.
+/// Puts a margin of at most 8 octets and `input I state L`, at most 25 octets together, before the ending of a line, and
+/// returns the index at which they start.
+// Inlined, so that the length of the margin is known at compile time.
 #[inline(always)]
 fn put_front<const N: usize>(line: &mut [u8; LINE_OCTETS], margin: &[u8; N], entry: Entry) -> usize
     requires { N ≤ 8 }
@@ -136,8 +135,7 @@ fn put_front<const N: usize>(line: &mut [u8; LINE_OCTETS], margin: &[u8; N], ent
     )
 }
 
-/// Puts the ending of a line with this stamp and wide time in its place, and returns how many octets
-/// it has.
+/// Puts the ending of a line with this stamp and wide time at its index, and returns how many octets it has.
 // Not inlined, so that the loop over the entries of a block stays short.
 #[inline(never)]
 fn put_ending(line: &mut [u8; LINE_OCTETS], stamp: u16, wide: u32) -> usize
@@ -146,7 +144,7 @@ fn put_ending(line: &mut [u8; LINE_OCTETS], stamp: u16, wide: u32) -> usize
 {
     let end = ENDING + ENDING_ROOM;
     let start = put_pieces!(*line, end; b" stamp " {stamp} b" wide " {wide} b"\n");
-    // Moves all the room: a constant length needs no call to `memcpy`.
+    // This moves all the room: a constant length needs no call to `memcpy`.
     let mut moved = [0; ENDING_ROOM];
     moved.copy_from_slice(&line[start..start + ENDING_ROOM]);
     put(line, end, &moved);

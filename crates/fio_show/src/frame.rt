@@ -1,4 +1,4 @@
-//! The lines for a frame.
+//! The lines of a frame.
 ghost use Rattle.std.specs.Prelude.{◌≡◌, ◌≤◌, ◌++◌, drop, nat_le, slice_index_or, Ok, Err, IfOk, MatchResult};
 ghost use Rattle.fio_message.specs.Texts.{fault_text};
 ghost use Rattle.fio_message.specs.declared.types.TheConstants.{ANSWER};
@@ -13,12 +13,12 @@ use fio_message::types::ANSWER;
 use fio_message::{DecodeError, read_answer, read_command};
 use fio_text::LINE_OCTETS;
 
-/// Puts the first line for a frame at the end of its room: of an answer where the first octet is 128 or
-/// more, else of a command. Returns where it starts, and what follows it.
+/// Puts the first line of a frame at the end of its room: of an answer if the first octet is 128 or more, otherwise of a
+/// command. Returns the index at which it starts, and what follows it.
 ///
 /// # Errors
 /// Those of `read_answer` and `read_command`.
-// Inlined, as it is called for each frame of a capture.
+// Inlined, since it is called for each frame of a capture.
 #[inline(always)]
 pub fn put_frame<'a>(
     line: &mut [u8; LINE_OCTETS],
@@ -38,7 +38,7 @@ pub fn put_frame<'a>(
     }
 }
 
-/// Returns whether a frame is to be read as an answer.
+/// Returns whether a frame is read as an answer.
 #[inline(always)]
 fn is_answer(octets: &[u8]) -> bool
     ensures { result ≡ nat_le ANSWER (slice_index_or octets.now 0 0) }

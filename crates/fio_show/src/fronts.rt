@@ -1,4 +1,4 @@
-//! What the lines of entries begin with, made once for each input.
+//! The beginnings of the lines of entries, made once for each input.
 ghost use Rattle.std.specs.Prelude.{◌≡◌, ◌<◌, ◌≤◌, ◌++◌, take, codes, decimal};
 ghost use Rattle.fio_message.specs.declared.fields.TheConstants.{INPUT_NUMBERS};
 ghost use Rattle.fio_show.specs.declared.fronts.TheConstants.{FRONT_ROOM};
@@ -7,14 +7,14 @@ use fio_message::{INPUT_NUMBERS, InputNumber};
 use fio_text::LINE_OCTETS;
 use std::marker::Model;
 
-/// Room for the beginning of a line. All of it is copied: a constant length needs no call to `memcpy`.
+/// The room for the beginning of a line. All of it is copied: a constant length needs no call to `memcpy`.
 pub(crate) const FRONT_ROOM: usize = 16;
 
 /// `input I state `, at the front of its room.
 #[derive(Clone, Copy)]
 pub(crate) struct Front {
     pub(crate) octets: [u8; FRONT_ROOM],
-    /// How many octets it has.
+    /// The number of octets.
     pub(crate) count: usize,
 }
 
@@ -28,7 +28,7 @@ impl Model for Fronts {
     ghost use Rattle.std.specs.Prelude.{ℕ, ◌≡◌, ◌<◌, ◌≤◌, ◌++◌, take, codes, decimal, slice_index_or};
     ghost use Rattle.fio_show.specs.declared.fronts.Front.{Front as FrontOf};
 
-    // Contracts see nothing of the room.
+    // Contracts say nothing about the room.
     ghost Value = { Unit {0} };
 
     ghost view = { λ v. tt };
@@ -52,7 +52,7 @@ impl Fronts {
     }
 
     /// Returns the beginning of the line of an entry of this input.
-    // Inlined, as it is called for each entry.
+    // Inlined, since it is called for each entry.
     #[inline(always)]
     pub(crate) fn of(&self, input: InputNumber) -> Front
         ensures front { take result.count result.octets ≡ codes "input " ++ (decimal input ++ codes " state ") }

@@ -18,7 +18,7 @@ use fio_text::{LINE_OCTETS, line_end, put_hexadecimal};
 /// What follows the first line of a message.
 #[derive(Clone, Copy, Debug)]
 pub enum FurtherLines<'a> {
-    /// No octet.
+    /// Nothing follows.
     Nothing,
     /// A line for each item of a configuration.
     Items {
@@ -32,7 +32,7 @@ pub enum FurtherLines<'a> {
         /// The stamp of the answer.
         stamp: u32,
     },
-    /// The octets of a body in hexadecimal digits, or a dash where it has none, and a line feed.
+    /// The octets of a body in hexadecimal digits, or a dash if it has none, and a line feed.
     Body {
         /// The octets after the type.
         body: BodyView<'a>,
@@ -42,14 +42,14 @@ pub enum FurtherLines<'a> {
 /// The most octets that follow a first line: a message has at most 255 items or entries.
 const MOST_OCTETS: usize = 255 * LINE_OCTETS;
 
-/// How many octets of a body are appended at a time: their digits fill the room of a line.
+/// How many octets of a body are appended at a time: their digits fill the room for a line.
 const PART: usize = 64;
 
-/// Appends what follows the first line of a message, its lines put together in this room.
+/// Appends what follows the first line of a message. Its lines are put together in the room `line`.
 ///
 /// # Errors
-/// That of the sink.
-// Inlined, as most messages have one line.
+/// The fault of the sink.
+// Inlined, since most messages have one line.
 #[inline(always)]
 pub fn append_further<S: TextSink>(
     sink: &mut S,
@@ -101,7 +101,7 @@ fn append_entries<S: TextSink>(
     Ok(())
 }
 
-/// Appends the octets of a body, or a dash where it has none, and the end of its line.
+/// Appends the octets of a body, or a dash if it has none, and the line end.
 fn append_body<S: TextSink>(
     sink: &mut S,
     line: &mut [u8; LINE_OCTETS],
@@ -119,8 +119,8 @@ fn append_body<S: TextSink>(
     sink.append(b"\n")
 }
 
-/// Appends the octets of a body in hexadecimal digits, some at a time: room for all would take 1,544
-/// octets of the stack.
+/// Appends the octets of a body in hexadecimal digits, some at a time: room for all of them would take 1,544 octets of the
+/// stack.
 fn append_digits<S: TextSink>(
     sink: &mut S,
     line: &mut [u8; LINE_OCTETS],

@@ -8,8 +8,8 @@ use fio_cpu::Heard;
 use fio_message::DecodeError;
 use fio_text::{LINE_OCTETS, line_end, put, put_pieces};
 
-/// Puts what a poller heard at the end of its room: `block entries N status HH` where a block was taken,
-/// `stale N`, `other N`, or `unreadable ` and the words of the fault. Returns where it starts.
+/// Puts what a poller heard at the end of its room: `block entries N status HH` if a block was taken, `stale N`, `other N`,
+/// or `unreadable ` and the text of the fault. Returns the index at which it starts.
 pub fn put_heard(line: &mut [u8; LINE_OCTETS], heard: Heard) -> usize
     ensures start { result ≤ LINE_OCTETS }
     ensures text { drop result line.new ≡ heard_text heard }
@@ -28,7 +28,7 @@ pub fn put_heard(line: &mut [u8; LINE_OCTETS], heard: Heard) -> usize
     }
 }
 
-/// Puts the words of a fault at the end of their room, and returns where they start.
+/// Puts the text of a fault at the end of its room, and returns the index at which it starts.
 fn put_fault(line: &mut [u8; LINE_OCTETS], fault: DecodeError) -> usize
     ensures start { (11 ≤ result) × (result ≤ LINE_OCTETS) }
     ensures text { drop result line.new ≡ fault_text fault }

@@ -1,13 +1,13 @@
-//! The lines in which messages, entries and records are shown. Those of a message are put together in
-//! room of the caller, without memory; those of a record are appended to a text.
+//! The lines in which messages, entries and records are shown. Those of a message are put together in room of the caller,
+//! without an allocation; those of a record are appended to a text.
 //!
-//! What the crates above use: `put_frame` gives the text of a frame, as its first line and what follows
-//! it, which `append_further` appends to any `TextSink`; `push_items` appends the lines of a record.
-//! `put_heard` gives what a poller heard.
+//! What the crates above use: `put_frame` gives the text of a frame, as its first line and what follows it, which
+//! `append_further` appends to any `TextSink`; `push_items` appends the lines of a record; `put_heard` gives what a poller
+//! heard.
 //!
-//! The definitions are in `specs/`, in this order: the lines of entries
-//! and of items (`EntryLines`), the lines of commands (`CommandLines`), of answers (`AnswerLines`) and of frames
-//! (`FrameLines`), what follows a first line (`FurtherLines`), what a poller heard (`HeardWords`).
+//! The definitions are in `specs/`, in this order: the lines of entries and of items (`EntryLines`), the lines of commands
+//! (`CommandLines`), of answers (`AnswerLines`) and of frames (`FrameLines`), what follows a first line (`FurtherLines`),
+//! and what a poller heard (`HeardWords`).
 //!
 //! # Examples
 //!

@@ -1,5 +1,4 @@
-//! The single lines of messages. Each is put at the end of its room, and its function returns the index
-//! at which it starts.
+//! The single lines of messages. Each is put at the end of its room, and its function returns the index at which it starts.
 ghost use Rattle.std.specs.Prelude.{◌≡◌, ◌≤◌, length, take, drop};
 ghost use Rattle.fio_show.specs.AnswerLines.{block_head_text, entry_text, flags_text, levels_text, status_text};
 ghost use Rattle.fio_show.specs.CommandLines.{clearing_text, item_text, number_text, outputs_text};
@@ -11,8 +10,8 @@ use fio_input::widen;
 use fio_message::{Entry, InputItem, inputs_to_octets};
 use fio_text::{LINE_OCTETS, line_end, put_pieces};
 
-/// Puts the line of words alone, at most `NAME_OCTETS`.
-// Inlined: the compiler then knows where each piece of a line is, and how long.
+/// Puts a line that consists of words, at most `NAME_OCTETS`.
+// Inlined, so the compiler knows the position and the length of each piece of a line.
 #[inline(always)]
 pub(crate) fn put_words<const N: usize>(line: &mut [u8; LINE_OCTETS], words: &[u8; N]) -> usize
     requires { N ≤ NAME_OCTETS }
@@ -23,7 +22,7 @@ pub(crate) fn put_words<const N: usize>(line: &mut [u8; LINE_OCTETS], words: &[u
     put_pieces!(*line, end; (words))
 }
 
-/// Puts the line for a message that has one number, after its name of at most `NAME_OCTETS`.
+/// Puts the line of a message that has one number, after its name of at most `NAME_OCTETS`.
 #[inline(always)]
 pub(crate) fn put_one_number<const N: usize>(
     line: &mut [u8; LINE_OCTETS],
@@ -38,7 +37,7 @@ pub(crate) fn put_one_number<const N: usize>(
     put_pieces!(*line, end; (name) {number} b"\n")
 }
 
-/// Puts the line for the flags to clear.
+/// Puts the line of the flags to clear.
 #[inline(always)]
 pub(crate) fn put_clearing(line: &mut [u8; LINE_OCTETS], clear: u8) -> usize
     ensures start { result ≤ LINE_OCTETS }
@@ -48,7 +47,7 @@ pub(crate) fn put_clearing(line: &mut [u8; LINE_OCTETS], clear: u8) -> usize
     put_pieces!(*line, end; b"status clear " [clear] b"\n")
 }
 
-/// Puts the line for the levels and the controls of all outputs.
+/// Puts the line of the levels and the controls of all outputs.
 #[inline(always)]
 pub(crate) fn put_outputs(
     line: &mut [u8; LINE_OCTETS],
@@ -62,7 +61,7 @@ pub(crate) fn put_outputs(
     put_pieces!(*line, end; b"set outputs data " [&*levels] b" control " [&*controls] b"\n")
 }
 
-/// Puts the line for an item of a configuration.
+/// Puts the line of an item of a configuration.
 #[inline(always)]
 pub(crate) fn put_item(line: &mut [u8; LINE_OCTETS], item: InputItem) -> usize
     ensures start { result ≤ LINE_OCTETS }
@@ -76,7 +75,7 @@ pub(crate) fn put_item(line: &mut [u8; LINE_OCTETS], item: InputItem) -> usize
     )
 }
 
-/// Puts the line for the flags and the counts of errors.
+/// Puts the line of the flags and the error counts.
 #[inline(always)]
 pub(crate) fn put_flags(
     line: &mut [u8; LINE_OCTETS],
@@ -96,7 +95,7 @@ pub(crate) fn put_flags(
     )
 }
 
-/// Puts the line for an answer that has a status alone, after its name of at most `NAME_OCTETS`.
+/// Puts the line of an answer that has only a status, after its name of at most `NAME_OCTETS`.
 #[inline(always)]
 pub(crate) fn put_status<const N: usize>(
     line: &mut [u8; LINE_OCTETS],
@@ -111,7 +110,7 @@ pub(crate) fn put_status<const N: usize>(
     put_pieces!(*line, end; (name) b" status " [status] b"\n")
 }
 
-/// Puts the line for the levels of all inputs, after their name of at most `NAME_OCTETS`.
+/// Puts the line of the levels of all inputs, after their name of at most `NAME_OCTETS`.
 #[inline(always)]
 pub(crate) fn put_levels<const N: usize>(
     line: &mut [u8; LINE_OCTETS],
@@ -128,7 +127,7 @@ pub(crate) fn put_levels<const N: usize>(
     put_pieces!(*line, end; (name) b" inputs " [&inputs] b" stamp " {stamp} b"\n")
 }
 
-/// Puts the first line for a block answer.
+/// Puts the first line of a block answer.
 #[inline(always)]
 pub(crate) fn put_block_head(
     line: &mut [u8; LINE_OCTETS],
@@ -148,8 +147,8 @@ pub(crate) fn put_block_head(
     )
 }
 
-/// Returns the line for an entry of a block answer with this stamp, as `EntryLines::line` returns it.
-// Inlined, as it is called for each entry.
+/// Returns the line of an entry of a block answer with this stamp, in the form that `EntryLines::line` returns.
+// Inlined, since it is called for each entry.
 #[inline(always)]
 pub(crate) fn entry_line(entry_lines: &mut EntryLines, entry: Entry, stamp: u32) -> (&[u8], usize)
     ensures room { length result.0.now ≡ ENTRY_OCTETS }

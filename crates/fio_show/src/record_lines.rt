@@ -1,5 +1,4 @@
-//! The lines of a record. They are gathered in room on the stack, so that the text grows once for many
-//! of them.
+//! The lines of a record. They are gathered in room on the stack, so that the text grows once for many of them.
 ghost use Rattle.std.specs.Prelude.{◌≡◌, ◌+◌, ◌≤◌, ◌++◌, length, take, IfOk, OnOk};
 ghost use Rattle.std.specs.List.{flat_map};
 ghost use Rattle.fio_show.specs.EntryLines.{item_line};
@@ -13,7 +12,7 @@ use std::alloc::AllocError;
 /// The room in which lines are gathered.
 const ROOM: usize = 4096;
 
-/// The room that the line of an item takes at most.
+/// The most room that the line of an item takes.
 const LINE_ROOM: usize = FRONT_ROOM + STATE_OCTETS;
 
 /// Appends a line for each item of a record: `gap`, or `input I state L stamp S wide W`.
@@ -34,8 +33,8 @@ pub fn push_items(text: &mut Vec<u8>, items: &[Item]) -> Result<(), AllocError>
     text.extend_from_slice(&room[..end])
 }
 
-/// Appends the lines in the room, which end at `end`, unless one more has room after them. Returns
-/// where the lines end that are still in the room.
+/// Appends the lines in the room, which end at `end`, unless there is room for one more after them. Returns where the lines
+/// end that remain in the room.
 // Inlined, so that the end of the lines stays in a register.
 #[inline(always)]
 fn append_full(text: &mut Vec<u8>, room: &[u8; ROOM], end: usize) -> Result<usize, AllocError>
@@ -81,9 +80,9 @@ fn put_line(
     }
 }
 
-/// Puts the first `count` of these octets after the lines in the room, and returns where they end. All
-/// are copied: a constant length needs no call to `memcpy`.
-// Inlined, so that the number of the octets is known when it is compiled.
+/// Puts the first `count` of these octets after the lines in the room, and returns where they end. All octets are copied: a
+/// constant length needs no call to `memcpy`.
+// Inlined, so that the number of octets is known at compile time.
 #[inline(always)]
 fn put_part(room: &mut [u8; ROOM], end: usize, octets: &[u8], count: usize) -> usize
     requires room { end + length octets.now ≤ ROOM }

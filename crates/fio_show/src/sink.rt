@@ -1,10 +1,10 @@
-//! Where a text goes.
+//! The destination of a text.
 ghost use Rattle.std.specs.Prelude.{◌≡◌, ◌+◌, ◌≤◌, ◌++◌, ℕ, List, [], length, take, OnOk};
 
 use fio_text::append_part;
 use std::alloc::AllocError;
 
-/// Where a text goes, octets after octets: a vector that grows, or room of the caller.
+/// The destination of a text, to which octets are appended: a vector that grows, or room of the caller.
 pub trait TextSink {
     /// Why octets are not appended.
     type Fault;
@@ -16,7 +16,7 @@ pub trait TextSink {
     /// Appends octets.
     ///
     /// # Errors
-    /// That of the sink.
+    /// The fault of the sink.
     fn append(&mut self, octets: &[u8]) -> Result<(), Self::Fault>
         requires { has_room self.old (length octets.now) }
         ensures { OnOk result (takes self.old octets.now self.new) };
@@ -24,7 +24,7 @@ pub trait TextSink {
     /// Appends the first `count` of these octets.
     ///
     /// # Errors
-    /// That of the sink.
+    /// The fault of the sink.
     fn append_front(&mut self, octets: &[u8], count: usize) -> Result<(), Self::Fault>
         requires part { count ≤ length octets.now }
         requires room { has_room self.old count }
@@ -46,7 +46,7 @@ impl TextSink for Vec<u8> {
 
     type Fault = AllocError;
 
-    // It grows, or says that it cannot.
+    // It grows, or reports that it cannot.
     ghost has_room = { λ _ _. ⊤ };
 
     ghost takes = { λ old octets new. new.items ≡ old.items ++ octets };

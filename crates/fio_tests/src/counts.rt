@@ -1,16 +1,16 @@
-//! The most events of a script, and long texts, are those of `tests/scripts.py`, `tests/shows.py` and
+//! Large numbers. The most events of a script, and long texts, are tested by `tests/scripts.py`, `tests/shows.py` and
 //! `tests/transcripts.py`.
 use fio_text::{Hexadecimal, read_octets};
 use fio_tool::{Line, Verdict, check_trace, read_trace};
 use fio_world::{Event, World};
 use std::alloc::{AllocError, Global};
 
-/// More frames each way, and more events, than sixteen bits count.
+/// More frames each way, and more events, than sixteen bits can count.
 const FRAMES: usize = 131_073;
 
 const EVENTS: usize = 200_003;
 
-/// Delivers and answers so many polls, and delivers the last answer: whether all is done.
+/// Delivers and answers `count` polls, delivers the last answer, and returns whether all is done.
 fn poll(world: &mut World, count: usize) -> bool {
     for index in 1..=count {
         if world.step(&Event::Poll).is_err() || world.step(&Event::ToModule(index)).is_err() {
@@ -20,7 +20,7 @@ fn poll(world: &mut World, count: usize) -> bool {
     world.step(&Event::ToCpu(count)).is_ok()
 }
 
-/// Whether so many frames are sent each way, and the last one is heard as block 0.
+/// Whether `count` frames are sent each way, and the last one is heard as block 0.
 fn has_polled(world: &World, count: usize) -> bool {
     world.sent_to_module() == count
         && world.sent_to_cpu() == count
@@ -28,7 +28,7 @@ fn has_polled(world: &World, count: usize) -> bool {
         && world.poller().number() == 1
 }
 
-/// Whether so many polls in a new world are all done.
+/// Whether `count` polls in a new world are all done.
 fn polls_are_done(alloc: Global, count: usize) -> bool {
     match World::new(alloc, 2, 0) {
         Ok(mut world) => poll(&mut world, count) && has_polled(&world, count),
@@ -41,7 +41,7 @@ fn many_frames_each_way(rt: HostRuntime) {
     assert!(rt; polls_are_done(rt.alloc(), FRAMES));
 }
 
-/// So many scans of ones. It has no contract, so that no proof of a test writes out what it makes.
+/// `count` scans of ones. It has no contract, so that no proof of a test writes out what it makes.
 fn scans(alloc: Global, count: usize) -> Result<Vec<Event>, AllocError> {
     let mut events = Vec::new(alloc);
     for _ in 0..count {
@@ -58,7 +58,7 @@ fn counts(alloc: Global, events: &[Event], expected: u32) -> bool {
     }
 }
 
-/// Whether so many scans at once are counted.
+/// Whether `count` scans at once are counted.
 fn scans_are_counted(alloc: Global, count: usize, expected: u32) -> bool {
     match scans(alloc, count) {
         Ok(events) => counts(alloc, events.as_slice(), expected),
@@ -71,12 +71,12 @@ fn many_events_at_once(rt: HostRuntime) {
     assert!(rt; scans_are_counted(rt.alloc(), EVENTS, 200_003));
 }
 
-/// So many digits 3.
+/// `count` digits 3.
 fn digits(alloc: Global, count: usize) -> Result<Vec<u8>, AllocError> {
     vec![in alloc; b'3'; count]
 }
 
-/// Whether there are so many octets, each 0x33.
+/// Whether there are `count` octets, each 0x33.
 fn are_threes(octets: &[u8], count: usize) -> bool {
     for octet in octets {
         if *octet != 0x33 {
@@ -86,7 +86,7 @@ fn are_threes(octets: &[u8], count: usize) -> bool {
     octets.len() == count
 }
 
-/// Whether a word of digits 3 spells half as many octets 0x33.
+/// Whether a word of digits 3 spells half that number of octets 0x33.
 fn spells_threes(alloc: Global, word: &[u8]) -> bool {
     match read_octets(alloc, word) {
         Ok(Some(octets)) => are_threes(octets.as_slice(), word.len() / 2),
@@ -94,7 +94,7 @@ fn spells_threes(alloc: Global, word: &[u8]) -> bool {
     }
 }
 
-/// Whether so many digits do.
+/// Whether a word of `count` digits 3 does.
 fn digits_are_read(alloc: Global, count: usize) -> bool {
     match digits(alloc, count) {
         Ok(word) => word.len() == count && spells_threes(alloc, word.as_slice()),
@@ -108,7 +108,7 @@ fn a_word_of_many_digits(rt: HostRuntime) {
     assert!(rt; digits_are_read(rt.alloc(), 4_194_306));
 }
 
-/// The text of so many frames that the CPU sent.
+/// The text of `count` frames that the CPU sent.
 fn frames(alloc: Global, count: usize) -> Result<Vec<u8>, AllocError> {
     let mut text = Vec::new(alloc);
     for _ in 0..count {
@@ -117,12 +117,12 @@ fn frames(alloc: Global, count: usize) -> Result<Vec<u8>, AllocError> {
     Ok(text)
 }
 
-/// The verdict on lines. It has no contract, so that no proof of a test has to do with what verdicts are.
+/// Whether lines are good. It has no contract, so that no proof of a test has to deal with verdicts.
 fn is_good(lines: &[Line], count: usize) -> bool {
     matches!(check_trace(lines), Verdict::Good { frames } if frames == count)
 }
 
-/// Whether so many frames are as many lines, and good.
+/// Whether `count` frames are that many lines, and good.
 fn are_counted(alloc: Global, count: usize) -> bool {
     let Ok(text) = frames(alloc, count) else {
         return false;
@@ -138,7 +138,7 @@ fn many_lines(rt: HostRuntime) {
     assert!(rt; are_counted(rt.alloc(), 65_536) && are_counted(rt.alloc(), 300_001));
 }
 
-/// Whether so many octets 0x33 are displayed as twice as many digits 3.
+/// Whether `count` octets 0x33 are displayed as twice that number of digits 3.
 fn has_threes(alloc: Global, count: usize) -> bool {
     let Ok(octets) = vec![in alloc; 0x33; count] else {
         return false;

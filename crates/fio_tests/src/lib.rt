@@ -1,14 +1,14 @@
 //! Tests of the public calls of the libraries, for what no clause says: that octets of the profile are read and written
-//! again, that calls succeed at sizes beyond 65,536, and failing readers and writers. Refused memory is the matter of
-//! `tests/refused-memory.py`; worked examples are rows of `tests/`, over the program and the library for C.
+//! again, that calls succeed at sizes beyond 65,536, and how calls deal with readers and writers that fail. Refused memory
+//! is tested by `tests/refused-memory.py`; worked examples are rows of `tests/`, over the program and the C library.
 //!
 //! They are in a crate of their own, since a crate with tests is proved twice.
 #![tactic(auto)]
 
-/// More than sixteen bits count of frames, events, lines and digits.
+/// More frames, events, lines and digits than sixteen bits can count.
 #[cfg(test)]
 mod counts;
-/// What the poller takes of the octets of the profile's blocks.
+/// What the poller takes from the octets of the profile's blocks.
 #[cfg(test)]
 mod cpu;
 /// Messages: the profile's octets, read and written again.

@@ -37,15 +37,15 @@ const ANSWERS: [&[u8]; 17] = [
     &[0xba, 1],
     &[0xbb, 0xff],
     &[0xbc, 2],
-    // Bits that have no name stay.
+    // Bits that have no name are kept.
     &[0xb2, 0xfe],
     &[0xb3, 0xff],
     &[0xba, 0xfe],
     &[0xb6, 0, 0, 0xf0, 0, 0, 0, 0],
 ];
 
-/// A message with 255 parts between these octets. As items of a configuration they name each input twice but 127, with all
-/// filters; as entries of a block too, to both states.
+/// A message with 255 parts between these octets. As items of a configuration they name each input twice, except 127, with
+/// all filters; as entries of a block they have both states.
 fn most_parts(alloc: Global, head: &[u8], ending: &[u8]) -> Result<Vec<u8>, AllocError> {
     let mut octets = Vec::from_slice(alloc, head)?;
     for turn in 0..255 {
@@ -55,13 +55,13 @@ fn most_parts(alloc: Global, head: &[u8], ending: &[u8]) -> Result<Vec<u8>, Allo
     Ok(octets)
 }
 
-/// Whether a command is written as octets, each way, over another message too.
+/// Whether a command is written as octets, by each call, over another message too.
 fn is_written_command(command: &Command, octets: &[u8], frame: &mut Frame) -> bool {
     write_command(command, frame);
     frame.as_slice() == octets && encode_command(command).as_slice() == octets
 }
 
-/// Whether the octets are a command that is written as they are, also where it was read in place.
+/// Whether the octets are a command that is written as they are, also if it was read in place.
 fn is_command(octets: &[u8], frame: &mut Frame) -> bool {
     match (decode_command(octets), read_command(octets)) {
         (Ok(command), Ok(view)) => {
@@ -72,13 +72,13 @@ fn is_command(octets: &[u8], frame: &mut Frame) -> bool {
     }
 }
 
-/// Whether an answer is written as octets, each way, over another message too.
+/// Whether an answer is written as octets, by each call, over another message too.
 fn is_written_answer(answer: &Answer, octets: &[u8], frame: &mut Frame) -> bool {
     write_answer(answer, frame);
     frame.as_slice() == octets && encode_answer(answer).as_slice() == octets
 }
 
-/// Whether the octets are an answer that is written as they are, also where it was read in place.
+/// Whether the octets are an answer that is written as they are, also if it was read in place.
 fn is_answer(octets: &[u8], frame: &mut Frame) -> bool {
     match (decode_answer(octets), read_answer(octets)) {
         (Ok(answer), Ok(view)) => {
@@ -89,7 +89,7 @@ fn is_answer(octets: &[u8], frame: &mut Frame) -> bool {
     }
 }
 
-/// Fails the test at the first row that is no command, each written over the one before it.
+/// Fails the test at the first row that is no command. Each is written over the one before it.
 fn expect_commands(rt: &impl Abort, frame: &mut Frame, rows: &[&[u8]]) {
     for octets in rows {
         expect_row(rt, octets, is_command(octets, frame));
@@ -104,7 +104,7 @@ fn commands(rt: HostRuntime) {
     expect_commands(&rt, &mut frame, &[most.as_slice()]);
 }
 
-/// Fails the test at the first row that is no answer, each written over the one before it.
+/// Fails the test at the first row that is no answer. Each is written over the one before it.
 fn expect_answers(rt: &impl Abort, frame: &mut Frame, rows: &[&[u8]]) {
     for octets in rows {
         expect_row(rt, octets, is_answer(octets, frame));
@@ -144,7 +144,7 @@ fn keep_two(kept: &mut KeptBlock) {
     );
 }
 
-/// The block as it is sent first, and as it is sent again.
+/// The block as it is first sent, and as it is sent again.
 const SENT: [u8; 14] = [0xb6, 5, 2, 0x8c, 3, 0xe7, 3, 3, 0xe8, 9, 0, 0, 3, 0xe8];
 
 const SENT_AGAIN: [u8; 14] = [0xb6, 5, 2, 0x8c, 3, 0xe7, 3, 3, 0xe8, 10, 0, 0, 3, 0xe8];

@@ -6,7 +6,7 @@ use Rattle.std.specs.Fmt.{digits, digit_glyph, padded_integral, format_spec}
 use Rattle.hex.specs.Hex.{encode_with, encode_lower, lower_digits}
 use Rattle.fio_text.specs.Digits.{digits_of}
 
--- the digits of two lists of octets are one after the other
+-- the digits of two lists of octets follow one another
 encode_with-append : (table front back : List ℕ)
     → encode_with table (front ++ back) ≡ encode_with table front ++ encode_with table back
 unfolding encode_with
@@ -23,12 +23,12 @@ pub length-digits_of : (octets : List ℕ) → length (digits_of octets) ≡ 2 *
 unfolding digits_of
 length-digits_of octets = length-encode_with _ octets
 
--- the digits of two parts, one after the other
+-- the digits of two parts follow one another
 pub digits_of-append : (front back : List ℕ) → digits_of (front ++ back) ≡ digits_of front ++ digits_of back
 unfolding digits_of
 digits_of-append front back = encode_with-append _ front back
 
--- no octet has no digit
+-- no octets have no digits
 pub encode_lower-none : encode_lower [] ≡ []
 unfolding encode_with
 encode_lower-none = refl
@@ -43,7 +43,7 @@ pub encode_lower-more : (octets : List ℕ) (place : ℕ) → place < length oct
 encode_lower-more octets place within =
     ap encode_lower (take_more octets place 0 within) ∙ encode_with-append _ (take place octets) _
 
--- the test that the digits below n are those of the table, which computes
+-- the test whether the digits below n are those of the table, in a form that computes
 abbrev are_digits : ℕ → Bool
 are_digits zero = true
 are_digits (suc n) = (digit_glyph false n == slice_index lower_digits n) && are_digits n
@@ -61,7 +61,7 @@ are_digits-at (suc n) digit passed below =
           rw same (eqb-true _ _ parts.0)
     ]
 
--- what `{:02x}` writes of an octet
+-- what `{:02x}` writes for an octet
 pub octet_padded : (octet : ℕ) → octet < 256
     → padded_integral (format_spec 32 0 4 2 (2 ^ 64 - 1)) false [] (digits 16 false octet) ≡ encode_lower (octet ∷ [])
 unfolding encode_with

@@ -49,12 +49,12 @@ lines_of-text_of [] rest one = refl
 lines_of-text_of (line ∷ lines) rest one =
     rw (append_assoc, lines_of-line line (text_of lines ++ rest) one.0, lines_of-text_of lines rest one.1) refl
 
--- the items so far, and the one at this place
+-- the items so far, and the one at this index
 pub take-next : {X : Type 0} (items : List X) (place : ℕ) (item : X) → place < length items → item ≡ get_or items place item
     → take place items ++ item ∷ [] ≡ take (place + 1) items
 take-next items place item within here = rw (take_more items place item within) (ap (λ one. take place items ++ one ∷ []) here)
 
--- what the items so far give, and what the one at this place gives
+-- what the items so far give, followed by what the one at this index gives
 pub flat_map-next : {X A : Type 0} (f : X → List A) (front : List A) (items : List X) (place : ℕ) (item : X)
     → place < length items → item ≡ get_or items place item
     → (front ++ flat_map f (take place items)) ++ f item ≡ front ++ flat_map f (take (place + 1) items)

@@ -1,4 +1,4 @@
--- Which words name octets.
+-- Which words denote octets.
 use Rattle.std.proofs.Common.{◌≡◌, ℕ, ◌%◌, ◌<◌, ◌==◌, Bool, true, false, List, length, Result, Ok, Err, None, refl, ap, sym, ◌∙◌, arith}
 use Rattle.std.specs.Prelude.{is_some, option_map, Some, ◌/◌, if◌then◌else◌}
 use Rattle.std.specs.Bool.{then_some}
@@ -10,7 +10,7 @@ use Rattle.hex.specs.Hex.{decode_of, is_hex_digit}
 use Rattle.hex.specs.declared.error.FromHexError.{FromHexError}
 use Rattle.fio_text.specs.Hexadecimal.{octets_in}
 
--- an odd number of digits names none
+-- an odd number of digits denotes none
 pub odd_names_none : (word : List ℕ) → length word % 2 ≡ 1 → octets_in word ≡ None
 odd_names_none word odd = rw (decode_of-odd word odd) (grind (arith))
 
@@ -23,7 +23,7 @@ same-digits word false (Ok octets) even all is =
     let found = list_all-from_AllPass is_hex_digit word (decode_of-ok word octets is).1 in absurd (let same = sym all ∙ found in cc)
 same-digits word false (Err e) even all is = refl
 
--- an even number of octets that is not 0 names octets exactly if all of them are digits
+-- an even number of octets that is not 0 denotes octets exactly if all of them are digits
 pub digits_name : (word : List ℕ) → 0 < length word → length word % 2 ≡ 0 → is_some (octets_in word) ≡ list_all is_hex_digit word
 digits_name word some even =
     let read = same-digits word (list_all is_hex_digit word) (decode_of word) even refl refl in
@@ -43,7 +43,7 @@ counted-by word true true is some = absurd (cc)
 counted-by word true false is some = refl
 counted-by word false named is some = counted-read word (decode_of word) named refl some
 
--- what names octets names half as many as it has digits
+-- a word that denotes octets denotes half as many as it has digits
 pub counted : (word : List ℕ) (named : Bool) → is_some (octets_in word) ≡ named
     → option_map length (octets_in word) ≡ then_some named (length word / 2)
 counted word named some = counted-by word (length word == 0) named refl some

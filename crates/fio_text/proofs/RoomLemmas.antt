@@ -3,7 +3,7 @@ use Rattle.std.proofs.Common.{◌≡◌, ℕ, ◌+◌, ◌-◌, ◌≤◌, List,
 use Rattle.std.proofs.Math.Seq.{drop-append-add}
 use Rattle.std.proofs.lemmas.List.{drop-drop}
 
--- what is from `end` on is kept where octets are put before it
+-- what is from `end` on is kept if octets are put in front of it
 pub kept : (old new octets : List ℕ) (start end at : ℕ) → drop start new ≡ octets ++ drop end old → start + length octets ≡ end → end ≤ at
     → drop at new ≡ drop at old
 kept old new octets start end at put starts past =
@@ -13,7 +13,7 @@ kept old new octets start end at put starts past =
     ∙ ap (λ l. drop (length octets + (at - end)) l) put ∙ drop-append-add octets (drop end old) (at - end)
     ∙ drop-drop (at - end) end old ∙ ap (λ n. drop n old) over
 
--- where octets start that stand with so many behind them at the end of a line
+-- where octets start, given how many octets follow them to the end of a line
 pub start-of : (line octets rest : List ℕ) (start : ℕ) → drop start line ≡ octets ++ rest → start ≤ length line
     → start + length octets + length rest ≡ length line
 start-of line octets rest start is within =

@@ -1,4 +1,4 @@
-//! The fault of a line that has no form that its reader knows.
+//! The fault of a line that has no form known to its reader.
 ghost use Rattle.std.specs.Prelude.{Some};
 ghost use Rattle.fio_text.specs.LineFaults.{bad_line_text};
 
@@ -6,7 +6,7 @@ use std::fmt;
 use std::fmt::{Display, Formatter};
 use thiserror::Error;
 
-/// A line of a text has no form that its reader knows.
+/// A line of a text has no form known to its reader.
 #[derive(Clone, Copy, Debug, PartialEq, Eq, Hash, Error)]
 pub struct BadLine {
     /// The number of the line, from 1.

@@ -1,11 +1,10 @@
-//! Laws of the definitions that the contracts cite: each function states some in its contract, and
-//! does nothing.
+//! Laws of the definitions that the contracts cite: each function states some in its contract and does nothing.
 ghost use Rattle.std.specs.Prelude.{◌≡◌, ◌≢◌, ◌++◌, [], ◌∷◌, ℕ, List, Result};
 ghost use Rattle.std.specs.List.{AllByRecursion};
 ghost use Rattle.fio_text.specs.FirstFaults.{Collects};
 ghost use Rattle.fio_text.specs.Lines.{IsOneLine, lines_of, text_of};
 
-/// The lines of a text are those that it was made of, whether the last one is ended or not.
+/// The lines of a text are those that it was made of, whether the last one ends with a line feed or not.
 pub fn lines_are_read_back()
     ensures ended { (lines : List (List ℕ)) → AllByRecursion IsOneLine lines
         → lines_of (text_of lines) ≡ lines }
@@ -13,7 +12,7 @@ pub fn lines_are_read_back()
         → IsOneLine last → last ≢ [] → lines_of (text_of lines ++ last) ≡ lines ++ last ∷ [] }
 {}
 
-/// Reading a list answers all its values, or the first fault in it.
+/// Reading a list returns all its values, or the first fault in it.
 #[tactic(auto, using(crate::proofs::FirstFaultLemmas::collects))]
 pub fn first_fault_decides<V, E>()
     ensures { (readings : List (Result V E)) → Collects readings }

@@ -1,14 +1,14 @@
-//! Texts: how their lines, words, numbers and octets are read, and how lines are put together and
-//! appended. Nothing here knows what a text says.
+//! Texts: reading their lines, words, numbers and octets, and putting lines together and appending them. Nothing here knows
+//! what a text means.
 //!
-//! What the crates above use: `numbered_lines` returns the lines of a text that say something, each
-//! with its number; `read_octets` and `read_octets_to` return the octets that a word names;
-//! `put_pieces!` puts a line together in room on the stack, and `push_line!` appends one to a text.
+//! What the crates above use: `numbered_lines` returns the lines of a text that have content, each with its number;
+//! `read_octets` and `read_octets_to` return the octets that a word denotes; `put_pieces!` puts a line together in room on
+//! the stack, and `push_line!` appends one to a text.
 //!
-//! The definitions are in `specs/`, in this order. What is read: the lines of a text (`Lines`), the
-//! words of a line (`Words`), octets as hexadecimal digits (`Hexadecimal`), readings of which the
-//! first fault decides (`FirstFaults`). What is written: octets as digits (`Digits`), the faults of
-//! lines (`LineFaults`). The laws are the contracts of the module `laws`.
+//! The definitions are in `specs/`, in this order. What is read: the lines of a text (`Lines`), the words of a line
+//! (`Words`), octets as hexadecimal digits (`Hexadecimal`), lists of readings, of which the first fault counts
+//! (`FirstFaults`). What is written: octets as digits (`Digits`), the faults of lines (`LineFaults`). The laws are the
+//! contracts of the module `laws`.
 //!
 //! # Examples
 //!

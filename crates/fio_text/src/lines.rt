@@ -1,11 +1,11 @@
-//! The lines of a text. Line feeds are looked for in sixteen octets at a time.
+//! The lines of a text. Sixteen octets at a time are searched for line feeds.
 ghost use Rattle.std.specs.Prelude.{◌≡◌, ◌≢◌, ◌<◌, ◌≤◌, ◌==◌, ℕ, [], ◌∷◌, length, not, slice_index, IfSome, IfNone};
 ghost use Rattle.std.specs.List.{prefix_len};
 ghost use Rattle.fio_text.specs.Lines.{lines_of, is_skipped};
 
 use std::simd::prelude::*;
 
-/// How many octets are compared with a line feed at a time.
+/// The number of octets that are compared with a line feed at a time.
 const LANES: usize = 16;
 
 /// Returns the first line of a text, without its line feed, and what follows it; `None` if the text is
@@ -59,7 +59,7 @@ fn before_feed(octets: u8x16) -> usize
     feeds.trailing_zeros() as usize
 }
 
-/// Returns whether a line says nothing: it is empty, or its first octet is `#`.
+/// Returns whether a line has no content: it is empty, or its first octet is `#`.
 pub fn is_skipped(line: &[u8]) -> bool
     ensures { result ≡ is_skipped line.now }
 {

@@ -1,12 +1,11 @@
-//! The lines of a text that say something.
+//! The lines of a text that have content.
 ghost use Rattle.std.specs.Prelude.{◌≡◌, ◌+◌, ◌<◌, ◌≤◌, ◌^◌, [], ◌∷◌, length, IfSome, IfNone};
 ghost use Rattle.fio_text.specs.Lines.{lines_of, numbered};
 
 use crate::lines::{is_skipped, split_line};
 use std::marker::Model;
 
-/// The remaining lines of a text, each with its number, without those that are empty or begin with
-/// `#`.
+/// The remaining lines of a text, each with its number, without those that are empty or begin with `#`.
 #[derive(Debug, Drop)]
 pub struct NumberedLines<'a> {
     text: &'a [u8],
@@ -35,7 +34,7 @@ pub fn numbered_lines(text: &[u8], first: u8) -> NumberedLines<'_>
     }
 }
 
-/// Returns the first line that says something, with its number, and what follows it.
+/// Returns the first line that has content, with its number, and what follows it.
 fn first_numbered(text: &[u8], number: usize) -> Option<(usize, &[u8], &[u8])>
     requires { number + length text.now < 2 ^ 64 }
     ensures none { IfNone result (numbered number (lines_of text.now) ≡ []) }

@@ -1,4 +1,4 @@
-//! The octets that hexadecimal digits name, read without memory.
+//! The octets that hexadecimal digits denote, read without an allocation.
 ghost use Rattle.std.specs.Prelude.{◌≡◌, ◌≤◌, ◌/◌, Some, IfSome, true, is_some, length, option_map, take};
 ghost use Rattle.fio_message.specs.declared.limits.TheConstants.{FRAME_OCTETS};
 ghost use Rattle.std.specs.List.{list_all};
@@ -30,9 +30,8 @@ fn is_digit(digit: u8) -> bool
     matches!(digit, b'0'..=b'9' | b'a'..=b'f' | b'A'..=b'F')
 }
 
-/// Returns how many octets a word names that is an even number of hexadecimal digits of either case, at
-/// least two; `None` for any other word. Up to 773 octets, the longest frame, are written to the front
-/// of `room`; more are only counted.
+/// Returns the number of octets that a word denotes, if it is an even number of hexadecimal digits of either case, at least
+/// two; `None` otherwise. Up to 773 octets, the longest frame, are written to the front of `room`; more are only counted.
 #[tactic(auto, using(crate::proofs::OctetLemmas::counted))]
 pub fn read_octets_to(word: &[u8], room: &mut [u8; FRAME_OCTETS]) -> Option<usize>
     ensures count { result ≡ option_map length (octets_in word.now) }
@@ -42,7 +41,7 @@ pub fn read_octets_to(word: &[u8], room: &mut [u8; FRAME_OCTETS]) -> Option<usiz
     decode_front(word, room).then_some(word.len() / 2)
 }
 
-/// Returns whether a word names octets, and writes them to the front of `room` if they fit.
+/// Returns whether a word denotes octets, and writes them to the front of `room` if they fit.
 fn decode_front(word: &[u8], room: &mut [u8; FRAME_OCTETS]) -> bool
     ensures named { result ≡ is_some (octets_in word.now) }
     ensures read { result ≡ true → length word.now / 2 ≤ FRAME_OCTETS
@@ -56,7 +55,7 @@ fn decode_front(word: &[u8], room: &mut [u8; FRAME_OCTETS]) -> bool
     }
 }
 
-/// Returns whether a word names octets, and then writes them.
+/// Returns whether a word denotes octets, and if so writes them.
 fn decode_whole(word: &[u8], octets: &mut [u8]) -> bool
     requires { length word.now / 2 ≡ length octets.old }
     ensures named { result ≡ is_some (octets_in word.now) }

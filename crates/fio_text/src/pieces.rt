@@ -1,12 +1,11 @@
-//! Lines, written in pieces. A line is put together in room on the stack from its last piece to its
-//! first, since a number is written from its last digit to its first. `put_pieces!` takes the pieces
-//! in the order in which they are read.
-//! All calls are inlined: the compiler then knows where each piece of a line is, and how long.
+//! Lines, written in pieces. A line is put together in room on the stack from its last piece to its first, since a number is
+//! written from its last digit to its first. `put_pieces!` takes the pieces in reading order. All calls are inlined, so the
+//! compiler knows the position and the length of each piece of a line.
 ghost use Rattle.std.specs.Prelude.{◌≡◌, ◌+◌, ◌*◌, ◌≤◌, ◌++◌, ℕ, [], length, take, drop, decimal};
 ghost use Rattle.fio_text.specs.Digits.{digits_of, octet_digits};
 ghost use Rattle.fio_text.specs.declared.pieces.TheConstants.{DIGITS, LINE_OCTETS};
 
-/// The room of a line: no line is longer.
+/// The room for a line: no line is longer.
 pub const LINE_OCTETS: usize = 128;
 
 /// The most octets of a name at the beginning of a line, so that numbers have room after it.
@@ -15,10 +14,9 @@ pub const NAME_OCTETS: usize = 40;
 /// The most digits of a number of 64 bits.
 const DIGITS: usize = 20;
 
-/// Puts pieces before what is in a line from `end` on: octets of a known number as they are
-/// (`b".."` or `(octets)`), a number of at most 64 bits in decimal digits (`{number}`), an octet or
-/// octets in hexadecimal digits of lower case (`[octet]`, `[&octets]`). Its value is where the line
-/// starts then.
+/// Puts pieces in front of what a line has from `end` on: octets of a known number as they are (`b".."` or `(octets)`), a
+/// number of at most 64 bits in decimal digits (`{number}`), an octet or octets in hexadecimal digits in lower case
+/// (`[octet]`, `[&octets]`). Its value is the index at which the line then starts.
 #[macro_export]
 macro_rules! put_pieces {
     ($line:expr, $end:expr;) => { $end };
@@ -52,7 +50,7 @@ macro_rules! put_pieces {
     }};
 }
 
-/// Returns where a line without a piece starts: at the end of its room.
+/// Returns the index at which a line without a piece starts: the end of its room.
 #[inline(always)]
 pub fn line_end(line: &[u8; LINE_OCTETS]) -> usize
     ensures start { result ≡ LINE_OCTETS }
@@ -61,9 +59,8 @@ pub fn line_end(line: &[u8; LINE_OCTETS]) -> usize
     line.len()
 }
 
-/// Puts octets, whose number is known when this is compiled, before what is in a line from `end`
-/// on, for which there has to be room, and returns where the line starts then. What is from `end` on
-/// stays.
+/// Puts octets, whose number is known at compile time, in front of what a line has from `end` on, which does not change, and
+/// returns the index at which the line then starts. There has to be room for them.
 #[inline(always)]
 pub fn put<const N: usize>(line: &mut [u8; LINE_OCTETS], end: usize, octets: &[u8; N]) -> usize
     requires { (N ≤ end) × (end ≤ LINE_OCTETS) }
@@ -112,7 +109,7 @@ pub fn put_number<const N: usize>(
     put_decimal(line, digits_end, number)
 }
 
-/// Puts an octet in two hexadecimal digits of lower case, as `put` puts octets.
+/// Puts an octet in two hexadecimal digits in lower case, as `put` puts octets.
 #[inline(always)]
 #[tactic(auto, unfolding(crate::specs::Digits::octet_digits))]
 pub fn put_octet(line: &mut [u8; LINE_OCTETS], end: usize, octet: u8) -> usize
@@ -125,7 +122,7 @@ pub fn put_octet(line: &mut [u8; LINE_OCTETS], end: usize, octet: u8) -> usize
     put(line, end, &digits)
 }
 
-/// Puts octets in hexadecimal digits of lower case, two for each, as `put` puts octets.
+/// Puts octets in hexadecimal digits in lower case, two for each, as `put` puts octets.
 #[inline(always)]
 #[tactic(auto, unfolding(crate::specs::Digits::digits_of))]
 pub fn put_hexadecimal(line: &mut [u8; LINE_OCTETS], end: usize, octets: &[u8]) -> usize

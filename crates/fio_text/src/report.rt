@@ -1,4 +1,4 @@
-//! What is written of a run.
+//! What is written about a run.
 ghost use Rattle.std.specs.Prelude.{◌≡◌, ◌++◌, OnOk, OnErr};
 ghost use Rattle.fio_message.specs.Texts.{fault_text};
 
@@ -9,12 +9,11 @@ use fio_message::{DecodeError, Memory};
 pub struct Report {
     /// Its lines, each with its line feed.
     pub text: Vec<u8>,
-    /// Whether nothing in it is a fault.
+    /// Whether no line of it reports a fault.
     pub good: bool,
 }
 
-/// Appends the words of a refusal: `empty`, `too long got N`, `unknown type N` or
-/// `wrong length needed N got M`.
+/// Appends the text of a fault: `empty`, `too long got N`, `unknown type N` or `wrong length needed N got M`.
 ///
 /// # Errors
 /// `Memory` if the text could not grow, which then stays as it was.

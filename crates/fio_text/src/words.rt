@@ -1,4 +1,4 @@
-//! The words of a line, and what they write.
+//! The words of a line, and the values that they denote.
 ghost use Rattle.std.specs.Prelude.{◌≡◌, ◌≢◌, [], Some, None, if◌then◌else◌, IfOk, OnErr, option_map, position};
 ghost use Rattle.fio_text.specs.Hexadecimal.{octets_in, octet_of, inputs_of};
 ghost use Rattle.fio_text.specs.Words.{after_prefix, halves_of, is_blank, number_in, small_number_in};
@@ -7,14 +7,14 @@ use fio_message::{Memory, inputs_from_octets};
 use hex::{FromHex, FromHexError};
 use std::alloc::Global;
 
-/// Returns what follows `prefix` in a line, or `None` if the line begins otherwise.
+/// Returns what follows `prefix` in a line, or `None` if the line does not begin with it.
 pub fn after_prefix<'a>(line: &'a [u8], prefix: &[u8]) -> Option<&'a [u8]>
     ensures { option_map (λ rest. rest.now) result ≡ after_prefix prefix.now line.now }
 {
     line.strip_prefix(prefix)
 }
 
-/// Returns what is before a line's first blank and what is after it; `None` if it has none.
+/// Returns what precedes a line's first blank and what follows it, or `None` if it has no blank.
 pub fn split_at_blank(line: &[u8]) -> Option<(&[u8], &[u8])>
     ensures { option_map (λ cut. (cut.0.now, cut.1.now)) result ≡ halves_of line.now }
 {
@@ -29,8 +29,8 @@ fn first_blank(line: &[u8]) -> Option<usize>
     line.iter().position(|octet| *octet == b' ')
 }
 
-/// Reads N: the number that one to nine decimal digits write, leading zeros allowed. It is read whole:
-/// a caller that needs a smaller one tests it.
+/// Reads N: the number that one to nine decimal digits denote; leading zeros are allowed. A caller that needs a smaller
+/// number tests it.
 pub fn read_number(word: &[u8]) -> Option<usize>
     ensures { result ≡ number_in word.now }
 {
@@ -47,7 +47,7 @@ pub fn read_number(word: &[u8]) -> Option<usize>
     Some(number)
 }
 
-/// Reads B: a number of at most 255, written as N is.
+/// Reads B: a number of at most 255, written like N.
 pub fn read_small_number(word: &[u8]) -> Option<u8>
     ensures { result ≡ small_number_in word.now }
 {
@@ -55,7 +55,7 @@ pub fn read_small_number(word: &[u8]) -> Option<u8>
     u8::try_from(number).ok()
 }
 
-/// Reads HH: the octet that exactly two hexadecimal digits of either case name.
+/// Reads HH: the octet that exactly two hexadecimal digits of either case denote.
 pub fn read_octet(word: &[u8]) -> Option<u8>
     ensures { result ≡ octet_of word.now }
 {
@@ -63,8 +63,8 @@ pub fn read_octet(word: &[u8]) -> Option<u8>
     Some(octet)
 }
 
-/// Reads H16: the levels of the inputs that exactly sixteen hexadecimal digits of either case name. Bit
-/// i of the result is input i, and input 0 is the lowest bit of the first octet.
+/// Reads H16: the levels of the inputs that exactly sixteen hexadecimal digits of either case denote. Bit i of the result is
+/// input i, and input 0 is the lowest bit of the first octet.
 pub fn read_inputs(word: &[u8]) -> Option<u64>
     ensures { result ≡ inputs_of word.now }
 {
@@ -72,8 +72,8 @@ pub fn read_inputs(word: &[u8]) -> Option<u64>
     Some(inputs_from_octets(&octets))
 }
 
-/// Reads HEX: the octets that an even number of hexadecimal digits of either case name, at least two;
-/// `None` for any other word.
+/// Reads HEX: the octets that an even number of hexadecimal digits of either case denote, at least two digits; `None` for
+/// any other word.
 ///
 /// # Errors
 /// `Memory` if there is none for the octets.

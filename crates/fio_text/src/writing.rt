@@ -6,8 +6,8 @@ ghost use Rattle.fio_text.specs.declared.pieces.TheConstants.{LINE_OCTETS};
 use crate::pieces::LINE_OCTETS;
 use std::alloc::AllocError;
 
-/// Appends a line of at most `LINE_OCTETS` to a text, made of pieces as `put_pieces!` takes
-/// them. Its value is an `AllocError` if the text cannot grow.
+/// Appends a line of at most `LINE_OCTETS` to a text, from pieces as `put_pieces!` takes them. Its value is an `AllocError`
+/// if the text cannot grow.
 #[macro_export]
 macro_rules! push_line {
     ($text:expr; $($pieces:tt)*) => {{
@@ -18,8 +18,8 @@ macro_rules! push_line {
     }};
 }
 
-/// Appends the line that is in its room from `start` on.
-// Inlined: the compiler then knows where each piece of a line is, and how long.
+/// Appends the line that its room holds from `start` on.
+// Inlined, so the compiler knows the position and the length of each piece of a line.
 #[inline(always)]
 pub fn append_line(
     text: &mut Vec<u8>,
@@ -33,8 +33,8 @@ pub fn append_line(
 }
 
 /// Appends the first `count` of these octets.
-// Inlined: the compiler then knows where each piece of a line is, and how long. All octets are copied,
-// since a constant length needs no call to `memcpy`, and those after the part are cut off again.
+// Inlined, so the compiler knows the position and the length of each piece of a line. All octets are copied, since a
+// constant length needs no call to `memcpy`, and those after the part are cut off again.
 #[inline(always)]
 pub fn append_part(text: &mut Vec<u8>, octets: &[u8], count: usize) -> Result<(), AllocError>
     requires { count ≤ length octets.now }
@@ -46,7 +46,7 @@ pub fn append_part(text: &mut Vec<u8>, octets: &[u8], count: usize) -> Result<()
     Ok(())
 }
 
-/// Appends octets in hexadecimal digits of lower case, two for each.
+/// Appends octets in hexadecimal digits in lower case, two for each.
 #[tactic(auto, unfolding(crate::specs::Digits::digits_of))]
 pub fn push_hexadecimal(text: &mut Vec<u8>, octets: &[u8]) -> Result<(), AllocError>
     ensures { OnOk result (text.new.items ≡ text.old.items ++ digits_of octets.now) }

@@ -1,4 +1,4 @@
--- One pass over a text, frame by frame, as the lines that are read of it.
+-- One pass over a text, frame by frame, does the same as one over the lines that are read from it.
 use Rattle.fio_tool.proofs.Names.{◌≡◌, ◌≢◌, ◌<◌, ◌≤◌, ◌∙◌, ℕ, zero, suc, ◌+◌, ◌==◌, Bool, true, false, List, [], ◌∷◌, map, length, drop, Option, Some, None, Result, Ok, Err, refl, sym, ap, arith, add-one, length-drop, option_map, option_and_then, slice_get, unwrap_or, if◌then◌else◌, result_err, values_or_fault, with_first, lines_of, numbered, with_front, is_skipped, TranscriptLine, observation_on, frame_in, line_in, transcript_in, verdict_in, verdict_of}
 use Rattle.std.specs.Option.{option_or}
 use Rattle.fio_check.specs.Facts.{facts_at, facts_with}
@@ -45,7 +45,7 @@ lines_within text = let a = length-lines_of text in let b = length-numbered 1 (l
 
 -- ---- the lines that are left
 
--- the first of the lines that are left, and the lines below it
+-- the first of the lines that remain, and the lines after it
 pub first-left : (line : TranscriptLine) (left : Result (List TranscriptLine) TraceError) (below : List TranscriptLine) → with_first (line ∷ []) left ≡ Ok below
     → (rest : List TranscriptLine) × (left ≡ Ok rest) × (below ≡ line ∷ rest)
 first-left line (Ok rest) below is = (rest, refl, cc)
@@ -117,7 +117,7 @@ none-left lines frames left within =
     let count = sym (length-drop frames lines) ∙ ap length none in
     omega (arith, count)
 
--- no line is left
+-- no line remains
 pub course_end : (lines : List TranscriptLine) (frames : ℕ) (judging : Judging) → IsCourse lines frames [] judging
     → verdict_on lines ≡ unwrap_or judging.breach (Good frames)
 course_end lines frames judging course =

@@ -10,12 +10,12 @@ use Rattle.clap.specs.declared.parser.matches.SubCommand.{SubCommand}
 use Rattle.clap.proofs.OnLiterals.{clap_on_literals}
 use Rattle.fio_tool.specs.declared.tools.Tool.{Tool}
 
--- clap's function of the words holds for this command line
+-- clap's function of the words applies to this command line
 pub command_line-is_simple : is_simple command_line ≡ true
 unfolding clap_on_literals
 command_line-is_simple = refl
 
--- and so does the one of their faults
+-- and so does its function of their faults
 pub command_line-is_simple_and_free : is_simple_and_free command_line ≡ true
 unfolding clap_on_literals
 command_line-is_simple_and_free = refl
@@ -106,7 +106,7 @@ none_named name count all none Simulate = none 1 (omega (arith, all))
 none_named name count all none Check = none 2 (omega (arith, all))
 none_named name count all none Record = none 3 (omega (arith, all))
 
--- a tool's name behind the program's names that tool
+-- a tool's name after the program's names that tool
 pub names_tool : (first : Text) (tool : Tool) → NamesTool (first ∷ name_of tool ∷ []) tool
 unfolding clap_on_literals
 names_tool first Show = record { faultless = refl; named = refl }

@@ -48,7 +48,7 @@ later-command : (number : ℕ) (command : Option Command) → Some number ≡ nu
 later-command number None = refl
 later-command number (Some command) = refl
 
--- an answer changes nothing where there is no CPU
+-- an answer changes nothing if there is no CPU
 pub record PassesOver (answer : Option Answer) : Type 0 where
   pub polled : number_polled (observation_of None answer) ≡ None
   pub number : number_after None None answer ≡ None
@@ -218,7 +218,7 @@ pub broken_next : (lines rest : List TranscriptLine) (line : TranscriptLine) (cp
 broken_next lines rest line cpu cpu' kept kept' broken broken' cpu_is kept_is broken_is so_far =
     rw (broken_is, cpu_is, kept_is) (next-line lines rest line.number line.from_cpu line.octets cpu kept broken so_far.numbers so_far)
 
--- no line is left
+-- no line remains
 pub broken_end : (lines : List TranscriptLine) (cpu : Option Polling) (kept : ContentKept) (broken : Option BrokenItem) → IsBrokenSoFar lines [] cpu kept broken
     → option_map (fault_of_item (items_of_cpu cpu)) broken ≡ content_fault_in false lines
 broken_end lines cpu kept broken so_far =

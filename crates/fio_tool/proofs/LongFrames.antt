@@ -1,4 +1,4 @@
--- The frame that is read of a line: octets of more than 773 spell no message.
+-- The frame that is read from a line: octets of more than 773 spell no message.
 use Rattle.fio_tool.proofs.Names.{◌≡◌, ◌≤◌, ℕ, ◌<◌, Bool, true, false, List, [], ◌∷◌, length, take, Option, Some, None, refl, ap, sym, arith, nat_le, option_map, same_Some, message_in, observation_in, observation_of, IsReadFrame, SpellsSame, frame_in}
 use Rattle.fio_message.specs.Commands.{command_length}
 use Rattle.fio_message.specs.Answers.{answer_length}

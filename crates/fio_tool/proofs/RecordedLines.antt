@@ -1,4 +1,4 @@
--- One pass over a text, frame by frame, as the CPU of the lines that are read of it and the first breach of a rule on
+-- One pass over a text, frame by frame, finds the CPU of the lines that are read from it and the first breach of a rule on
 -- content.
 use Rattle.fio_tool.proofs.Names.{◌≡◌, ◌∙◌, ℕ, List, [], ◌∷◌, map, None, Ok, sym, ap, fold, values_or_fault, TranscriptLine, IsNoRecording, IsRecordingOf, RecordsLine, line_in}
 use Rattle.fio_check.specs.declared.observation.Observation.TheVariants.{Unreadable}
@@ -45,7 +45,7 @@ recording_next lines number text line left before after reads step so_far =
           step.cpu step.kept step.broken (rw first.2 at so_far.course);
     }
 
--- no line is left
+-- no line remains
 pub recording_end : (lines : List TranscriptLine) (left : List (ℕ × List ℕ)) (recording : Recording) → left ≡ [] → IsRecordingSoFar lines left recording
     → IsRecordingOf lines recording
 recording_end lines [] recording none so_far =

@@ -1,4 +1,4 @@
--- The words of a command line, by clap's own function of them.
+-- The words of a command line, read by clap's own function.
 use Rattle.std.specs.Prelude.{◌≡◌, ℕ, List, [], ◌∷◌, Option, Some, codes, fold, option_map, true}
 use Rattle.clap.specs.Faults.{fault_of}
 use Rattle.clap.specs.Simple.{App, new_app, new_shape, on_top, with_subcommand, subcommand_of}
@@ -22,7 +22,7 @@ program =
     on_top (λ top. record top { disable_help_subcommand = true; has_version = true })
     (new_app (codes "fio2070"))
 
--- a command line with the subcommand of one tool more
+-- the command line with a subcommand added for one more tool
 abbrev pub with_tool : App → Tool → App
 with_tool app tool = with_subcommand app (new_shape (name_of tool))
 
@@ -30,7 +30,7 @@ with_tool app tool = with_subcommand app (new_shape (name_of tool))
 abbrev pub command_line : App
 command_line = fold with_tool program tools
 
--- the name of the subcommand that the words give, the program's name first
+-- the name of the subcommand that the words give; the first word is the program's name
 abbrev pub chosen_name : List (List ℕ) → Option (List ℕ)
 chosen_name words = option_map (λ found. found.0) (subcommand_of command_line words)
 

@@ -1,9 +1,9 @@
--- What each tool writes of an input with a fault.
+-- What each tool writes for an input with a fault.
 use Rattle.std.specs.Prelude.{ℕ, Bool, List, ◌++◌, length, codes, nat_lt}
 use Rattle.fio_text.specs.LineFaults.{at_line}
 use Rattle.fio_tool.specs.declared.reports.TheConstants.{MAX_INPUT}
 
--- more octets than an input may have
+-- whether an input has more octets than it may have
 abbrev pub is_too_long : List ℕ → Bool
 is_too_long input = nat_lt MAX_INPUT (length input)
 
@@ -11,6 +11,6 @@ is_too_long input = nat_lt MAX_INPUT (length input)
 abbrev pub too_long_text : List ℕ
 too_long_text = codes "input too long\n"
 
--- the line that reports the fault of the line with this number, by its words
+-- the line that reports a fault, by the number of its line and its text
 abbrev pub line_fault_text : ℕ → List ℕ → List ℕ
 line_fault_text number fault = at_line number (fault ++ codes "\n")

@@ -6,7 +6,8 @@ use Rattle.fio_check.specs.declared.observation.Observation.{Observation}
 use Rattle.fio_check.specs.declared.verdict.Verdict.TheVariants.{Broken}
 use Rattle.fio_tool.specs.declared.transcript.judging.Judging.{Judging}
 
--- a line with this number more, which says this: the first breach stays, and while there is none the facts are kept
+-- one more line is judged, with this number and what it says: the first breach is kept, and as long as there is none, the
+-- facts are kept up to date
 pub record IsJudged (before : Judging) (number : ℕ) (observation : Observation) (after : Judging) : Type 0 where
   pub first : before.breach ≢ None → after.breach ≡ before.breach
   pub broken : before.breach ≡ None

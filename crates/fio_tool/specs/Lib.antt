@@ -1,6 +1,5 @@
--- Begin with `Program`: the text and the exit status for each tool and input. Below it are, in this
--- order: the command line; the four texts, each above what it is made of; the laws of transcripts;
--- and what is read and written.
+-- Begin with `Program`: the text and the exit status for each tool and input. After it come, in this order, the command
+-- line; the four texts, each before what it is made of; the laws of transcripts; and what is read and written.
 pub mod Program
 pub mod CommandLine
 pub mod Show

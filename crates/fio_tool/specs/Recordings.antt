@@ -12,7 +12,7 @@ use Rattle.fio_tool.specs.Record.{items_of_cpu}
 use Rattle.fio_tool.specs.declared.transcript.recording.BrokenItem.{BrokenItem}
 use Rattle.fio_tool.specs.declared.transcript.recording.Recording.{Recording}
 
--- the fault that the pass keeps, by the items of the record
+-- the fault that the pass keeps, as a fault on content, given the items of the record
 abbrev pub fault_of_item : List Item → BrokenItem → ContentFault
 fault_of_item items broken = record {
   line = broken.line;
@@ -21,12 +21,12 @@ fault_of_item items broken = record {
   above = take broken.above items;
 }
 
--- the same where there is one
+-- the fault that the pass keeps, if there is one
 abbrev pub fault_of_recording : Recording → Option ContentFault
 fault_of_recording recording =
     option_map (fault_of_item (items_of_cpu recording.cpu)) recording.broken
 
--- the pass has gone through no line
+-- the pass has not gone through any line
 pub record IsNoRecording (recording : Recording) : Type 0 where
   pub cpu : recording.cpu ≡ None
   pub kept : content_kept recording.checker ≡ kept_at_start false
@@ -37,7 +37,7 @@ pub record IsRecordingOf (lines : List TranscriptLine) (recording : Recording) :
   pub cpu : recording.cpu ≡ poller_of lines
   pub broken : fault_of_recording recording ≡ content_fault_in false lines
 
--- a breach of a line, where the record has so many items above the line
+-- a breach by a line before which the record has `items` items
 abbrev pub item_broken : ℕ → ℕ → ContentBreach → BrokenItem
 item_broken line items breach = record {
   line = line;
@@ -46,7 +46,7 @@ item_broken line items breach = record {
   rule = breach.rule;
 }
 
--- a step of the pass by a line
+-- a step of the pass over a line
 pub record RecordsLine (before : Recording) (line : TranscriptLine) (after : Recording) : Type 0 where
   pub cpu : after.cpu ≡ poller_with before.cpu line
   pub kept : content_kept after.checker ≡ kept_with (content_kept before.checker) line.from_cpu line.octets

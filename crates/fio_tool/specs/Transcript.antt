@@ -1,5 +1,5 @@
--- How a transcript is written: the frames that the CPU's end of the link sent and heard, one a line, in order; and the
--- verdict on what a text writes.
+-- How a transcript is written: the frames that the CPU's end of the link sent and heard, one on each line, in order. Also
+-- the verdict on a transcript.
 use Rattle.std.specs.Prelude.{◌≡◌, ◌≤◌, ℕ, Bool, true, false, List, ◌∷◌, ◌++◌, map, codes, length, Option, Some, Result, Ok, Err, option_map, option_and_then, take}
 use Rattle.std.specs.Option.{ok_or, option_or}
 use Rattle.fio_message.specs.declared.limits.TheConstants.{FRAME_OCTETS}
@@ -14,7 +14,7 @@ use Rattle.fio_text.specs.Words.{after_prefix}
 use Rattle.fio_tool.specs.declared.transcript.lines.TraceError.{TraceError}
 use Rattle.fio_tool.specs.declared.transcript.lines.TraceError.TheVariants as faults
 
--- a word of hexadecimal digits as the octets of a frame, behind whether the CPU sent it
+-- a word of hexadecimal digits as the octets of a frame, together with whether the CPU sent it
 abbrev pub frame_with : Bool → List ℕ → Option (Bool × List ℕ)
 frame_with from_cpu word = option_map (λ octets. (from_cpu, octets)) (octets_in word)
 
@@ -24,41 +24,41 @@ frame_in line = option_or
     (option_and_then (frame_with true) (after_prefix (codes "> ") line))
     (option_and_then (frame_with false) (after_prefix (codes "< ") line))
 
--- a line is a frame of so many octets, which are at the front of room for the longest frame where they fit in it
+-- a line is a frame of `count` octets; if they fit in the room for the longest frame, they are at its front
 pub record IsReadFrame (line : List ℕ) (from_cpu : Bool) (count : ℕ) (room : List ℕ) : Type 0 where
   pub octets : List ℕ
   pub frame : frame_in line ≡ Some (from_cpu, octets)
   pub counted : count ≡ length octets
   pub read : count ≤ FRAME_OCTETS → octets ≡ take count room
 
--- these octets spell the messages that other octets spell, whether the CPU sent or heard them
+-- these octets spell the same messages as other octets, whether the CPU sent or heard them
 pub record SpellsSame (shown octets : List ℕ) : Type 0 where
   pub sent : command_in shown ≡ command_in octets
   pub heard : answer_in shown ≡ answer_in octets
 
--- the line of a transcript that a numbered line writes, or that it is no frame
+-- the line of a transcript that a numbered line is, or the fault that it is no frame
 abbrev pub line_in : ℕ × List ℕ → Result TranscriptLine TraceError
 line_in (number, line) = ok_or
     (option_map (λ frame. record { number = number; from_cpu = frame.0; octets = frame.1 })
     (frame_in line))
     (faults.BadLine number)
 
--- the lines of a transcript, or the first line that is no frame
+-- the lines of a transcript, or the fault of the first line that is no frame
 abbrev pub transcript_in : List ℕ → Result (List TranscriptLine) TraceError
 transcript_in text = values_or_fault (map line_in (numbered 1 (lines_of text)))
 
--- some line is a frame, and all lines above it are: it is these that a list of lines asks room for
+-- some line is a frame, and so are all lines before it: room is requested only to keep such frames
 pub record HasFrameToKeep (text : List ℕ) : Type 0 where
   pub above : List TranscriptLine
   pub line : TranscriptLine
   pub below : List (Result TranscriptLine TraceError)
   pub frames : map line_in (numbered 1 (lines_of text)) ≡ map Ok above ++ (Ok line ∷ below)
 
--- the verdict on the lines of a text, or its first line that is no frame
+-- the verdict on the lines of a text, or the fault of its first line that is no frame
 abbrev pub verdict_of : Result (List TranscriptLine) TraceError → Result Verdict TraceError
 verdict_of (Ok lines) = Ok (verdict_on lines)
 verdict_of (Err fault) = Err fault
 
--- the verdict on the transcript that a text is, or its first line that is no frame
+-- the verdict on the transcript that a text is, or the fault of its first line that is no frame
 abbrev pub verdict_in : List ℕ → Result Verdict TraceError
 verdict_in text = verdict_of (transcript_in text)

@@ -7,8 +7,7 @@ use Rattle.fio_tool.specs.InputFaults.{is_too_long}
 use Rattle.fio_tool.specs.Transcript.{transcript_in}
 use Rattle.fio_tool.specs.Check.{check_text, is_check_good, is_good, verdict_text}
 
--- where a text that is not too long is read as lines, its text and ending are those of the verdict
--- on these lines
+-- if a text that is not too long is read as lines, its text and ending are those of the verdict on these lines
 abbrev pub IsTextOfItsLines : List ℕ → Type 0
 IsTextOfItsLines input = (lines : List TranscriptLine) (verdict : Verdict)
     → is_too_long input ≡ false → transcript_in input ≡ Ok lines → IsVerdict lines verdict

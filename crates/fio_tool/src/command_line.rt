@@ -19,20 +19,18 @@ const VERSION: &str = "1.0.0";
 const ABOUT: &str =
     "Reads the messages between the CPU and the field I/O module of a Model 2070 controller";
 
-/// How the program is called.
+/// How to call the program.
 const USAGE: &str = "fio2070 COMMAND < FILE";
 
-/// Returns the tool that the words of a command line name, the program's name first: `None` where
-/// they name no subcommand.
+/// Returns the tool that the words of a command line name, or `None` if they name no subcommand. The first word is the
+/// program's name.
 ///
 /// # Errors
-/// `clap`'s, exactly where the command line is invalid or asks for help or the version, or where an
-/// allocation failed.
+/// `clap`'s: exactly if the command line is invalid or asks for help or the version, or if an allocation failed.
 pub fn choose<'a>(alloc: Global, words: &'a [&'a str]) -> Result<Option<Tool>, Error>
     ensures tool { IfOk result (λ tool.
         option_map name_of tool ≡ chosen_name (map (λ word. word.now) words.entry.now)) }
-    // An `Ok` comes only where the command line is valid, and an `Err` where it is not, or where
-    // memory runs out.
+    // It returns `Ok` only if the command line is valid, and `Err` only if it is not or memory runs out.
     ensures fault { FailsBy
         (fault_of command_line (map (λ word. word.now) words.entry.now)) result }
 {
@@ -41,7 +39,7 @@ pub fn choose<'a>(alloc: Global, words: &'a [&'a str]) -> Result<Option<Tool>, E
     Ok(tool_met(&matches))
 }
 
-/// Returns the tool whose subcommand was met, if one was.
+/// Returns the tool whose subcommand was given, if one was.
 fn tool_met(matches: &ArgMatches<'_>) -> Option<Tool>
     ensures known { IfSome result (λ tool.
         subcommand_name_of matches.now ≡ Some (name_of tool)) }
@@ -74,7 +72,7 @@ fn program<'a>(alloc: Global) -> Command<'a>
         .disable_help_subcommand(true)
 }
 
-/// Returns the subcommand of a tool, which has no words of its own.
+/// Returns the subcommand of a tool. It takes no words.
 fn subcommand<'a>(alloc: Global, tool: Tool) -> Command<'a>
     ensures shape { shape_of result ≡ new_shape (name_of tool) }
     ensures local { (fields_of result).has_globals ≡ false }

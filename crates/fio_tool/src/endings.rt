@@ -20,17 +20,17 @@ pub enum Ending {
 /// Why a tool ended without its text.
 #[derive(Clone, Copy, Debug, PartialEq, Eq, Hash, Error)]
 pub enum ToolFault {
-    /// A read failed; `Interrupted` counts and is not retried. Nothing was written.
+    /// A read failed. `Interrupted` counts as a failure and is not retried. Nothing was written.
     Read,
-    /// A write or the flush failed, or a write took no octet; `Interrupted` counts and is not retried.
-    /// Some of the text may have been written.
+    /// A write or the flush failed, or a write took no octet. `Interrupted` counts as a failure and is not retried. Some of
+    /// the text may have been written.
     Write,
     /// An allocation failed, for the input or its text. Nothing was written.
     Memory,
 }
 
 impl ToolFault {
-    /// `read fault`, `write fault` or `out of memory`.
+    /// Returns `read fault`, `write fault` or `out of memory`.
     pub(crate) fn words(self) -> &'static str
         ensures words { result.now ≡ tool_fault_text self }
         ensures short { length result.now ≤ 13 }

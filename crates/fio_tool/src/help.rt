@@ -1,4 +1,4 @@
-//! What help says below the usage: of the program, and of each subcommand.
+//! The text of help after the usage: for the program, and for each subcommand.
 
 /// What all tools read and write, the statuses, an example.
 pub(crate) const PROGRAM: &str = "\

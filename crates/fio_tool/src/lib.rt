@@ -1,19 +1,15 @@
-//! The tools of the program `fio2070`: texts about the messages between the CPU and the field I/O
-//! module of a Model 2070 controller, over any reader and writer, and the command line that names a
-//! tool.
+//! The tools of the program `fio2070`: texts about the messages between the CPU and the field I/O module of a Model 2070
+//! controller, over any reader and writer, and the command line that selects a tool.
 //!
-//! What the program relies on: each tool writes exactly the text of what it read, and nothing where
-//! a read fails or memory runs out; the words of a command line give exactly the tool that
-//! `clap`'s own function of them names; and an exit status of 0 or 1 after such words says that the
-//! tool has done so, and it is never 2.
+//! What the program relies on: each tool writes exactly the text for what it read, and nothing if a read fails or memory
+//! runs out; the words of a command line select exactly the tool that `clap`'s own function of them names; and after such
+//! words, an exit status of 0 or 1 says that the tool has done so, and the status is never 2.
 //!
-//! The definitions are in `specs/`. `Program` comes first: the text that each tool writes for an
-//! input, and the exit status; below it the command line (`CommandLine`). The four texts are `Show`
-//! above the lines of each frame (`FrameLines` of `fio_show`); `Simulate`; `Check`
-//! above the lines of a transcript (`Transcript`), whose rules and verdict are those of `fio_check`; and
-//! `Record`, what the CPU of a transcript recorded.
-//! What is reported of an input with a fault is in `InputFaults`, what is read and written in `Streams`. The
-//! laws are the contracts of the module `laws`.
+//! The definitions are in `specs/`. `Program` comes first: the text that each tool writes for an input, and the exit status;
+//! then the command line (`CommandLine`). The four texts are `Show`, over the lines of each frame (`FrameLines` of
+//! `fio_show`); `Simulate`; `Check`, over the lines of a transcript (`Transcript`), whose rules and verdict are those of
+//! `fio_check`; and `Record`, what the CPU of a transcript recorded. What is reported for an input with a fault is in
+//! `InputFaults`, what is read and written in `Streams`. The laws are the contracts of the module `laws`.
 //!
 //! # Examples
 //!

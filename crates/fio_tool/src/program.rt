@@ -1,5 +1,4 @@
-//! The program, but for what it is given by `main`: its exit status, and the lines of the program
-//! itself.
+//! The program without `main`: its exit status, and the lines of the program itself.
 ghost use Rattle.std.specs.Prelude.{◌≡◌, ◌≢◌, ◌⊎◌, ◌≤◌, ℕ, List, [], None, map};
 ghost use Rattle.clap.specs.Faults.{fault_of};
 ghost use Rattle.clap.specs.Values.{kind_of};
@@ -18,18 +17,18 @@ use clap::error::ErrorKind;
 use std::alloc::Global;
 use std::io::{Read, Write};
 
-/// Runs the tool that the words of a command line name, the program's name first, and gives the
-/// exit status of the program.
+/// Runs the tool that the words of a command line name, and returns the exit status of the program. The first word is the
+/// program's name.
 ///
 /// | Status | When |
 /// |---|---|
-/// | 0 | the text reports no fault; also where help or the version was asked for |
+/// | 0 | the text reports no fault; also if help or the version was asked for |
 /// | 1 | the text reports a fault, or an input that is too long |
 /// | 2 | the command line names no subcommand, or is invalid |
 /// | 3 | a read or a write failed, or memory ran out |
 ///
-/// For 3 and for no subcommand the program prints one line, `fio2070: read fault` or the like; for
-/// every other invalid command line it prints `clap`'s text. A failure to print these is ignored.
+/// With status 3 and if there is no subcommand, the program prints one line, `fio2070: read fault` or the like. For any
+/// other invalid command line it prints `clap`'s text. A failure to print these is ignored.
 pub fn run_program<'a, R: Read, W: Write>(
     alloc: Global,
     words: &'a [&'a str],
@@ -38,24 +37,24 @@ pub fn run_program<'a, R: Read, W: Write>(
 ) -> u8
     ensures known { result ≤ 3 }
     ensures taken { TakesAtMost MOST_READ (R.remaining reader.old) (R.remaining reader.new) }
-    // Where the command line names no tool, nothing is read.
+    // If the command line names no tool, nothing is read.
     ensures unread { ((tool : Tool) → NamesTool (map (λ word. word.now) words.entry.now) tool → ⊥)
         → reader.new ≡ reader.old }
-    // Where it names a tool, a status of 0 or 1 says that the tool has reported what it read.
+    // If it names a tool, a status of 0 or 1 says that the tool has reported what it read.
     ensures reported { (tool : Tool) → NamesTool (map (λ word. word.now) words.entry.now) tool
         → result ≤ 1
         → (input : List ℕ)
         × HasReported tool input (R.remaining reader.old) (R.remaining reader.new)
         (W.contents writer.old) (W.contents writer.new)
         × (result ≡ program_status tool input) }
-    // 2 is for a command line that names no tool.
+    // Status 2 means that the command line names no tool.
     ensures named { (tool : Tool) → NamesTool (map (λ word. word.now) words.entry.now) tool
         → result ≢ 2 }
-    // A valid command line that names no tool gives 2, or 3 where memory runs out.
+    // A valid command line that names no tool gives status 2, or 3 if memory runs out.
     ensures no_subcommand { fault_of command_line (map (λ word. word.now) words.entry.now) ≡ []
         → chosen_name (map (λ word. word.now) words.entry.now) ≡ None
         → (result ≡ 2) ⊎ (result ≡ 3) }
-    // An invalid one gives the status of its fault, 0 or 2, or 3 where memory runs out.
+    // An invalid one gives the status of its fault, 0 or 2, or 3 if memory runs out.
     ensures refused { fault_of command_line (map (λ word. word.now) words.entry.now) ≢ []
         → IsRefusalStatus
         (fault_of command_line (map (λ word. word.now) words.entry.now)) result }
@@ -106,8 +105,8 @@ fn no_subcommand_line() -> &'static str
     "fio2070: no subcommand\n"
 }
 
-/// Reports why a command line gave no tool, and returns the exit status: that of the error's kind, or
-/// 3 where memory runs out.
+/// Reports why a command line selects no tool, and returns the exit status: that of the error's kind, or 3 if memory runs
+/// out.
 fn refuse<W: Write>(alloc: Global, error: &clap::Error, writer: &mut W) -> u8
     ensures { (result ≡ refusal_status (kind_of error.now)) ⊎ (result ≡ 3) }
 {
@@ -122,7 +121,7 @@ fn refuse<W: Write>(alloc: Global, error: &clap::Error, writer: &mut W) -> u8
     3
 }
 
-/// Returns the exit status where `clap` gives an error of this kind.
+/// Returns the exit status if `clap` returns an error of this kind.
 fn refusal_status(kind: ErrorKind) -> u8
     ensures status { result ≡ refusal_status kind }
     ensures known { result ≤ 3 }
@@ -134,7 +133,7 @@ fn refusal_status(kind: ErrorKind) -> u8
     }
 }
 
-/// Writes a text of the program's own, as far as the writer takes it.
+/// Writes a text of the program itself, as far as the writer takes it.
 fn say<W: Write>(writer: &mut W, text: &str) {
     let _ = write_text(writer, text.as_bytes());
 }

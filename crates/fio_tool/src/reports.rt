@@ -1,4 +1,4 @@
-//! The texts that the tools write, each of the octets of an input.
+//! The texts that the tools write, each for the octets of an input.
 ghost use Rattle.std.specs.Prelude.{◌≡◌, IfOk, false};
 ghost use Rattle.fio_tool.specs.InputFaults.{is_too_long, too_long_text};
 
@@ -25,7 +25,7 @@ fn is_too_long(input: &[u8]) -> bool
     input.len() > MAX_INPUT
 }
 
-/// Returns what is reported of such an input.
+/// Returns the report for such an input.
 fn report_too_long(alloc: Global) -> Result<Report, Memory>
     ensures text { IfOk result (λ report. report.text.items ≡ too_long_text) }
     ensures good { IfOk result (λ report. report.good ≡ false) }

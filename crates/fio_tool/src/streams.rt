@@ -1,4 +1,4 @@
-//! Input and output, whole. The calls of std that read to the end or write all try an interrupted
+//! Reading all input and writing all output. The calls of std that read to the end or write everything try an interrupted
 //! call again; here each error is final.
 ghost use Rattle.std.specs.Prelude.{◌≡◌, IfOk, IfErr, OnOk};
 ghost use Rattle.std.specs.Io.KnownBytes.{Appends};
@@ -17,7 +17,7 @@ pub(crate) const MOST_READ: usize = MAX_INPUT + 1;
 /// The most octets that are read at a time.
 const READ: usize = 65_536;
 
-/// Returns the input whole, or the front of one that is too long.
+/// Returns the whole input, or the front of one that is too long.
 pub(crate) fn read_input<R: Read>(alloc: Global, reader: &mut R) -> Result<Vec<u8>, ToolFault>
     ensures ok { IfOk result (λ input.
         TakesInput (R.remaining reader.old) (R.remaining reader.new) input.items) }
@@ -38,7 +38,7 @@ pub(crate) fn read_input<R: Read>(alloc: Global, reader: &mut R) -> Result<Vec<u
     Ok(input)
 }
 
-/// Writes the text of a report and nothing else, and says how the tool ends.
+/// Writes the text of a report and nothing else, and returns how the tool ends.
 pub(crate) fn write_report<W: Write>(writer: &mut W, report: &Report) -> Result<Ending, ToolFault>
     ensures ok { OnOk result
         (Appends (W.contents writer.old) (W.contents writer.new) report.now.text.items) }
@@ -53,7 +53,7 @@ pub(crate) fn write_report<W: Write>(writer: &mut W, report: &Report) -> Result<
     }
 }
 
-/// Writes a text whole, and then flushes.
+/// Writes a whole text, and then flushes.
 pub(crate) fn write_text<W: Write>(writer: &mut W, text: &[u8]) -> Result<(), ToolFault>
     ensures ok { OnOk result (Appends (W.contents writer.old) (W.contents writer.new) text.now) }
     ensures err { IfErr result (λ fault. fault ≡ ToolFault.Write) }

@@ -11,27 +11,27 @@ use fio_text::Report;
 use std::alloc::Global;
 use std::io::{Read, Write};
 
-/// What the program is asked to do.
+/// A tool of the program.
 #[derive(Clone, Copy, Debug, PartialEq, Eq, Hash)]
 pub enum Tool {
-    /// To report what each frame of the input says.
+    /// Reports what each frame of the input says.
     Show,
-    /// To run a script, and to report the outcome of each of its events.
+    /// Runs a script, and reports the outcome of each of its events.
     Simulate,
-    /// To report whether a transcript keeps the rules.
+    /// Reports whether a transcript keeps the rules.
     Check,
-    /// To report what the CPU of a transcript recorded.
+    /// Reports what the CPU of a transcript recorded.
     Record,
 }
 
-/// What the command line says of a tool.
+/// What the command line says about a tool.
 #[derive(Clone, Copy)]
 pub(crate) struct Words {
     /// The name of the subcommand.
     pub(crate) name: &'static str,
     /// What the tool does.
     pub(crate) about: &'static str,
-    /// How it is called.
+    /// How to call it.
     pub(crate) usage: &'static str,
     /// What it reads and writes, its statuses, and an example.
     pub(crate) after_help: &'static str,
@@ -43,7 +43,7 @@ impl Tool {
     /// The tools, in the order in which help lists them.
     pub(crate) const ALL: [Tool; 4] = [Tool::Show, Tool::Simulate, Tool::Check, Tool::Record];
 
-    /// Returns what the command line says of the tool.
+    /// Returns what the command line says about the tool.
     pub(crate) fn words(self) -> Words
         ensures { result.name.now ≡ name_of self }
     {
@@ -89,12 +89,11 @@ impl Tool {
     }
 }
 
-/// Reads the input whole, up to one octet more than it may have; makes the tool's text of it whole;
-/// then writes and flushes the text.
+/// Reads the whole input, up to one octet more than it may have; makes the tool's whole text of it; then writes and flushes
+/// the text.
 ///
 /// # Errors
-/// `Read`, `Write` and `Memory` as `ToolFault` says. On `Read` and `Memory` nothing has been
-/// written.
+/// `Read`, `Write` and `Memory`, as at `ToolFault`. On `Read` and `Memory` nothing has been written.
 pub(crate) fn run_tool<R: Read, W: Write>(
     alloc: Global,
     tool: Tool,
@@ -109,12 +108,11 @@ pub(crate) fn run_tool<R: Read, W: Write>(
     write_report(writer, &report)
 }
 
-/// Writes what each frame of the input says: the text of `show_text`. The input is read whole, up
-/// to one octet more than it may have; its text is made whole, and then written and flushed.
+/// Writes what each frame of the input says: the text of `show_text`. The whole input is read, up to one octet more than it
+/// may have; the whole text is made, and then written and flushed.
 ///
 /// # Errors
-/// `Read`, `Write` and `Memory` as `ToolFault` says. On `Read` and `Memory` nothing has been
-/// written.
+/// `Read`, `Write` and `Memory`, as at `ToolFault`. On `Read` and `Memory` nothing has been written.
 pub fn show<R: Read, W: Write>(
     alloc: Global,
     reader: &mut R,
@@ -126,12 +124,11 @@ pub fn show<R: Read, W: Write>(
     run_tool(alloc, Tool::Show, reader, writer)
 }
 
-/// Writes the run of the script that the input is: the text of `simulate_text`. The input is read
-/// whole, up to one octet more than it may have; its text is made whole, and then written and flushed.
+/// Writes the run of the script in the input: the text of `simulate_text`. The whole input is read, up to one octet more
+/// than it may have; the whole text is made, and then written and flushed.
 ///
 /// # Errors
-/// `Read`, `Write` and `Memory` as `ToolFault` says. On `Read` and `Memory` nothing has been
-/// written.
+/// `Read`, `Write` and `Memory`, as at `ToolFault`. On `Read` and `Memory` nothing has been written.
 pub fn simulate<R: Read, W: Write>(
     alloc: Global,
     reader: &mut R,
@@ -143,13 +140,11 @@ pub fn simulate<R: Read, W: Write>(
     run_tool(alloc, Tool::Simulate, reader, writer)
 }
 
-/// Writes whether the transcript that the input is keeps the rules: the text of `check_text`. The input
-/// is read whole, up to one octet more than it may have; its text is made whole, and then written and
-/// flushed.
+/// Writes whether the transcript in the input keeps the rules: the text of `check_text`. The whole input is read, up to one
+/// octet more than it may have; the whole text is made, and then written and flushed.
 ///
 /// # Errors
-/// `Read`, `Write` and `Memory` as `ToolFault` says. On `Read` and `Memory` nothing has been
-/// written.
+/// `Read`, `Write` and `Memory`, as at `ToolFault`. On `Read` and `Memory` nothing has been written.
 pub fn check<R: Read, W: Write>(
     alloc: Global,
     reader: &mut R,
@@ -161,13 +156,11 @@ pub fn check<R: Read, W: Write>(
     run_tool(alloc, Tool::Check, reader, writer)
 }
 
-/// Writes the record that the CPU of the transcript in the input has: the text of `record_text`. The
-/// input is read whole, up to one octet more than it may have; its text is made whole, and then written
-/// and flushed.
+/// Writes the record of the CPU in the input's transcript: the text of `record_text`. The whole input is read, up to one
+/// octet more than it may have; the whole text is made, and then written and flushed.
 ///
 /// # Errors
-/// `Read`, `Write` and `Memory` as `ToolFault` says. On `Read` and `Memory` nothing has been
-/// written.
+/// `Read`, `Write` and `Memory`, as at `ToolFault`. On `Read` and `Memory` nothing has been written.
 pub fn record<R: Read, W: Write>(
     alloc: Global,
     reader: &mut R,

@@ -1,4 +1,4 @@
-//! A transcript: the frames that the CPU's end of the link sent and heard, one a line, in order.
+//! A transcript: the frames that the CPU's end of the link sent and heard, one on each line, in order.
 
 mod judging;
 mod lines;

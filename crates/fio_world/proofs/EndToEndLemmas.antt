@@ -5,7 +5,7 @@ use Rattle.std.proofs.lemmas.Bool.{and_parts, and_from, leb-true, le-leb, eqb-tr
 use Rattle.std.proofs.Math.Seq.{drop-append_seam}
 use Rattle.fio_message.specs.declared.limits.TheConstants.{FRAME_OCTETS}
 
--- as many frames as ends
+-- there is a frame for each end
 pub length-frames : (octets : List ℕ) (start : ℕ) (ends : List ℕ) → length (frames_in octets start ends) ≡ length ends
 length-frames octets start [] = refl
 length-frames octets start (end ∷ ends) = ap suc (length-frames octets end ends)

@@ -19,18 +19,18 @@ with_first-pushed : {A E : Type 0} (values : List A) (value : A) (more : Result 
 with_first-pushed values value (Ok more) = ap Ok (sym (append_assoc values (value ∷ []) more))
 with_first-pushed values value (Err e) = refl
 
--- with no value in front, and all that is read left, it is what all lines give
+-- with no value in front, and everything still to be read, it is what all lines give
 with_first-start : {L A E : Type 0} (read : ℕ → List L → Result (List A) E) (most count : ℕ) (values : List A) (left lines : List L)
     → values ≡ [] → count ≡ 0 → left ≡ lines → with_first values (read (most - count) left) ≡ read most lines
 with_first-start read most count values left lines none zeroth all =
     let nothing_less : most - count ≡ most = omega (arith, zeroth) in
     rw (none, nothing_less, all) (with_first-none (read most lines))
 
--- what is read in all, where these events are above the lines
+-- what is read in all, if these events come before the lines
 unfoldable pub read_on : List Event → ℕ → Bool → List (ℕ × List ℕ) → Result (List Event) ScriptError
 read_on events count restarts lines = with_first events (values_or_fault (readings (MAX_EVENTS - count) restarts lines))
 
--- with no event above, it is what all lines give
+-- with no event before, it is what all lines give
 pub read_on-start : (events : List Event) (count : ℕ) (restarts : Bool) (left lines : List (ℕ × List ℕ))
     → events ≡ [] → count ≡ 0 → left ≡ lines
     → read_on events count restarts left ≡ values_or_fault (readings MAX_EVENTS restarts lines)
@@ -42,7 +42,7 @@ readings-end : (most : ℕ) (restarts : Bool) → readings most restarts [] ≡ 
 readings-end zero restarts = refl
 readings-end (suc most) restarts = refl
 
--- with no line left, it is the events above
+-- with no line left, it is the events before
 pub read_on-end : (events : List Event) (count : ℕ) (restarts : Bool) → read_on events count restarts [] ≡ Ok events
 unfolding read_on
 read_on-end events count restarts = rw (readings-end (MAX_EVENTS - count) restarts) (ap Ok (append-nil events))
@@ -68,7 +68,7 @@ unfolding read_on
 read_on-fault events count restarts left line lines fault first few gives =
     rw (first, readings-first count restarts line lines few, gives) refl
 
--- a line below as many events as a script may have ends it
+-- a line after the most events that a script may have ends the reading
 pub read_on-full : (events : List Event) (count : ℕ) (restarts : Bool) (left : List (ℕ × List ℕ)) (line : ℕ × List ℕ) (lines : List (ℕ × List ℕ))
     → left ≡ line ∷ lines → count ≡ MAX_EVENTS
     → read_on events count restarts left ≡ Err (TooManyEvents line.0)
@@ -109,7 +109,7 @@ same_line restarts number above line (Some other) step read is same =
     let step_is : other ≡ step = cc is in
     rw (← same, ← step_is) (sym (read number))
 
--- lines that give these events are above the lines that are left
+-- lines that give these events come before the lines that remain
 pub record HaveRead (restarts : Bool) (all left : List (ℕ × List ℕ)) (events : List Event) : Type 0 where
   pub above : List (ℕ × List ℕ)
   pub all_are : all ≡ above ++ left
@@ -158,7 +158,7 @@ readings-few : (restarts : Bool) (lines : List (ℕ × List ℕ)) → length lin
     → readings MAX_EVENTS restarts lines ≡ map (event_at restarts) lines
 readings-few restarts lines few = rw (take_all MAX_EVENTS lines few, drop_all MAX_EVENTS lines few) (append-nil (map (event_at restarts) lines))
 
--- where at most `MAX_EVENTS` lines have given events, those lines are a good front
+-- if at most `MAX_EVENTS` lines have given events, those lines are a good front
 pub good_front : (restarts : Bool) (lines : List (List ℕ)) (left : List (ℕ × List ℕ)) (events : List Event)
     → HaveRead restarts (numbered 2 lines) left events → length events ≤ MAX_EVENTS → events ≢ []
     → HaveGoodFront restarts lines

@@ -2,7 +2,7 @@ use Rattle.fio_world.proofs.Names.{◌≡◌, ℕ, ◌+◌, ◌<◌, ◌≤◌, 
 use Rattle.std.proofs.Math.ListN.{get_or-map}
 use Rattle.fio_world.specs.declared.outcome.Outcome.{Outcome}
 
--- after so many of these events the world shows a machine, and what is reported from it on completes this text to the report
+-- after some of these events the world shows a machine, and what is reported from it on completes this text to the report
 pub record ReportGoesOn (settings : Settings) (first : ℕ) (events : List Event) (report : Report) (text : List ℕ) (place : ℕ) (world : Ends) : Type 0 where
   pub machine : Machine
   pub shown : ShowsMachine settings first machine world
@@ -48,7 +48,7 @@ refusal_in-error_of (NotSent index) = refl
 refusal_in-error_of (OutOfOrder index last) = refl
 refusal_in-error_of PollIsOurs = refl
 
--- where the machine refuses an event, the report ends with its line
+-- if the machine refuses an event, the report ends with its line
 ends_refused : (number : ℕ) (text whole line : List ℕ) (reason : Option Refusal) (rest report : Report) (takes : Type 0) (fault : WorldError)
     → IsFault reason takes fault → IsSomeAnd (refusal_in fault) (λ r. whole ≡ text ++ refused_line number r)
     → after_text text (unless_refused number reason line rest) ≡ report

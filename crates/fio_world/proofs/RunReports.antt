@@ -19,7 +19,7 @@ ending_from settings first number machine [] last leads = ([], rw leads refl)
 ending_from settings first number machine (event ∷ events) last leads =
     rw leads.0 (EndsWith-after _ _ _ (ending_from settings first (number + 1) (after settings first machine event) events last leads.1))
 
--- what is reported is good only where no event is refused
+-- what is reported is good only if no event is refused
 not_refused : (number : ℕ) (reason : Option Refusal) (line : List ℕ) (rest : Report)
     → (unless_refused number reason line rest).good ≡ true → (reason ≡ None) × (rest.good ≡ true)
 not_refused number None line rest good = (refl, good)

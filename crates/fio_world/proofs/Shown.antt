@@ -24,7 +24,7 @@ use Rattle.fio_link.specs.declared.event.Event.TheVariants as events
 use Rattle.fio_world.specs.declared.outcome.Outcome.TheVariants as outcomes
 use Rattle.fio_world.specs.declared.outcome.WorldError.TheVariants as errors
 
--- the frame with a number, and its octets where the octets of all frames are listed
+-- the frame with a number, and its octets in the list of the octets of all frames
 item_numbered-map : (frames : List SentFrame) (index : ℕ) → item_numbered (map octets_sent frames) index ≡ option_map octets_sent (item_numbered frames index)
 item_numbered-map frames zero = refl
 item_numbered-map frames (suc place) = slice_get-map octets_sent frames place
@@ -53,7 +53,7 @@ polling-next first machine last (Some block) = by_test (block.number == number_o
     by_test true = ap (λ n. record { number = n; items = machine.items ++ items_of_block block }) next
     by_test false = refl
 
--- the octets of a reply, where there is one
+-- the octets of a reply, if there is one
 abbrev pub reply_octets : Option Answer → List (List ℕ)
 reply_octets None = []
 reply_octets (Some answer) = answer_octets answer ∷ []
@@ -260,7 +260,8 @@ leads-push : (settings : Settings) (first : ℕ) (from to : Machine) (done : Lis
 leads-push settings first from to [] event is fine = subst (λ m. Leads settings first m (event ∷ []) (after settings first to event)) is (fine, refl)
 leads-push settings first from to (e ∷ done) event is fine = (is.0, leads-push settings first (after settings first from e) to done event is.1 fine)
 
--- a world that stands for some events stands, after one more, for these and that one, or for these if it was refused
+-- if a world has been through some events, then after one more it has been through these and that one, or only through these
+-- if it was refused
 pub stands_on : (settings : Settings) (first : ℕ) (done : List Event) (event : Event) (result : Result Outcome WorldError) (old new : Ends)
     → IsWorldAfter settings first done old
     → ((machine : Machine) → ShowsMachine settings first machine old → Happens settings first machine event result new)

@@ -1,4 +1,4 @@
--- What an event did, where a world holds the frames.
+-- What an event did, in terms of the frames that a world holds.
 use Rattle.std.specs.Prelude.{ℕ, List, [], Result, Ok, Err}
 use Rattle.std.specs.Option.{unwrap_or}
 use Rattle.fio_world.specs.declared.outcome.Outcome.{Outcome}
@@ -12,11 +12,11 @@ use Rattle.fio_link.specs.Link.{Machine, item_numbered}
 use Rattle.fio_world.specs.Ends.{Ends}
 use Rattle.fio_world.specs.Worlds.{ShowsMachine, Happens}
 
--- the octets of the frame with this number, or none
+-- the octets of the frame with this number, or none if there is no such frame
 abbrev pub octets_numbered : List (List ℕ) → ℕ → List ℕ
 octets_numbered frames index = unwrap_or (item_numbered frames index) []
 
--- the outcome that this is, in a world that holds the frame
+-- the outcome that an effect is, in a world that holds the frame
 abbrev pub outcome_in : Ends → Effect → Outcome
 outcome_in world (ToModule index) =
     outcomes.Sent index (record { items = octets_numbered world.to_module index })
@@ -25,12 +25,12 @@ outcome_in world (ToCpu index) =
 outcome_in world (Heard heard) = outcomes.Heard heard
 outcome_in world Quiet = outcomes.Quiet
 
--- the same of a result
+-- the outcome or the fault that a result is, in such a world
 abbrev pub result_in : Ends → Result Effect WorldError → Result Outcome WorldError
 result_in world (Ok effect) = Ok (outcome_in world effect)
 result_in world (Err fault) = Err fault
 
--- an event happens to a world as to each machine that the world shows
+-- An event happens to a world as it happens to each machine that the world shows.
 abbrev pub HappensTo : Event → Ends → Result Effect WorldError → Ends → Type 0
 HappensTo event world result new =
     (settings : Settings) (first : ℕ) (machine : Machine) → ShowsMachine settings first machine world

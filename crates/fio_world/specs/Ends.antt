@@ -1,10 +1,9 @@
--- What a contract sees of a world: both ends, the octets of all frames ever sent, and the numbers
--- delivered last.
+-- A world, as contracts describe it.
 use Rattle.std.specs.Prelude.{ℕ, List}
 use Rattle.fio_module.specs.declared.module.Module.{Module}
 use Rattle.fio_cpu.specs.Poller.{Polling}
 
--- what a contract sees of a world: its two ends and the frames between them
+-- the two ends of a world and the frames between them
 pub record Ends : Type 0 where
   pub module_end : Module
   pub poller_end : Polling

@@ -1,4 +1,4 @@
--- The words of faults and of refusals, with decimal numbers (own profile).
+-- The texts of faults and of refusals, with decimal numbers (own profile).
 use Rattle.std.specs.Prelude.{ℕ, List, ◌++◌, codes, decimal}
 use Rattle.fio_message.specs.Texts.{fault_text, memory_text}
 use Rattle.fio_link.specs.Link.{Refusal, NotSent, OutOfOrder, PollIsOurs}
@@ -22,7 +22,7 @@ world_error_text (errors.OutOfOrder index last) = refusal_text (OutOfOrder index
 world_error_text errors.PollIsOurs = refusal_text PollIsOurs
 world_error_text errors.Memory = memory_text
 
--- why a run stopped behind so many events
+-- why a run stopped after `place` events
 abbrev pub run_error_text : ℕ → WorldError → List ℕ
 run_error_text place fault = codes "after " ++ (decimal place ++ (codes " events: " ++ world_error_text fault))
 

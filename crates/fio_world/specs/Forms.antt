@@ -1,23 +1,23 @@
--- Forms of lines: what a line is read as, and else the next form.
+-- Forms of lines: how a line is read, and otherwise the next form to try.
 use Rattle.std.specs.Prelude.{ℕ, List, Option, Some, None, option_and_then, if◌then◌else◌}
 use Rattle.std.specs.Option.{option_map_or}
 use Rattle.std.specs.Str.{bytes_eq}
 use Rattle.fio_text.specs.Words.{after_prefix, halves_of}
 
--- the line is these words and nothing more
+-- if the line is exactly these words, this value; otherwise the next form
 abbrev pub exactly : {A : Type 0} → List ℕ → Option A → List ℕ → Option A → Option A
 exactly words value line other = if bytes_eq line words then value else other
 
--- the line begins so, and what is after it is read so
+-- if the line begins with this beginning, what is read from the rest; otherwise the next form
 abbrev pub begins : {A : Type 0} → List ℕ → (List ℕ → Option A) → List ℕ → Option A → Option A
 begins beginning read line other = option_map_or read (after_prefix beginning line) other
 
--- two values as a pair, where there are both
+-- two values as a pair, if both are present
 abbrev pub pair_of : {A B : Type 0} → Option A → Option B → Option (A × B)
 pair_of (Some left) (Some right) = Some (left, right)
 pair_of left right = None
 
--- a word that is read so, a blank, and what is read so
+-- a word read one way, a blank, and the rest read another way
 abbrev pub both : {A B : Type 0}
     → (List ℕ → Option A) → (List ℕ → Option B) → List ℕ → Option (A × B)
 both left right words =

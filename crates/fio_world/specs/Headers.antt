@@ -1,11 +1,11 @@
--- A script's first line, in three versions.
+-- The first line of a script, in three versions.
 use Rattle.std.specs.Prelude.{ℕ, Bool, true, false, List, Option, Some, None, option_map, option_and_then, codes, if◌then◌else◌}
 use Rattle.fio_module.specs.Limits.{Limits, standard_limits, are_limits}
 use Rattle.fio_world.specs.declared.script.header.Header.{Header}
 use Rattle.fio_world.specs.Forms.{begins, both}
 use Rattle.fio_text.specs.Words.{number_in, small_number_in}
 
--- the limits with these two numbers, where they are limits
+-- the limits with these two numbers, if they are within range
 abbrev pub limits_with : ℕ × ℕ → Option Limits
 limits_with numbers =
     if are_limits numbers.0 numbers.1
@@ -26,7 +26,7 @@ standard_header restarts words =
       restarts = restarts;
     }) (both small_number_in small_number_in words)
 
--- B B N N: the same, then the limits
+-- B B N N: the identification octet and the first number as above, then the limits
 abbrev pub limited_header : List ℕ → Option Header
 limited_header words =
     option_map (λ numbers. record {
@@ -36,7 +36,7 @@ limited_header words =
       restarts = true;
     }) (both small_number_in (both small_number_in limits_in) words)
 
--- the header that a line is
+-- the header that a line is, if it is one
 abbrev pub header_of : List ℕ → Option Header
 header_of line =
     begins (codes "fio2070 script 1 ") (standard_header false) line

@@ -9,7 +9,7 @@ pub mod Scripts
 pub mod Faults
 pub mod ReportLines
 pub mod Reports
--- what contracts see of a world
+-- how contracts describe a world
 pub mod EndToEnd
 pub mod Ends
 pub mod Worlds

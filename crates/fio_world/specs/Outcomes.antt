@@ -16,11 +16,11 @@ use Rattle.fio_world.specs.declared.outcome.WorldError.{WorldError}
 use Rattle.fio_world.specs.declared.outcome.WorldError.TheVariants as errors
 use Rattle.fio_link.specs.Link.{Machine, SentFrame, Refusal, NotSent, OutOfOrder, PollIsOurs, number_of, item_numbered}
 
--- a frame was sent after so many others
+-- the outcome when a frame is sent after `count` others
 abbrev pub sent_after : ℕ → List ℕ → Outcome
 sent_after count octets = outcomes.Sent (count + 1) (record { items = octets })
 
--- the outcome where the module replies so, after so many answers
+-- the outcome when the module gives this reply, after `count` answers
 abbrev pub replied_after : ℕ → Option Answer → Outcome
 replied_after count None = outcomes.Quiet
 replied_after count (Some answer) = sent_after count (answer_octets answer)
@@ -31,7 +31,7 @@ received_outcome settings machine None = outcomes.Quiet
 received_outcome settings machine (Some frame) =
     replied_after (length machine.to_cpu) (reply_to settings machine.history frame.octets)
 
--- what the CPU makes of this frame, where its number is this one
+-- the outcome when a CPU with this number hears this frame
 abbrev pub heard_outcome : ℕ → Option SentFrame → Outcome
 heard_outcome number None = outcomes.Quiet
 heard_outcome number (Some frame) = outcomes.Heard (heard_as number (decoded_answer frame.octets))

@@ -18,7 +18,7 @@ use Rattle.fio_show.specs.HeardWords.{heard_text}
 
 -- ---- one event
 
--- what the CPU made of a frame
+-- how the CPU responded to a frame
 abbrev pub heard_line : ℕ → Heard → List ℕ
 heard_line number heard = decimal number ++ (codes " " ++ (heard_text heard ++ codes "\n"))
 
@@ -34,7 +34,7 @@ outcome_line number outcomes.Quiet = decimal number ++ codes " quiet\n"
 outcome_line number (outcomes.Sent index frame) = sent_line number index frame.items
 outcome_line number (outcomes.Heard heard) = heard_line number heard
 
--- the refusal that a fault reports, unless it is out of memory
+-- the refusal that a fault reports, unless the fault is that memory ran out
 abbrev pub refusal_in : WorldError → Option Refusal
 refusal_in (errors.NotSent index) = Some (NotSent index)
 refusal_in (errors.OutOfOrder index last) = Some (OutOfOrder index last)
@@ -56,12 +56,12 @@ count_lines counter number waiting items =
     ++ (codes "\nwaiting " ++ (decimal waiting
     ++ (codes "\nrecord " ++ (decimal items ++ codes "\n")))))))
 
--- the same, and the record
+-- the same four lines, and the record
 abbrev pub ending_lines : ℕ → ℕ → ℕ → List Item → List ℕ
 ending_lines counter number waiting items =
     count_lines counter number waiting (length items) ++ flat_map item_line items
 
--- how a run has ended that leads to this machine
+-- how a run that leads to this machine has ended
 abbrev pub ending_text : Settings → ℕ → Machine → List ℕ
 ending_text settings first machine =
     ending_lines (counter_of (life_of machine.history)) (number_of first machine.round)

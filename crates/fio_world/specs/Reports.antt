@@ -1,4 +1,4 @@
--- The report of a script: a line for each event of its run, and then how it ended.
+-- The report of a script: a line for each event of its run, and then how the run ended.
 use Rattle.std.specs.Prelude.{◌≡◌, ℕ, ◌+◌, Bool, true, false, List, [], ◌∷◌, ◌++◌, Option, Some, None}
 use Rattle.fio_module.specs.Settings.{Settings}
 use Rattle.fio_link.specs.declared.event.Event.{Event}
@@ -12,17 +12,17 @@ pub record Report : Type 0 where
   pub text : List ℕ
   pub good : Bool
 
--- the same with this text in front
+-- a report with this text put in front
 abbrev pub after_text : List ℕ → Report → Report
 after_text text rest = record { text = text ++ rest.text; good = rest.good }
 
--- an event that is refused has the last line; else its line is above what follows
+-- the report from an event on: if the event is refused, its line is the last; otherwise its line is put before what follows
 abbrev pub unless_refused : ℕ → Option Refusal → List ℕ → Report → Report
 unless_refused number None line rest = after_text line rest
 unless_refused number (Some reason) line rest =
     record { text = refused_line number reason; good = false }
 
--- what is reported of these events from a machine on, the first of which has this number
+-- what is reported of these events from a machine on; the first of them has this number
 abbrev pub report_from : Settings → ℕ → ℕ → Machine → List Event → Report
 report_from settings first number machine [] =
     record { text = ending_text settings first machine; good = true }
@@ -41,8 +41,7 @@ report_of scenario = report_from scenario.settings scenario.first 1 start scenar
 abbrev pub EndsWith : List ℕ → List ℕ → Type 0
 EndsWith text lines = (before : List ℕ) × (text ≡ before ++ lines)
 
--- where all events of a script are done, its report is good and ends with how the run has ended;
--- and a report is good only there
+-- if all events of a script are done, its report is good and ends with how the run has ended; and a report is good only then
 pub record GoodReportIsOfWholeRun (scenario : Scenario) : Type 0 where
   pub good :
       (machine : Machine) → IsRun scenario.settings scenario.first scenario.events machine →

@@ -1,4 +1,4 @@
--- Scripts: the first line is a header, and each further line that says something is an event.
+-- Scripts: the first line is a header, and each further line that has content is an event.
 use Rattle.std.specs.Prelude.{◌≡◌, ◌≢◌, ℕ, Bool, List, [], ◌∷◌, ◌++◌, map, take, drop, Option, Some, None, Result, Ok, Err}
 use Rattle.fio_module.specs.Limits.{Limits}
 use Rattle.fio_module.specs.Settings.{Settings, settings_with}
@@ -13,23 +13,22 @@ use Rattle.fio_world.specs.declared.script.header.Header.{Header}
 use Rattle.fio_text.specs.Lines.{lines_of, numbered}
 use Rattle.fio_world.specs.declared.script.events.TheConstants.{MAX_EVENTS}
 
--- what a module and a CPU are made with, and what then happens
+-- what a module and a CPU are made with, and what happens then
 pub record Scenario : Type 0 where
   pub settings : Settings
   pub first : ℕ
   pub events : List Event
 
--- what each of these numbered lines gives, of which so many may be events
+-- how each of these numbered lines reads, if at most `most` may be events
 abbrev pub readings : ℕ → Bool → List (ℕ × List ℕ) → List (Result Event ScriptError)
 readings most restarts lines =
     map (event_at restarts) (take most lines) ++ map too_many_at (drop most lines)
 
--- the events of the lines below a header, 10,000 at most, or the fault of the first faulty line
+-- the events of the lines after a header, 10,000 at most, or the fault of the first faulty line
 abbrev pub script_events : Bool → List (List ℕ) → Result (List Event) ScriptError
 script_events restarts lines = values_or_fault (readings MAX_EVENTS restarts (numbered 2 lines))
 
--- a module with this identification and these limits, a CPU with this first number, and what then
--- happens
+-- the scenario of a module with this identification and these limits, a CPU with this first number, and these events
 abbrev pub scenario_with : ℕ → ℕ → Limits → List Event → Scenario
 scenario_with id first limits events = record {
   settings = settings_with id limits;
@@ -37,21 +36,21 @@ scenario_with id first limits events = record {
   events = events;
 }
 
--- what a header says, and what happens below it
+-- the scenario of a header and the events after it
 abbrev pub scenario_below : Header → List Event → Scenario
 scenario_below header events = scenario_with header.id header.first header.limits events
 
--- the script with this header and these events, or the fault of a line of events
+-- the script with this header and these events, or the fault of the first faulty line of events
 abbrev pub with_events : Header → Result (List Event) ScriptError → Result Scenario ScriptError
 with_events header (Ok events) = Ok (scenario_below header events)
 with_events header (Err fault) = Err fault
 
--- the script that lines spell below this header, if it is one
+-- the script that this header and the lines after it spell, if they spell one
 abbrev pub below : Option Header → List (List ℕ) → Result Scenario ScriptError
 below None lines = Err BadHeader
 below (Some header) lines = with_events header (script_events header.restarts lines)
 
--- the script that lines spell: a header, and the events below it
+-- the script that lines spell: a header, and events after it
 abbrev pub scenario_in : List (List ℕ) → Result Scenario ScriptError
 scenario_in [] = Err BadHeader
 scenario_in (header ∷ lines) = below (header_of header) lines
@@ -60,20 +59,19 @@ scenario_in (header ∷ lines) = below (header_of header) lines
 abbrev pub script_in : List ℕ → Result Scenario ScriptError
 script_in text = scenario_in (lines_of text)
 
--- The first of these lines, through some event, are a script: only below such lines can memory run
--- out.
+-- The first of these lines, up to some event, are a script: memory can run out only after such lines.
 abbrev pub HasGoodFront : List (List ℕ) → Type 0
 HasGoodFront lines =
     (count : ℕ) × (scenario : Scenario) × (scenario_in (take count lines) ≡ Ok scenario)
     × (scenario.events ≢ [])
 
--- the same of the lines below a header
+-- the first of these lines, after a header, up to some event are events
 abbrev pub HaveGoodFront : Bool → List (List ℕ) → Type 0
 HaveGoodFront restarts lines =
     (count : ℕ) × (events : List Event) × (script_events restarts (take count lines) ≡ Ok events)
     × (events ≢ [])
 
--- a script, wherever its events lie in memory
+-- the scenario of a script, wherever its events lie in memory
 abbrev pub scenario_of : Script → Scenario
 scenario_of script = scenario_with script.id script.first script.limits script.events.items
 

@@ -1,4 +1,4 @@
--- Steps of a script, and the events that they are.
+-- Steps of a script, and the events that they represent.
 use Rattle.std.specs.Prelude.{Result, Ok, Err}
 use Rattle.fio_message.specs.declared.commands.Command.{Command}
 use Rattle.fio_link.specs.declared.event.Event.{Event}
@@ -9,11 +9,11 @@ use Rattle.fio_world.specs.declared.script.command_word.CommandWord.{CommandWord
 use Rattle.fio_world.specs.declared.script.steps.ScriptStep.{ScriptStep}
 use Rattle.fio_world.specs.declared.script.steps.ScriptStep.TheVariants as steps
 
--- the command that a word names
+-- the command that a word denotes
 abbrev pub command_of : CommandWord → Command
 command_of word = command_found (command_named word.word.now) word.is_command
 
--- the event that a step is
+-- the event that a step represents
 abbrev pub event_of : ScriptStep → Event
 event_of (steps.Scan raw) = events.Scan raw
 event_of steps.LineSync = events.LineSync

@@ -22,7 +22,7 @@ use Rattle.fio_world.specs.Outcomes.{outcome_of, error_of}
 abbrev pub octets_sent : SentFrame → List ℕ
 octets_sent frame = frame.octets
 
--- the world shows what the machine has, but for the rounds
+-- the world shows everything of the machine except the rounds
 pub record ShowsMachine (settings : Settings) (first : ℕ) (machine : Machine) (world : Ends) : Type 0 where
   pub history : modules.IsModuleAfter settings world.module_end machine.history
   pub polling : world.poller_end ≡ polling_of first machine
@@ -33,13 +33,12 @@ pub record ShowsMachine (settings : Settings) (first : ℕ) (machine : Machine) 
 
 -- ---- one event
 
--- this frame carries a block that adds to the record
+-- this frame carries a block that adds to the CPU's record
 abbrev pub AddsFrom : Polling → Option SentFrame → Type 0
 AddsFrom polling None = ⊥
 AddsFrom polling (Some frame) = AddsItems polling (block_in frame.octets)
 
--- the event may take memory: one that sends a frame or may be answered, or a delivery that adds to
--- the record
+-- the event may allocate memory: it sends a frame, or may be answered, or is a delivery that adds to the record
 abbrev pub TakesMemory : ℕ → Machine → Event → Type 0
 TakesMemory first machine events.Poll = Unit {0}
 TakesMemory first machine (events.Send command) = Unit {0}
@@ -48,14 +47,13 @@ TakesMemory first machine (events.ToCpu index) =
     AddsFrom (polling_of first machine) (item_numbered machine.to_cpu index)
 TakesMemory first machine other = ⊥
 
--- the fault is the machine's refusal; where the machine does not refuse, an event that may allocate
--- ran out of memory
+-- the fault is the machine's refusal; if the machine does not refuse, memory ran out in an event that may allocate
 abbrev pub IsFault : Option Refusal → Type 0 → WorldError → Type 0
 IsFault None takes fault = (fault ≡ errors.Memory) × takes
 IsFault (Some refusal) takes fault = fault ≡ error_of refusal
 
--- what an event that is done gives: the machine does not refuse it, the outcome is exact, and the
--- world shows the machine after it
+-- what holds when an event is done: the machine does not refuse it, the outcome is exact, and the world shows the machine
+-- after it
 pub record IsDone (settings : Settings) (first : ℕ) (machine : Machine) (event : Event)
     (seen : Outcome) (world : Ends) : Type 0 where
   pub fine : refusal machine event ≡ None
@@ -72,7 +70,7 @@ Happens settings first machine event result world =
 
 -- ---- runs
 
--- the world shows the machine that these events lead to
+-- the world shows the machine to which these events lead
 pub record IsWorldAfter (settings : Settings) (first : ℕ) (events : List Event)
     (world : Ends) : Type 0 where
   pub in_range : AreInRange settings
@@ -80,8 +78,7 @@ pub record IsWorldAfter (settings : Settings) (first : ℕ) (events : List Event
   pub is_run : IsRun settings first events machine
   pub shown : ShowsMachine settings first machine world
 
--- the world shows the machine that these events lead to, and all that is promised of runs holds of
--- that machine
+-- the world shows the machine to which these events lead, and all that is promised of runs holds of that machine
 pub record IsSoundWorld (settings : Settings) (first : ℕ) (events : List Event)
     (world : Ends) : Type 0 where
   pub in_range : AreInRange settings
@@ -89,19 +86,18 @@ pub record IsSoundWorld (settings : Settings) (first : ℕ) (events : List Event
   pub sound : IsSoundRun settings first events machine
   pub shown : ShowsMachine settings first machine world
 
--- the events that have happened once one more was done or refused
+-- the events that have happened after one more was done or refused
 abbrev pub events_done : List Event → Event → Result Outcome WorldError → List Event
 events_done events event (Ok outcome) = events ++ event ∷ []
 events_done events event (Err fault) = events
 
--- the events that have happened once these were done too, or those of them above the first that was
--- not
+-- the events that have happened after these were done, or after those before the first that was not done
 abbrev pub all_done : List Event → List Event → Result Unit RunError → List Event
 all_done before events (Ok done) = before ++ events
 all_done before events (Err stopped) = before ++ take stopped.place events
 
--- After the events before, those of these above this place, from 0, were done, and the world shows
--- the machine that they lead to. The event at this place has this fault.
+-- After the events `before`, those of `events` before the index `place` were done, and the world shows the machine to which
+-- they lead. The event at this index has this fault.
 pub record HasStoppedAt (settings : Settings) (first : ℕ) (before events : List Event) (place : ℕ)
     (fault : WorldError) (world : Ends) : Type 0 where
   pub machine : Machine
@@ -111,8 +107,7 @@ pub record HasStoppedAt (settings : Settings) (first : ℕ) (before events : Lis
   pub here : slice_get events place ≡ Some event
   pub cause : IsFault (refusal machine event) (TakesMemory first machine event) fault
 
--- A run has stopped after so many events: there was no memory for a start, or the event at this
--- place has this fault.
+-- A run has stopped after `place` events: there was no memory to start it, or the event at this index has this fault.
 abbrev pub HasStopped : Settings → ℕ → List Event → ℕ → WorldError → Type 0
 HasStopped settings first events place fault =
     (place ≡ 0) × (fault ≡ errors.Memory)

@@ -1,15 +1,14 @@
 //! Both ends of the transition link and the bus between them, scripts, and the reports of their runs.
 //!
-//! What the crate above uses: a run is a run of the link machine of `fio_link`, and of each machine that a
-//! run leads to the headline and the other promises hold; a report is that of its script.
+//! What the crate above relies on: a run is a run of the link machine of `fio_link`, and for each machine to which a run
+//! leads, the headline and the other promises hold; a report is that of its script.
 //!
-//! The definitions are in `specs/`, in this order. What happens: the outcome of an event (`Outcomes`). What
-//! is read and written, over the lines, words and digits of `fio_text`: forms of lines (`Forms`), a
-//! script's first line (`Headers`), its further lines (`EventLines`), the steps that they are kept as
-//! (`Steps`), scripts (`Scripts`), the words of faults (`Faults`), the lines of a report (`ReportLines`),
-//! reports (`Reports`). What contracts see of a world: frames that are end to end (`EndToEnd`), both ends
-//! (`Ends`), how a world shows the machine (`Worlds`), and what an event did (`Effects`). The laws are the
-//! contracts of the module `laws`.
+//! The definitions are in `specs/`, in this order. What happens: the outcome of an event (`Outcomes`). What is read and
+//! written, based on the lines, words and digits of `fio_text`: forms of lines (`Forms`), the first line of a script
+//! (`Headers`), its further lines (`EventLines`), the steps in which they are kept (`Steps`), scripts (`Scripts`), the texts
+//! of faults (`Faults`), the lines of a report (`ReportLines`), reports (`Reports`). How contracts describe a world: frames
+//! stored end to end (`EndToEnd`), both ends (`Ends`), how a world shows the machine (`Worlds`), and what an event did
+//! (`Effects`). The laws are the contracts of the module `laws`.
 //!
 //! # Examples
 //!

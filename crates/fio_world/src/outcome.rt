@@ -29,17 +29,17 @@ pub enum Outcome {
 pub enum WorldError {
     /// No frame with this number was sent in that direction: it is 0, or above the number sent.
     NotSent {
-        /// The number that was asked for.
+        /// The number in the delivery.
         index: usize,
     },
     /// A frame with a higher number was delivered in that direction already.
     OutOfOrder {
-        /// The number that was asked for.
+        /// The number in the delivery.
         index: usize,
         /// The number that was delivered last.
         last: usize,
     },
-    /// A poll was given to be sent: polls are sent by `Event::Poll` alone.
+    /// The command to send is a poll: only `Event::Poll` sends polls.
     PollIsOurs,
     /// There was no memory for what the event adds.
     Memory,
@@ -63,9 +63,9 @@ impl Display for WorldError {
 /// What stopped a run.
 #[derive(Clone, Copy, Debug, PartialEq, Eq, Hash, Error)]
 pub struct RunError {
-    /// How many events were done; 0 also where there was no memory for a start.
+    /// How many events were done; 0 also if there was no memory to start.
     pub place: usize,
-    /// Why the next one was not.
+    /// Why the next event was not done.
     pub fault: WorldError,
 }
 

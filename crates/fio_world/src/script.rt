@@ -1,4 +1,4 @@
-//! Scripts: what they are, why a text is none, and how a text is read as one.
+//! Scripts: what they are, why a text is not one, and how a text is read as one.
 ghost use Rattle.std.specs.Prelude.{◌≡◌, ◌≢◌, [], map, Ok, Some, IfOk, IfErr, OnErr};
 ghost use Rattle.fio_world.specs.Faults.{script_error_text};
 ghost use Rattle.fio_text.specs.Lines.{lines_of};
@@ -24,7 +24,7 @@ use std::fmt;
 use std::fmt::{Display, Formatter};
 use thiserror::Error;
 
-/// What a module and a CPU are made with, and what then happens.
+/// What a module and a CPU are made with, and what happens then.
 #[derive(Debug, Drop)]
 pub struct Script {
     /// The module's identification octet.
@@ -37,13 +37,13 @@ pub struct Script {
     pub events: Vec<Event>,
 }
 
-/// Why a text is no script. The first faulty line decides, and on one line the first of these that
-/// applies (own profile). Lines count from 1.
+/// Why a text is not a script: the fault of the first faulty line, and for one line the first of these that applies (own
+/// profile). Lines count from 1.
 #[derive(Clone, Copy, Debug, PartialEq, Eq, Hash, Error)]
 pub enum ScriptError {
-    /// The first line is no header of a version that there is, or there is no line.
+    /// The first line is not a header of a known version, or there is no line.
     BadHeader,
-    /// 10,000 events are above the line, whatever it holds.
+    /// 10,000 events come before the line, whatever it holds.
     TooManyEvents {
         /// The number of the line.
         line: usize,
@@ -101,8 +101,8 @@ impl<T: Drop> From<AllocFailed<T>> for ScriptError {
 /// Returns the script that a text spells.
 ///
 /// # Errors
-/// The fault of the first faulty line; `Memory` where the list of events had to grow above it and no
-/// room was given. The line at which that was, and all lines above it, are good.
+/// The fault of the first faulty line; `Memory` if the list of events had to grow before that line and there was no memory.
+/// The line at which that happened, and all lines before it, are good.
 pub fn read_script(alloc: Global, text: &[u8]) -> Result<Script, ScriptError>
     ensures ok { IfOk result (λ script. script_in text.now ≡ Ok (scenario_of script)) }
     ensures err { IfErr result (λ fault. fault ≢ ScriptError.Memory
@@ -145,7 +145,7 @@ pub(crate) fn read_header_and_steps(
     Ok((header, steps))
 }
 
-/// Returns the events that steps are.
+/// Returns the events that steps represent.
 fn events_of(alloc: Global, steps: &[ScriptStep<'_>]) -> Result<Vec<Event>, Memory>
     ensures ok { IfOk result (λ events. events.items ≡ map event_of steps.now) }
     ensures err { OnErr result (steps.now ≢ []) }

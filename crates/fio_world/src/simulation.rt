@@ -1,4 +1,4 @@
-//! Runs of scripts, and what is reported of them.
+//! Runs of scripts, and the reports on them.
 ghost use Rattle.std.specs.Prelude.{◌≡◌, ◌≢◌, ◌⊎◌, ◌++◌, ℕ, Err, map, IfOk, IfErr, OnOk, IsOkAnd};
 ghost use Rattle.fio_module.specs.Settings.{Settings};
 ghost use Rattle.fio_world.specs.Effects.{outcome_in};
@@ -20,12 +20,11 @@ use fio_module::Limits;
 use fio_text::Report;
 use std::alloc::{AllocError, Global};
 
-/// Runs a script, and reports the outcome of each event: a line for each, and below the last one the
-/// module's counter, the CPU's number, how many entries wait, and the record. An event that is refused
-/// has the last line, and is a fault.
+/// Runs a script, and reports the outcome of each event: a line for each, and after the last one the module's counter, the
+/// CPU's number, how many entries wait, and the record. If an event is refused, its line is the last, and is a fault.
 ///
 /// # Errors
-/// `Memory` where there was none for the run or for the text.
+/// `Memory` if there was none for the run or for the text.
 pub fn report(alloc: Global, script: &Script) -> Result<Report, Memory>
     ensures text { IfOk result (λ report.
         report.text.items ≡ (report_of (scenario_of script.now)).text) }
@@ -41,12 +40,12 @@ pub fn report(alloc: Global, script: &Script) -> Result<Report, Memory>
     )
 }
 
-/// Returns the report of the script that a text spells: `read_script` and `report` in one, without a list of
-/// events. It reads the whole text before it runs anything.
+/// Returns the report of the script that a text spells: `read_script` and `report` in one, without a list of events. It
+/// reads the whole text before it runs anything.
 ///
 /// # Errors
-/// The fault of the text's first faulty line; `Memory` where there was none for the steps of the
-/// script, for the run or for the report.
+/// The fault of the text's first faulty line; `Memory` if there was none for the steps of the script, for the run or for the
+/// report.
 pub fn report_text(alloc: Global, text: &[u8]) -> Result<Report, ScriptError>
     ensures ok { IfOk result (λ report. IsOkAnd (script_in text.now) (λ scenario.
         (report.text.items ≡ (report_of scenario).text)
@@ -69,7 +68,7 @@ pub fn report_text(alloc: Global, text: &[u8]) -> Result<Report, ScriptError>
     }
 }
 
-/// Returns the report of what happens to a module and a CPU that are made so.
+/// Returns the report of what happens to a module and a CPU with these settings.
 fn report_run<T: WorldEvent>(
     alloc: Global,
     id: u8,
@@ -108,8 +107,7 @@ fn report_on<T: WorldEvent>(
     Ok(Report { text, good })
 }
 
-/// Appends the lines of what happens to a world and of how that ends, and returns whether no event is
-/// refused.
+/// Appends the lines of what happens to a world and of how that ends, and returns whether no event was refused.
 // Inlined, so that the world stays a local of the run.
 #[inline(always)]
 fn push_run<T: WorldEvent>(

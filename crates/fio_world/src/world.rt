@@ -23,8 +23,8 @@ use fio_module::{Limits, Module};
 use std::alloc::Global;
 use std::marker::Model;
 
-/// A module, a CPU's poller, and the bus: all frames ever sent in each direction, numbered from 1,
-/// with the number delivered last (own profile). No memory is given back while it lives.
+/// A module, a CPU's poller, and the bus: all frames ever sent in each direction, numbered from 1, with the number delivered
+/// last (own profile). It releases no memory while it lives.
 #[derive(Drop)]
 pub struct World {
     module: Module,
@@ -55,17 +55,17 @@ impl World {
     /// the limits of TEES 2009, and a CPU with this first block number.
     ///
     /// # Errors
-    /// `Memory` where there is none for the module's waiting entries.
+    /// `Memory` if there is none for the module's waiting entries.
     pub fn new(alloc: Global, id: u8, first: u8) -> Result<World, Memory>
         ensures { IfOk result (λ world. IsSoundWorld (standard_settings id) first [] world) }
     {
         World::with_limits(alloc, id, first, Limits::STANDARD)
     }
 
-    /// Like `new`, with a module of these limits.
+    /// Returns a world as `new` does, with a module of these limits.
     ///
     /// # Errors
-    /// `Memory` where there is none for the module's waiting entries.
+    /// `Memory` if there is none for the module's waiting entries.
     pub fn with_limits(alloc: Global, id: u8, first: u8, limits: Limits) -> Result<World, Memory>
         ensures { IfOk result (λ world. IsSoundWorld (settings_with id limits) first [] world) }
     {
@@ -79,12 +79,11 @@ impl World {
         })
     }
 
-    /// Makes a new world and lets these events happen to it in order. It stops at the first that is
-    /// refused.
+    /// Makes a new world and applies these events to it in order, up to the first that is refused.
     ///
     /// # Errors
-    /// How many events were done, and why the next one was not; with 0 events done, `Memory` also
-    /// where there was none for a start.
+    /// How many events were done, and why the next one was not; with 0 events done, also `Memory` if there was none to
+    /// start.
     pub fn run(alloc: Global, id: u8, first: u8, events: &[Event]) -> Result<World, RunError>
         ensures ok { IfOk result (λ world.
             IsSoundWorld (standard_settings id) first events.now world) }
@@ -96,7 +95,7 @@ impl World {
         World::run_with_limits(alloc, id, first, Limits::STANDARD, events)
     }
 
-    /// Like `run`, with a module of these limits.
+    /// Makes a new world and applies events as `run` does, with a module of these limits.
     ///
     /// # Errors
     /// Those of `run`.
@@ -124,15 +123,14 @@ impl World {
         Ok(world)
     }
 
-    /// Lets one event happen, or refuses it and changes nothing, so that it may be tried again.
+    /// Applies one event, or refuses it and changes nothing, so that it may be tried again.
     ///
     /// # Errors
-    /// The first that applies: `NotSent` for a delivery of a frame that was not sent, `OutOfOrder`
-    /// for one of a frame before that delivered last, `PollIsOurs` for a poll given to be sent,
-    /// and `Memory` where there is none. `Scan`, `LineSync`, `Raise`, `Restart` and a delivery to
-    /// the CPU that adds nothing to the record take no memory. A delivery to the module asks for
-    /// the place of its answer before the module receives the frame.
-    // Inlined, so that a caller who reads no frame pays for none.
+    /// The first that applies: `NotSent` for a delivery of a frame that was not sent, `OutOfOrder` for a delivery of a frame
+    /// before the one delivered last, `PollIsOurs` if the command to send is a poll, and `Memory` if there is none. `Scan`,
+    /// `LineSync`, `Raise`, `Restart` and a delivery to the CPU that adds nothing to the record allocate nothing. A delivery
+    /// to the module reserves room for its answer before the module receives the frame.
+    // Inlined, so that a caller who reads no frame does not pay for one.
     #[inline(always)]
     pub fn step(&mut self, event: &Event) -> Result<Outcome, WorldError>
         ensures row { (settings : Settings) (first : ℕ) (machine : Machine)
@@ -153,8 +151,8 @@ impl World {
         }
     }
 
-    /// Lets these events happen in order, up to the first that is refused. What was done stays, and
-    /// the events from that place on may be tried again.
+    /// Applies these events in order, up to the first that is refused. What was done stays, and the events from that one on
+    /// may be tried again.
     ///
     /// # Errors
     /// How many of these events were done, and why the next one was not: the errors of `step`.
@@ -192,36 +190,35 @@ impl World {
         &self.poller
     }
 
-    /// Returns how many frames were ever sent to the module.
+    /// Returns how many frames have been sent to the module.
     pub fn sent_to_module(&self) -> usize
         ensures { result ≡ length self.now.to_module }
     {
         self.to_module.len()
     }
 
-    /// Returns how many frames were ever sent to the CPU.
+    /// Returns how many frames have been sent to the CPU.
     pub fn sent_to_cpu(&self) -> usize
         ensures { result ≡ length self.now.to_cpu }
     {
         self.to_cpu.len()
     }
 
-    /// Returns the number of the frame that was delivered to the module last, 0 if none was.
+    /// Returns the number of the frame that was delivered to the module last, or 0 if there was none.
     pub fn last_to_module(&self) -> usize
         ensures { result ≡ self.now.last_to_module }
     {
         self.last_to_module
     }
 
-    /// Returns the number of the frame that was delivered to the CPU last, 0 if none was.
+    /// Returns the number of the frame that was delivered to the CPU last, or 0 if there was none.
     pub fn last_to_cpu(&self) -> usize
         ensures { result ≡ self.now.last_to_cpu }
     {
         self.last_to_cpu
     }
 
-    /// Returns the octets of the frame with this number, from 1, among those sent to the module; `None`
-    /// if none has it.
+    /// Returns the octets of the frame with this number, from 1, among those sent to the module; `None` if there is none.
     pub fn frame_to_module(&self, index: usize) -> Option<&[u8]>
         ensures { option_map (λ (octets : Bor (List ℕ)). octets.now) result
             ≡ item_numbered self.now.to_module index }
@@ -229,8 +226,7 @@ impl World {
         self.to_module.get(index)
     }
 
-    /// Returns the octets of the frame with this number, from 1, among those sent to the CPU; `None` if
-    /// none has it.
+    /// Returns the octets of the frame with this number, from 1, among those sent to the CPU; `None` if there is none.
     pub fn frame_to_cpu(&self, index: usize) -> Option<&[u8]>
         ensures { option_map (λ (octets : Bor (List ℕ)). octets.now) result
             ≡ item_numbered self.now.to_cpu index }

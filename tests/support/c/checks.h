@@ -3,7 +3,7 @@
 
 static int passed, failed;
 
-/* Counts a check. What failed is printed, with where it is: a line, a row or a call. */
+/* Counts a check. What failed is printed, with its position: a line, a row or a call. */
 static void check(int holds, const char *what, unsigned place) {
     if (holds) {
         passed++;

@@ -1,5 +1,5 @@
 /* Gives random octets to every call that reads octets. Each buffer ends at a page that may not be
- * touched, so an access behind one ends the program. What is read must encode to the same octets.
+ * touched, so an access beyond one ends the program. What is read must encode to the same octets.
  * The last line is `N passed, M failed`, N being the buffers.
  *
  *     fuzz BUFFERS SEED RULES
@@ -15,7 +15,7 @@
 #include <sys/mman.h>
 #include <unistd.h>
 
-/* The end of some pages, behind which stands one that may not be touched. */
+/* The end of some pages, followed by one that may not be touched. */
 static uint8_t *guarded_end(void) {
     size_t page = (size_t)sysconf(_SC_PAGESIZE), pages = 8;
     uint8_t *start =
@@ -66,7 +66,7 @@ static int is_again(size_t count, const uint8_t *octets, size_t length) {
     return count == length && memcmp(written, octets, length) == 0;
 }
 
-/* The words of a fault are there exactly for a fault. */
+/* There is a text of a fault exactly if there is a fault. */
 static int has_text(struct fio2070_fault fault, uint8_t *text_end) {
     char *text = (char *)text_end - FIO2070_LONGEST_TEXT;
     size_t count = fio2070_fault_text(&fault, text, FIO2070_LONGEST_TEXT);
@@ -103,7 +103,7 @@ static int reads_answer(const uint8_t *octets, size_t length, uint8_t *text_end)
            is_again(write_answer(&answer, octets, answer.count), octets, length);
 }
 
-/* What was heard has the number and the stamp of the block, both 0 where there is none. */
+/* What was heard has the number and the stamp of the block, both 0 if there is none. */
 static int says_block(const struct fio2070_heard *heard, const uint8_t *octets, size_t length) {
     struct fio2070_block_header header;
     memset(&header, 0, sizeof header);

@@ -1,5 +1,5 @@
 /* Runs the translated functions of tests/portable-instructions.py one after another in one machine, with one memory, as an
- * interpreter does, and writes what each gives, or `trap`. */
+ * interpreter does, and writes the result of each, or `trap`. */
 #include <setjmp.h>
 #include <stdint.h>
 #include <stdio.h>

@@ -1,4 +1,4 @@
-/* Uses of the library of which a compiler tells. MISUSE is the number of one, and 0 for right uses alone. Those of a ring
+/* Uses of the library about which a compiler warns. MISUSE is the number of one, or 0 for right uses only. Those of a ring
  * have the numbers from 51 on. */
 #include "fio2070.h"
 

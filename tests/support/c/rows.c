@@ -61,7 +61,7 @@ static void refuses(void) {
     CHECK(command.code == 9 && command.controls[7] == 9 && answer.code == 9 && answer.status == 9);
 }
 
-/* Whether a call wrote these words and their zero octet into this room, and nothing where it is one octet less. */
+/* Whether a call wrote these words and their zero octet into this room, and nothing if it is one octet less. */
 static int has_words(size_t count, const char *text, const char *words) {
     return count == strlen(words) && strcmp(text, words) == 0 && text[count + 1] == '?';
 }
@@ -182,7 +182,7 @@ static struct fio2070_answer answer_in(const void *octets, size_t length) {
     return answer;
 }
 
-/* Whether this is the text of a frame, written where there is room for it alone. */
+/* Whether this is the text of a frame, written into room that just fits it. */
 static int shows(const char *octets, size_t length, const char *expected) {
     const uint8_t *frame = (const uint8_t *)octets;
     char text[64];
@@ -325,7 +325,7 @@ static void says_what_was_heard(void) {
 /* ---- The rules of a transcript ---- */
 
 /* A frame that the CPU's end sent or heard, its breach, and the checker below it: each octet of both structs, in the
- * order of their fields, but for the limits. A row without a direction starts the checker. */
+ * order of their fields, except for the limits. A row without a direction starts the checker. */
 struct judged {
     char direction;
     const char *octets;
@@ -397,7 +397,7 @@ static void checks(void) {
     }
 }
 
-/* What a checker of a module with these limits finds in a block of so many entries with this status. */
+/* What a checker of a module with these limits finds in a block of this many entries with this status. */
 static int rule_within(uint8_t per_block, uint16_t waiting, uint8_t entries, uint8_t status) {
     struct fio2070_limits limits = FIO2070_STANDARD_LIMITS;
     struct fio2070_checker checker;
@@ -413,7 +413,7 @@ static int rule_within(uint8_t per_block, uint16_t waiting, uint8_t entries, uin
     return fio2070_checker_heard(&checker, block, length, &breach);
 }
 
-/* C with as many entries as a block takes; F without C where no more may wait than a block takes. */
+/* C with a full block; F without C if no more may wait than a block takes. */
 static void judges_by_limits(void) {
     struct fio2070_limits limits = {0, 255, 0};
     struct fio2070_checker checker, before;
@@ -619,8 +619,8 @@ static void is_a_module(void) {
     CHECK(answers("\x3c", 1, "\xbc\2", 2) && answers("\x31\0", 2, "\xb1\x80\0\0\0\0\0\0", 8));
 }
 
-/* 1,280 transitions where 1,024 may wait: the first block says that some were pushed out, and each
- * block begins with the oldest entry that is left. */
+/* 1,280 transitions, of which 1,024 may wait: the first block says that some were pushed out, and each
+ * block begins with the oldest entry that remains. */
 static void overflows(void) {
     uint8_t configuration[2 + 64 * 3] = {51, 64};
     int place, block;
@@ -643,7 +643,7 @@ static void overflows(void) {
     CHECK(fio2070_module_waiting(&device) == 0);
 }
 
-/* ---- Pointers that are null, where the length is 0 ---- */
+/* ---- Pointers that are null, with length 0 ---- */
 
 static void takes_nulls(void) {
     struct fio2070_block_header header;

@@ -84,8 +84,8 @@ static int is_untouched(size_t place) {
     return slots[place].octets[0] == 0xa5 && slots[place].octets[1] == 0xa5 && slots[place].octets[2] == 0xa5;
 }
 
-/* 1,280 transitions, 64 a scan: the latest wait for which there is room. The first block says whether some were pushed
- * out, each but the last that more wait, and each begins with the oldest entry that is left. */
+/* 1,280 transitions, 64 per scan: the latest ones wait, as far as there is room. The first block says whether some were
+ * pushed out, each but the last that more wait, and each begins with the oldest entry that remains. */
 static void keeps_the_latest(size_t room) {
     size_t waiting = room < 1280 ? room : 1280, next = 1280 - waiting, most = 255;
     int place, block;
@@ -102,11 +102,11 @@ static void keeps_the_latest(size_t room) {
         next += count;
         waiting -= count;
     }
-    /* Of more slots than may wait the further ones are left alone. */
+    /* If there are more slots than may wait, the others are not touched. */
     CHECK(is_untouched(room) && is_untouched(MOST));
 }
 
-/* A module and its slots go on where they are copied to, and the ring goes round. */
+/* A module and its slots go on working where they are copied to, and the ring wraps around. */
 static void moves(void) {
     static struct fio2070_sized_module moved;
     static struct fio2070_slot other[5];
@@ -120,7 +120,7 @@ static void moves(void) {
     memset(slots, 0xa5, sizeof slots);
     fio2070_sized_module_scan(&moved, FIO2070_RING(other), ALL);
     CHECK(fio2070_sized_module_receive(&moved, FIO2070_RING(other), (const uint8_t *)"\x36\1", 2, out, sizeof out) == 23);
-    /* Inputs 0 and 1 change at each of four scans; of the eight entries the latest five are left. */
+    /* Inputs 0 and 1 change at each of four scans; of the eight entries the latest five remain. */
     CHECK(memcmp(out, "\xb6\1\5\x81\0\2\0\0\3\1\0\3\x80\0\4\x81\0\4\4\0\0\0\5", 23) == 0);
 }
 
@@ -159,7 +159,7 @@ static void counts_errors(void) {
     CHECK(fio2070_sized_module_errors(&device).receive == 0 && fio2070_sized_module_errors(&device).transmit == 0);
 }
 
-/* Any octets of a struct, and any number of slots: each call returns, and none writes outside what it is given. */
+/* Any octets of a struct, and any number of slots: each call returns, and none writes outside its arguments. */
 static void takes_any_octets(void) {
     unsigned fill;
     size_t room;

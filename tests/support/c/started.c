@@ -1,5 +1,5 @@
 /* Each `_start` sets every octet of its struct, whatever it held: two structs that held other octets are the same after
- * it. Where a module is not started it keeps what it held. The last line is `N passed, M failed`. */
+ * it. If a module is not started, it keeps what it held. The last line is `N passed, M failed`. */
 #include "fio2070.h"
 
 #include "checks.h"

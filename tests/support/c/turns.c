@@ -22,7 +22,7 @@ struct call {
 #define CALL(kind, number) {kind, number, 0, "", 0, ""}
 /* These octets spell no command. */
 #define SPELLS_NONE(octets) {NO_COMMAND, 0, sizeof(octets) - 1, octets, 0, ""}
-/* These octets get this answer, and none where nothing stands. */
+/* These octets get this answer; an empty one means no answer. */
 #define GETS(octets, answer) {RECEIVE, 0, sizeof(octets) - 1, octets, sizeof(answer) - 1, answer}
 
 static const struct call commands[] = {
@@ -36,7 +36,7 @@ static const struct call commands[] = {
     GETS("\x39", ""),
     GETS("\x3b", ""),
     SPELLS_NONE("\x3d"),
-    /* The flags are raised, and cleared where the command says so. */
+    /* The flags are raised, and cleared if the command says so. */
     GETS("\x31\0", "\xb1\x80\0\0\0\0\0\0"),
     CALL(RAISE, 1),
     GETS("\x31\x80", "\xb1\1\0\0\0\0\0\0"),
@@ -160,7 +160,7 @@ static int holds(struct fio2070_module *module, const struct call *call) {
     return 0;
 }
 
-/* The calls of a new module whose blocks have so many entries at most. */
+/* The calls of a new module whose blocks have at most this many entries. */
 static void run(const char *name, uint8_t per_block, const struct call *calls, size_t count) {
     static struct fio2070_module module;
     struct fio2070_limits limits = FIO2070_STANDARD_LIMITS;

@@ -139,7 +139,7 @@ static void tells_values() {
     TELLS(answer::stamp), TELLS(answer::inputs);
 }
 
-/* The words of the longest fault, and a block that says that entries were lost. */
+/* The text of the longest fault, and a block that says that entries were lost. */
 static void has_the_most() {
     const fio2070::Fault fault({FIO2070_FAULT_WRONG_LENGTH, 0, 65535, {}, SIZE_MAX});
     CHECK(fault.text() == "wrong length needed 65535 got 18446744073709551615");
@@ -213,7 +213,7 @@ static void polls_a_module() {
     CHECK(module->counter() == 0 && module->outputs().levels[7] == 0);
 }
 
-/* Four transitions of inputs 0 and 1 where three may wait: the first is pushed out. */
+/* Four transitions of inputs 0 and 1, of which three may wait: the first is pushed out. */
 static void has_little_room() {
     auto module = fio2070::Module<3>::start(2);
     const fio2070::ConfigurationItem items[] = {{0, 0, 1, 1}, {1, 0, 1, 1}};
@@ -242,7 +242,7 @@ static void has_parts() {
     CHECK(filters.filtered() == ~(std::uint64_t(1) << 12));
 }
 
-/* An entry of input 12 comes once more in the next block, behind one of input 13. */
+/* An entry of input 12 comes once more in the next block, after one of input 13. */
 static void judges_content() {
     const std::uint8_t empty[] = {182, 255, 0, 0, 0, 0, 0, 5}, once[] = {182, 0, 1, 12, 0, 10, 0, 0, 0, 0, 11};
     const std::uint8_t again[] = {182, 1, 2, 13, 0, 12, 12, 0, 13, 0, 0, 0, 0, 21};

@@ -1,7 +1,7 @@
 """Claims: what the documents promise is what the contracts say, by the names of clauses.
 
 README's section "What is proved": each numbered sentence, and each other one that says *proved*, ends with brackets
-that name what carries it; where it begins with a crate, functions are looked for in that one alone. Between semicolons
+that name what carries it; if it begins with a crate, functions are only looked for in that crate. Between semicolons
 the brackets have one of the forms
 
     `accepted` and `refused` of `decode_command` and `read_block`    clauses of public functions
@@ -10,7 +10,7 @@ the brackets have one of the forms
     each export of `fio_c`                                           each has clauses and no `requires`
     the gate, `rt ci`                                                `test` runs it
 
-and so have the columns of clauses in docs/ARCHITECTURE.md and docs/PLANNING.md. In docs/PROMISES.md the columns *Law*
+and so do the columns of clauses in docs/ARCHITECTURE.md and docs/PLANNING.md. In docs/PROMISES.md the columns *Law*
 and *Field*, and the brackets of "Every call, crate by crate", name laws, fields and clauses that exist."""
 
 import os
@@ -22,7 +22,7 @@ from support.pages import files, text_of
 LIST = r'`[^`]+`(?:, `[^`]+`)*(?: and `[^`]+`)?'
 CRATES = [os.path.basename(path) for path in files('crates/fio*')]
 
-# Sentences of a section, each with the words in which the check has to find it at fault.
+# Sentences of a section, each with the words with which the check has to find it at fault.
 SENTENCES = [
     ('1. **`fio_cpu`** takes the present block (`taken` and `unchanged` of `Poller::hear`).', None),
     ('1. **`fio_world`** keeps order (`headline` of `World::run`; `rising` of `IsSoundRun`).', None),
@@ -89,7 +89,7 @@ def records():
 
 
 def first(faults):
-    """The first of these that is there, or None."""
+    """The first of these that is not None, or None."""
     return next(filter(None, faults), None)
 
 
@@ -105,7 +105,7 @@ class Judge:
                 if one.is_public and one.is_named(name) and crate in (None, one.crate)]
 
     def fault_at(self, target, clause, crate=None):
-        """Why a function or a definition does not have this clause or field; '' is the one without a name."""
+        """Why a function or a definition does not have this clause or field; '' is the clause without a name."""
         found = self.public(target, crate)
         if not found and target not in self.records:
             return 'there is no public `%s`' % target + (' in `%s`' % crate if crate else '')
@@ -149,7 +149,7 @@ class Judge:
 
 
 def section(text, heading):
-    """The text below a heading, up to the next one of its rank."""
+    """The text after a heading, up to the next one of its rank."""
     return re.search(r'^## %s\n(.*?)(?=^## |\Z)' % re.escape(heading), text, re.M | re.S)[1]
 
 
@@ -178,18 +178,20 @@ def cells(text, column):
 
 
 def check_itself(judge):
-    """The check finds a fault where it has to, and no other."""
+    """The check finds a fault where it has to, and nowhere else."""
     for text, expected in SENTENCES:
         found = first(judge.fault_of_sentence(sentence) for sentence in claiming_sentences(text))
         is_right = found is None if expected is None else expected in (found or '')
         judge.holds('the check of claims', text, None if is_right else 'is found to be at fault by %s' % found)
 
 
-def check_readme(judge):
-    found = list(claiming_sentences(section(text_of('README.md'), 'What is proved')))
-    judge.holds('README.md', 'What is proved', None if len(found) > 10 else 'has %d sentences' % len(found))
-    for sentence in found:
-        judge.holds('README.md', sentence, judge.fault_of_sentence(sentence))
+def check_sentences(judge):
+    """The sentences of README, and of "The ten promises" of docs/PROMISES.md, which has the same form: at least this many."""
+    for name, heading, least in (('README.md', 'What is proved', 4), ('docs/PROMISES.md', 'The ten promises', 11)):
+        found = list(claiming_sentences(section(text_of(name), heading)))
+        judge.holds(name, heading, None if len(found) >= least else 'has %d sentences' % len(found))
+        for sentence in found:
+            judge.holds(name, sentence, judge.fault_of_sentence(sentence))
 
 
 def check_tables(judge):
@@ -228,5 +230,5 @@ def check_calls(judge):
 def rows(check):
     """Compares the claims of each document with the contracts."""
     judge = Judge(check)
-    for part in (check_itself, check_readme, check_tables, check_promises, check_calls):
+    for part in (check_itself, check_sentences, check_tables, check_promises, check_calls):
         part(judge)

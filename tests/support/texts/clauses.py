@@ -1,6 +1,6 @@
-"""Clauses: each clause of each public call of the libraries has a wrong body that it refuses, or a wrong statement where it
-is a law, whose body is empty, or says of the arguments alone what holds of them. The line `refused-by:` of a stanza names
-it; that it is refused so is tried by `wrong-bodies/try`."""
+"""Clauses: each clause of each public call of the libraries has a wrong body that it refuses, or a wrong statement if the
+call is a law, whose body is empty, or if the clause only says what holds of the arguments. The line `refused-by:` of a
+stanza names it; `wrong-bodies/try` tries whether it is refused by that clause."""
 
 import os
 import re
@@ -37,13 +37,13 @@ def exported(sources, path):
 
 
 def public_heads(crate):
-    """Returns each public call and law of a crate, as lines `refused-by:` name it, and what stands before its body."""
+    """Returns each public call and law of a crate, as lines `refused-by:` name it, and what comes before its body."""
     sources = {path: without_words(text) for path, text in sources_of(crate).items()}
     functions = [one for path, text in sources.items() for one in functions_of(path, text)]
     name_functions(settle(functions, homes_of(sources)))
     names = exported(sources, os.path.join(TOP, 'crates', crate, 'src', 'lib.rt'))
     for path, text in sources.items():
-        # Those for C are public wherever they are.
+        # Those for C are public in any module.
         names.update(re.findall(r'^pub extern +fn (\w+)', text, re.M))
         yield from (('law ' + found[1], found[0]) for found in LAW.finditer(text) if found[1] in names)
     for one in functions:
@@ -66,8 +66,8 @@ def named_clauses(crate):
 
 
 def rows(check):
-    """Looks for a stanza of each clause, and for each clause that a stanza or ALONE names. What has a blank in its name is no
-    clause of a contract."""
+    """Looks for a stanza of each clause, and for each clause that a stanza or ALONE names. What has a blank in its name is
+    not a clause of a contract."""
     left = set(ALONE)
     for crate in libraries():
         public, named = public_clauses(crate), set(named_clauses(crate))

@@ -16,7 +16,7 @@ def help_of(*words):
 
 
 def section(page, heading):
-    """Returns the text below a heading, up to the next one of its rank or of a higher one."""
+    """Returns the text after a heading, up to the next one of its rank or of a higher one."""
     rank, text = heading.split(' ')[0], text_of(page).partition('\n%s\n' % heading)[2]
     return re.split(r'^#{1,%d} ' % len(rank), text, maxsplit=1, flags=re.M)[0]
 
@@ -29,8 +29,8 @@ def table(text, heading):
 
 
 def items(text, heading, form):
-    """Returns the items below a heading of a help text, by their names: each is a line of this form, as far to the right as
-    the first, and the lines below it that begin where its words do."""
+    """Returns the items after a heading of a help text, by their names: each is a line of this form, indented like the
+    first, and the lines after it that begin in the column of its words."""
     found, name, lead, behind = {}, None, None, None
     for line in text.partition(heading)[2].split('\n'):
         item = re.fullmatch(r'( +)(%s)( +)(.+)' % form, line)

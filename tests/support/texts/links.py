@@ -6,7 +6,7 @@ import re
 from support.pages import documents, files, text_of
 from support.tables import TOP
 
-# What a name in code may begin at, beside the top.
+# Where a name in code may begin, apart from the top.
 PLACES = ['', 'docs', 'examples', 'crates'] + files('crates/*', 'crates/*/src', 'crates/*/src/*', 'crates/*/specs')
 
 

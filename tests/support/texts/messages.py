@@ -1,6 +1,6 @@
 """Messages: tools/messages.json, the table of the 24 messages, is that of the proved program, of docs/PROTOCOL.md and of the
-Wireshark dissector. `show` accepts the lengths of the table alone and writes its words and fields, the page has its names,
-lengths and places, and the dissector has what tools/generate-messages writes."""
+Wireshark dissector. `show` accepts only the lengths of the table and writes its words and fields, the page has its names,
+lengths and positions, and the dissector has what tools/generate-messages writes."""
 
 import os
 import random
@@ -12,12 +12,12 @@ from support.pages import text_of
 from support.tables import TOP, output_of
 
 LONGEST_FRAME = 773
-# A row of a table of the page: types, a name where the table has one, length, and where the fields are.
+# A row of a table of the page: types, a name if the table has one, length, and where the fields are.
 ROW = re.compile(r'^\| (\d+(?:, \d+)*) \|(?: ([a-z ]+) \|)? (\d+(?: \+ 3n)?|1–773) \|(.*)\|$', re.MULTILINE)
 
 
 def page_rows():
-    """What docs/PROTOCOL.md says of each type: name, length, the places of the octets."""
+    """What docs/PROTOCOL.md says about each type: name, length, the positions of the octets."""
     found = ROW.findall(text_of('docs/PROTOCOL.md'))
     return {int(kind): (name, length, re.findall(r'(?:^|; )\s*(\d+(?:–\d+)?):', places))
             for kinds, name, length, places in found for kind in kinds.split(', ')}
@@ -32,7 +32,7 @@ def length_words(message):
 
 
 def places_of(message):
-    """The places of the parts in the frame as the page has them, up to the first that a count moves."""
+    """The positions of the parts in the frame as the page has them, up to the first that a count moves."""
     places, offset = [], 1
     for part in message['parts']:
         size = octets_of(part)
@@ -56,7 +56,7 @@ def field_words(part, octets):
 
 
 def random_frame(draw, message):
-    """A frame of a message, and the first line that `show` is to write of it."""
+    """A frame of a message, and the first line that `show` should write for it."""
     count = draw.randrange(6)
     octets, line = bytes([message['type']]), FIRST_LINES[message['type']]
     for part in message['parts']:
@@ -71,7 +71,7 @@ def random_frame(draw, message):
 
 
 def first_lines(frames):
-    """The first line that `show` writes of each frame, without its number."""
+    """The first line that `show` writes for each frame, without its number."""
     text = ''.join(frame.hex() + '\n' for frame in frames)
     lines = [line for line in output_of('show', text)[0].splitlines() if not line.startswith('  ')]
     return [re.sub(r'^line \d+: ', '', line) for line in lines]
@@ -94,7 +94,7 @@ def check_program(check):
 
 
 def check_page(check):
-    """The page has the names, the lengths and the places of the table."""
+    """The page has the names, the lengths and the positions of the table."""
     rows = page_rows()
     check.equal('types of the page', KNOWN, sorted(rows))
     for message in MESSAGES:

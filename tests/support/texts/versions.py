@@ -1,5 +1,5 @@
 """Versions: that of the newest heading of CHANGELOG.md is that of each place that names one: the program, its manual page,
-its documents, the library for C, the packages for Python and Rust. No other file names it."""
+its documents, the C library, the packages for Python and Rust. No other file names it."""
 
 import os
 import re
@@ -11,6 +11,7 @@ from support.tables import TOP
 # The places that name the version, with the text around it.
 PLACES = [
     ('CHANGELOG.md', '## %s\n'),
+    ('README.md', '| Version | %s ('),
     ('bindings/python/backend.py', "'fio2070-%s'\n"),
     ('bindings/python/backend.py', '\nVersion: %s\n'),
     ('bindings/rust/fio2070/Cargo.lock', 'name = "fio2070"\nversion = "%s"\n'),

@@ -1,6 +1,6 @@
 """Wrong bodies: the text that each one changes is in its file exactly once; it has a name of its own, and says what refuses
-it, as the table of docs/PROMISES.md does. Each function of that table has its wrong body in a folder `must-fail`, for `rt ci`,
-and no other has. That the prover refuses them is tried by `wrong-bodies/try`."""
+it, as the table of docs/PROMISES.md does. Each function of that table has its wrong body in a folder `must-fail`, for `rt
+ci`, and no other has. `wrong-bodies/try` tries whether the prover refuses them."""
 
 import re
 

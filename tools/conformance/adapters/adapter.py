@@ -1,6 +1,6 @@
 #!/usr/bin/env python3
 """The module's side of the wire, in Python: reads the lines of fio2070-test, and answers each. Here the module is the
-proved one, by the package fio2070; a maker puts their own in its place.
+proved one, from the package fio2070; makers of modules put their own in its place.
 
     fio2070-test --command tools/conformance/adapters/adapter.py"""
 

@@ -105,9 +105,10 @@ export class Log {
     return this.hasDirections && this.end !== ENDS.bus;
   }
 
-  // Judges each message. A damaged line may have held a frame: nobody is accused for it up to the next poll.
+  // Judges each message that is sure. A damaged line may have held a frame: nobody is accused for it up to the next poll.
   judgeAll() {
     const rules = new Rules(this);
+    let judged = 0;
     this.badLines = 0;
     for (let place = 0; place < this.count; place++) {
       if (this.damaged.has(place)) rules.lose();
@@ -115,7 +116,12 @@ export class Log {
         this.badLines += 1;
         continue;
       }
-      if (this.isPossible[place]) continue;
+      if (this.isPossible[place]) {
+        // Among messages that are sure it may have been one.
+        if (judged > 0) rules.lose();
+        continue;
+      }
+      judged += 1;
       const breach = rules.judge(place);
       if (breach) this.breaches.set(place, breach);
     }

@@ -26,20 +26,20 @@ use fio_message::{
     set_before_status, status_and_stamp,
 };
 
-/// The most octets that an answer has which is no block.
+/// The most octets of an answer that is not a block.
 const SHORT_OCTETS: usize = 13;
 
-/// The octets of an answer that is no block: 2 to 13.
+/// The octets of an answer that is not a block: 2 to 13.
 pub type ShortAnswer = ArrayVec<u8, SHORT_OCTETS>;
 
 /// The reply to a command.
 #[derive(Debug, Drop)]
 pub enum Reply {
-    /// Nothing.
+    /// There is no answer.
     Nothing,
-    /// These octets.
+    /// The answer has these octets.
     Short(ShortAnswer),
-    /// The block that was sent last, which is `ModuleState::block`.
+    /// The answer is the block that was sent last, `ModuleState::block`.
     Block,
 }
 
@@ -56,7 +56,7 @@ fn short_answer(code: u8, fields: &[u8]) -> ShortAnswer
     answer
 }
 
-/// Writes a short answer into a frame, instead of what it holds.
+/// Writes a short answer over what a frame holds.
 fn write_short(answer: &ShortAnswer, frame: &mut Frame)
     ensures { frame.new.items ≡ answer.now.items }
 {
@@ -66,9 +66,8 @@ fn write_short(answer: &ShortAnswer, frame: &mut Frame)
 }
 
 impl ModuleState {
-    /// Carries out a command that is read in place, and writes the answer into `frame`, instead of what
-    /// it holds. Commands 56, 57 and 59 get none and change nothing (own profile): the result is then
-    /// `false`, and the frame is unchanged.
+    /// Carries out a command that is read in place, and writes the answer over what `frame` holds. Commands 56, 57 and 59
+    /// get no answer and change nothing (own profile): the result is then `false`, and the frame is unchanged.
     pub fn obey<R: EntryRing>(
         &mut self,
         ring: &mut R,
@@ -85,7 +84,7 @@ impl ModuleState {
     }
 
     /// Carries out a command as `obey` does, and returns its reply. It needs no frame.
-    // Inlined into `obey`, which it makes a third shorter to run.
+    // Inlined into `obey`, which then takes a third less time.
     #[inline(always)]
     pub fn carry_out<R: EntryRing>(&mut self, ring: &mut R, command: CommandView<'_>) -> Reply
         ensures obeyed { Obeys self.old (R.held ring.old) self.new (R.held ring.new)
@@ -111,7 +110,7 @@ impl ModuleState {
         }
     }
 
-    /// Returns the octets of a reply that `carry_out` gave last, `None` if there is no answer.
+    /// Returns the octets of the reply that `carry_out` returned last, or `None` if there is no answer.
     pub fn octets_of<'a>(&'a self, reply: &'a Reply) -> Option<&'a [u8]>
         ensures { MatchOption result
             (reply_frame self.now reply.now ≡ None)
@@ -124,8 +123,8 @@ impl ModuleState {
         }
     }
 
-    /// Writes a reply that `carry_out` gave last into `frame`. Where there is no answer the result is
-    /// `false`, and the frame is unchanged.
+    /// Writes the reply that `carry_out` returned last into `frame`. If there is no answer, the result is `false`, and the
+    /// frame is unchanged.
     pub(crate) fn write_reply(&self, reply: &Reply, frame: &mut Frame) -> bool
         ensures written { frame_if result frame.new ≡ reply_frame self.now reply.now }
         ensures unchanged { result ≡ false → frame.new ≡ frame.old }
@@ -138,8 +137,8 @@ impl ModuleState {
         true
     }
 
-    /// Carries out command 49 as `carry_out` does, but that the answer has these error counts (TEES 2009,
-    /// answer 177): clears the flags whose bits are one, and returns the octets of the answer.
+    /// Carries out command 49 as `carry_out` does, except that the answer has these error counts (TEES 2009, answer 177):
+    /// clears the flags whose bits are 1, and returns the octets of the answer.
     pub fn clear_flags(&mut self, clear: u8, receive_errors: u8, transmit_errors: u8) -> ShortAnswer
         ensures { (settings : Settings) (ring : Buffer (List ℕ)) (life : Life)
             → IsAfter settings self.old ring life
@@ -155,8 +154,8 @@ impl ModuleState {
         )
     }
 
-    /// Returns how many octets the longest answer has that is ever given: a block with the most entries, or
-    /// inputs and a stamp.
+    /// Returns how many octets the longest answer has that the module ever gives: a block with the most entries, or inputs
+    /// and a stamp.
     pub fn longest_answer(&self) -> usize
         ensures { result ≡ longest_answer self.now.per_block }
     {

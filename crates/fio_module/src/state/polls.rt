@@ -14,15 +14,15 @@ use crate::ring::EntryRing;
 use fio_message::BlockStatus;
 
 impl ModuleState {
-    /// Returns the octets of the block that was sent last, at most 773, none before the first.
+    /// Returns the octets of the block that was sent last, at most 773, or none before the first.
     pub fn block(&self) -> &[u8]
         ensures { result.now ≡ (sent_frame self.now).items }
     {
         self.sent.as_slice()
     }
 
-    /// Takes a poll for this number. The answer is then `block`.
-    // Not inlined, as two ways lead to it: a poll alone, and any command.
+    /// Handles a poll for this number. The answer is then `block`.
+    // Not inlined, since it has two callers: one for a poll alone, and one for any command.
     #[inline(never)]
     pub fn poll<R: EntryRing>(&mut self, ring: &mut R, number: u8)
         ensures obeyed { Obeys self.old (R.held ring.old) self.new (R.held ring.new)

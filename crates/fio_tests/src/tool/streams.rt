@@ -6,7 +6,7 @@ use std::alloc::Global;
 use std::io::{Read, Write};
 use std::process::Abort;
 
-/// A tool, what it reads, what it writes then, and how it ends.
+/// A tool, what it reads, what it then writes, and how it ends.
 type Row = (Tool, &'static [u8], &'static [u8], Ending);
 
 const ROWS: [Row; 4] = [
@@ -31,8 +31,7 @@ const ROWS: [Row; 4] = [
     ),
 ];
 
-/// Fails the test where its row does not hold, and shows the tool and the number of the call that
-/// fails, 0 where none does.
+/// Fails the test if its row does not hold, and shows the tool and the number of the call that fails, or 0 if none does.
 fn expect_tool(rt: &impl Abort, tool: Tool, call: usize, holds: bool) {
     assert!(*rt; holds, "{tool:?}, call {call}");
 }
@@ -52,7 +51,7 @@ fn run<R: Read, W: Write>(
     }
 }
 
-/// A reader that fails at this call, and at none for 0.
+/// A reader that fails at this call, or never for 0.
 fn feed(octets: &[u8], failing: usize) -> Feed<'_> {
     Feed {
         octets,
@@ -62,8 +61,8 @@ fn feed(octets: &[u8], failing: usize) -> Feed<'_> {
     }
 }
 
-/// Reads and writes an octet a call: whether the tool ends as expected with the whole text, having asked for
-/// each octet and for the end once.
+/// Reads and writes one octet in each call, and returns whether the tool ends as expected with the whole text, having asked
+/// for each octet and for the end once.
 fn passes_octets(alloc: Global, (tool, input, text, expected): Row) -> bool {
     let mut feed = feed(input, 0);
     let mut sink = Sink::new(alloc);
@@ -114,7 +113,7 @@ fn each_read_may_fail(rt: HostRuntime) {
     }
 }
 
-/// Whether the tool ends at this write, which fails or takes nothing, with the octets above it written.
+/// Whether the tool ends at this write, which fails or takes nothing, with the octets before it written.
 fn ends_at_write(
     alloc: Global,
     (tool, input, text, _): Row,
@@ -178,7 +177,7 @@ fn endless_inputs_end_at_the_limit(rt: HostRuntime) {
     }
 }
 
-/// Whether the program, given the word of a tool, reports this fault where its first read or its first write fails.
+/// Whether the program, given the word of a tool, reports this fault if its first read or its first write fails.
 fn reports(alloc: Global, word: &str, read: usize, write: usize, fault: &[u8]) -> bool {
     let mut sink = Sink::new(alloc);
     sink.failing = write;

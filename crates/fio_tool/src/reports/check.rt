@@ -13,14 +13,14 @@ use std::alloc::{AllocError, Global};
 /// Room for the longest line of a text, the one for `sequence` at line 1,048,576.
 const LONGEST_LINE: usize = 32;
 
-/// Returns the text that says whether the transcript in the input keeps the rules: `good N frames`, or
-/// `line N breaks RULE` with the first line that breaks one. The first line that is no frame gives
-/// the one line `line N: bad line`, also where a line breaks a rule; an input of more than 1,048,576
-/// octets gives the one line `input too long`. The report is good for `good N frames` alone.
+/// Returns the text that says whether the transcript in the input keeps the rules: `good N frames`, or `line N breaks RULE`
+/// with the first line that breaks one. If a line is not a frame, the text is the one line `line N: bad line` for the first
+/// of these, even if a line breaks a rule; for an input of more than 1,048,576 octets it is the one line `input too long`.
+/// The report is good only for `good N frames`.
 ///
 /// # Errors
-/// `Memory` where there is no room for the text's one line, which is asked for once. Nothing else
-/// allocates: the transcript is checked in one pass over the input.
+/// `Memory` if there is none for the text's one line, for which room is requested once. Nothing else allocates: the
+/// transcript is checked in one pass over the input.
 pub fn check_text(alloc: Global, input: &[u8]) -> Result<Report, Memory>
     ensures text { IfOk result (λ report. report.text.items ≡ check_text input.now) }
     ensures good { IfOk result (λ report. report.good ≡ is_check_good input.now) }
@@ -37,7 +37,7 @@ pub fn check_text(alloc: Global, input: &[u8]) -> Result<Report, Memory>
 /// Returns the report of a verdict.
 ///
 /// # Errors
-/// `Memory` where there is no room for its line.
+/// `Memory` if there is none for its line.
 pub(super) fn report_of_verdict(alloc: Global, verdict: Verdict) -> Result<Report, Memory>
     ensures text { IfOk result (λ report. report.text.items ≡ verdict_text verdict) }
     ensures good { IfOk result (λ report. report.good ≡ is_good verdict) }
@@ -53,7 +53,7 @@ pub(super) fn report_of_verdict(alloc: Global, verdict: Verdict) -> Result<Repor
 /// Returns the report of the first line that is no frame.
 ///
 /// # Errors
-/// `Memory` where there is no room for its line.
+/// `Memory` if there is none for its line.
 pub(super) fn report_of_bad_line(alloc: Global, fault: BadLine) -> Result<Report, Memory>
     ensures text { IfOk result (λ report.
         report.text.items ≡ bad_line_text fault.line ++ codes "\n") }
@@ -67,7 +67,7 @@ pub(super) fn report_of_bad_line(alloc: Global, fault: BadLine) -> Result<Report
     })
 }
 
-/// Appends the line for a verdict.
+/// Appends the line of a verdict.
 fn push_verdict(text: &mut String, verdict: Verdict) -> Result<(), AllocError>
     ensures { OnOk result (string_bytes text.new ≡ string_bytes text.old ++ verdict_text verdict) }
 {

@@ -14,16 +14,16 @@ use fio_show::push_items;
 use fio_text::{BadLine, Report, push_line};
 use std::alloc::{AllocError, Global};
 
-/// Returns the text with the record that the CPU of the transcript in the input has: `record N`, and then a
-/// line for each of its N items, `gap` or `input I state L stamp S wide W`. That CPU starts at the first
-/// poll with the number of that poll, and hears each frame below.
+/// Returns the text with the record of the CPU in the input's transcript: `record N`, and then a line for each of its N
+/// items, `gap` or `input I state L stamp S wide W`. That CPU starts at the first poll with the number of that poll, and
+/// hears each frame after it.
 ///
-/// If a rule on content is broken, the text has only the items above the first breach, and then the line `line L input I
-/// breaks RULE` or, for an answer, `line L breaks RULE`, with the number of its line; the report is not good. Where
-/// the report of `check_text` is not good, it is that report, and there is no record.
+/// If a rule on content is broken, the text has only the items before the first breach, and then the line `line L input I
+/// breaks RULE` or, for an answer, `line L breaks RULE`, where L is the number of the line; the report is not good. If the
+/// report of `check_text` is not good, it is that report, without a record.
 ///
 /// # Errors
-/// `Memory` where an allocation failed, for the record or its text.
+/// `Memory` if an allocation failed, for the record or its text.
 pub fn record_text(alloc: Global, input: &[u8]) -> Result<Report, Memory>
     ensures text { IfOk result (λ report. report.text.items ≡ record_text input.now) }
     ensures good { IfOk result (λ report. report.good ≡ is_record_good input.now) }
@@ -42,7 +42,7 @@ pub fn record_text(alloc: Global, input: &[u8]) -> Result<Report, Memory>
 /// Returns the report of what a pass over a transcript kept.
 ///
 /// # Errors
-/// `Memory` where there is no room for its lines.
+/// `Memory` if there is none for its lines.
 fn report_of_recording(alloc: Global, recording: &Recording) -> Result<Report, Memory>
     ensures text { IfOk result (λ report. report.text.items
         ≡ judged_record (fault_of_recording recording.now) (items_of_cpu recording.now.cpu)) }
@@ -57,7 +57,7 @@ fn report_of_recording(alloc: Global, recording: &Recording) -> Result<Report, M
     })
 }
 
-/// Appends the lines for what a pass over a transcript keeps.
+/// Appends the lines for what a pass over a transcript kept.
 fn push_recording(text: &mut Vec<u8>, recording: &Recording) -> Result<(), AllocError>
     ensures { OnOk result (text.new.items ≡ text.old.items
         ++ judged_record (fault_of_recording recording.now) (items_of_cpu recording.now.cpu)) }
@@ -69,7 +69,7 @@ fn push_recording(text: &mut Vec<u8>, recording: &Recording) -> Result<(), Alloc
     }
 }
 
-/// Appends the lines for the items above a fault, and the line for the fault.
+/// Appends the lines of the items before a fault, and the line of the fault.
 fn push_broken(text: &mut Vec<u8>, items: &[Item], broken: BrokenItem) -> Result<(), AllocError>
     ensures { OnOk result (text.new.items ≡ text.old.items
         ++ judged_record (Some (fault_of_item items.now broken)) items.now) }
@@ -86,7 +86,7 @@ fn first_items(items: &[Item], count: usize) -> &[Item]
     &items[..count.min(items.len())]
 }
 
-/// Appends the line for a fault.
+/// Appends the line of a fault.
 fn push_broken_line(text: &mut Vec<u8>, broken: BrokenItem) -> Result<(), AllocError>
     ensures { (items : List ItemOf) → OnOk result (text.new.items
         ≡ text.old.items ++ fault_line (fault_of_item items broken)) }
@@ -96,7 +96,7 @@ fn push_broken_line(text: &mut Vec<u8>, broken: BrokenItem) -> Result<(), AllocE
     text.extend_from_slice(b"\n")
 }
 
-/// Appends the front of the line for a fault.
+/// Appends the beginning of the line of a fault.
 fn push_broken_front(text: &mut Vec<u8>, line: usize, input: Option<u8>) -> Result<(), AllocError>
     ensures { OnOk result (text.new.items ≡ text.old.items ++ fault_front line input) }
 {
@@ -107,7 +107,7 @@ fn push_broken_front(text: &mut Vec<u8>, line: usize, input: Option<u8>) -> Resu
     }
 }
 
-/// Appends the lines for a record.
+/// Appends the lines of a record.
 fn push_record(text: &mut Vec<u8>, items: &[Item]) -> Result<(), AllocError>
     ensures { OnOk result (text.new.items ≡ text.old.items ++ record_lines items.now) }
 {

@@ -1,4 +1,4 @@
-//! What a text of frames says, line for line.
+//! What a text of frames says, line by line.
 ghost use Rattle.std.specs.Prelude.{◌≡◌, ◌≢◌, ◌⊎◌, ◌++◌, [], codes, is_ok, false, true, Err, OnOk, OnErr, IfOk};
 ghost use Rattle.fio_text.specs.Lines.{lines_of, numbered};
 ghost use Rattle.fio_tool.specs.InputFaults.{is_too_long, line_fault_text};
@@ -12,18 +12,17 @@ use fio_show::{FurtherLines, LINE_OCTETS, append_further, put_frame};
 use fio_text::{Report, append_line, numbered_lines, push_line, read_octets_to};
 use std::alloc::{AllocError, Global};
 
-/// How many octets of text to expect for an octet of input: an entry of a block, six digits, gives a
-/// line of at most 46 octets.
+/// The number of octets of text to expect for each octet of input: an entry of a block, six digits, gives a line of at most
+/// 46 octets.
 const EXPECTED: usize = 8;
 
-/// Returns the text that reports each line of the input: a line of octets in hexadecimal digits is reported as
-/// the message that they spell, an answer where the first is 128 or more and else a command. A line
-/// that spells none gives `line N: ` and its fault, and an input of more than 1,048,576 octets the
-/// one line `input too long`. Lines that are empty or begin with `#` give none.
+/// Returns the text that reports each line of the input. A line of octets in hexadecimal digits is reported as the message
+/// that they spell: an answer if the first octet is 128 or more, otherwise a command. A line that spells no message gives
+/// `line N: ` and its fault. Lines that are empty or begin with `#` give nothing. An input of more than 1,048,576 octets
+/// gives the one line `input too long`.
 ///
 /// # Errors
-/// `Memory` where an allocation failed: only where some line of the input gives a text, or the input
-/// is too long.
+/// `Memory` if an allocation failed: only if some line of the input gives a text, or the input is too long.
 pub fn show_text(alloc: Global, input: &[u8]) -> Result<Report, Memory>
     ensures text { IfOk result (λ report. report.text.items ≡ show_text input.now) }
     ensures good { IfOk result (λ report. report.good ≡ is_show_good input.now) }
@@ -46,8 +45,8 @@ pub fn show_text(alloc: Global, input: &[u8]) -> Result<Report, Memory>
     Ok(Report { text, good })
 }
 
-/// Appends the text for a numbered line, whose octets are read into room for the longest frame, and
-/// returns whether the line has no fault.
+/// Appends the text of a numbered line, whose octets are read into room for the longest frame, and returns whether the line
+/// has no fault.
 fn push_line_text(
     text: &mut Vec<u8>,
     room: &mut [u8; FRAME_OCTETS],
@@ -67,7 +66,7 @@ fn push_line_text(
     }
 }
 
-/// Appends the text for a frame on the line with this number, and returns whether it has no fault.
+/// Appends the text of a frame on the line with this number, and returns whether it has no fault.
 fn push_frame(text: &mut Vec<u8>, number: usize, octets: &[u8]) -> Result<bool, Memory>
     ensures text { OnOk result (text.new.items
         ≡ text.old.items ++ text_at number (shown_frame octets.now)) }
@@ -84,8 +83,8 @@ fn push_frame(text: &mut Vec<u8>, number: usize, octets: &[u8]) -> Result<bool, 
     }
 }
 
-/// Appends what follows the first line of a message, its lines put together in this room.
-// Inlined, as most messages have one line.
+/// Appends what follows the first line of a message. Its lines are put together in this room.
+// Inlined, since most messages have one line.
 #[inline(always)]
 fn push_further(
     text: &mut Vec<u8>,
@@ -100,8 +99,8 @@ fn push_further(
     }
 }
 
-/// Appends further lines, as `append_further` does.
-// Not inlined, so that its loops have the registers for themselves.
+/// Appends further lines as `append_further` does.
+// Not inlined, so that its loops have all the registers.
 #[inline(never)]
 fn push_lines(
     text: &mut Vec<u8>,
@@ -113,7 +112,7 @@ fn push_lines(
     append_further(text, line, further)
 }
 
-/// Appends the line that reports a fault, and returns that there is one.
+/// Appends the line that reports a fault, and returns `false`: the line is faulty.
 fn push_fault(text: &mut Vec<u8>, number: usize, fault: &str) -> Result<bool, Memory>
     ensures text { OnOk result (text.new.items
         ≡ text.old.items ++ line_fault_text number fault.now) }

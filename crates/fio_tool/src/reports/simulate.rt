@@ -9,12 +9,12 @@ use fio_text::Report;
 use fio_world::{ScriptError, report_text};
 use std::alloc::Global;
 
-/// Returns the text of the run of the script in the input: its report, which is good unless an event is
-/// refused. A script with a fault is not run: it gives the one line for its first faulty line, and an
-/// input of more than 1,048,576 octets the one line `input too long`.
+/// Returns the text of the run of the script in the input: its report, which is good unless an event is refused. A script
+/// with a fault is not run: the text is one line for its first faulty line. For an input of more than 1,048,576 octets the
+/// text is the one line `input too long`.
 ///
 /// # Errors
-/// `Memory` where an allocation failed, for the script, its run or its text.
+/// `Memory` if an allocation failed, for the script, its run or its text.
 pub fn simulate_text(alloc: Global, input: &[u8]) -> Result<Report, Memory>
     ensures text { IfOk result (λ report. report.text.items ≡ simulate_text input.now) }
     ensures good { IfOk result (λ report. report.good ≡ is_simulate_good input.now) }

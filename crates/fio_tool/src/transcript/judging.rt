@@ -5,7 +5,7 @@ ghost use Rattle.fio_tool.specs.Judging.{IsJudged};
 
 use fio_check::{Facts, Observation, Verdict, rule_broken};
 
-/// What is kept of the lines above: the first breach, and while there is none what the rules read.
+/// What is kept of the lines so far: the first breach, and as long as there is none, what the rules need.
 #[derive(Clone, Copy)]
 pub(crate) struct Judging {
     pub(super) facts: Facts,
@@ -13,7 +13,7 @@ pub(crate) struct Judging {
 }
 
 impl Judging {
-    /// Above the first line.
+    /// Returns what is kept before the first line.
     pub(super) fn new() -> Judging
         ensures facts { result.facts ≡ no_facts }
         ensures breach { result.breach ≡ None }
@@ -24,7 +24,7 @@ impl Judging {
         }
     }
 
-    /// Adds a line with this number that says this.
+    /// Adds a line with this number, which says this.
     #[inline(always)]
     pub(super) fn add(&mut self, number: usize, observation: Observation)
         ensures { IsJudged self.old number observation self.new }

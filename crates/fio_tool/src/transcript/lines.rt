@@ -10,15 +10,15 @@ use std::fmt;
 use std::fmt::{Display, Formatter};
 use thiserror::Error;
 
-/// Why a text is no transcript.
+/// Why a text is not a transcript.
 #[derive(Clone, Copy, Debug, PartialEq, Eq, Hash, Error)]
 pub enum TraceError {
-    /// A line that says something is no frame. It is the first one.
+    /// A line that has content is not a frame. It is the first such line.
     BadLine {
         /// The number of the line in the text, from 1.
         line: usize,
     },
-    /// An allocation failed, for a line. Each line above it is a frame.
+    /// An allocation failed, for a line. Each line before it is a frame.
     Memory,
 }
 
@@ -61,9 +61,9 @@ impl<T: Drop> From<AllocFailed<T>> for TraceError {
 /// is read.
 ///
 /// # Errors
-/// The first that applies: `BadLine` for the first line that is neither; `Memory` where the room for
-/// a line was refused. Room is asked for a line only once it is known to be a frame, so `Memory` never
-/// stands for a bad line, nor for a line below one.
+/// The first that applies: `BadLine` for the first line that is neither; `Memory` if there was none for a line. Room for a
+/// line is requested only when it is known to be a frame, so `Memory` is never returned for a bad line or for a line after
+/// one.
 pub fn read_trace(alloc: Global, text: &[u8]) -> Result<Vec<Line>, TraceError>
     ensures ok { IfOk result (λ lines. transcript_in text.now ≡ Ok lines.items) }
     ensures err { IfErr result (λ fault. fault ≢ TraceError.Memory
@@ -78,7 +78,7 @@ pub fn read_trace(alloc: Global, text: &[u8]) -> Result<Vec<Line>, TraceError>
     Ok(lines)
 }
 
-/// Returns the line of a transcript that a line with this number writes.
+/// Returns the line of a transcript that a line with this number is.
 fn read_line(alloc: Global, number: usize, line: &[u8]) -> Result<Line, TraceError>
     ensures ok { IfOk result (λ found. line_in (number, line.now) ≡ Ok found) }
     ensures err { IfErr result (λ fault. fault ≢ TraceError.Memory
@@ -102,8 +102,8 @@ fn read_line(alloc: Global, number: usize, line: &[u8]) -> Result<Line, TraceErr
     })
 }
 
-/// Returns whether the CPU sent the frame of a line, and the digits of its octets; `None` for a
-/// line that begins neither with `> ` nor with `< `.
+/// Returns whether the CPU sent the frame of a line, and the digits of its octets; `None` if the line begins neither with `>
+/// ` nor with `< `.
 pub(crate) fn frame_word(line: &[u8]) -> Option<(bool, &[u8])>
     ensures none { IfNone result (frame_in line.now ≡ None) }
     ensures some { IfSome result (λ found. frame_in line.now ≡ frame_with found.0 found.1.now) }

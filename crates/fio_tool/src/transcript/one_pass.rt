@@ -1,4 +1,4 @@
-//! A transcript judged in one pass over its text: the verdict, and the record of its CPU. No line is kept.
+//! Judging a transcript in one pass over its text: the verdict, and the record of its CPU. No line is kept.
 ghost use Rattle.std.specs.Prelude.{◌≡◌, ◌≢◌, ℕ, Bool, List, true, false, None, Ok, Err, IfOk, IfErr, IfSome, IfNone, OnOk};
 ghost use Rattle.fio_message.specs.Decoding.{answer_in, command_in};
 ghost use Rattle.fio_check.specs.Lines.{TranscriptLine};
@@ -16,11 +16,10 @@ use fio_message::{FRAME_OCTETS, Memory, read_answer, read_command};
 use fio_text::{BadLine, numbered_lines, read_octets_to};
 use std::alloc::Global;
 
-/// Returns the verdict on the transcript that a text is, that of `check_trace` on the lines of
-/// `read_trace`.
+/// Returns the verdict on the transcript that a text is: that of `check_trace` on the lines of `read_trace`.
 ///
 /// # Errors
-/// `BadLine` for the first line that is no frame, also where a line above it breaks a rule.
+/// `BadLine` for the first line that is not a frame, even if a line before it breaks a rule.
 pub(crate) fn judge_lines(text: &[u8]) -> Result<Verdict, BadLine>
     ensures ok { IfOk result (λ verdict. verdict_in text.now ≡ Ok verdict) }
     ensures err { IfErr result (λ fault. verdict_in text.now ≡ Err (TraceError.BadLine fault.line)) }
@@ -39,11 +38,10 @@ pub(crate) fn judge_lines(text: &[u8]) -> Result<Verdict, BadLine>
     Ok(judging.breach.unwrap_or(Verdict::Good { frames }))
 }
 
-/// Returns the verdict, as `judge_lines` has it, and where no line breaks a rule the record of the
-/// transcript's CPU.
+/// Returns the verdict, as `judge_lines` does, and if no line breaks a rule, the record of the transcript's CPU.
 ///
 /// # Errors
-/// `BadLine` as `judge_lines`; `Memory` where the record could not grow.
+/// `BadLine` as for `judge_lines`; `Memory` if the record could not grow.
 pub(crate) fn record_lines(alloc: Global, text: &[u8]) -> Result<(Verdict, Recording), TraceError>
     ensures verdict { IfOk result (λ judged. verdict_in text.now ≡ Ok judged.0) }
     ensures recording { (lines : List TranscriptLine) → transcript_in text.now ≡ Ok lines
@@ -76,8 +74,8 @@ pub(crate) fn record_lines(alloc: Global, text: &[u8]) -> Result<(Verdict, Recor
     ))
 }
 
-/// Reads the octets of a line's frame into room for the longest. Returns whether the CPU sent it, and how
-/// many octets it has; `None` where the line is no frame.
+/// Reads the octets of a line's frame into room for the longest frame. Returns whether the CPU sent it, and how many octets
+/// it has; `None` if the line is not a frame.
 #[tactic(auto, using(crate::proofs::LongFrames::frame_read))]
 fn read_frame(line: &[u8], room: &mut [u8; FRAME_OCTETS]) -> Option<(bool, usize)>
     ensures none { IfNone result (frame_in line.now ≡ None) }
@@ -88,8 +86,7 @@ fn read_frame(line: &[u8], room: &mut [u8; FRAME_OCTETS]) -> Option<(bool, usize
     Some((from_cpu, count))
 }
 
-/// Returns the octets of a frame that is in the room; none where it is longer, since neither spells
-/// a message.
+/// Returns the octets of a frame that is in the room, or none if the frame is longer: neither spells a message.
 fn octets_of(count: usize, room: &[u8; FRAME_OCTETS]) -> &[u8]
     ensures { (line : List ℕ) (from_cpu : Bool) (frame : IsReadFrame line from_cpu count room.now)
         → SpellsSame result.now frame.octets }
@@ -100,8 +97,8 @@ fn octets_of(count: usize, room: &[u8; FRAME_OCTETS]) -> &[u8]
     &room[..count]
 }
 
-/// Returns what a frame says to the rules. It is not inlined: in the loop over the lines the one
-/// over a block's entries would have too few registers.
+/// Returns what a frame says to the rules. It is not inlined: in the loop over the lines, the loop over a block's entries
+/// would have too few registers.
 #[inline(never)]
 fn observe(from_cpu: bool, octets: &[u8]) -> Observation
     ensures { result ≡ observation_in from_cpu octets.now }
@@ -109,10 +106,10 @@ fn observe(from_cpu: bool, octets: &[u8]) -> Observation
     Observation::of(from_cpu, octets)
 }
 
-/// Adds the frame of a line with this number, which is read once. It is recorded while no line breaks a rule.
+/// Adds the frame of a line with this number, which is read once. It is recorded as long as no line breaks a rule.
 ///
 /// # Errors
-/// `Memory` where the record could not grow.
+/// `Memory` if the record could not grow.
 #[inline(never)]
 fn record_frame(
     alloc: Global,

@@ -13,14 +13,14 @@ use fio_cpu::{Item, Poller};
 use fio_message::{AnswerView, CommandView, Memory};
 use std::alloc::Global;
 
-/// Where a rule on content is broken.
+/// A breach of a rule on content.
 #[derive(Clone, Copy)]
 pub(crate) struct BrokenItem {
     /// The number of its line in the text.
     pub(crate) line: usize,
-    /// How many items of the record are above it.
+    /// How many items of the record are before it.
     pub(crate) above: usize,
-    /// The input of its entry, or that whose state is another; `None` for an answer.
+    /// The input of its entry, or the input whose state differs; `None` for an answer.
     pub(crate) input: Option<u8>,
     /// The first rule that is broken.
     pub(crate) rule: ContentRule,
@@ -29,16 +29,16 @@ pub(crate) struct BrokenItem {
 /// What one pass over a transcript keeps.
 #[derive(Drop)]
 pub(crate) struct Recording {
-    /// The CPU: it starts at the first poll, and hears each frame below. `None` where nothing is polled.
+    /// The CPU: it starts at the first poll, and hears each frame after it. `None` if nothing is polled.
     pub(crate) cpu: Option<Poller>,
     /// What the rules on content keep.
     checker: ContentChecker,
-    /// The first breach of one.
+    /// The first breach of a rule on content.
     pub(crate) broken: Option<BrokenItem>,
 }
 
 impl Recording {
-    /// Returns what is kept above the first line.
+    /// Returns what is kept before the first line.
     pub(crate) fn new() -> Recording
         ensures { IsNoRecording result }
     {
@@ -62,7 +62,7 @@ impl Recording {
     /// Adds an answer of the line with this number that the CPU heard.
     ///
     /// # Errors
-    /// `Memory` where the record could not grow. Nothing else allocates.
+    /// `Memory` if the record could not grow. Nothing else allocates.
     pub(super) fn hear(&mut self, number: usize, answer: &AnswerView<'_>) -> Result<(), Memory>
         ensures { (line : TranscriptLine) → line.number ≡ number → line.from_cpu ≡ false
             → answer_in line.octets ≡ Some (answer_of answer.now)
@@ -99,7 +99,7 @@ impl Recording {
         }
     }
 
-    /// Hears an answer, as the CPU does.
+    /// Hears an answer as the CPU does.
     fn take(&mut self, answer: &AnswerView<'_>) -> Result<(), Memory>
         ensures { OnOk result (self.new ≡ (record self.old {
           cpu = poller_below self.old.cpu None (Some (answer_of answer.now));
@@ -111,7 +111,7 @@ impl Recording {
         Ok(())
     }
 
-    /// Adds a breach in the line with this number, where the record has so many items above the line.
+    /// Adds a breach in the line with this number, before which the record has `items` items.
     fn add_breach(&mut self, line: usize, items: usize, breach: ContentBreach)
         requires { items < 2 ^ 63 }
         ensures { self.new ≡ (record self.old {
@@ -124,7 +124,7 @@ impl Recording {
     }
 }
 
-/// Returns a breach in a line, where the record has so many items above the line.
+/// Returns a breach in a line before which the record has `items` items.
 fn broken_item(line: usize, items: usize, breach: ContentBreach) -> BrokenItem
     requires { items < 2 ^ 63 }
     ensures { result ≡ item_broken line items breach }

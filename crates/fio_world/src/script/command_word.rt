@@ -1,4 +1,4 @@
-//! The word of a `send`, which names the octets of a command.
+//! The word after `send`, which denotes the octets of a command.
 ghost use Rattle.std.specs.Prelude.{◌≡◌, ◌≢◌, ◌≤◌, None, Some, Ok, Err, MatchResult, take};
 ghost use Rattle.fio_message.specs.Decoding.{command_in};
 ghost use Rattle.fio_message.specs.declared.limits.TheConstants.{FRAME_OCTETS};
@@ -10,7 +10,7 @@ use super::ScriptError;
 use fio_message::{Command, DecodeError, FRAME_OCTETS, decode_command, read_command};
 use fio_text::read_octets_to;
 
-/// A word of a script whose hexadecimal digits name the octets of a command.
+/// A word of a script whose hexadecimal digits denote the octets of a command.
 #[derive(Clone, Copy)]
 pub(crate) struct CommandWord<'a> {
     word: &'a [u8],
@@ -20,11 +20,11 @@ pub(crate) struct CommandWord<'a> {
 impl<'a> CommandWord<'a> {
     ghost use Rattle.fio_world.specs.Steps.{command_of};
 
-    /// Reads the word of a `send` in the line with this number. Its octets are read in place.
+    /// Reads the word after `send` in the line with this number. Its octets are read in place.
     ///
     /// # Errors
-    /// `BadLine` if the word names no octets, `BadFrame` if they spell no command.
-    // Not inlined: the room for a frame would be cleared for each line.
+    /// `BadLine` if the word denotes no octets, `BadFrame` if they spell no command.
+    // Not inlined: otherwise the room for a frame would be cleared for each line.
     #[inline(never)]
     pub(crate) fn read(number: usize, word: &'a [u8]) -> Result<CommandWord<'a>, ScriptError>
         ensures { MatchResult result
@@ -50,7 +50,7 @@ impl<'a> CommandWord<'a> {
         }
     }
 
-    /// Writes the octets that the word names to the front of the room, and returns how many they are.
+    /// Writes the octets that the word denotes to the front of the room, and returns how many there are.
     pub(crate) fn octets_to(&self, room: &mut [u8; FRAME_OCTETS]) -> usize
         ensures within { result ≤ FRAME_OCTETS }
         ensures spelled { command_in (take result room.new) ≡ Some (command_of self.now) }

@@ -1,4 +1,4 @@
-//! A script's further lines: one event each.
+//! The lines of a script after the first: one event each.
 ghost use Rattle.std.specs.Prelude.{◌≡◌, ◌≢◌, Ok, IfOk, IfErr, IfSome, map, option_map};
 ghost use Rattle.std.specs.Str.{bytes_eq};
 ghost use Rattle.fio_world.specs.EventLines.{delivery_in, event_at, event_with_value, plain_event, IsReadAs};
@@ -15,7 +15,7 @@ use std::alloc::Global;
 /// The most events of a script (own profile).
 const MAX_EVENTS: usize = 10_000;
 
-/// Returns the steps of the lines below a header, where the module may restart or not.
+/// Returns the steps of the lines after a header; whether the module may restart is given.
 pub(crate) fn read_steps<'a>(
     alloc: Global,
     text: &'a [u8],
@@ -42,8 +42,8 @@ pub(crate) fn read_steps<'a>(
     Ok(steps)
 }
 
-/// Returns the step of a line below one that is read as the step `last`. Most lines of a long script are
-/// scans at which nothing changes, and so are the same as the line above.
+/// Returns the step of a line that follows one which was read as the step `last`. Most lines of a long script are scans at
+/// which nothing changes, and so are equal to the line before.
 fn read_below<'a>(
     above: &[u8],
     last: Option<ScriptStep<'a>>,
@@ -66,8 +66,7 @@ fn are_same(line: &[u8], other: &[u8]) -> bool
     line == other
 }
 
-/// Returns the step of the line with this number, where the module may restart or not. It asks for no
-/// memory.
+/// Returns the step of the line with this number; whether the module may restart is given. It allocates nothing.
 fn read_step<'a>(
     number: usize,
     line: &'a [u8],
@@ -100,8 +99,8 @@ fn read_plain<'a>(line: &'a [u8], restarts: bool) -> Option<ScriptStep<'a>>
     read_with_value(line)
 }
 
-/// Returns the step of a line that has a value behind its first word, and sends no command.
-// Inlined, as it is called for each line that is not the same as the line above.
+/// Returns the step of a line that has a value after its first word, and sends no command.
+// Inlined, since it is called for each line that differs from the one before.
 #[inline(always)]
 fn read_with_value<'a>(line: &'a [u8]) -> Option<ScriptStep<'a>>
     ensures { option_map event_of result ≡ event_with_value line.now }
@@ -116,7 +115,7 @@ fn read_with_value<'a>(line: &'a [u8]) -> Option<ScriptStep<'a>>
 }
 
 /// Returns the step of a line that delivers a frame.
-// Inlined, as it is called for each line that is not the same as the line above.
+// Inlined, since it is called for each line that differs from the one before.
 #[inline(always)]
 fn read_delivery<'a>(line: &'a [u8]) -> Option<ScriptStep<'a>>
     ensures { option_map event_of result ≡ delivery_in line.now }

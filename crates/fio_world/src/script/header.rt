@@ -1,11 +1,11 @@
-//! A script's first line.
+//! The first line of a script.
 ghost use Rattle.std.specs.Prelude.{◌≡◌, option_map};
 ghost use Rattle.fio_world.specs.Headers.{header_of, limited_header, limits_in, standard_header};
 
 use fio_module::Limits;
 use fio_text::{after_prefix, read_number, read_small_number, split_at_blank};
 
-/// What a script's first line says.
+/// What the first line of a script says.
 #[derive(Clone, Copy)]
 pub(crate) struct Header {
     /// The module's identification octet.
@@ -62,7 +62,7 @@ fn read_limited(words: &[u8]) -> Option<Header>
     })
 }
 
-/// Reads N N: the limits with these numbers, read whole.
+/// Reads N N: the limits with these two numbers.
 fn read_limits(words: &[u8]) -> Option<Limits>
     ensures { result ≡ limits_in words.now }
 {

@@ -5,24 +5,24 @@ ghost use Rattle.fio_world.specs.Steps.{event_of};
 use super::command_word::CommandWord;
 use fio_link::Event;
 
-/// An event of a script. The command of a `send` stays a word of the text.
+/// An event of a script. The command after `send` stays a word of the text.
 #[derive(Clone, Copy)]
 pub(crate) enum ScriptStep<'a> {
-    /// As `Event::Scan`.
+    /// `Event::Scan`.
     Scan(u64),
-    /// As `Event::LineSync`.
+    /// `Event::LineSync`.
     LineSync,
-    /// As `Event::Raise`.
+    /// `Event::Raise`.
     Raise(u8),
-    /// As `Event::Poll`.
+    /// `Event::Poll`.
     Poll,
-    /// The CPU sends the command that the word names.
+    /// The CPU sends the command that the word denotes.
     Send(CommandWord<'a>),
-    /// As `Event::ToModule`.
+    /// `Event::ToModule`.
     ToModule(usize),
-    /// As `Event::ToCpu`.
+    /// `Event::ToCpu`.
     ToCpu(usize),
-    /// As `Event::Restart`.
+    /// `Event::Restart`.
     Restart,
 }
 

@@ -51,7 +51,7 @@ pub(crate) fn push_heard(text: &mut Vec<u8>, number: usize, heard: Heard) -> Res
 /// Appends why the event with this number did not happen, if that is a refusal.
 ///
 /// # Errors
-/// `Memory` where the event ran out of memory, or the text could not grow.
+/// `Memory` if the event ran out of memory, or the text could not grow.
 pub(crate) fn push_refusal(
     text: &mut Vec<u8>,
     number: usize,

@@ -1,4 +1,4 @@
-//! The frames sent in one direction, end to end.
+//! The frames sent in one direction, stored end to end.
 ghost use Rattle.std.specs.Prelude.{◌≡◌, ◌≢◌, ◌≤◌, ◌<◌, ◌∷◌, ◌++◌, [], List, ℕ, Some, true, length, IfSome, OnOk, OnErr};
 ghost use Rattle.fio_message.specs.declared.limits.TheConstants.{FRAME_OCTETS};
 ghost use Rattle.std.specs.Option.{option_map};
@@ -11,7 +11,7 @@ use fio_message::{FRAME_OCTETS, Frame, Memory};
 use std::alloc::Global;
 use std::marker::Model;
 
-/// Frames, numbered from 1. Their octets are end to end.
+/// Frames, numbered from 1. Their octets are stored end to end.
 #[derive(Drop)]
 pub(crate) struct StoredFrames {
     octets: Vec<u8>,
@@ -38,7 +38,7 @@ impl Model for StoredFrames {
 }
 
 impl StoredFrames {
-    /// Returns a list of no frames. Takes no memory.
+    /// Returns a list of no frames. It allocates nothing.
     pub(crate) fn new(alloc: Global) -> StoredFrames
         ensures { result.frames ≡ [] }
     {
@@ -48,14 +48,14 @@ impl StoredFrames {
         }
     }
 
-    /// Returns how many frames there are.
+    /// Returns the number of frames.
     pub(crate) fn len(&self) -> usize
         ensures { result ≡ length self.now.frames }
     {
         self.ends.len()
     }
 
-    /// Asks for room for one more frame.
+    /// Reserves room for one more frame.
     pub(crate) fn reserve(&mut self) -> Result<(), Memory>
         ensures ok { OnOk result (self.new.has_room ≡ true) }
         ensures same { self.new.frames ≡ self.old.frames }
@@ -85,7 +85,7 @@ impl StoredFrames {
         part(self.octets.as_slice(), start, self.ends[index - 1])
     }
 
-    /// Returns the octets of the frame with this number, or none if there is no such frame.
+    /// Returns the octets of the frame with this number, or no octets if there is no such frame.
     pub(crate) fn octets_or_none(&self, index: usize) -> &[u8]
         ensures is { result.now ≡ octets_numbered self.now.frames index }
         ensures short { length result.now ≤ FRAME_OCTETS }
@@ -96,7 +96,7 @@ impl StoredFrames {
         }
     }
 
-    /// Returns the octets of the frame with this number, or `None` if none has it.
+    /// Returns the octets of the frame with this number, or `None` if there is no such frame.
     pub(crate) fn get(&self, index: usize) -> Option<&[u8]>
         ensures is { option_map (λ (octets : Bor (List ℕ)). octets.now) result
             ≡ item_numbered self.now.frames index }
@@ -112,7 +112,7 @@ impl StoredFrames {
     }
 }
 
-/// Returns where the frame with this place starts.
+/// Returns the index at which a frame starts, given its index among the frames.
 fn start_of(ends: &[usize], place: usize) -> usize
     requires { place < length ends.now }
     ensures { result ≡ start_at 0 ends.now place }
@@ -120,7 +120,7 @@ fn start_of(ends: &[usize], place: usize) -> usize
     if place == 0 { 0 } else { ends[place - 1] }
 }
 
-/// Returns the octets between two places.
+/// Returns the octets between two indexes.
 fn part(octets: &[u8], start: usize, end: usize) -> &[u8]
     requires { (start ≤ end) × (end ≤ length octets.now) }
     ensures { result.now ≡ between octets.now start end }

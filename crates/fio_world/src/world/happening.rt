@@ -22,8 +22,7 @@ use fio_message::{Command, FRAME_OCTETS, Memory, encode_command, read_poll};
 pub(crate) trait WorldEvent {
     ghost event: { Self → Event };
 
-    /// Lets the event happen, or refuses it and changes nothing: `World::step` without what follows
-    /// for runs.
+    /// Applies the event, or refuses it and changes nothing: `World::step` without the promises about runs.
     fn happen(&self, world: &mut World) -> Result<Effect, WorldError>
         ensures row { HappensTo (event self.now) world.old result world.new }
         ensures err { OnErr result (world.new ≡ world.old) };
@@ -63,7 +62,7 @@ impl WorldEvent for ScriptStep<'_> {
     }
 }
 
-// What needs room for a frame or a command is not inlined: the room would be cleared for each event.
+// What needs room for a frame or a command is not inlined: otherwise the room would be cleared for each event.
 impl World {
     /// Steps the module's counter and samples its inputs.
     #[inline(always)]
@@ -85,7 +84,7 @@ impl World {
         Ok(Effect::Quiet)
     }
 
-    /// Raises the module's status flags whose bits are set.
+    /// Raises the module's status flags whose bits are 1.
     #[inline(always)]
     fn raise(&mut self, mask: u8) -> Result<Effect, WorldError>
         ensures row { HappensTo (events.Raise mask) self.old result self.new }
@@ -115,7 +114,7 @@ impl World {
         self.send(&frame)
     }
 
-    /// Sends the command that the word names, unless it is a poll.
+    /// Sends the command that the word denotes, unless it is a poll.
     #[inline(never)]
     fn send_word(&mut self, word: &CommandWord<'_>) -> Result<Effect, WorldError>
         ensures row { HappensTo (events.Send (command_of word.now)) self.old result self.new }
@@ -148,7 +147,7 @@ impl World {
         }
     }
 
-    /// Returns the outcome that this is.
+    /// Returns the outcome that this effect is.
     // Inlined, so that a caller who reads no frame copies none.
     #[inline(always)]
     pub(crate) fn outcome(&self, effect: Effect) -> Outcome
@@ -168,7 +167,7 @@ impl World {
         }
     }
 
-    /// Returns the octets of the frame to the module with this number, or none if there is no such frame.
+    /// Returns the octets of the frame to the module with this number, or no octets if there is no such frame.
     pub(crate) fn octets_to_module(&self, index: usize) -> &[u8]
         ensures is { result.now ≡ octets_numbered self.now.to_module index }
         ensures short { length result.now ≤ FRAME_OCTETS }
@@ -176,7 +175,7 @@ impl World {
         self.to_module.octets_or_none(index)
     }
 
-    /// Returns the octets of the frame to the CPU with this number, or none if there is no such frame.
+    /// Returns the octets of the frame to the CPU with this number, or no octets if there is no such frame.
     pub(crate) fn octets_to_cpu(&self, index: usize) -> &[u8]
         ensures is { result.now ≡ octets_numbered self.now.to_cpu index }
         ensures short { length result.now ≤ FRAME_OCTETS }
@@ -184,7 +183,7 @@ impl World {
         self.to_cpu.octets_or_none(index)
     }
 
-    /// Sends a frame of the CPU: it joins those to the module.
+    /// Sends a frame of the CPU: it joins the frames to the module.
     pub(crate) fn send(&mut self, frame: &[u8]) -> Result<Effect, WorldError>
         requires { length frame.now ≤ FRAME_OCTETS }
         ensures outcome { IfOk result (λ effect. outcome_in self.new effect
@@ -201,8 +200,8 @@ impl World {
         Ok(Effect::ToModule(self.to_module.len()))
     }
 
-    /// Delivers the frame with this number to the module. Its answer, if any, joins those to the CPU.
-    /// Room for it is asked for first: what the module has received can't be taken back.
+    /// Delivers the frame with this number to the module. Its answer, if any, joins the frames to the CPU. Room for it is
+    /// reserved first, since what the module has received can't be taken back.
     #[inline(never)]
     fn deliver_to_module(&mut self, index: usize) -> Result<Effect, WorldError>
         ensures row { HappensTo (events.ToModule index) self.old result self.new }
@@ -239,8 +238,8 @@ impl World {
     }
 }
 
-/// Returns the octets of the frame with this number among those sent in its direction. The delivery is refused
-/// where none has it, or where the frame delivered last has a higher one.
+/// Returns the octets of the frame with this number among those sent in its direction. The delivery is refused if there is
+/// no such frame, or if the frame delivered last has a higher number.
 fn to_deliver(frames: &StoredFrames, last: usize, index: usize) -> Result<&[u8], WorldError>
     ensures fine { OnOk result (delivery_refusal (length frames.now.frames) last index ≡ None) }
     ensures is { IfOk result (λ octets. item_numbered frames.now.frames index ≡ Some octets.now) }

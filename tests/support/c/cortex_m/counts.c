@@ -1,4 +1,4 @@
-/* What calls cost on a Cortex-M4 under `qemu-system-arm -icount shift=0`, where an instruction takes a nanosecond: lines
+/* What calls cost on a Cortex-M4 under `qemu-system-arm -icount shift=0`, which makes an instruction take a nanosecond: lines
  * `instructions CASE NUMBER`, with the call, and `stack CALL NUMBER`, in octets, by a stack that is painted before the
  * call. */
 #include "fio2070.h"
@@ -79,7 +79,7 @@ static void count_scans(const char *what, uint64_t flips) {
     say(what);
 }
 
-/* Changes of one input after another, as many as this. */
+/* This many changes, of one input after another. */
 static void change(unsigned changes) {
     while (changes-- > 0) {
         levels ^= (uint64_t)1 << changes % 64;

@@ -198,7 +198,7 @@ static size_t take(const struct block *block, struct fio2070_record_item *items)
     return count;
 }
 
-/* A block with another number than the one that is asked for. */
+/* A block with another number than the one polled for. */
 static size_t hear_stale(const struct block *block, struct fio2070_record_item *items) {
     int is_last = block->number == (uint8_t)(cpu.number - 1), is_next = block->number == (uint8_t)(cpu.number + 1);
     if (Q(STALE_RAISES)) raise_number(1);

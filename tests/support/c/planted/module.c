@@ -136,7 +136,7 @@ static void count_up(void) {
     }
 }
 
-/* The levels that are sampled, where many change. */
+/* The levels that are sampled, if many change. */
 static uint64_t with_mask(uint64_t levels) {
     uint64_t left;
     int changed = 0;

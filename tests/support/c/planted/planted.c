@@ -1,8 +1,8 @@
 /* Looks for the planted faults of both ends, each alone, with the same seed.
  *
  *     planted                      each fault: its events, the events of its script, its rule and its name; status 1
- *                                  where one was not found in time
- *     planted found EVENTS SEED    the same within so many events, by another seed, with scripts that are hardly shrunk
+ *                                  if one was not found in time
+ *     planted found EVENTS SEED    the same within EVENTS events, by another seed, with scripts that are hardly shrunk
  *     planted module NAMES WORD..  the words of a tester, of the module with the faults of these names, with `; ` between
  *                                  them; `none` is the right one
  *     planted cpu NAMES WORD..     of the CPU's end
@@ -16,7 +16,7 @@
 /* A twentieth of the trials that a tester shrinks a script by is enough for most. */
 enum { MOST_NAMES = 8, MOST_TRIED = 1000000 };
 
-/* As many events as a run over a wire has. */
+/* The number of events of a run over a wire. */
 enum { EVENTS = 20000 };
 
 static enum rule found_rule(const struct result *result) {

@@ -1,4 +1,4 @@
-/* The module with its faults behind the lines of fio2070-test, as an adapter has it. */
+/* The module with its faults answers the lines of fio2070-test, as an adapter does. */
 #define _POSIX_C_SOURCE 200809L
 #include "conformance_clock.h"
 #include "quirks.h"

@@ -2,8 +2,7 @@ use Rattle.std.proofs.Common.{◌≡◌, ◌+◌, ◌≤◌, ◌++◌, length, v
 use Rattle.std.specs.Vec.{vec_capacity}
 use Rattle.fio_cpu.proofs.record.extended.Given as goal
 
--- the iterator is the list of the items that are left: there is room for them, and with them the
--- record is as it will be
+-- the iterator is the list of the items that remain: there is room for them, and with them the record is complete
 abbrev pub invariant-loop-item : goal.invariant-loop-item
 invariant-loop-item l = record {
   fits : vec_len l.kept + length l.item-iterator ≤ vec_capacity l.kept;

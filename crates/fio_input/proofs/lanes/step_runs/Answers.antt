@@ -14,7 +14,7 @@ loop-group-init c =
       no_rest = λ i h k. is_set-zero i;
     }
 
--- a group of which each sample is its filtered state is left out
+-- a group in which each sample is the filtered state is left out
 pub loop-group-preserved-then-now-levels_from : goal.loop-group-preserved-then-now-levels_from
 loop-group-preserved-then-now-levels_from c =
     let first = 16 * c.loop-group.group in

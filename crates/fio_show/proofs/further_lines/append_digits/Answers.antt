@@ -10,7 +10,7 @@ parts-init g c = record {
   whole = λ after then. then;
 }
 
--- the digits of a part are all that is behind their place
+-- from the index at which they start, the line has nothing but the digits of a part
 text-of : (part line : List ℕ) (start : ℕ) → drop start line ≡ digits_of part → length line ≡ 128
     → take (128 - start) (drop start line) ≡ digits_of part
 text-of part line start put long =

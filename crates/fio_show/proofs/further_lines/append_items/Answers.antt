@@ -12,7 +12,7 @@ items-init g c =
       whole = rw all (λ after then. then);
     }
 
--- what is put from a place of its room on is the rest of the room
+-- what is put from an index of its room on is the rest of the room
 rest-of : (line : List ℕ) (start : ℕ) → length line ≡ 128 → start ≤ 128
     → (take (128 - start) (drop start line) ≡ drop start line) × (length (take (128 - start) (drop start line)) ≤ 128)
 rest-of line start long within =

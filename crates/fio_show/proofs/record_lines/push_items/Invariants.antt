@@ -3,7 +3,7 @@ use Rattle.std.specs.List.{flat_map}
 use Rattle.fio_show.specs.EntryLines.{item_line}
 use Rattle.fio_show.proofs.record_lines.push_items.Given as goal
 
--- the text, and behind it the lines that are gathered
+-- the text, followed by the lines that are gathered
 abbrev pub invariant-loop-item : goal.invariant-loop-item
 invariant-loop-item l = record {
   within : l.end ≤ 4096;

@@ -2,7 +2,7 @@ use Rattle.fio_tool.proofs.Names.{◌≡◌, ◌∙◌, ◌++◌, List, [], ◌�
 use Rattle.fio_tool.specs.declared.transcript.lines.TraceError.{TraceError}
 use Rattle.fio_tool.proofs.transcript.lines.read_trace.Goals as goal
 
--- one line more of those that are left
+-- one more of the lines that remain
 line-collected : (lines : List TranscriptLine) (line : TranscriptLine) (left : Result (List TranscriptLine) TraceError)
     → with_first (lines ++ (line ∷ [])) left ≡ with_first lines (with_first (line ∷ []) left)
 line-collected lines line (Ok rest) = ap Ok (append_assoc lines (line ∷ []) rest)

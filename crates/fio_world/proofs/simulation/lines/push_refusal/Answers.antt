@@ -3,7 +3,7 @@ use Rattle.fio_world.specs.Faults.{world_error_text}
 use Rattle.fio_world.specs.declared.outcome.WorldError.TheVariants.{NotSent, OutOfOrder, PollIsOurs, Memory}
 use Rattle.fio_world.proofs.simulation.lines.push_refusal.Goals as goal
 
--- the line with the words of a fault is that of the refusal
+-- the line with the text of a fault is that of the refusal
 refused : (text whole : List ℕ) (number : ℕ) (fault : WorldError) → fault ≢ Memory
     → whole ≡ text ++ (decimal number ++ (codes " refused " ++ (world_error_text fault ++ codes "\n")))
     → IsSomeAnd (refusal_in fault) (λ refusal. whole ≡ text ++ refused_line number refusal)

@@ -1,0 +1,55 @@
+-- What is above a log that begins with both ends: events that break no rule, and what is known of each input.
+use Rattle.fio_ends.proofs.Names.{◌≡◌, ◌<◌, ◌&&◌, ◌++◌, not, ℕ, Bool, true, false, [], ◌∷◌, refl, ap, sym, subst, arith, if◌then◌else◌, nat_lt, nat_tests, ContentFacts, content_with, no_content, Ended, Heard, Sent, ContentRule, Accepted, Clock, State}
+use Rattle.fio_message.specs.Blocks.{block_answer}
+use Rattle.fio_message.specs.declared.answers.Answer.TheVariants as answers
+use Rattle.fio_cpu.specs.Record.{gap_if}
+use Rattle.fio_check.specs.ContentEvents.{events_above, items_and_end}
+use Rattle.fio_check.specs.ContentFacts.{input_begun, no_input}
+use Rattle.fio_check.proofs.ContentStart.{block_at_start, command_at_start, no_again, no_error, no_lost}
+use Rattle.fio_ends.specs.ContentRuns.{KeepsRule}
+use Rattle.fio_ends.proofs.ContentFrame.{sent_keeps}
+use Rattle.fio_ends.proofs.ContentLines.{EventsKeep}
+
+-- ---- the events
+
+-- below the command, the answer to it, and the block
+abbrev sent_facts : ContentFacts
+sent_facts = content_with no_content (Sent command_at_start)
+
+abbrev taken_facts : ContentFacts
+taken_facts = content_with sent_facts (Heard (answers.ConfigureInputs 0))
+
+abbrev heard_facts : ContentFacts
+heard_facts = content_with taken_facts (Heard (block_answer block_at_start))
+
+taken_keeps : (rule : ContentRule) → KeepsRule rule sent_facts (Heard (answers.ConfigureInputs 0))
+taken_keeps Accepted = ap (λ error. error && not sent_facts.absent_named) no_error
+taken_keeps State = refl
+taken_keeps rule = refl
+
+heard_keeps : (rule : ContentRule) → KeepsRule rule taken_facts (Heard (block_answer block_at_start))
+heard_keeps Clock = rw no_again refl
+heard_keeps State = refl
+heard_keeps rule = refl
+
+ended_keeps : (rule : ContentRule) → EventsKeep rule heard_facts (Ended 0 0 ∷ [])
+ended_keeps State = (refl, tt)
+ended_keeps rule = (tt, tt)
+
+-- the events above a log break no rule
+pub start_keeps : (rule : ContentRule) (begun : Bool) → EventsKeep rule no_content (events_above begun)
+start_keeps rule false = tt
+start_keeps rule true = (
+  sent_keeps rule no_content command_at_start,
+  (
+    taken_keeps rule,
+    (heard_keeps rule, subst (λ lost. EventsKeep rule heard_facts (items_and_end (gap_if lost ++ []) 0 0)) (sym no_lost) (ended_keeps rule)),
+  ),
+)
+
+-- ---- each input
+
+pub begun_input : (input : ℕ) → input < 64 → (if nat_lt input 64 then input_begun else no_input) ≡ input_begun
+begun_input input low =
+    let there : nat_lt input 64 ≡ true = grind (arith, nat_tests) in
+    ap (λ (b : Bool). if b then input_begun else no_input) there
