@@ -36,6 +36,38 @@ MESSAGES = [
 ]
 
 
+LOG = b'07:15:02.000 RX b6 05 01 8c 03 e7 00 00 00 03 e8\nno octets\n\n'
+
+
+class Logs(unittest.TestCase):
+    def test_verdicts(self):
+        reader = fio2070.LogReader()
+        self.assertEqual(reader.read(LOG) + reader.end(), [
+            (1, 'frames', '', (BLOCK,), ((1, 16, 48),), 26102 * 10**6),
+            (2, 'passed over', 'no octets', (), (), None),
+            (3, 'blank', '', (), (), None)])
+
+    def test_pieces(self):
+        text = LOG * 3 + b'the last line has no end'
+        reader = fio2070.LogReader()
+        whole = reader.read(text) + reader.end()
+        self.assertEqual([one.line for one in whole], list(range(1, 11)))
+        for size in (1, 7, 50):
+            reader, verdicts = fio2070.LogReader(), []
+            for at in range(0, len(text), size):
+                verdicts += reader.read(text[at:at + size])
+            self.assertEqual(verdicts + reader.end(), whole)
+
+    def test_many_lines(self):
+        # More verdicts than a batch takes.
+        reader = fio2070.LogReader()
+        verdicts = reader.read(b'\n' * 10000) + reader.end()
+        self.assertEqual([one.line for one in verdicts], list(range(1, 10001)))
+
+    def test_forms(self):
+        self.assertRaises(ValueError, fio2070.LogReader, 'other')
+
+
 class Rules(unittest.TestCase):
     def test_each_breach(self):
         checker = fio2070.Checker()
