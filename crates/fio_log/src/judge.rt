@@ -1,8 +1,9 @@
 //! The judge of a log's lines: which of their messages are frames.
-use crate::entries::{KEPT, Kept, Seen, State};
-use crate::joins::{Going, Join, Joining, last_run};
+use crate::entries::{KEPT, State};
+use crate::joins::{Going, Join, Joining};
+use crate::kept::{Kept, Seen};
 use crate::messages::Brief;
-use crate::openings::{first_row, is_octet_row};
+use crate::openings::{first_row, is_octet_row, last_run};
 use crate::queue::Queue;
 use crate::said::{LINE_RUNS, LineRuns};
 use crate::shapes::Shapes;
