@@ -19,7 +19,7 @@ inside-front line front until start end is order within =
     let none : until - 0 ≡ until = omega arith in
     let split : until ≡ start + (until - start) = omega (arith, order, within) in
     let rest : drop start front ≡ take (until - start) (drop start line) =
-        ap (drop start) (is ∙ ap (λ n. take n line) (none ∙ split)) ∙ drop-take start (until - start) line in
+    ap (drop start) (is ∙ ap (λ n. take n line) (none ∙ split)) ∙ drop-take start (until - start) line in
     ap (take (end - start)) rest
     ∙ take-shorter (end - start) (until - start) (drop start line) (omega (arith, order, within))
 

@@ -45,9 +45,5 @@ impl Glance {
 
 /// Returns the bit of a character, none outside ASCII.
 fn bit(character: u8) -> u128 {
-    if character < 128 {
-        1 << character
-    } else {
-        0
-    }
+    if character < 128 { 1 << character } else { 0 }
 }

@@ -73,7 +73,13 @@ pub(crate) fn read_line(line: &[u8], runs: &mut LineRuns)
 }
 
 /// Keeps the runs of hexadecimal words.
-fn find_words(line: &[u8], glance: Glance, octets: &mut Octets, finder: &mut Finder, runs: &mut LineRuns)
+fn find_words(
+    line: &[u8],
+    glance: Glance,
+    octets: &mut Octets,
+    finder: &mut Finder,
+    runs: &mut LineRuns,
+)
     requires { All (IsSaidIn line.now) runs.old.said.items }
     ensures { All (IsSaidIn line.now) runs.new.said.items }
 {
@@ -86,7 +92,14 @@ fn find_words(line: &[u8], glance: Glance, octets: &mut Octets, finder: &mut Fin
 }
 
 /// Keeps the runs of words with a mark, before the time of the line and after it.
-fn find_marked(line: &[u8], mark: u8, is_short: bool, octets: &mut Octets, finder: &mut Finder, runs: &mut LineRuns)
+fn find_marked(
+    line: &[u8],
+    mark: u8,
+    is_short: bool,
+    octets: &mut Octets,
+    finder: &mut Finder,
+    runs: &mut LineRuns,
+)
     requires { All (IsSaidIn line.now) runs.old.said.items }
     ensures { All (IsSaidIn line.now) runs.new.said.items }
 {
@@ -98,7 +111,14 @@ fn find_marked(line: &[u8], mark: u8, is_short: bool, octets: &mut Octets, finde
 }
 
 /// Returns the first run of words with a mark at or after a place, before the time of the line or else after it.
-fn next_words(line: &[u8], place: usize, gap: Gap, mark: u8, is_short: bool, octets: &mut Octets) -> Option<Found>
+fn next_words(
+    line: &[u8],
+    place: usize,
+    gap: Gap,
+    mark: u8,
+    is_short: bool,
+    octets: &mut Octets,
+) -> Option<Found>
     ensures forward { IfSome result (λ found. (place < found.next) × (found.next ≤ length line.now)) }
     ensures written { IfSome result (λ found. IsWrittenAt line.now found.notation found.start found.end octets.new.items) }
 {
@@ -111,7 +131,14 @@ fn next_words(line: &[u8], place: usize, gap: Gap, mark: u8, is_short: bool, oct
 }
 
 /// Returns the first run of words with a mark at or after a place of a line, in the line before another place.
-fn run_before(line: &[u8], place: usize, until: usize, mark: Mark, is_short: bool, octets: &mut Octets) -> Option<Run>
+fn run_before(
+    line: &[u8],
+    place: usize,
+    until: usize,
+    mark: Mark,
+    is_short: bool,
+    octets: &mut Octets,
+) -> Option<Run>
     ensures { IfSome result (IsRun line.now place octets.new.items) }
 {
     let part = line.get(..until)?;
@@ -193,7 +220,10 @@ fn keep(line: &[u8], found: Found, octets: &mut Octets, finder: &mut Finder, run
             runs.time = None;
         }
         push(line, found, saying, octets, finder, runs);
-    } else if finder.lone.is_none_or(|lone| is_later(found, lone.start, lone.end)) {
+    } else if finder
+        .lone
+        .is_none_or(|lone| is_later(found, lone.start, lone.end))
+    {
         finder.lone = Some(found);
     }
 }
@@ -204,7 +234,14 @@ fn is_later(found: Found, start: usize, end: usize) -> bool {
 }
 
 /// Appends a run to those that are kept, if there is room.
-fn push(line: &[u8], found: Found, saying: Saying, octets: &mut Octets, finder: &mut Finder, runs: &mut LineRuns)
+fn push(
+    line: &[u8],
+    found: Found,
+    saying: Saying,
+    octets: &mut Octets,
+    finder: &mut Finder,
+    runs: &mut LineRuns,
+)
     requires written { IsWrittenAt line.now found.notation found.start found.end octets.old.items }
     requires saying { IsSaying octets.old.items saying }
     requires said { All (IsSaidIn line.now) runs.old.said.items }
@@ -252,7 +289,14 @@ fn keep_lone(line: &[u8], octets: &mut Octets, finder: &mut Finder, runs: &mut L
         }
     }
     let again = if lone.notation == Notation::Words {
-        next_words(line, lone.start, finder.gap, lone.mark, lone.is_short, octets)
+        next_words(
+            line,
+            lone.start,
+            finder.gap,
+            lone.mark,
+            lone.is_short,
+            octets,
+        )
     } else {
         bracketed_at(line, lone.start, octets)
     };

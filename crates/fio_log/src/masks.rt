@@ -3,6 +3,7 @@ use crate::digits::{is_decimal, is_letter};
 
 /// The sum of no text, and the factor of each character (FNV-1a, 64 bits).
 const NO_SUM: u64 = 0xcbf2_9ce4_8422_2325;
+
 const FACTOR: u64 = 0x0000_0100_0000_01b3;
 
 /// Returns a sum with one character more.

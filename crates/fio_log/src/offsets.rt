@@ -12,6 +12,7 @@ use crate::said::{LITERAL_MARK, Shape};
 
 /// The fewest and the most digits of an offset.
 const LEAST_DIGITS: usize = 4;
+
 const MOST_DIGITS: usize = 16;
 
 /// What an offset may mean, by the base of its digits.
@@ -76,7 +77,13 @@ pub(crate) fn offset_row(line: &[u8], octets: &mut Octets) -> Option<OffsetRow>
         });
     }
     let (mark, is_short) = longest_at(line, place, octets)?;
-    let run = next_run(line, place, *MARKS.get(usize::from(mark))?, is_short, octets)?;
+    let run = next_run(
+        line,
+        place,
+        *MARKS.get(usize::from(mark))?,
+        is_short,
+        octets,
+    )?;
     Some(OffsetRow {
         offset,
         has_octets: true,
@@ -135,7 +142,10 @@ fn longest_at(line: &[u8], place: usize, octets: &mut Octets) -> Option<(u8, boo
         if glance.may_have(words) {
             for is_short in [false, true] {
                 let run = next_run(line, place, words, is_short, octets);
-                if let Some(run) = run && run.start == place && run.end > end {
+                if let Some(run) = run
+                    && run.start == place
+                    && run.end > end
+                {
                     end = run.end;
                     longest = Some((mark, is_short));
                 }
