@@ -28,11 +28,6 @@ const FORMS: [&[u8]; 8] = [
     b"F",
 ];
 
-/// The names of months.
-const MONTHS: [&[u8]; 12] = [
-    b"jan", b"feb", b"mar", b"apr", b"may", b"jun", b"jul", b"aug", b"sep", b"oct", b"nov", b"dec",
-];
-
 /// How far into a line a time may begin.
 const TIME_OCTETS: usize = 200;
 
@@ -108,8 +103,11 @@ pub fn time_in(line: &[u8]) -> Option<Time>
 {
     for start in 0..line.len().min(TIME_OCTETS) {
         if may_begin(line, start) {
+            let is_name = line[start].is_ascii_alphabetic();
             for form in FORMS {
-                if let Some(time) = time_at(line, start, form) {
+                if is_name == matches!(form, [b'N', ..])
+                    && let Some(time) = time_at(line, start, form)
+                {
                     return Some(time);
                 }
             }
@@ -239,8 +237,21 @@ fn month_end(line: &[u8], place: usize, parts: &mut Parts) -> Option<usize>
         b.to_ascii_lowercase(),
         c.to_ascii_lowercase(),
     ];
-    let month = MONTHS.iter().position(|month| **month == *name.as_slice())?;
-    parts.month = month as u64 + 1;
+    parts.month = match name {
+        [b'j', b'a', b'n'] => 1,
+        [b'f', b'e', b'b'] => 2,
+        [b'm', b'a', b'r'] => 3,
+        [b'a', b'p', b'r'] => 4,
+        [b'm', b'a', b'y'] => 5,
+        [b'j', b'u', b'n'] => 6,
+        [b'j', b'u', b'l'] => 7,
+        [b'a', b'u', b'g'] => 8,
+        [b's', b'e', b'p'] => 9,
+        [b'o', b'c', b't'] => 10,
+        [b'n', b'o', b'v'] => 11,
+        [b'd', b'e', b'c'] => 12,
+        _ => return None,
+    };
     Some(place + 3)
 }
 

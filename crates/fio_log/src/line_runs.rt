@@ -86,7 +86,9 @@ fn find_words(
     for mark in 0..LITERAL_MARK {
         if glance.may_have(MARKS[usize::from(mark)]) {
             find_marked(line, mark, false, octets, finder, runs);
-            find_marked(line, mark, true, octets, finder, runs);
+            if glance.has_single {
+                find_marked(line, mark, true, octets, finder, runs);
+            }
         }
     }
 }
@@ -219,7 +221,7 @@ fn keep(line: &[u8], found: Found, octets: &mut Octets, finder: &mut Finder, run
         if octets.len() > 1 && found.start < finder.gap.end {
             runs.time = None;
         }
-        push(line, found, saying, octets, finder, runs);
+        keep_run(line, found, saying, octets, finder, runs);
     } else if finder
         .lone
         .is_none_or(|lone| is_later(found, lone.start, lone.end))
@@ -234,7 +236,7 @@ fn is_later(found: Found, start: usize, end: usize) -> bool {
 }
 
 /// Appends a run to those that are kept, if there is room.
-fn push(
+fn keep_run(
     line: &[u8],
     found: Found,
     saying: Saying,
@@ -302,6 +304,6 @@ fn keep_lone(line: &[u8], octets: &mut Octets, finder: &mut Finder, runs: &mut L
     };
     if let Some(found) = again {
         let saying = read_saying(octets.as_slice());
-        push(line, found, saying, octets, finder, runs);
+        keep_run(line, found, saying, octets, finder, runs);
     }
 }
