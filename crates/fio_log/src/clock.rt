@@ -18,7 +18,7 @@ pub struct Time {
 
 /// The forms of times: `Y` has four digits, `m` and `s` two, `M`, `D` and `h` one or two, `N` is the name of a month, `_` a
 /// gap, `E` the seconds or milliseconds since 1970, `F` seconds with a fraction.
-const FORMS: [&[u8]; 8] = [
+static FORMS: [&[u8]; 8] = [
     b"Y-M-D_h:m:s",
     b"Y/M/D_h:m:s",
     b"D.M.Y_h:m:s",
@@ -40,9 +40,9 @@ pub fn time_in(line: &[u8]) -> Option<Time>
     for start in 0..line.len().min(TIME_OCTETS) {
         if may_begin(line, start) {
             let is_name = line[start].is_ascii_alphabetic();
-            for form in FORMS {
-                if is_name == matches!(form, [b'N', ..])
-                    && let Some(time) = time_at(line, start, form)
+            for form in &FORMS {
+                if is_name == matches!(*form, [b'N', ..])
+                    && let Some(time) = time_at(line, start, *form)
                 {
                     return Some(time);
                 }
