@@ -1,5 +1,5 @@
 -- What a reader has read of a log, and of which lines it has told.
-use Rattle.std.specs.Prelude.{◌≡◌, ℕ, ◌+◌, ◌≤◌, Bool, true, false, if◌then◌else◌, List, []}
+use Rattle.std.specs.Prelude.{◌≡◌, ℕ, ◌+◌, ◌≤◌, Bool, false, if◌then◌else◌, List, []}
 use Rattle.fio_log.specs.Lines.{Making, is_whole, lines_after, only, with_making}
 use Rattle.fio_log.specs.declared.verdict.Verdict.{Verdict}
 

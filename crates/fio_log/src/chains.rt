@@ -20,9 +20,9 @@ pub(crate) const CHAIN_FRAMES: usize = 2_048;
 #[derive(Clone, Copy, Debug, Default, PartialEq, Eq)]
 pub(crate) struct Part {
     /// Where it begins.
-    pub start: usize,
+    pub start: u16,
     /// Where it ends.
-    pub end: usize,
+    pub end: u16,
 }
 
 /// Octets of several lines, and the messages that they say.
@@ -83,7 +83,7 @@ impl Chain {
         }
         let part = parts[index];
         let octets = self.octets.as_slice();
-        Some(&octets[part.start..part.end])
+        Some(&octets[usize::from(part.start)..usize::from(part.end)])
     }
 
     /// Appends a message; returns whether there was room.
@@ -146,7 +146,7 @@ fn next_in(octets: &[u8], place: usize) -> Option<Next>
         let length = message_length(&octets[place..])?;
         let end = place + length;
         return Some(Next {
-            part: Some(Part { start: place, end }),
+            part: Some(part_in(octets, place, end)?),
             is_sure: is_counted(&octets[place..end]),
             end,
         });
@@ -192,6 +192,8 @@ fn part_in(octets: &[u8], start: usize, end: usize) -> Option<Part>
     ensures { IfSome result (IsPart octets.now) }
 {
     spelled(octets.get(start..end)?).ok()?;
+    let start = u16::try_from(start).ok()?;
+    let end = u16::try_from(end).ok()?;
     Some(Part { start, end })
 }
 

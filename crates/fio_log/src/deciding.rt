@@ -1,11 +1,8 @@
 //! Decisions of the judge: which entries are frames, and which are passed over.
-use crate::entries::{KEPT_ROWS, Kept, Seen, State};
-use crate::joins::Joining;
+use crate::entries::State;
 use crate::judge::Judge;
 use crate::messages::Brief;
 use crate::queue::{ENTRIES, WAITING};
-use crate::sayings::{Saying, read_saying};
-use crate::shapes::{front_key, whole_key};
 use crate::verdict::{Kind, Reason};
 
 /// How many frames more are read before a message of unknown shape is given up.
@@ -225,7 +222,7 @@ impl Judge {
     }
 
     /// Returns whether each line so far with a front said a message, or each line of the log if nothing is before it.
-    fn is_alone(&self, has_before: bool, front: u64) -> bool {
+    pub(crate) fn is_alone(&self, has_before: bool, front: u64) -> bool {
         if has_before {
             self.shapes.is_always_good(front)
         } else {
@@ -260,83 +257,5 @@ impl Judge {
             }
             self.give_up(slot);
         }
-    }
-
-    /// Closes the lines that are open: their octets are judged, and they stand or fall together.
-    pub(crate) fn close(&mut self) {
-        let Some(slot) = self.open else {
-            return;
-        };
-        self.open = None;
-        let is_alone = self.join.rows.len() <= 1;
-        let around = self.join.surroundings();
-        let is_line = match self.join.joining {
-            Joining::Rows => is_alone,
-            Joining::Octets => is_alone && self.shapes.ways(whole_key(around.shape)).is_none(),
-            Joining::Dump => false,
-        };
-        if is_line {
-            self.decide(slot);
-            return;
-        }
-        let octets = self.join.chain.octets();
-        let saying = read_saying(octets);
-        self.seen.clear();
-        let _room = self
-            .seen
-            .try_push(Seen::of_octets(&around, octets.len(), saying));
-        let kept = if self.join.rows.len() <= KEPT_ROWS {
-            Kept::of(&around, octets, saying)
-        } else {
-            None
-        };
-        if self.join.is_bad {
-            self.settle(slot, State::Passed(Kind::PassedOver, Reason::MayBeLonger));
-            return;
-        }
-        let is_sure = matches!(saying, Saying::Says { is_sure: true, .. });
-        if self.join.is_same && is_sure {
-            self.shapes
-                .set_width(front_key(around.shape), self.join.width);
-        }
-        let is_kept = kept.is_some();
-        if let Some(entry) = self.queue.get_mut(slot) {
-            entry.set_only(kept, self.join.rows.as_slice());
-        }
-        if is_kept || self.join.joining == Joining::Rows {
-            self.decide(slot);
-        } else {
-            self.decide_chain(slot);
-        }
-    }
-
-    /// Decides on an entry whose octets may be a chain of messages. If it is, all that wait above it are decided first.
-    fn decide_chain(&mut self, slot: usize) {
-        let around = self.join.surroundings();
-        let front = front_key(around.shape);
-        let whole = whole_key(around.shape);
-        let Some(is_sure) = self.join.chain.split() else {
-            self.decide(slot);
-            return;
-        };
-        self.shapes.tally(front, true);
-        let is_bare = around.is_bare(self.join.chain.octets());
-        let is_known = self.shapes.ways(whole).is_some() && self.shapes.is_mostly_good(front);
-        let is_frame = is_sure || is_known || is_bare && self.is_alone(around.has_before, front);
-        self.has_others |= !is_bare;
-        self.above.briefs.clear();
-        self.above.slot = None;
-        if !is_frame {
-            self.settle(slot, State::Passed(Kind::PassedOver, Reason::ShortMessage));
-            return;
-        }
-        self.count = self.count.saturating_add(1);
-        if is_sure {
-            self.is_news |= self.shapes.learn(whole, around.ways);
-        }
-        self.settle(slot, State::Chain);
-        self.chain = Some(slot);
-        self.judge(slot);
-        self.give_up_all();
     }
 }

@@ -12,7 +12,7 @@ pub(crate) enum Direction {
 }
 
 /// The words for a direction, in small letters: the first half is of commands. The arrows are U+2192 and U+2190.
-const WORDS: [&[u8]; 14] = [
+static WORDS: [&[u8]; 14] = [
     b"tx",
     b"sent",
     b"out",

@@ -1,20 +1,34 @@
-//! One look at a line: which characters it has, so that marks that it cannot have are not looked for.
+//! One look at a line: which characters it has, so that marks and words that it cannot have are not looked for.
+use crate::digits::{digit, is_letter};
 use crate::marks::Mark;
 
-/// The characters of ASCII that a line has, a bit each.
+/// What is seen of a line.
 #[derive(Clone, Copy, Debug)]
 pub(crate) struct Glance {
+    /// The characters of ASCII that it has, a bit each.
     bits: u128,
+    /// Whether it may have a word of one digit.
+    pub has_single: bool,
 }
 
 impl Glance {
-    /// Returns the characters of a line.
+    /// Looks at a line.
     pub(crate) fn of(line: &[u8]) -> Glance {
         let mut bits = 0;
+        let mut has_single = false;
+        let mut is_first = false;
+        let mut is_apart = true;
         for character in line {
             bits |= bit(*character);
+            let is_end = !is_letter(*character) || matches!(*character, b'h' | b'H');
+            has_single |= is_first && is_end;
+            is_first = is_apart && digit(*character).is_some();
+            is_apart = !is_letter(*character) || matches!(*character, b'x' | b'X');
         }
-        Glance { bits }
+        Glance {
+            bits,
+            has_single: has_single || is_first,
+        }
     }
 
     /// Returns whether the line has one of some characters.

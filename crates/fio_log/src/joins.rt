@@ -1,15 +1,13 @@
 //! Octets on several lines: a dump, the rows of a message, or rows of one octet.
 use crate::chains::{CHAIN_OCTETS, Chain};
-use crate::entries::Around;
+use crate::kept::Around;
 use crate::octets::Octets;
 use crate::offsets::{OffsetRow, offset_row};
+use crate::openings::last_run;
 use crate::said::{LineRuns, Said};
 use crate::sayings::{Saying, read_saying};
 use crate::shapes::{Shapes, front_key};
 use arrayvec::ArrayVec;
-
-/// The least octets of a row that may go on in the next line.
-pub(crate) const ROW_OCTETS: usize = 8;
 
 /// Where a row is written in its line.
 #[derive(Clone, Copy, Debug, Default, PartialEq, Eq)]
@@ -290,18 +288,4 @@ fn is_in_step(above: u64, time: u64, step: &mut Option<u64>) -> bool {
         *step = Some(step.unwrap_or(passed).min(passed));
     }
     true
-}
-
-/// Returns the last run of a line, the longest that ends there.
-pub(crate) fn last_run(runs: &LineRuns) -> Option<&Said> {
-    let mut index = 0;
-    let said = runs.said.as_slice();
-    for (other, run) in said.iter().enumerate() {
-        if let Some(last) = said.get(index)
-            && (run.end > last.end || run.end == last.end && run.start < last.start)
-        {
-            index = other;
-        }
-    }
-    said.get(index)
 }

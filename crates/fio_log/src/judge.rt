@@ -1,10 +1,12 @@
 //! The judge of a log's lines: which of their messages are frames.
-use crate::entries::{KEPT, Kept, Seen, State};
-use crate::joins::{Going, Join, Joining, last_run};
+use crate::entries::{KEPT, State};
+use crate::joins::{Going, Join, Joining};
+use crate::kept::{Kept, Seen};
 use crate::messages::Brief;
-use crate::openings::{first_row, is_octet_row};
+use crate::openings::{first_row, is_octet_row, last_run};
 use crate::queue::Queue;
-use crate::said::{LINE_RUNS, LineRuns};
+use crate::said::{LINE_RUNS, LineRuns, Said};
+use crate::sayings::Saying;
 use crate::shapes::Shapes;
 use crate::styles::Styles;
 use crate::verdict::{Kind, Reason};
@@ -179,7 +181,8 @@ impl Judge {
         };
         for said in runs.said.as_slice() {
             let _room = self.seen.try_push(Seen::of(said));
-            if let Some(kept) = Kept::of_run(said)
+            if !is_piece(said, runs)
+                && let Some(kept) = Kept::of_run(said)
                 && (kept.is_sure || !runs.is_over)
             {
                 entry.keep(kept);
@@ -220,6 +223,17 @@ impl Judge {
             entry.state = State::Passed(Kind::PassedOver, Reason::TooLong);
         }
     }
+}
+
+/// Returns whether a run of one octet is part of a message of the same line.
+fn is_piece(said: &Said, runs: &LineRuns) -> bool {
+    said.octets.len() == 1
+        && runs.said.as_slice().iter().any(|other| {
+            other.octets.len() > 1
+                && other.start <= said.start
+                && said.end <= other.end
+                && matches!(other.saying, Saying::Says { .. })
+        })
 }
 
 /// Returns whether a line has a run of two octets or more.

@@ -15,8 +15,8 @@
 //! The definitions are in `specs/`, in this order: characters (`Digits`), words with their marks (`Words`), the octets that
 //! characters spell (`Readings`, `Numbers`, `Literals`) and the places where they are written (`Written`), runs (`Runs`),
 //! frame checks (`Checks`), what octets say (`Sayings`), lines (`Lines`), chains of messages (`Chains`), what a reader has
-//! read and told (`Telling`). Which messages are frames is the code's alone (`judge`, `deciding`), by what makes them sure. That of times is the code. The laws are the
-//! contracts of the module `laws`.
+//! read and told (`Telling`). What times are, and which messages are frames (`judge`, `deciding`), is the code alone. The laws
+//! are the contracts of `Reader` and of the module `laws`.
 //!
 //! # Examples
 //!
@@ -34,13 +34,16 @@
 mod chains;
 mod checks;
 mod clock;
+mod closing;
 mod deciding;
 mod digits;
 mod directions;
 mod entries;
+mod found;
 mod glance;
 mod joins;
 mod judge;
+mod kept;
 pub mod laws;
 mod line_runs;
 mod lines;
@@ -53,6 +56,7 @@ mod octets;
 mod offsets;
 mod openings;
 mod own_texts;
+mod parts;
 mod places;
 mod queue;
 mod reader;

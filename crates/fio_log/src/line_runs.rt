@@ -2,38 +2,19 @@
 ghost use Rattle.std.specs.Prelude.{◌≡◌, ◌<◌, ◌≤◌, length, IfSome};
 ghost use Rattle.std.specs.List.{All};
 ghost use Rattle.fio_log.specs.Sayings.{IsSaying};
-ghost use Rattle.fio_log.specs.Runs.{IsRun};
 ghost use Rattle.fio_log.specs.Said.{IsSaidIn, IsWrittenAt};
 
 use crate::clock::time_in;
 use crate::directions::direction_of;
+use crate::found::{Found, bracketed_at, next_words};
 use crate::glance::Glance;
-use crate::literals::literal_at;
-use crate::marks::{MARKS, Mark};
-use crate::numbers::numbers_at;
+use crate::marks::MARKS;
 use crate::octets::Octets;
 use crate::places::Notation;
-use crate::runs::{Run, next_run};
-use crate::said::{LITERAL_MARK, LineRuns, NUMBERS_MARK, Said, Shape};
+use crate::said::{LITERAL_MARK, LineRuns, Said, Shape};
 use crate::sayings::{Saying, read_saying};
 use crate::surroundings::{Before, Gap, read_after};
-use crate::ways::Ways;
 use std::mem;
-
-/// A run that is found.
-#[derive(Clone, Copy)]
-struct Found {
-    start: usize,
-    end: usize,
-    /// Where the next one may begin.
-    next: usize,
-    notation: Notation,
-    /// The mark of its shape.
-    mark: u8,
-    /// Whether its words have one or two digits.
-    is_short: bool,
-    ways: Ways,
-}
 
 /// What is known while the runs of a line are looked for.
 #[derive(Drop)]
@@ -85,7 +66,9 @@ fn find_words(
 {
     for mark in 0..LITERAL_MARK {
         if glance.may_have(MARKS[usize::from(mark)]) {
-            find_marked(line, mark, true, octets, finder, runs);
+            if glance.has_single {
+                find_marked(line, mark, true, octets, finder, runs);
+            }
             find_marked(line, mark, false, octets, finder, runs);
         }
     }
@@ -110,59 +93,6 @@ fn find_marked(
     }
 }
 
-/// Returns the first run of words with a mark at or after a place, before the time of the line or else after it.
-fn next_words(
-    line: &[u8],
-    place: usize,
-    gap: Gap,
-    mark: u8,
-    is_short: bool,
-    octets: &mut Octets,
-) -> Option<Found>
-    ensures forward { IfSome result (λ found. (place < found.next) × (found.next ≤ length line.now)) }
-    ensures written { IfSome result (λ found. IsWrittenAt line.now found.notation found.start found.end octets.new.items) }
-{
-    let words = *MARKS.get(usize::from(mark))?;
-    if let Some(run) = run_before(line, place, gap.start, words, is_short, octets) {
-        return Some(found_words(run, mark, is_short));
-    }
-    let run = next_run(line, place.max(gap.end), words, is_short, octets)?;
-    Some(found_words(run, mark, is_short))
-}
-
-/// Returns the first run of words with a mark at or after a place of a line, in the line before another place.
-fn run_before(
-    line: &[u8],
-    place: usize,
-    until: usize,
-    mark: Mark,
-    is_short: bool,
-    octets: &mut Octets,
-) -> Option<Run>
-    ensures { IfSome result (IsRun line.now place octets.new.items) }
-{
-    let part = line.get(..until)?;
-    next_run(part, place, mark, is_short, octets)
-}
-
-/// Returns that a run of words is found.
-fn found_words(run: Run, mark: u8, is_short: bool) -> Found
-    ensures start { result.start ≡ run.start }
-    ensures end { result.end ≡ run.end }
-    ensures next { result.next ≡ run.next }
-    ensures notation { result.notation ≡ Notation.Words }
-{
-    Found {
-        start: run.start,
-        end: run.end,
-        next: run.next,
-        notation: Notation::Words,
-        mark,
-        is_short,
-        ways: Ways::of_run(run),
-    }
-}
-
 /// Keeps the literals and the numbers in brackets.
 fn find_in_brackets(line: &[u8], octets: &mut Octets, finder: &mut Finder, runs: &mut LineRuns)
     requires { All (IsSaidIn line.now) runs.old.said.items }
@@ -172,39 +102,6 @@ fn find_in_brackets(line: &[u8], octets: &mut Octets, finder: &mut Finder, runs:
         if let Some(found) = bracketed_at(line, place, octets) {
             keep(line, found, octets, finder, runs);
         }
-    }
-}
-
-/// Returns the literal, or the numbers in brackets, that begin at a place of a line.
-fn bracketed_at(line: &[u8], place: usize, octets: &mut Octets) -> Option<Found>
-    ensures { IfSome result (λ found. IsWrittenAt line.now found.notation found.start found.end octets.new.items) }
-{
-    match *line.get(place)? {
-        b'"' | b'\'' => {
-            let literal = literal_at(line, place, octets)?;
-            Some(Found {
-                start: place,
-                end: literal.end,
-                next: literal.end,
-                notation: Notation::Literal,
-                mark: LITERAL_MARK,
-                is_short: false,
-                ways: Ways::of_literal(literal),
-            })
-        }
-        b'[' | b'(' | b'{' | b'<' => {
-            let end = numbers_at(line, place, octets)?;
-            Some(Found {
-                start: place,
-                end,
-                next: end,
-                notation: Notation::Numbers,
-                mark: NUMBERS_MARK,
-                is_short: false,
-                ways: Ways::of_numbers(octets.len()),
-            })
-        }
-        _ => None,
     }
 }
 
@@ -219,18 +116,13 @@ fn keep(line: &[u8], found: Found, octets: &mut Octets, finder: &mut Finder, run
         if octets.len() > 1 && found.start < finder.gap.end {
             runs.time = None;
         }
-        push(line, found, saying, octets, finder, runs);
+        keep_run(line, found, saying, octets, finder, runs);
     } else if finder
         .lone
-        .is_none_or(|lone| is_later(found, lone.start, lone.end))
+        .is_none_or(|lone| found.is_later(lone.start, lone.end))
     {
         finder.lone = Some(found);
     }
-}
-
-/// Returns whether a run ends after a place, or begins before another and ends with it.
-fn is_later(found: Found, start: usize, end: usize) -> bool {
-    found.end > end || found.end == end && found.start < start
 }
 
 /// Returns whether a run is within a longer one that is kept.
@@ -245,7 +137,7 @@ fn is_covered(found: Found, runs: &LineRuns) -> bool {
 }
 
 /// Appends a run to those that are kept, if there is room.
-fn push(
+fn keep_run(
     line: &[u8],
     found: Found,
     saying: Saying,
@@ -295,7 +187,7 @@ fn keep_lone(line: &[u8], octets: &mut Octets, finder: &mut Finder, runs: &mut L
         return;
     };
     for said in &runs.said {
-        if !is_later(lone, said.start, said.end) {
+        if !lone.is_later(said.start, said.end) {
             return;
         }
     }
@@ -313,6 +205,6 @@ fn keep_lone(line: &[u8], octets: &mut Octets, finder: &mut Finder, runs: &mut L
     };
     if let Some(found) = again {
         let saying = read_saying(octets.as_slice());
-        push(line, found, saying, octets, finder, runs);
+        keep_run(line, found, saying, octets, finder, runs);
     }
 }

@@ -14,7 +14,7 @@ pub struct Mark {
 }
 
 /// The marks that words may have: none, prefixes, suffixes, brackets and quotes.
-pub const MARKS: [Mark; 15] = [
+pub static MARKS: [Mark; 15] = [
     Mark {
         before: b"",
         after: b"",

@@ -1,13 +1,13 @@
 //! Rows of dumps: an offset, and octets after it.
 ghost use Rattle.std.specs.Prelude.{◌≡◌, ◌≤◌, length, true, IfSome};
-ghost use Rattle.fio_log.specs.Runs.{AreWords};
+ghost use Rattle.fio_log.specs.Runs.{AreWords, IsRun};
 
 use crate::digits::digit;
 use crate::glance::Glance;
 use crate::marks::{MARKS, digits_end};
 use crate::masks::sum_of;
 use crate::octets::Octets;
-use crate::runs::next_run;
+use crate::runs::{Run, next_run};
 use crate::said::{LITERAL_MARK, Shape};
 
 /// The fewest and the most digits of an offset.
@@ -62,7 +62,7 @@ pub(crate) fn offset_row(line: &[u8], octets: &mut Octets) -> Option<OffsetRow>
 {
     let start = prefix_end(line);
     let end = digits_end(line, start);
-    if end < start + LEAST_DIGITS || end > start + MOST_DIGITS {
+    if end - start < LEAST_DIGITS || end - start > MOST_DIGITS {
         return None;
     }
     let offset = Offset::of(&line[start..end]);
@@ -76,14 +76,7 @@ pub(crate) fn offset_row(line: &[u8], octets: &mut Octets) -> Option<OffsetRow>
             shape: Shape::default(),
         });
     }
-    let (mark, is_short) = longest_at(line, place, octets)?;
-    let run = next_run(
-        line,
-        place,
-        *MARKS.get(usize::from(mark))?,
-        is_short,
-        octets,
-    )?;
+    let (mark, run) = longest_run(line, place, octets)?;
     Some(OffsetRow {
         offset,
         has_octets: true,
@@ -131,6 +124,16 @@ fn offset_end(line: &[u8], end: usize) -> Option<usize>
         Some(b' ' | b'\t') => Some(blanks_end(line, end)),
         Some(_) => None,
     }
+}
+
+/// Returns the longest run that begins at a place of a line, and its mark, and writes its octets.
+fn longest_run(line: &[u8], place: usize, octets: &mut Octets) -> Option<(u8, Run)>
+    ensures { IfSome result (λ found. IsRun line.now place octets.new.items found.1) }
+{
+    let (mark, is_short) = longest_at(line, place, octets)?;
+    let words = *MARKS.get(usize::from(mark))?;
+    let run = next_run(line, place, words, is_short, octets)?;
+    Some((mark, run))
 }
 
 /// Returns the mark of the longest run that begins at a place of a line, and whether its words have one or two digits.

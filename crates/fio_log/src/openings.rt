@@ -1,9 +1,11 @@
 //! Which lines may go on in the next one.
-use crate::joins::ROW_OCTETS;
 use crate::messages::has_open_length;
 use crate::said::{LineRuns, Said};
 use crate::sayings::Saying;
 use crate::shapes::{Shapes, front_key};
+
+/// The least octets of a row that may go on in the next line.
+const ROW_OCTETS: usize = 8;
 
 /// Returns the run that may go on in the next line: it is the last of its line, has at least eight octets, and begins a
 /// message or says one of open length. If runs of different octets may, or a run is sure by itself, none does.
@@ -50,4 +52,18 @@ pub(crate) fn is_octet_row(row: &Said, runs: &LineRuns, shapes: &Shapes) -> bool
 /// Returns whether a run of two octets or more says a message.
 fn says_more(said: &Said) -> bool {
     said.octets.len() > 1 && matches!(said.saying, Saying::Says { .. })
+}
+
+/// Returns the last run of a line, the longest that ends there.
+pub(crate) fn last_run(runs: &LineRuns) -> Option<&Said> {
+    let mut index = 0;
+    let said = runs.said.as_slice();
+    for (other, run) in said.iter().enumerate() {
+        if let Some(last) = said.get(index)
+            && (run.end > last.end || run.end == last.end && run.start < last.start)
+        {
+            index = other;
+        }
+    }
+    said.get(index)
 }

@@ -2,7 +2,7 @@
 ghost use Rattle.std.specs.Prelude.{◌≤◌, ◌<◌, IfSome, length};
 ghost use Rattle.fio_log.specs.Runs.{IsBehind, IsRun, IsSpan};
 
-use crate::digits::is_letter;
+use crate::digits::{digit, is_letter};
 use crate::marks::{Mark, Word, word_at};
 use crate::octets::{Octets, read_words};
 
@@ -54,8 +54,13 @@ pub fn next_run(
 ) -> Option<Run>
     ensures { IfSome result (IsRun line.now from octets.new.items) }
 {
+    let opening = mark.before.first().copied();
     let mut place = from;
     'places: while place < line.len() {
+        if !is_first(line[place], opening) {
+            place += 1;
+            continue;
+        }
         place = match run_from(line, place, mark, is_short) {
             Some(run) if is_short && !is_short_run(run, mark) => run.next,
             Some(run) => {
@@ -66,6 +71,14 @@ pub fn next_run(
         };
     }
     None
+}
+
+/// Returns whether a word can begin with a character, if its mark begins with another.
+fn is_first(character: u8, opening: Option<u8>) -> bool {
+    match opening {
+        Some(opening) => character == opening,
+        None => digit(character).is_some(),
+    }
 }
 
 /// Returns whether a run of words of one or two digits is one: it has a word of one, and more than one word or a mark.

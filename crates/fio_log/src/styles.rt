@@ -1,5 +1,5 @@
 //! The marks and ways of writing of a log's frames.
-use crate::entries::Seen;
+use crate::kept::Seen;
 use crate::said::NUMBERS_MARK;
 use crate::ways::Ways;
 

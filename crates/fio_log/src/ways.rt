@@ -45,7 +45,7 @@ impl Ways {
             _ => 0b1000,
         };
         Ways {
-            bits: bits << (4 * index_of(separator)),
+            bits: bits << (4 * separator_index(separator)),
         }
     }
 
@@ -102,7 +102,7 @@ impl Ways {
 }
 
 /// Returns the index of a separator, from 0 to 13. Blanks before a sign count as blanks after it.
-fn index_of(separator: Separator) -> u32
+fn separator_index(separator: Separator) -> u32
     ensures { result < 14 }
 {
     let sign = match separator.sign {

@@ -1,4 +1,4 @@
-use Rattle.std.proofs.Common.{◌≡◌, ◌∙◌, true, [], ◌∷◌, ap, refl}
+use Rattle.std.proofs.Common.{◌∙◌, ap, refl}
 use Rattle.fio_message.specs.Decoding.{message_in}
 use Rattle.fio_log.specs.Sayings.{spells}
 use Rattle.fio_log.proofs.messages.MessageDefault.default.Goals as goal

@@ -1,6 +1,6 @@
 use Rattle.std.proofs.lemmas.List.Elements.{All-push}
 use Rattle.fio_log.specs.Said.{IsSaidIn}
-use Rattle.fio_log.proofs.line_runs.push.Goals as goal
+use Rattle.fio_log.proofs.line_runs.keep_run.Goals as goal
 
 pub returns : goal.returns
 returns c =

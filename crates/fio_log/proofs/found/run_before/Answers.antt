@@ -1,5 +1,5 @@
 use Rattle.fio_log.proofs.RunLemmas.{run-inside}
-use Rattle.fio_log.proofs.line_runs.run_before.Goals as goal
+use Rattle.fio_log.proofs.found.run_before.Goals as goal
 
 pub returns : goal.returns
 returns c =
