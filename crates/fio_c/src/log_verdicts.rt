@@ -32,7 +32,7 @@ fn add(verdict: &Verdict, reader: &Reader, batch: &mut LogBatch)
         → HasVerdicts first batch.new verdict.now.line }
 {
     let frames = add_frames(reader, batch);
-    let places = add_places(reader, batch);
+    let places = add_places(reader, verdict.places, batch);
     batch.push_verdict(told_from(verdict, frames, places));
 }
 
@@ -52,12 +52,15 @@ fn add_frames(reader: &Reader, batch: &mut LogBatch) -> u32
     LOG_FRAMES as u32
 }
 
-/// Adds the places of the last verdict, and returns how many they are.
-fn add_places(reader: &Reader, batch: &mut LogBatch) -> u32
+/// Adds so many places of the last verdict, and returns how many they are.
+fn add_places(reader: &Reader, count: usize, batch: &mut LogBatch) -> u32
     ensures more { (content : Content) → Holds batch.old content → HasPlacesMore content result batch.new }
     ensures verdicts { batch.new.verdict_count ≡ batch.old.verdict_count }
 {
     'places: for index in 0..LOG_PLACES {
+        if index == count {
+            return index as u32;
+        }
         let Some(place) = reader.place(index) else {
             return index as u32;
         };
