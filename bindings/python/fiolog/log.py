@@ -86,7 +86,7 @@ class Log:
         if damaged and not self.option.quiet:
             say('%d damaged line%s may have held a frame: nobody is accused up to the next poll%s'
                 % (damaged, 's' * (damaged > 1), '' if self.option.verbose else ' (-v names each)'))
-        if self.kinds[POSSIBLE]:
+        if self.kinds[POSSIBLE] and not self.option.quiet:
             say('lines that say a message which nothing makes sure: %d%s' % (
                 self.kinds[POSSIBLE], '' if takes_possible else '; `fiolog decode` shows them'))
         if not found and not (takes_possible and self.kinds[POSSIBLE]):
