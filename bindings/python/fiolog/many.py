@@ -1,7 +1,6 @@
 """Many logs side by side: a row for each, the worst first, and one for all."""
 
 import json
-from collections import Counter
 from concurrent.futures import ProcessPoolExecutor
 from functools import partial, reduce
 from operator import add
