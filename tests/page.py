@@ -24,7 +24,7 @@ from support.tables import TOP, output_of
 
 PICTURES = os.path.join(TOP, 'tools', 'page')
 PLAYED_PICTURE = os.path.join(TOP, 'docs', 'pictures', 'play.png')
-MOST_OCTETS = 400_000
+MOST_OCTETS = 500_000
 MANY = 100_000
 MOST_SECONDS = 2
 # What browsers call long. In one pass of a few all frames have to take less: the machine has other work too.

@@ -84,11 +84,11 @@ class Log:
                                                       '' if self.option.verbose else ' (-v names each)'))
         damaged = sum(self.kinds[kind] for kind in LOSSES)
         if damaged and not self.option.quiet:
-            say('%d damaged lines may have held frames: nobody is accused up to the next poll%s'
-                % (damaged, '' if self.option.verbose else ' (-v names each)'))
-        if self.kinds[POSSIBLE]:
-            say('%d lines say a message, and nothing makes them sure: %s' % (
-                self.kinds[POSSIBLE], 'they are marked' if takes_possible else '`fiolog decode` shows them'))
+            say('%d damaged line%s may have held a frame: nobody is accused up to the next poll%s'
+                % (damaged, 's' * (damaged > 1), '' if self.option.verbose else ' (-v names each)'))
+        if self.kinds[POSSIBLE] and not self.option.quiet:
+            say('lines that say a message which nothing makes sure: %d%s' % (
+                self.kinds[POSSIBLE], '' if takes_possible else '; `fiolog decode` shows them'))
         if not found and not (takes_possible and self.kinds[POSSIBLE]):
             say('no frame in %d lines: docs/CAPTURES.md says what is read' % self.lines)
             return False
