@@ -53,6 +53,7 @@ mod octets;
 mod offsets;
 mod openings;
 mod own_texts;
+mod own_verdicts;
 mod places;
 mod queue;
 mod reader;
