@@ -38,7 +38,7 @@ class LogReader:
 
     def __init__(self, form: str = 'auto') -> None:
         """`form` is 'auto', by the definition of docs/CAPTURES.md; or by order 'frames' or 'transcript', whose lines are read
-        as `fio2070 show` and `fio2070 check` read theirs."""
+        as `fio2070 show` and `fio2070 check` read theirs; other than there a line also ends at CR."""
         if form not in _FORMS:
             raise ValueError('the form is auto, frames or transcript')
         self._reader, self._batch = c.CLogReader(), c.CLogBatch()
