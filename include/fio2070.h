@@ -683,7 +683,7 @@ uint8_t fio2070_content_heard(struct fio2070_content_checker *content, const uin
 
 /* ---- Logs ---- */
 
-/** How the lines of a log are read. */
+/** How the lines of a log are read. By order a line is read without what is no character of it, and also ends at CR. */
 enum fio2070_log_form {
     FIO2070_LOG_AUTO = 0,      /**< by the definition of docs/CAPTURES.md */
     FIO2070_LOG_FRAMES = 1,    /**< as `fio2070 show` reads its lines */
@@ -708,7 +708,8 @@ enum fio2070_log_reason {
     FIO2070_LOG_SHORT_MESSAGE = 3,    /**< a short message in a line unlike those of other messages */
     FIO2070_LOG_SEVERAL_MESSAGES = 4, /**< it says more than one message */
     FIO2070_LOG_MAY_BE_LONGER = 5,    /**< it may be one message with the line below or above, or one by itself */
-    FIO2070_LOG_TOO_LONG = 6          /**< it is longer than a line, or than the octets of several lines, that are kept */
+    FIO2070_LOG_TOO_LONG = 6,         /**< it is longer than a line, or than the octets of several lines, that are kept */
+    FIO2070_LOG_BAD_LINE = 7          /**< it is no line of the text that it is read as by order */
 };
 
 /** What the reader says of a line of a log. */

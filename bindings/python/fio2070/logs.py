@@ -10,7 +10,8 @@ from .encode import Octets
 
 _FORMS = {'auto': constants.LOG_AUTO, 'frames': constants.LOG_FRAMES, 'transcript': constants.LOG_TRANSCRIPT}
 _KINDS = ('blank', 'frames', 'part', 'possible', 'damaged', 'passed over')
-_REASONS = ('', 'no octets', 'no message', 'short message', 'several messages', 'may be longer', 'too long')
+_REASONS = ('', 'no octets', 'no message', 'short message', 'several messages', 'may be longer', 'too long',
+            'bad line')
 # The numbers of struct fio2070_log_verdict and struct fio2070_log_place, in the processor's order of octets.
 _VERDICT, _PLACE = struct.Struct('=QQIIBBB5x'), struct.Struct('=QII')
 
@@ -21,7 +22,7 @@ class Verdict(NamedTuple):
     `line` is its number, from 1. `kind` is 'blank'; 'frames', whose frames these are; 'part', of the frames of a line above;
     'possible', a message that nothing makes sure; 'damaged', which may have held a frame; or 'passed over'. `reason` says why
     the line gives no frame, in one of these words: 'no octets', 'no message', 'short message', 'several messages', 'may be
-    longer', 'too long'; else it is empty. The octets of `frames` are written at `places`, in their
+    longer', 'too long', and by order 'bad line'; else it is empty. The octets of `frames` are written at `places`, in their
     order: each is the number of a line, and where it begins and ends there, in characters, after colours, NUL and marks are
     taken out. `time` is in microseconds since 1970, or since midnight or a start; None if the log has none there."""
     line: int
@@ -37,7 +38,7 @@ class LogReader:
 
     def __init__(self, form: str = 'auto') -> None:
         """`form` is 'auto', by the definition of docs/CAPTURES.md; or by order 'frames' or 'transcript', whose lines are read
-        as `fio2070 show` and `fio2070 check` read theirs."""
+        as `fio2070 show` and `fio2070 check` read theirs; other than there a line also ends at CR."""
         if form not in _FORMS:
             raise ValueError('the form is auto, frames or transcript')
         self._reader, self._batch = c.CLogReader(), c.CLogBatch()

@@ -32,6 +32,7 @@ reason_number reasons.ShortMessage = 3
 reason_number reasons.SeveralMessages = 4
 reason_number reasons.MayBeLonger = 5
 reason_number reasons.TooLong = 6
+reason_number reasons.BadLine = 7
 
 -- a verdict as C sees it, with so many frames and places
 abbrev pub flat_verdict : Verdict → ℕ → ℕ → LogVerdict

@@ -113,6 +113,7 @@ fn reason_number(reason: Reason) -> u8
         Reason::SeveralMessages => 4,
         Reason::MayBeLonger => 5,
         Reason::TooLong => 6,
+        Reason::BadLine => 7,
     }
 }
 

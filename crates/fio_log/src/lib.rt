@@ -57,6 +57,7 @@ mod offsets;
 mod openings;
 mod own_texts;
 mod parts;
+mod own_verdicts;
 mod places;
 mod queue;
 mod reader;

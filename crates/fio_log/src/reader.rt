@@ -9,7 +9,7 @@ use crate::line_runs::read_line;
 use crate::lines::LineMaker;
 use crate::places::Place;
 use crate::said::LineRuns;
-use crate::telling::Frames;
+use crate::telling::{Frames, Told};
 use crate::verdict::{Form, Verdict};
 use std::marker::Model;
 
@@ -23,6 +23,8 @@ pub struct Reader {
     judge: Judge,
     frames: Frames,
     form: Form,
+    /// What is told of the last line, if it is read by order.
+    own: Told,
     read: u64,
     told: u64,
     /// Whether the last line is still to be judged, after the verdicts of those above it are fetched.
@@ -66,6 +68,7 @@ impl Reader {
             judge: Judge::new(),
             frames: Frames::new(),
             form,
+            own: Told::none(),
             read: 0,
             told: 0,
             is_held: false,
@@ -142,6 +145,11 @@ impl Reader {
             text: self.maker.octets(),
             is_long: self.maker.is_long(),
         };
+        if let Some(form) = self.form.own() {
+            self.own = self.frames.tell_own(form, line);
+            self.refresh();
+            return;
+        }
         read_line(line.read_part(), &mut self.runs);
         self.is_held = !self.judge.goes_on(line, &self.runs);
         self.refresh();
@@ -177,6 +185,10 @@ impl Reader {
             self.is_ready = false;
             return;
         }
+        if self.form != Form::Auto {
+            self.is_ready = true;
+            return;
+        }
         let next = self.told + 1;
         if !self.judge.is_decided(next) {
             self.judge_held();
@@ -201,9 +213,13 @@ impl Reader {
             return None;
         }
         self.told += 1;
-        let told = self.judge.tell(self.told, &mut self.frames);
+        let told = if self.form == Form::Auto {
+            self.judge.tell(self.told, &mut self.frames)
+        } else {
+            self.own
+        };
         self.is_ready = self.told < self.read
-            && (self.is_ended || self.judge.is_decided(self.told + 1));
+            && (self.is_ended || self.form != Form::Auto || self.judge.is_decided(self.told + 1));
         Some(Verdict {
             line: self.told,
             kind: told.kind,
@@ -243,6 +259,9 @@ impl Reader {
 
     /// Returns a place where octets of the last verdict's frames are written.
     pub fn place(&self, index: usize) -> Option<Place> {
+        if self.form != Form::Auto {
+            return self.frames.own_place.filter(|_| index == 0);
+        }
         self.judge.place(index)
     }
 }

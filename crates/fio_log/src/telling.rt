@@ -20,6 +20,18 @@ pub(crate) struct Told {
     pub time: Option<u64>,
 }
 
+impl Told {
+    /// Returns what is told of a line without octets.
+    pub(crate) fn none() -> Told {
+        Told {
+            kind: Kind::PassedOver,
+            reason: Reason::NoOctets,
+            places: 0,
+            time: None,
+        }
+    }
+}
+
 /// The most messages of a line that is not the first of a chain.
 pub(crate) const LINE_FRAMES: usize = 2;
 
@@ -30,6 +42,8 @@ pub(crate) struct Frames {
     pub messages: ArrayVec<Message, LINE_FRAMES>,
     /// Whether they are those of the judge's chain.
     pub are_chain: bool,
+    /// Where its frame is written, if its line is read by order.
+    pub own_place: Option<Place>,
 }
 
 impl Frames {
@@ -38,6 +52,7 @@ impl Frames {
         Frames {
             messages: ArrayVec::new(),
             are_chain: false,
+            own_place: None,
         }
     }
 
@@ -45,6 +60,7 @@ impl Frames {
     pub(crate) fn clear(&mut self) {
         self.messages.clear();
         self.are_chain = false;
+        self.own_place = None;
     }
 
     /// Takes the messages of an entry.
@@ -99,12 +115,7 @@ impl Judge {
         self.queue.remove_before(line);
         let slot = self.queue.slot(0);
         let chain = self.join.rows.len();
-        let none = Told {
-            kind: Kind::PassedOver,
-            reason: Reason::NoOctets,
-            places: 0,
-            time: None,
-        };
+        let none = Told::none();
         if self.queue.len() == 0 {
             return none;
         }

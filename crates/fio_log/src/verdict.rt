@@ -1,6 +1,7 @@
 //! What a reader says of the lines of a log.
 
-/// How lines are read.
+/// How lines are read. By order each line is one of `show` or `check`, without what is no character of a line; other than
+/// there a line also ends at CR.
 #[derive(Clone, Copy, Debug, PartialEq, Eq)]
 pub enum Form {
     /// By the definition: what octets of a line say, and what makes that sure.
@@ -45,6 +46,8 @@ pub enum Reason {
     MayBeLonger,
     /// It is longer than a line, or than the octets of several lines, that are kept.
     TooLong,
+    /// It is no line of the text that it is read as by order.
+    BadLine,
 }
 
 /// What a reader says of a line.

@@ -105,3 +105,4 @@ pub const LOG_SHORT_MESSAGE: u8 = 3;
 pub const LOG_SEVERAL_MESSAGES: u8 = 4;
 pub const LOG_MAY_BE_LONGER: u8 = 5;
 pub const LOG_TOO_LONG: u8 = 6;
+pub const LOG_BAD_LINE: u8 = 7;
