@@ -403,6 +403,17 @@ impl Entry {
         }
     }
 
+    /// Returns where the octets of one of its runs are written in its first line.
+    pub(crate) fn written_at(&self, kept: &Kept) -> (usize, usize) {
+        match self.rows.as_slice() {
+            [row, ..] => {
+                let start = usize::from(row.start);
+                (start, start + usize::from(row.length))
+            }
+            [] => (kept.start, kept.end),
+        }
+    }
+
     /// Returns whether it is nothing but one message.
     pub(crate) fn is_bare(&self) -> bool {
         match self.kept.as_slice() {

@@ -34,6 +34,7 @@
 mod chains;
 mod checks;
 mod clock;
+mod damage;
 mod deciding;
 mod digits;
 mod directions;
@@ -64,6 +65,7 @@ mod styles;
 mod surroundings;
 mod telling;
 mod verdict;
+mod vocabulary;
 mod ways;
 
 pub use checks::frame_check;
