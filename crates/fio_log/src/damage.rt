@@ -46,11 +46,12 @@ impl Texts {
             return;
         };
         let text = text.as_slice();
-        self.vocabulary.learn(text.get(..start).unwrap_or(text));
+        self.vocabulary
+            .learn_before(text.get(..start).unwrap_or(text));
         if let Some(rest) = text.get(end..)
             && !read_after(rest, octets).is_last
         {
-            self.vocabulary.learn(rest);
+            self.vocabulary.learn_after(rest);
         }
     }
 

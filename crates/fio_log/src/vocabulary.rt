@@ -1,14 +1,18 @@
 //! The words of a log around its frames, and lines that are what is left of a frame's line after a cut.
 use crate::digits::{digit, is_decimal, is_letter};
-use crate::masks::{NO_SUM, summed};
+use crate::masks::{Mask, NO_SUM, summed};
 
-/// The most beginnings of words that are kept. Further words are not known.
+/// The sum of no word after octets.
+const NO_WORD: u64 = !NO_SUM;
+
+/// The most beginnings that are kept. Further ones are not known.
 const BEGINNINGS: usize = 1024;
 
 /// How many rows a beginning can be in.
 const STEPS: usize = 32;
 
-/// The words around the octets of frames, as the sums of all their beginnings; 0 in rows that are free.
+/// The sums of all beginnings of what is before the octets of frames, and of the words after them; 0 in rows that are
+/// free.
 #[derive(Clone, Copy, Debug)]
 pub(crate) struct Vocabulary {
     sums: [u64; BEGINNINGS],
@@ -22,15 +26,24 @@ impl Vocabulary {
         }
     }
 
-    /// Learns the words of a text that begin with a letter.
-    pub(crate) fn learn(&mut self, text: &[u8]) {
-        let (mut sum, mut is_number) = (NO_SUM, false);
+    /// Learns a text before the octets of a frame.
+    pub(crate) fn learn_before(&mut self, text: &[u8]) {
+        let mut mask = Mask::new();
+        for character in text {
+            mask.add(*character);
+            self.keep(mask.sum());
+        }
+    }
+
+    /// Learns the words that begin with a letter of a text after the octets of a frame.
+    pub(crate) fn learn_after(&mut self, text: &[u8]) {
+        let (mut sum, mut is_number) = (NO_WORD, false);
         for character in text {
             if !is_of_word(*character) {
-                (sum, is_number) = (NO_SUM, false);
+                (sum, is_number) = (NO_WORD, false);
                 continue;
             }
-            is_number |= sum == NO_SUM && is_decimal(*character);
+            is_number |= sum == NO_WORD && is_decimal(*character);
             sum = summed(sum, character.to_ascii_lowercase());
             if !is_number {
                 self.keep(sum);
@@ -38,16 +51,22 @@ impl Vocabulary {
         }
     }
 
-    /// Returns whether a text may be left of the line of a frame: it has words, and each is the beginning of a known
-    /// one, perhaps nothing, and then digits.
+    /// Returns whether a text may be left of the line of a frame: it has words, and after a beginning of what is
+    /// before octets, perhaps nothing, each is the beginning of one after octets, perhaps nothing, and then digits.
     pub(crate) fn may_be_left(&self, text: &[u8]) -> bool {
-        let (mut sum, mut is_known, mut has_words) = (NO_SUM, true, false);
+        let (mut mask, mut is_before) = (Mask::new(), true);
+        let (mut sum, mut is_known, mut has_words) = (NO_WORD, true, false);
         for character in text {
-            if !is_of_word(*character) {
-                (sum, is_known) = (NO_SUM, true);
+            has_words |= is_of_word(*character);
+            mask.add(*character);
+            is_before = is_before && self.has(mask.sum());
+            if is_before {
                 continue;
             }
-            has_words = true;
+            if !is_of_word(*character) {
+                (sum, is_known) = (NO_WORD, true);
+                continue;
+            }
             sum = summed(sum, character.to_ascii_lowercase());
             is_known = is_known && self.has(sum);
             if !is_known && !is_of_number(*character) {
