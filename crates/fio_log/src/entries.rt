@@ -396,6 +396,7 @@ impl Entry {
     /// Returns what one of its lines is, and why it gave no frame.
     pub(crate) fn verdict(&self, line: u64) -> (Kind, Reason) {
         match self.state {
+            State::Passed(Kind::Possible, _) if line > self.from => (Kind::Part, Reason::None),
             State::Passed(kind, reason) => (kind, reason),
             State::Waiting => (Kind::PassedOver, Reason::ShortMessage),
             _ if line == self.from => (Kind::Frames, Reason::None),
