@@ -37,7 +37,7 @@ def check_decode(check):
             expected = [line for line in file.read().splitlines() if not line.startswith('line ')]
         found = [LINE.sub('', line).removesuffix(AGAIN) for line in fiolog('decode', '--format', 'frames', name).out.splitlines()
                  if not BIT.match(line)]
-        faults = [line for line in found if re.match(r'(?:unknown|wrong length|too long)', line)]
+        faults = [line for line in found if re.match(r'(?:unknown|wrong length|too long|\d+: +\? damaged: bad line)', line)]
         check.equal('decode of ' + os.path.basename(name), expected, [line for line in found if line not in faults])
     rows = [json.loads(line) for line in fiolog('decode', '--json', text=LOG).out.splitlines()]
     check.equal('the octets of decode --json', [octets.hex() for octets in SESSION], [row['octets'] for row in rows])

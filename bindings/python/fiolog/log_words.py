@@ -8,6 +8,7 @@ REASONS = {
     'several messages': 'more than one message',
     'may be longer': 'it may be one message with the line below or above, or one by itself',
     'too long': 'longer than a line with a frame can be',
+    'bad line': 'bad line',
 }
 POSSIBLE = 'possible: nothing makes it sure'
 DOUBTS = {

@@ -105,6 +105,9 @@ class Reader:
         number, text = verdict.line, self.texts.of(verdict.line)
         time = None if verdict.time is None or verdict.time >= END_OF_TIME * 1_000_000 else verdict.time / 1_000_000
         kind, note = KINDS[verdict.kind], REASONS.get(verdict.reason, verdict.reason)
+        frames = verdict.frames
+        if self.form != 'auto' and verdict.reason == 'no message':
+            kind, frames = FRAME, (self._faulty(number, text),)
         line = Line(number, kind, text, b'', time, '', note, '', verdict.places)
         if kind == POSSIBLE and self.kinds[FRAME]:
             line = line._replace(kind=DOUBTFUL)
@@ -112,7 +115,13 @@ class Reader:
             line = line._replace(**self.given.pop(number, {}))
         else:
             line = line._replace(said=side_of(text, verdict.places, self.form))
-        return [self._frame(line._replace(octets=octets)) for octets in verdict.frames] or [line]
+        return [self._frame(line._replace(octets=octets)) for octets in frames] or [line]
+
+    def _faulty(self, number, text):
+        """The octets of a line that is a frame by order, and spells no message."""
+        if self.pattern:
+            return self.given[number].pop('octets')
+        return bytes.fromhex(text[2:] if self.form == 'transcript' else text)
 
     def _frame(self, event):
         """A frame with its direction: by its type, or in a transcript by order as it is written there."""
@@ -151,7 +160,7 @@ class Reader:
             self.given[number] = {'kind': DAMAGED if note else BLANK, 'note': note}
             return b'\n'
         parts = found.groupdict()
-        self.given[number] = {'time': self._time(parts.get('time') or ''), 'said': side_in(parts.get('dir') or '')}
+        self.given[number] = {'octets': octets, 'time': self._time(parts.get('time') or ''), 'said': side_in(parts.get('dir') or '')}
         return octets.hex().encode() + b'\n'
 
     def _time(self, text):

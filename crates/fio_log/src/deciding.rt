@@ -168,8 +168,12 @@ impl Judge {
         };
         for kept in entry.kept.as_slice() {
             if kept.is_sure && kept.is_long && entry.is_of_frame(kept.brief) {
-                self.is_news |= self.shapes.learn(kept.whole, kept.ways);
                 self.styles.learn(kept.mark, kept.ways);
+                if self.shapes.learn(kept.whole, kept.ways) {
+                    self.is_news = true;
+                    let (start, end) = entry.written_at(kept);
+                    self.texts.learn(slot, start, end, kept.message.octets());
+                }
             }
         }
     }
@@ -194,7 +198,7 @@ impl Judge {
     /// Returns whether one of the runs of the line that is decided may have been a frame.
     fn is_damaged(&self) -> bool {
         self.seen.as_slice().iter().any(|seen| seen.is_known(&self.shapes)
-            || self.styles.may_be_cut(*seen))
+            || seen.is_begun && self.styles.has(seen.mark, seen.ways))
     }
 
     /// Ends the wait of an entry. A line that is nothing but a message is a frame if each line of its shape so far said

@@ -212,10 +212,22 @@ impl Entry {
     /// Returns what one of its lines is, and why it gave no frame.
     pub(crate) fn verdict(&self, line: u64) -> (Kind, Reason) {
         match self.state {
+            State::Passed(Kind::Possible, _) if line > self.from => (Kind::Part, Reason::None),
             State::Passed(kind, reason) => (kind, reason),
             State::Waiting => (Kind::PassedOver, Reason::ShortMessage),
             _ if line == self.from => (Kind::Frames, Reason::None),
             _ => (Kind::Part, Reason::None),
+        }
+    }
+
+    /// Returns where the octets of one of its runs are written in its first line.
+    pub(crate) fn written_at(&self, kept: &Kept) -> (usize, usize) {
+        match self.rows.as_slice() {
+            [row, ..] => {
+                let start = usize::from(row.start);
+                (start, start + usize::from(row.length))
+            }
+            [] => (kept.start, kept.end),
         }
     }
 

@@ -1,4 +1,5 @@
 //! The judge of a log's lines: which of their messages are frames.
+use crate::damage::Texts;
 use crate::entries::{KEPT, State};
 use crate::joins::{Going, Join, Joining};
 use crate::kept::{Kept, Seen};
@@ -61,6 +62,7 @@ pub(crate) struct Judge {
     pub shapes: Shapes,
     pub styles: Styles,
     pub queue: Queue,
+    pub texts: Texts,
     pub join: Join,
     pub above: Above,
     /// The runs of the line that is decided, or of the first one of those that are open.
@@ -88,6 +90,7 @@ impl Judge {
             shapes: Shapes::new(),
             styles: Styles::new(),
             queue: Queue::new(),
+            texts: Texts::new(),
             join: Join::new(),
             above: Above {
                 briefs: ArrayVec::new(),
@@ -170,6 +173,7 @@ impl Judge {
         if let Some(entry) = self.queue.get_mut(slot) {
             entry.begin(line.number, time);
         }
+        self.texts.set(slot, line.text);
         self.queue.push();
     }
 

@@ -35,6 +35,7 @@ mod chains;
 mod checks;
 mod clock;
 mod closing;
+mod damage;
 mod deciding;
 mod digits;
 mod directions;
@@ -69,6 +70,7 @@ mod styles;
 mod surroundings;
 mod telling;
 mod verdict;
+mod vocabulary;
 mod ways;
 
 pub use checks::frame_check;

@@ -2,12 +2,12 @@
 use crate::digits::{is_decimal, is_letter};
 
 /// The sum of no text, and the factor of each character (FNV-1a, 64 bits).
-const NO_SUM: u64 = 0xcbf2_9ce4_8422_2325;
+pub(crate) const NO_SUM: u64 = 0xcbf2_9ce4_8422_2325;
 
 const FACTOR: u64 = 0x0000_0100_0000_01b3;
 
 /// Returns a sum with one character more.
-fn summed(sum: u64, character: u8) -> u64 {
+pub(crate) fn summed(sum: u64, character: u8) -> u64 {
     (sum ^ u64::from(character)).wrapping_mul(FACTOR)
 }
 

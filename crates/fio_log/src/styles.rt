@@ -1,13 +1,9 @@
 //! The marks and ways of writing of a log's frames.
-use crate::kept::Seen;
 use crate::said::NUMBERS_MARK;
 use crate::ways::Ways;
 
 /// How many marks there are, with those of literals and numbers.
 const MARKS: usize = NUMBERS_MARK as usize + 1;
-
-/// The least octets of what is left of a message after a cut.
-const LEFT_OCTETS: usize = 4;
 
 /// The marks and ways of writing of frames.
 #[derive(Clone, Copy, Debug)]
@@ -32,15 +28,14 @@ impl Styles {
         }
     }
 
-    /// Returns whether a run is written as frames are, and begins a message or may be what is left of one after a cut.
-    pub(crate) fn may_be_cut(&self, seen: Seen) -> bool {
-        let mark = usize::from(seen.mark);
-        if mark >= MARKS || seen.ways.is_any() {
+    /// Returns whether octets with this mark and these ways are written as frames are; of one word that is not known.
+    pub(crate) fn has(&self, mark: u8, ways: Ways) -> bool {
+        let mark = usize::from(mark);
+        if mark >= MARKS || ways.is_any() {
             return false;
         }
-        let is_cut = seen.is_begun || seen.count >= LEFT_OCTETS;
         match self.ways[mark] {
-            Some(known) => is_cut && seen.ways.is_known_in(known),
+            Some(known) => ways.is_known_in(known),
             None => false,
         }
     }

@@ -119,6 +119,7 @@ impl Judge {
         if self.queue.len() == 0 {
             return none;
         }
+        self.find_damage(slot);
         let Some(entry) = self.queue.get_mut(slot) else {
             return none;
         };
