@@ -22,12 +22,8 @@ pub(crate) struct Texts {
 impl Texts {
     /// Returns no lines.
     pub(crate) fn new() -> Texts {
-        let mut texts = ArrayVec::new();
-        for _ in 0..ENTRIES {
-            let _full = texts.try_push(ArrayVec::new());
-        }
         Texts {
-            texts,
+            texts: ArrayVec::from_array_in((), Default::default()),
             vocabulary: Vocabulary::new(),
         }
     }

@@ -172,7 +172,9 @@ impl Judge {
                 if self.shapes.learn(kept.whole, kept.ways) {
                     self.is_news = true;
                     let (start, end) = entry.written_at(kept);
-                    self.texts.learn(slot, start, end, kept.message.octets());
+                    if let Some(message) = &kept.message {
+                        self.texts.learn(slot, start, end, message.octets());
+                    }
                 }
             }
         }

@@ -51,7 +51,7 @@ impl Default for Entry {
         Entry {
             from: 0,
             until: 0,
-            state: State::Passed(Kind::PassedOver, Reason::NoOctets),
+            state: State::Waiting,
             time: None,
             waits: 0,
             kept: ArrayVec::new(),

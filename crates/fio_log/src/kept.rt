@@ -55,8 +55,8 @@ impl Around {
 /// A run that says a message.
 #[derive(Debug, Default, Drop)]
 pub(crate) struct Kept {
-    /// The message.
-    pub message: Message,
+    /// The message, until it is told.
+    pub message: Option<Message>,
     /// What pairs it.
     pub brief: Brief,
     /// Where it is written in its line.
@@ -101,7 +101,7 @@ impl Kept {
         };
         let spelled = octets.get(from..to)?;
         Some(Kept {
-            message: Message::of(spelled)?,
+            message: Some(Message::of(spelled)?),
             brief: Brief::of(spelled),
             start: 0,
             end: 0,

@@ -21,12 +21,8 @@ pub(crate) struct Queue {
 impl Queue {
     /// Returns a ring without entries.
     pub(crate) fn new() -> Queue {
-        let mut entries = ArrayVec::new();
-        for _ in 0..ENTRIES {
-            let _full = entries.try_push(Entry::default());
-        }
         Queue {
-            entries,
+            entries: ArrayVec::from_array_in((), Default::default()),
             first: 0,
             count: 0,
         }

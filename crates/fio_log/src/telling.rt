@@ -5,7 +5,6 @@ use crate::messages::Message;
 use crate::places::Place;
 use crate::verdict::{Kind, Reason};
 use arrayvec::ArrayVec;
-use std::mem;
 
 /// What is told of a line.
 #[derive(Clone, Copy, Debug)]
@@ -79,8 +78,9 @@ impl Frames {
 
     /// Takes the message of a run.
     fn add(&mut self, entry: &mut Entry, index: usize) {
-        if let Some(kept) = entry.kept.get_mut(index) {
-            let message = mem::take(&mut kept.message);
+        if let Some(kept) = entry.kept.get_mut(index)
+            && let Some(message) = kept.message.take()
+        {
             let _room = self.messages.try_push(message);
         }
     }
