@@ -37,7 +37,8 @@ def fiolog(*words, text='', is_text=True):
     """A run of the tool with this input."""
     done = subprocess.run([sys.executable, '-m', 'fiolog', *words], input=text.encode('utf-8'), stdout=subprocess.PIPE,
                           stderr=subprocess.PIPE, env=ENVIRONMENT, timeout=300)
-    return Done(done.stdout.decode() if is_text else done.stdout, done.stderr.decode(), done.returncode)
+    out, err = (text.decode('utf-8', 'surrogateescape') for text in (done.stdout, done.stderr))
+    return Done(out if is_text else done.stdout, err, done.returncode)
 
 
 def on_terminal(python, words, out=None, text='', **settings):

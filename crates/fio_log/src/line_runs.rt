@@ -161,7 +161,6 @@ fn keep_run(
     runs.said.push(Said {
         start: found.start,
         end: found.end,
-        notation: found.notation,
         octets: mem::replace(octets, Octets::new()),
         saying,
         shape: Shape {
@@ -171,6 +170,7 @@ fn keep_run(
         },
         letters: mask.letters(),
         ways: found.ways,
+        notation: found.notation,
         direction: direction_of(text, finder.gap),
         has_before: mask.has_text(),
         has_tail: after.has_tail,

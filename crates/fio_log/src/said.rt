@@ -29,14 +29,12 @@ pub(crate) const LITERAL_MARK: u8 = 15;
 pub(crate) const NUMBERS_MARK: u8 = 16;
 
 /// A run of octets in a line, and what it says.
-#[derive(Debug, Default, Drop)]
+#[derive(Debug, Drop)]
 pub(crate) struct Said {
     /// Where it begins in the line.
     pub start: usize,
     /// Where it ends.
     pub end: usize,
-    /// How its octets are written.
-    pub notation: Notation,
     /// Its octets.
     pub octets: Octets,
     /// What they say.
@@ -47,6 +45,8 @@ pub(crate) struct Said {
     pub letters: u64,
     /// The ways of writing that it can be of.
     pub ways: Ways,
+    /// How its octets are written.
+    pub notation: Notation,
     /// The direction of the words before it, if there are no words of another meaning.
     pub direction: Option<Direction>,
     /// Whether there is more than blanks before it.
@@ -55,6 +55,29 @@ pub(crate) struct Said {
     pub has_tail: bool,
     /// Whether there are only separators, or a column of its characters, after it.
     pub is_last: bool,
+}
+
+impl Default for Said {
+    fn default() -> Said {
+        Said {
+            start: 0,
+            end: 0,
+            octets: Octets::new(),
+            saying: Saying::NoMessage,
+            shape: Shape {
+                before: 0,
+                mark: 0,
+                after: 0,
+            },
+            letters: 0,
+            ways: Ways::default(),
+            notation: Notation::Words,
+            direction: None,
+            has_before: false,
+            has_tail: false,
+            is_last: false,
+        }
+    }
 }
 
 /// The runs of a line.
