@@ -344,7 +344,7 @@ def check_browser(check, kind, folder):
     with running(kind) as browser:
         for bits in (32, 64) if shutil.which('wasm-opt') else (64,):
             browser.open(address('?bits=%d' % bits))
-            started = browser.run('return document.documentElement.dataset.bits')
+            started = browser.wait('return document.documentElement.dataset.bits')
             check.equal('%d-bit addresses in %s' % (bits, kind.name), (str(bits), ''), (started, browser.run(TROUBLE)))
             page_logs.check_captures(check, browser, '%s with %d bits' % (kind.name, bits))
         check_examples(check, browser, kind.name)

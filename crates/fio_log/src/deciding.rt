@@ -185,8 +185,10 @@ impl Judge {
         let Some(entry) = self.queue.get(slot) else {
             return;
         };
-        let state = if !entry.kept.is_empty() {
+        let state = if entry.possible().is_some() {
             State::Passed(Kind::Possible, Reason::ShortMessage)
+        } else if !entry.kept.is_empty() {
+            State::Passed(Kind::PassedOver, Reason::ShortMessage)
         } else if !self.seen.as_slice().iter().any(|seen| seen.count > 1) {
             State::Passed(Kind::PassedOver, Reason::NoOctets)
         } else if self.is_damaged() {

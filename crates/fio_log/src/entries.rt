@@ -201,6 +201,25 @@ impl Entry {
         }
     }
 
+    /// Returns the run whose message is possible: the first of those that have two octets or more, or are all of their line,
+    /// if these say one message.
+    pub(crate) fn possible(&self) -> Option<usize> {
+        let mut found: Option<usize> = None;
+        let mut brief = Brief::default();
+        for (index, kept) in self.kept.as_slice().iter().enumerate() {
+            if !kept.is_long && !kept.is_bare {
+                continue;
+            }
+            if found.is_none() {
+                found = Some(index);
+                brief = kept.brief;
+            } else if brief != kept.brief {
+                return None;
+            }
+        }
+        found
+    }
+
     /// Returns the run that pairs with messages of lines below, if one of its runs is taken: the answer of a pair.
     pub(crate) fn chosen(&self) -> Option<usize> {
         match self.state {

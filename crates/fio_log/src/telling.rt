@@ -71,7 +71,11 @@ impl Frames {
                 self.add(entry, answer);
             }
             State::Chain => self.are_chain = true,
-            State::Passed(Kind::Possible, _) => self.add(entry, 0),
+            State::Passed(Kind::Possible, _) => {
+                if let Some(index) = entry.possible() {
+                    self.add(entry, index);
+                }
+            }
             _ => {}
         }
     }
@@ -162,7 +166,7 @@ impl Judge {
         let run = match entry.state {
             State::Both(_, answer) if index == 1 => answer,
             State::Both(index, _) | State::Taken(index) => index,
-            _ => 0,
+            _ => entry.possible().unwrap_or(0),
         };
         let kept = entry.kept.as_slice().get(run)?;
         Some(Place {

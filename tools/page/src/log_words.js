@@ -9,6 +9,7 @@ export const REASONS = [
   'more than one message',
   'it may be one message with the line below or above, or one by itself',
   'longer than a line with a frame can be',
+  'bad line',
 ];
 export const POSSIBLE = 'possible: nothing makes it sure';
 export const DOUBTS = {

@@ -2,8 +2,9 @@
 // say.
 
 import { clockOf } from './clocks.js';
-import { LOG_FORMS, LOG_KINDS } from './constants.js';
+import { LOG_FORMS, LOG_KINDS, LOG_REASONS } from './constants.js';
 import { Doubts } from './doubts.js';
+import { fromHex } from './hex.js';
 import { FIRST_ANSWER } from './library.js';
 import { REASONS } from './log_words.js';
 import { DIRECTION, MessageList } from './messagelist.js';
@@ -55,9 +56,16 @@ class Found {
   add(verdict) {
     const { line, kind, reason } = verdict;
     if (kind === LOG_KINDS.says || kind === LOG_KINDS.possible) this.addFrames(verdict);
+    else if (this.form !== LOG_FORMS.auto && reason === LOG_REASONS.noMessage) this.addFaulty(line);
     else if (kind === LOG_KINDS.damaged) this.messages.addBad(line, `damaged: ${REASONS[reason]}: ${this.textOf(line).slice(0, LONGEST_SHOWN)}`);
     else if (kind === LOG_KINDS.passedOver && this.form !== LOG_FORMS.auto) this.messages.addBad(line);
     else if (kind === LOG_KINDS.passedOver) this.passed[reason] += 1;
+  }
+
+  // A line that is a frame by order, and spells no message.
+  addFaulty(line) {
+    const digits = this.textOf(line).slice(this.form === LOG_FORMS.transcript ? 2 : 0).replace(/\s/g, '');
+    this.addFrames({ line, kind: LOG_KINDS.says, time: null, frames: [fromHex(digits)], places: [] });
   }
 
   addFrames({ line, kind, time, frames, places }) {
