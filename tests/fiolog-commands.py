@@ -361,7 +361,8 @@ def check_hostile(check, folder):
         with open(path, 'wb') as file:
             file.write(hostile + good)
         done = fiolog('decode', '-v', path)
-        check.equal('below %s' % name, (0, ['2', '3', '4']), (done.status, re.findall(r'^([2-9]):', done.out, re.M)))
+        status = 1 if name == 'no UTF-8' else 0     # that line is damaged: it may have held a frame
+        check.equal('below %s' % name, (status, ['2', '3', '4']), (done.status, re.findall(r'^([2-9]):', done.out, re.M)))
         check.holds('%s is named' % name, 'line 1: ' in done.err or name in ('zeros', 'no UTF-8'), done.err[:300])
     for seed in range(3):
         with open(path, 'wb') as file:
