@@ -11,7 +11,7 @@ use crate::glance::Glance;
 use crate::marks::MARKS;
 use crate::octets::Octets;
 use crate::places::Notation;
-use crate::said::{LITERAL_MARK, LineRuns, Said, Shape};
+use crate::said::{LINE_SINGLES, LITERAL_MARK, LineRuns, Said, Shape};
 use crate::sayings::{Saying, read_saying};
 use crate::surroundings::{Before, Gap, read_after};
 use std::mem;
@@ -105,14 +105,15 @@ fn find_in_brackets(line: &[u8], octets: &mut Octets, finder: &mut Finder, runs:
     }
 }
 
-/// Keeps a run, unless it has one octet and says no message.
+/// Keeps a run, unless it has one octet and says no message or finds no room.
 fn keep(line: &[u8], found: Found, octets: &mut Octets, finder: &mut Finder, runs: &mut LineRuns)
     requires written { IsWrittenAt line.now found.notation found.start found.end octets.old.items }
     requires said { All (IsSaidIn line.now) runs.old.said.items }
     ensures { All (IsSaidIn line.now) runs.new.said.items }
 {
     let saying = read_saying(octets.as_slice());
-    if octets.len() > 1 || matches!(saying, Saying::Says { .. }) {
+    let has_room = runs.said.len() < LINE_SINGLES;
+    if octets.len() > 1 || has_room && matches!(saying, Saying::Says { .. }) {
         if octets.len() > 1 && found.start < finder.gap.end {
             runs.time = None;
         }

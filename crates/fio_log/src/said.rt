@@ -9,6 +9,9 @@ use arrayvec::ArrayVec;
 /// The most runs of a line that are kept.
 pub(crate) const LINE_RUNS: usize = 8;
 
+/// The most runs of a line before one of one octet that says a message, so that there is room for longer ones.
+pub(crate) const LINE_SINGLES: usize = 4;
+
 /// The shape of a run: what surrounds it, without what differs between the lines of a log.
 ///
 /// In the sums each word that has a digit counts as `0`, capitals as small letters, and several blanks as one.
@@ -83,8 +86,8 @@ impl Default for Said {
 /// The runs of a line.
 #[derive(Debug, Drop)]
 pub(crate) struct LineRuns {
-    /// Those that are kept: all of two octets or more, and of one octet the last and those that say a message. The same
-    /// octets are there once for each place.
+    /// Those that are kept: all of two octets or more, and of one octet the last and the first few that say a message. The
+    /// same octets are there once for each place.
     pub said: ArrayVec<Said, LINE_RUNS>,
     /// Whether it has more runs than are kept.
     pub is_over: bool,
