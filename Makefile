@@ -131,10 +131,10 @@ doc:
 # ---- Installing ----
 
 # With the kit, the program is installed, and the library and the tester if they were made; without it, these two are made
-# first. `fiolog` and `normalize` load the shared library, which is beside the Python packages.
+# first. `fiolog` loads the shared library, which is beside the Python packages.
 headers = $(wildcard $(interface)/*.h $(interface)/*.hpp)
-tools = lossy-script transcript conformance waveform wireshark $(if $(shared),fiolog captures)
-filters = transcript lossy-script waveform/vcd wireshark/hex2pcap $(if $(shared),captures/normalize)
+tools = lossy-script transcript conformance waveform wireshark $(if $(shared),fiolog)
+filters = transcript lossy-script waveform/vcd wireshark/hex2pcap
 tool_pages = README.md page/README.md portable/README.md $(patsubst tools/%,%,$(wildcard tools/page/*.png))
 pages = README.md LICENSE CHANGELOG.md SECURITY.md CONTRIBUTING.md
 pkgconfig = $(root)/$(LIB)/pkgconfig
@@ -186,7 +186,7 @@ install-tools:
 ifneq ($(shared),)
 	install -d '$(share)/python/fio2070' '$(share)/python/fiolog' '$(bash)' '$(zsh)' '$(fish)'
 	install -m 644 bindings/python/fio2070/*.py bindings/python/fio2070/py.typed $(shared) '$(share)/python/fio2070'
-	install -m 644 bindings/python/fiolog/*.py bindings/python/fiolog/forms.json '$(share)/python/fiolog'
+	install -m 644 bindings/python/fiolog/*.py '$(share)/python/fiolog'
 	ln -sf '../$(TOOLS)/tools/fiolog' '$(bin)/fiolog'
 	install -m 644 man/fiolog.1 '$(man)'
 	install -m 644 completions/fiolog.bash '$(bash)/fiolog'
@@ -211,7 +211,7 @@ install-documents:
 
 names = fio2070 fio2070-test fiolog
 uninstall:
-	rm -f $(foreach name,$(names) $(addprefix fio2070-,normalize vcd hex2pcap transcript lossy-script),'$(bin)/$(name)') \
+	rm -f $(foreach name,$(names) $(addprefix fio2070-,vcd hex2pcap transcript lossy-script),'$(bin)/$(name)') \
 	    $(foreach name,$(names) fio2070-tools,'$(man)/$(name).1') \
 	    $(foreach name,$(names),'$(bash)/$(name)' '$(zsh)/_$(name)' '$(fish)/$(name).fish') \
 	    $(foreach name,libfio2070.a $(soname) $(link_name) pkgconfig/fio2070.pc,'$(root)/$(LIB)/$(name)') \

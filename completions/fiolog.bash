@@ -3,18 +3,17 @@
 _fiolog() {
     local word=${COMP_WORDS[COMP_CWORD]} command=${COMP_WORDS[1]} words=
     case "$command ${COMP_WORDS[COMP_CWORD - 1]}" in
-    'decode --format') words='auto frames transcript log csv json' ;;
+    'decode --format') words='auto frames transcript' ;;
     'decode --direction') words='sent heard' ;;
     'decode --color') words='auto always never' ;;
-    'check --format') words='auto frames transcript log csv json' ;;
+    'check --format') words='auto frames transcript' ;;
     'check --at') words='auto cpu module bus' ;;
     'check --rules') words='all nine' ;;
-    'stats --format') words='auto frames transcript log csv json' ;;
+    'stats --format') words='auto frames transcript' ;;
     'plan --limits') words='standard largest' ;;
-    'convert --format') words='auto frames transcript log csv json' ;;
+    'convert --format') words='auto frames transcript' ;;
     'convert --to') words='transcript frames pcapng vcd' ;;
-    'convert --at') words='cpu module' ;;
-    'record --format') words='auto frames transcript log csv json' ;;
+    'record --format') words='auto frames transcript' ;;
     'record --at') words='auto cpu module bus' ;;
     'record --on') words='0 1' ;;
     'live --at') words='auto cpu module bus' ;;
@@ -27,7 +26,7 @@ _fiolog() {
             check) words='-h --help --format --pattern --sdlc --no-check -v --verbose -q --quiet --at --start-at-poll --whole --limits --rules --late-answers --jobs --json' ;;
             stats) words='-h --help --format --pattern --sdlc --no-check -v --verbose -q --quiet --jobs --json' ;;
             plan) words='-h --help --inputs --filter --group --limits --outage --lost --every -v --verbose --json' ;;
-            convert) words='-h --help --format --pattern --sdlc --no-check -v --verbose -q --quiet --to -o --output --at --times' ;;
+            convert) words='-h --help --format --pattern --sdlc --no-check -v --verbose -q --quiet --to -o --output --times' ;;
             record) words='-h --help --format --pattern --sdlc --no-check -v --verbose -q --quiet --at --start-at-poll --whole --limits --text --json --csv --vcd --plot --hires --start --signal --on --channels' ;;
             live) words='-h --help --exec --serial --udp --fifo --rate --host --transcript --pcapng --at --whole --limits --seconds -v --verbose -q --quiet' ;;
             esac ;;

@@ -24,9 +24,9 @@ _fiolog() {
         _arguments \
             '-h[show this help message and exit]' \
             '--help[show this help message and exit]' \
-            '--format[auto (the default), frames, transcript, log, csv or json]:name:(auto frames transcript log csv json)' \
-            '--pattern[an expression with the groups octets and perhaps time and dir]:regex:' \
-            '--sdlc[each frame has address, control and frame check]' \
+            '--format[auto (the default); frames or transcript, as fio2070 show and check read lines]:name:(auto frames transcript)' \
+            '--pattern[an expression with the groups octets (hexadecimal digits) and perhaps time and dir]:regex:' \
+            '--sdlc[each line ends with a frame that has address, control and frame check]' \
             '--no-check[with --sdlc, without the frame check]' \
             '-v[name each line that is passed over, and why]' \
             '--verbose[name each line that is passed over, and why]' \
@@ -46,9 +46,9 @@ _fiolog() {
         _arguments \
             '-h[show this help message and exit]' \
             '--help[show this help message and exit]' \
-            '--format[auto (the default), frames, transcript, log, csv or json]:name:(auto frames transcript log csv json)' \
-            '--pattern[an expression with the groups octets and perhaps time and dir]:regex:' \
-            '--sdlc[each frame has address, control and frame check]' \
+            '--format[auto (the default); frames or transcript, as fio2070 show and check read lines]:name:(auto frames transcript)' \
+            '--pattern[an expression with the groups octets (hexadecimal digits) and perhaps time and dir]:regex:' \
+            '--sdlc[each line ends with a frame that has address, control and frame check]' \
             '--no-check[with --sdlc, without the frame check]' \
             '-v[name each line that is passed over, and why]' \
             '--verbose[name each line that is passed over, and why]' \
@@ -67,9 +67,9 @@ _fiolog() {
         _arguments \
             '-h[show this help message and exit]' \
             '--help[show this help message and exit]' \
-            '--format[auto (the default), frames, transcript, log, csv or json]:name:(auto frames transcript log csv json)' \
-            '--pattern[an expression with the groups octets and perhaps time and dir]:regex:' \
-            '--sdlc[each frame has address, control and frame check]' \
+            '--format[auto (the default); frames or transcript, as fio2070 show and check read lines]:name:(auto frames transcript)' \
+            '--pattern[an expression with the groups octets (hexadecimal digits) and perhaps time and dir]:regex:' \
+            '--sdlc[each line ends with a frame that has address, control and frame check]' \
             '--no-check[with --sdlc, without the frame check]' \
             '-v[name each line that is passed over, and why]' \
             '--verbose[name each line that is passed over, and why]' \
@@ -97,9 +97,9 @@ _fiolog() {
         _arguments \
             '-h[show this help message and exit]' \
             '--help[show this help message and exit]' \
-            '--format[auto (the default), frames, transcript, log, csv or json]:name:(auto frames transcript log csv json)' \
-            '--pattern[an expression with the groups octets and perhaps time and dir]:regex:' \
-            '--sdlc[each frame has address, control and frame check]' \
+            '--format[auto (the default); frames or transcript, as fio2070 show and check read lines]:name:(auto frames transcript)' \
+            '--pattern[an expression with the groups octets (hexadecimal digits) and perhaps time and dir]:regex:' \
+            '--sdlc[each line ends with a frame that has address, control and frame check]' \
             '--no-check[with --sdlc, without the frame check]' \
             '-v[name each line that is passed over, and why]' \
             '--verbose[name each line that is passed over, and why]' \
@@ -108,16 +108,15 @@ _fiolog() {
             '--to[]:to:(transcript frames pcapng vcd)' \
             '-o[where to (standard output)]:file:_files' \
             '--output[where to (standard output)]:file:_files' \
-            '--at[the end whose log it is (cpu)]:at:(cpu module)' \
             '--times[begin lines with their time in seconds]' \
             '*:file:_files' ;;
     record)
         _arguments \
             '-h[show this help message and exit]' \
             '--help[show this help message and exit]' \
-            '--format[auto (the default), frames, transcript, log, csv or json]:name:(auto frames transcript log csv json)' \
-            '--pattern[an expression with the groups octets and perhaps time and dir]:regex:' \
-            '--sdlc[each frame has address, control and frame check]' \
+            '--format[auto (the default); frames or transcript, as fio2070 show and check read lines]:name:(auto frames transcript)' \
+            '--pattern[an expression with the groups octets (hexadecimal digits) and perhaps time and dir]:regex:' \
+            '--sdlc[each line ends with a frame that has address, control and frame check]' \
             '--no-check[with --sdlc, without the frame check]' \
             '-v[name each line that is passed over, and why]' \
             '--verbose[name each line that is passed over, and why]' \

@@ -4,7 +4,7 @@
  * call, which the proof excludes, ends in FIO2070_TRAP(). FIO2070_UNCHECKED leaves the test of accesses to arguments out.
  * FIO2070_FAST makes the code longer and faster.
  *
- * Sources: e41587c1c77330d1ebd198753099dd46d5fa972324ca268c8408d220b9c19020 (SHA-256; packaging/release-files --sources)
+ * Sources: 01e7d3c5130c59da797977db0a30779d839f2654b692bb43ee9a73c310eff2fc (SHA-256; packaging/release-files --sources)
  * Kit: rattle-kit-13b logic dac8208d650f15bf
  * Proof: logic=proved functions=125 target=wasm64-unknown-unknown sum=dac8208d650f15bf native=nat,char,string
  * Made by `make release-files`: do not edit.
@@ -120,13 +120,13 @@ m->g2 = 66560;
 static const uint8_t data_octets[DATA_LENGTH] = {99,111,117,110,116,101,114,32,108,111,97,100,99,111,110,102,105,103,117,114,101,114,97,119,119,97,116,99,104,100,111,103,32,115,116,97,109,112,32,32,116,114,97,110,115,109,105,116,32,32,114,101,99,101,105,118,101,32,115,116,97,116,117,115,32,102,108,97,103,115,32,48,48,48,49,48,50,48,51,48,52,48,53,48,54,48,55,48,56,48,57,49,48,49,49,49,50,49,51,49,52,49,53,49,54,49,55,49,56,49,57,50,48,50,49,50,50,50,51,50,52,50,53,50,54,50,55,50,56,50,57,51,48,51,49,51,50,51,51,51,52,51,53,51,54,51,55,51,56,51,57,52,48,52,49,52,50,52,51,52,52,52,53,52,54,52,55,52,56,52,57,53,48,53,49,53,50,53,51,53,52,53,53,53,54,53,55,53,56,53,57,54,48,54,49,54,50,54,51,54,52,54,53,54,54,54,55,54,56,54,57,55,48,55,49,55,50,55,51,55,52,55,53,55,54,55,55,55,56,55,57,56,48,56,49,56,50,56,51,56,52,56,53,56,54,56,55,56,56,56,57,57,48,57,49,57,50,57,51,57,52,57,53,57,54,57,55,57,56,57,57,48,49,50,51,52,53,54,55,56,57,97,98,99,100,101,102,32,101,110,116,114,105,101,115,32,98,108,111,99,107,32,32,98,111,100,121,32,111,116,104,101,114,32,108,111,97,100,32,99,111,117,110,116,101,114,32,114,97,119,32,105,110,112,117,116,115,10,102,105,108,116,101,114,101,100,32,105,110,112,117,116,115,10,112,111,108,108,32,98,108,111,99,107,32,119,97,116,99,104,100,111,103,32,109,115,32,105,100,101,110,116,105,102,121,10,115,116,97,116,117,115,32,99,108,101,97,114,32,99,111,110,102,105,103,117,114,101,32,105,110,112,117,116,115,32,32,99,111,110,116,114,111,108,32,115,101,116,32,111,117,116,112,117,116,115,32,100,97,116,97,32,32,116,114,97,105,108,105,110,103,32,32,108,101,97,100,105,110,103,32,32,119,105,100,101,32,32,115,116,97,116,101,32,105,110,112,117,116,32,45,10,101,109,112,116,121,116,111,111,32,108,111,110,103,32,103,111,116,32,117,110,107,110,111,119,110,32,116,121,112,101,32,119,114,111,110,103,32,108,101,110,103,116,104,32,110,101,101,100,101,100,32,32,103,111,116,32,111,114,100,101,114,102,114,101,115,104,97,108,116,101,114,110,97,116,101,97,112,97,114,116,105,103,110,111,114,101,100,115,116,97,116,101,99,108,111,99,107,100,111,110,101,97,99,99,101,112,116,101,100,99,108,101,97,114,101,100,98,108,111,99,107,32,101,110,116,114,105,101,115,32,115,116,97,108,101,32,117,110,114,101,97,100,97,98,108,101,32,110,111,32,114,111,111,109,32,110,101,101,100,101,100,32,114,101,97,100,97,98,108,101,112,97,105,114,110,117,109,98,101,114,97,100,118,97,110,99,101,115,97,109,101,115,101,113,117,101,110,99,101,108,105,109,105,116,115,114,101,115,116,114,101,102,117,115,97,108,0,0,0,0,0,0,5,0,0,0,0,0,0,0,5,0,0,0,0,0,0,0,9,0,0,0,0,0,0,0,5,0,0,0,0,0,0,0,7,0,0,0,0,0,0,0,5,0,0,0,0,0,0,0,5,0,0,0,0,0,0,0,4,0,0,0,0,0,0,0,8,0,0,0,0,0,0,0,7,0,0,0,0,0,0,0,8,0,0,0,0,0,0,0,26,2,1,0,0,0,0,0,31,2,1,0,0,0,0,0,36,2,1,0,0,0,0,0,45,2,1,0,0,0,0,0,50,2,1,0,0,0,0,0,57,2,1,0,0,0,0,0,62,2,1,0,0,0,0,0,67,2,1,0,0,0,0,0,71,2,1,0,0,0,0,0,79,2,1,0,0,0,0,0,24,0,1,0,0,0,0,0,8,0,0,0,0,0,0,0,4,0,0,0,0,0,0,0,6,0,0,0,0,0,0,0,7,0,0,0,0,0,0,0,4,0,0,0,0,0,0,0,8,0,0,0,0,0,0,0,6,0,0,0,0,0,0,0,4,0,0,0,0,0,0,0,7,0,0,0,0,0,0,0,132,2,1,0,0,0,0,0,140,2,1,0,0,0,0,0,144,2,1,0,0,0,0,0,150,2,1,0,0,0,0,0,157,2,1,0,0,0,0,0,161,2,1,0,0,0,0,0,169,2,1,0,0,0,0,0,175,2,1,0,0,0,0,0,179,2,1,0,0,0,0,0};
 /* What the translated functions call: memory, and the integer operations that C lacks.
  *
- * A memory of 64 bits is mostly empty, so it only holds what a call needs. Addresses below 2^32 are the module's
+ * A memory of 64 bits is mostly empty, so it holds what a call needs and no more. Addresses below 2^32 are the module's
  * own: its stack, which is an array of the C function that makes the call, and its read-only data. Argument k of a call
- * has the addresses from k * 2^32 on, in the caller's own memory, read and written in place. Each access is tested against
+ * has the addresses from k * 2^32 on, in the very memory of the caller, read and written in place. Each access is held to
  * the object's length; a store to a const argument, and any other access, ends in FIO2070_TRAP.
  *
  * Memory is little-endian by WebAssembly's definition, whatever the processor is: numbers are put together from octets,
- * which compilers turn into one load if the processor allows it. */
+ * which compilers make one load of where the processor allows it. */
 
 #if defined(__GNUC__)
 #define HOT static inline __attribute__((always_inline))
@@ -154,7 +154,7 @@ COLD static void trap(void) {
     }
 }
 
-/* Accesses below 2^32 are always tested, since that is how constants are told from the stack. */
+/* Accesses below 2^32 are always tested, since constants are told from the stack so. */
 #ifdef FIO2070_UNCHECKED
 #define HOLDS(test) (number > 0 || (test))
 #else
@@ -168,7 +168,7 @@ COLD static void trap(void) {
 #define PLACE static
 #endif
 
-/* The read-only data of the module. Anything else that is neither an argument nor the stack is not valid. */
+/* The read-only data of the module. Anything else that is no argument and not the stack is no place. */
 COLD_PLACE static uint8_t *data_at(uint64_t address, uint32_t size) {
     uint64_t place = address - STACK_TOP;
     if (address < STACK_TOP || place > DATA_LENGTH || size > DATA_LENGTH - (uint32_t)place) trap();
@@ -198,9 +198,9 @@ PLACE uint8_t *write_at(uint64_t address, const struct machine *m, uint32_t size
     return m->windows[0].octets;
 }
 
-/* How many turns a loop takes until a number has reached another, by steps of this size. If it would take 2^64, it is 0. */
+/* How many turns a loop takes until a number is another one, by steps of this. Where it would take 2^64 it is 0. */
 HOT uint64_t turns(uint64_t to, uint64_t from, uint32_t step) { if ((to - from) % step) trap(); return (to - from) / step; }
-/* How many octets this many turns reach, each some octets beyond the one before. */
+/* How many octets so many turns reach, each some octets beyond the one before. */
 HOT uint32_t run(uint32_t size, uint32_t step, uint64_t turns) { if (turns - 1 > 0xFFFFFFFFu || (turns - 1) * step > 0xFFFFFFFFu - size) trap(); return size + step * (uint32_t)(turns - 1); }
 
 /* An object, and how many places of it some octets may begin at. A loop has it in a variable for its accesses. */

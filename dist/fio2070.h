@@ -1,6 +1,6 @@
 /* The field I/O transition link of the Model 2070: the header of fio2070.c.
  *
- * Sources: e41587c1c77330d1ebd198753099dd46d5fa972324ca268c8408d220b9c19020 (SHA-256; packaging/release-files --sources)
+ * Sources: 01e7d3c5130c59da797977db0a30779d839f2654b692bb43ee9a73c310eff2fc (SHA-256; packaging/release-files --sources)
  * Kit: rattle-kit-13b logic dac8208d650f15bf
  * Proof: logic=proved functions=125 target=wasm64-unknown-unknown sum=dac8208d650f15bf native=nat,char,string
  * Made by `make release-files`: do not edit.
@@ -23,7 +23,7 @@
  * What the caller owes, and nothing checks:
  *  - A pointer points to as many objects as its length says, aligned as C asks of their type. Where that
  *    length is 0 it may be null (tested, not proved); any other pointer is not null.
- *  - Initialise what a const argument points to. What a call only writes may be uninitialised.
+ *  - What an argument with const points to is initialised. What a call writes need not be.
  *  - During a call no one else writes what an argument points to, and no one else reads what an
  *    argument without const points to. Such an argument overlaps no other. So threads may call at once, each with its
  *    own structs. A firmware that scans in a timer interrupt makes each other call on the module, getters too, with

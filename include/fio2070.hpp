@@ -409,6 +409,24 @@ private:
     ::fio2070_content_checker content_{};
 };
 
+/// A reader of a log, which takes its octets in pieces of any length. It has half a megabyte: make it static or on the heap.
+class LogReader {
+public:
+    explicit LogReader(::fio2070_log_form form = FIO2070_LOG_AUTO) {
+        ::fio2070_log_start(&reader_, static_cast<std::uint8_t>(form));
+    }
+    /// Takes octets until all are taken or the batch has no room for another verdict, and returns how many it took. The batch
+    /// then has the verdicts that were due.
+    std::size_t read(Octets octets, ::fio2070_log_batch &batch) {
+        return ::fio2070_log_read(&reader_, octets.data(), octets.size(), &batch);
+    }
+    /// Ends the log. Read no octets then, until the batch has no verdicts.
+    void end() { ::fio2070_log_end(&reader_); }
+
+private:
+    ::fio2070_log_reader reader_;
+};
+
 /// The millisecond counter.
 class Counter {
 public:

@@ -66,8 +66,7 @@ $(portable)/fio2070.c: $(module) $(headers) $(translator) packaging/release-file
 page = fio2070.html
 lowered_module = crates/fio_c/out/$(wasm)/lowered.wasm
 lowered = $(if $(shell command -v wasm-opt),$(lowered_module))
-page_sources = $(wildcard tools/page/join tools/page/*.html tools/page/*/*.* examples/*.* examples/captures/*) \
-    bindings/python/fiolog/forms.json
+page_sources = $(wildcard tools/page/join tools/page/*.html tools/page/*/*.* examples/*.* examples/captures/*)
 
 .PHONY: page
 

@@ -173,15 +173,16 @@ def check_beginning(check, folder):
 
 
 def check_passed(check, folder):
-    """What is skipped, and what is doubtful, is reported."""
+    """What is skipped, and what is damaged, is reported."""
     out, err, _ = heard(folder, LOG + 'link down\n', '--quiet', '-v')
     check.holds('a line that is passed over', 'line %d: no octets: link down' % (len(SESSION) + 1) in err, err)
     check.equal('and counted', 1, numbers_of(out)['lines passed over'])
-    check.holds('the form', 'form: year first, direction, hex\n' in err, err)
-    early = 'TX (3): 36 05\n' + 'TX (2): 36 06\nRX (8): B6 06 00 00 00 00 00 01\n' * 3
-    check.holds('a count that does not fit', 'line 1 may be damaged: its count says 3' in heard(folder, early, '--quiet')[1])
-    out = heard(folder, '> ' + 'b6' * 200_000 + '\n> 3605\n')[0]
-    check.equal('below a line of 400 KB', (1, 'poll block 5'), (numbers_of(out)['frames'], out.splitlines()[0][-12:]))
+    out, err, status = heard(folder, LOG + '2026-11-22T07:15:09.000Z tx 3604\n2026-11-22T07:15:09.010Z rx b604000000\n'
+                             '2026-11-22T07:15:09.020Z tx 3605\n', '--quiet', '-v')
+    check.equal('a damaged line accuses nobody', (1, numbers_of(heard(folder, LOG, '--quiet')[0])['breaches']),
+                (numbers_of(out)['damaged lines'], numbers_of(out)['breaches']))
+    out = heard(folder, '> ' + 'b6' * 200_000 + '\n> 3605\n< b60500000000000a\n> 3606\n')[0]
+    check.equal('below a line of 400 KB', (3, 'poll block 5'), (numbers_of(out)['frames'], out.splitlines()[0][-12:]))
 
 
 def screen(text):
@@ -221,7 +222,7 @@ def check_status_line(check, folder):
 
 def check_process_ends(check):
     """A process that fails is named; one that goes on is ended."""
-    done = fiolog('live', '--exec', 'sh -c "echo 3605; exit 3"', '--quiet')
+    done = fiolog('live', '--exec', 'sh -c "echo \\> 3605; exit 3"', '--quiet')
     check.equal('a process that fails', (0, True), (done.status, 'the process ended with status 3' in done.err))
     with tempfile.TemporaryDirectory() as folder:
         path = os.path.join(folder, 'number')
@@ -239,7 +240,7 @@ def check_process_ends(check):
 def check_ended_from_outside(check, folder):
     """SIGTERM acts like Ctrl-C; a pipe without a writer is left in time."""
     path, pipe = os.path.join(folder, 'number'), os.path.join(folder, 'silent')
-    live = started('--exec', "sh -c 'echo 3605; echo $$ > %s; exec sleep 60'" % path, '--quiet')
+    live = started('--exec', "sh -c 'echo \\> 3605; echo $$ > %s; exec sleep 60'" % path, '--quiet')
     while not os.path.exists(path) or not os.path.getsize(path):
         time.sleep(0.05)
     time.sleep(0.2)

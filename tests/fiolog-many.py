@@ -62,6 +62,46 @@ def write_logs(folder):
     return [os.path.join(folder, '%03d.log' % number) for number in range(FILES)]
 
 
+class Told:
+    """A reader that has these verdicts on a log, whatever its text is."""
+
+    def __init__(self, *verdicts):
+        self.verdicts = verdicts
+
+    def read(self, octets):
+        """Nothing is certain yet."""
+        return []
+
+    def end(self):
+        """The verdicts."""
+        return list(self.verdicts)
+
+
+def check_lost(check):
+    """At a damaged line, and at a message among frames that nothing makes sure, the place is lost: nobody is accused. One above all
+    frames is not judged and not counted."""
+    import fio2070
+    from fiolog.summary import summary_of
+    from support.log_model import Verdict
+    real = fio2070.LogReader
+    poll, answer, later = (bytes.fromhex(digits) for digits in ('3605', 'b60500000000000a', '3607'))
+
+    def judged(*lines):
+        fio2070.LogReader = lambda form='auto': Told(*(
+            Verdict(number, kind, '', frames) for number, (kind, frames) in enumerate(lines, 1)))
+        try:
+            return summary_of([b'\n' * len(lines)])
+        finally:
+            fio2070.LogReader = real
+    sure = [('frames', (octets,)) for octets in (poll, answer, later)]
+    check.equal('a poll for another number', {'advance': 1}, dict(judged(*sure).broken))
+    for kind in (('damaged', ()), ('possible', (answer,))):
+        found = judged(*sure[:2], kind, sure[2])
+        check.equal('below a line that is %s' % kind[0], (0, 1, 3), (found.breaches, found.left_out['lost_places'], found.counts.frames))
+    found = judged(('possible', (answer,)), *sure)
+    check.equal('a possible one above', ({'advance': 1}, 3), (dict(found.broken), found.counts.frames))
+
+
 def check_files(check, paths):
     """One table of all files, the worst first, and one row of all."""
     doubled = [path for number, path in enumerate(paths) if number % 5 and number % 7 == 0]
@@ -108,7 +148,7 @@ UNJUDGED = {
     'a gap': (['> 3605', '< b605ff%s0c00000100' % FULL], {'gaps': 1}),
     'a restart': (['> 3180', '< b1000000' + '00000001', '> 3180', '< b1800000' + '00000002', '> 3180', '< b1800000' + '00000003'],
                   {'restarts': 1}),
-    'a wrong check': (['7E 14 83 36 05 C4 1B 7E', '7E 14 83 36 06 C4 1B 7E', '7E 14 83 36 05 C4 1B 7E'],
+    'a wrong check': (['14 83 36 05 C4 1B', '14 83 36 06 C4 1B', '14 83 36 05 C4 1B'],
                       {'damaged_lines': 1, 'lost_places': 1}),
 }
 WORDS = {'damaged_lines': '1 damaged line', 'lines_passed_over': '1 line passed over (1 no octets)', 'lost_places': '1 lost place',
@@ -153,6 +193,7 @@ def main():
     use_library(check, 'many logs')
     check_parts(check)
     check_unjudged(check)
+    check_lost(check)
     with tempfile.TemporaryDirectory() as folder:
         paths = write_logs(folder)
         check_files(check, paths)

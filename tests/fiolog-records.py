@@ -167,7 +167,7 @@ CROSSES = '''
 import sys
 from types import SimpleNamespace as Names
 from fiolog import log, plot, record
-given = Names(files=['-'], quiet=True, format='auto', pattern=None, sdlc=False, verbose=False, at='auto', start_at_poll=False, whole=False,
+given = Names(files=['-'], quiet=True, format='auto', pattern=None, sdlc=False, no_check=False, verbose=False, at='auto', start_at_poll=False, whole=False,
               limits=(255, 1024))
 lanes = plot.Lanes()
 for block in record.Record(log.Log(given), given).blocks():

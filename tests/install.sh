@@ -91,7 +91,7 @@ if has_command rt; then
     holds 'the installed program' shows "$prefix"
     holds 'the manual page' cmp "$page" "$top/man/fio2070.1"
     holds 'an installed tool' says 'good 2 frames' sh -c '
-        "$1/share/fio2070/tools/captures/normalize" --transcript | "$1/bin/fio2070" check' sh "$prefix" <<'end'
+        "$1/bin/fiolog" convert -q --to transcript | "$1/bin/fio2070" check' sh "$prefix" <<'end'
 07:15:02.100 TX 36 05
 07:15:02.108 RX B6 05 00 00 00 00 03 E8
 end
@@ -124,14 +124,14 @@ done
 holds 'a page for each command, and a command for each page' has_pages "$prefix"
 holds 'no link hangs' is_whole "$prefix"
 holds 'no generator of the repository' is_empty_of "$prefix" 'generate-*' translate join sources.py draw-pictures stack-use
-for file in lossy-script transcript waveform/vcd wireshark/fio2070.lua conformance/conformance.h captures/normalize; do
+for file in lossy-script transcript waveform/vcd wireshark/fio2070.lua conformance/conformance.h; do
     holds "the tool $file" cmp "$top/tools/$file" "$tools/$file"
 done
-for name in fiolog fio2070-test fio2070-vcd fio2070-normalize fio2070-transcript fio2070-lossy-script; do
+for name in fiolog fio2070-test fio2070-vcd fio2070-transcript fio2070-lossy-script; do
     holds "the installed $name" runs_alone "$prefix" "$prefix/bin/$name"
 done
 holds 'without the shared library' without_library
-holds 'the page names the tools' sh -c 'cd "$1" && for file in lossy-script transcript */[a-z]*2pcap */vcd */normalize */*.lua; do
+holds 'the page names the tools' sh -c 'cd "$1" && for file in lossy-script transcript */[a-z]*2pcap */vcd */*.lua; do
     grep -q "^\.I $file\$" "$2" || exit 1; done' sh "$tools" "$page"
 holds 'installing says how Wireshark finds the dissector' sh -c 'grep -q "ln -sf .*/fio2070.lua" "$1"' sh "$room/installing"
 

@@ -16,27 +16,20 @@ import time
 
 sys.dont_write_bytecode = True
 
-from support import page_views
+from support import page_logs, page_views
 from support.browsers import KEYS, Chromium, browsers, running
 from support.check import Check
-from support.damage import DAMAGED
-from support.loggers import LOGGERS
-from support.opened import CELLS, OPEN_ALL, PAGE, RANGE, TROUBLE, address, example, is_message, opened, saved, text_of
-from support.sessions import SESSION, timed
-from support.strangers import PASSED, READ
+from support.opened import CELLS, PAGE, RANGE, TROUBLE, address, example, opened, saved, text_of
 from support.tables import TOP, output_of
 
 PICTURES = os.path.join(TOP, 'tools', 'page')
 PLAYED_PICTURE = os.path.join(TOP, 'docs', 'pictures', 'play.png')
-MOST_OCTETS = 400_000
+MOST_OCTETS = 500_000
 MANY = 100_000
 MOST_SECONDS = 2
 # What browsers call long. In one pass of a few all frames have to take less: the machine has other work too.
 LONG_FRAME_MS = 100
 CONTRAST = 4.5
-ARROWS = {'>': '→ module', '<': '← CPU'}
-# How many octets a row shows.
-SHOWN_OCTETS = 40
 
 # The kind of the verdict, and the first rule that it names with its line.
 VERDICT = '''const it = document.getElementById("verdict"), found = /[Ll]ine (\\d+) breaks the rule (\\w+)/.exec(it.textContent);
@@ -115,58 +108,6 @@ def check_examples(check, browser, name):
         browser.run('const it = document.getElementById("play-example"); it.value = arguments[0]; it.dispatchEvent(new Event("change"))', base)
         check.equal('%s in %s' % (base, name), text_of(os.path.splitext(base)[0] + '.report'),
                     browser.run('return document.getElementById("report").textContent'))
-
-
-# What is captured, and the messages that it has, by docs/CAPTURES.md.
-CAPTURES = {
-    'octets.txt': ['poll block 5', 'block 5 entries 1 status 00 stamp 1000', 'poll block 6', 'block 6 entries 0 status 00 stamp 1001',
-                   'poll block 7', 'bad line', 'poll block 8'],
-    'serial-log.txt': ['poll block 255', 'poll block 255', 'block 255 entries 1 status 02 stamp 1', 'poll block 0',
-                       'block 0 entries 1 status 00 stamp 2', 'poll block 0', 'block 0 entries 1 status 02 stamp 2'],
-    'module-log.txt': ['poll block 5', 'block 5 entries 0 status 00 stamp 1000', 'poll block 6', 'block 6 entries 1 status 00 stamp 1020'],
-    'powershell.txt': ['poll block 5', 'block 5 entries 0 status 00 stamp 1000'],
-}
-
-
-def check_captures(check, browser, name):
-    """Logs of other tools give their messages, with directions and times."""
-    for capture, words in CAPTURES.items():
-        example(browser, capture)
-        rows = browser.run(CELLS)
-        check.equal('%s in %s' % (capture, name), words, [row[3] for row in rows])
-        if capture != 'octets.txt':
-            arrows = [ARROWS['>' if word.startswith('poll') else '<'] for word in words]
-            check.equal('the directions of %s in %s' % (capture, name), arrows, [row[2] for row in rows])
-    check.equal('a time of powershell.txt in %s' % name, '07:15:02.108', rows[1][1])
-
-
-def check_loggers(check, browser, name, folder):
-    """Each form of tests/support/loggers.py: the page has the frames, in order, and their directions."""
-    frames = timed(SESSION)
-    expected = [[ARROWS[way], octets[:SHOWN_OCTETS].hex() + '…' * (len(octets) > SHOWN_OCTETS)] for _, way, octets in frames]
-    for logger, written in LOGGERS.items():
-        path = os.path.join(folder, logger.replace('/', ' '))
-        with open(path, 'w', encoding='utf-8', newline='') as file:
-            file.write(written(frames))
-        opened(browser, path)
-        check.equal('the log %s in %s' % (logger, name), expected, [[row[2], row[5]] for row in browser.run(CELLS)])
-
-
-def seen(way, digits):
-    """The direction and the octets of a frame as a row shows them. If the log says no direction, it is that of the type."""
-    octets = bytes.fromhex(digits)
-    own = '<' if octets[0] >= 128 else '>'
-    return [ARROWS[own if way == '-' else way], octets[:SHOWN_OCTETS].hex() + '…' * (len(octets) > SHOWN_OCTETS)]
-
-
-def check_strangers(check, browser, name):
-    """Each log of tests/support/strangers.py: the page has the frames that fiolog has, and their directions."""
-    logs = [log for log in READ + PASSED if check.wants('the log %s in %s' % (log[0], name))]
-    browser.run(OPEN_ALL, [text for _, text, _ in logs])
-    browser.wait('return window.tables !== null')
-    for (title, _, frames), rows in zip(logs, browser.run('return window.tables')):
-        check.equal('the log %s in %s' % (title, name), [seen(frame[0], frame[1:]) for frame in frames],
-                    [[row[2], row[5]] for row in rows if is_message(row)])
 
 
 def check_fields(check, browser, name):
@@ -282,19 +223,6 @@ def check_hostile(check, browser, name, folder):
         check.equal('%s in %s' % (title, name), ([True, 0], ''), (state, browser.run(TROUBLE)))
     example(browser, 'good.transcript')
     check.equal('after these an example opens in %s' % name, 5, len(browser.run(CELLS)))
-
-
-def check_damaged(check, browser, name, folder):
-    """Each kind of damage is refused or remarked on, as by fiolog."""
-    for title, text, count, words in DAMAGED:
-        path = os.path.join(folder, title)
-        with open(path, 'w', encoding='utf-8') as file:
-            file.write(text)
-        opened(browser, path)
-        read = list(filter(is_message, browser.run(CELLS)))
-        note = browser.run('return document.getElementById("note").textContent')
-        check.equal('%s in %s' % (title, name), (count, True), (len(read), ' may be damaged: ' in note or ' is refused: ' in note
-                                                                or 'any length' in note or 'in each row' in note or 'a digit that is lost' in note or len(browser.run(CELLS)) > count or not words))
 
 
 def check_touch(check, browser, name, folder):
@@ -416,17 +344,15 @@ def check_browser(check, kind, folder):
     with running(kind) as browser:
         for bits in (32, 64) if shutil.which('wasm-opt') else (64,):
             browser.open(address('?bits=%d' % bits))
-            started = browser.run('return document.documentElement.dataset.bits')
+            started = browser.wait('return document.documentElement.dataset.bits')
             check.equal('%d-bit addresses in %s' % (bits, kind.name), (str(bits), ''), (started, browser.run(TROUBLE)))
-            check_captures(check, browser, '%s with %d bits' % (kind.name, bits))
+            page_logs.check_captures(check, browser, '%s with %d bits' % (kind.name, bits))
         check_examples(check, browser, kind.name)
-        check_loggers(check, browser, kind.name, folder)
-        check_strangers(check, browser, kind.name)
+        page_logs.rows(check, browser, kind.name)
         check_fields(check, browser, kind.name)
         check_many(check, browser, kind.name, folder)
         check_touch(check, browser, kind.name, folder)
         check_hostile(check, browser, kind.name, folder)
-        check_damaged(check, browser, kind.name, folder)
         check_print(check, browser, kind.name, folder)
         check_plan(check, browser, kind.name)
         check_play(check, browser, kind.name)

@@ -39,7 +39,7 @@ Generator: fio2070
 Root-Is-Purelib: false
 Tag: %s
 """
-PACKAGES = ['fio2070/*.py', 'fio2070/py.typed', 'fiolog/*.py', 'fiolog/forms.json']
+PACKAGES = ['fio2070/*.py', 'fio2070/py.typed', 'fiolog/*.py']
 # What the shared library is made of, in the repository.
 SOURCES = ['dist/fio2070.[ch]', 'tools/conformance/conformance*.[ch]', 'tools/conformance/shared.c', 'tools/conformance/exports.map']
 # Its name, and the options that make it, on each system. That of Windows has no tester, which needs POSIX.

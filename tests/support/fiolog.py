@@ -10,7 +10,9 @@ from support.tables import TOP
 
 PACKAGES = os.path.join(TOP, 'bindings', 'python')
 LIBRARY = os.environ.get('FIO2070_LIBRARY') or os.path.join(TOP, 'libfio2070.so')
-ENVIRONMENT = {**os.environ, 'FIO2070_LIBRARY': LIBRARY, 'PYTHONPATH': PACKAGES, 'PYTHONDONTWRITEBYTECODE': '1'}
+STANDIN = os.path.join(TOP, 'tests', 'support', 'standin')
+ENVIRONMENT = {**os.environ, 'FIO2070_LIBRARY': LIBRARY, 'PYTHONPATH': os.pathsep.join([PACKAGES, STANDIN]),
+               'PYTHONDONTWRITEBYTECODE': '1'}
 
 
 class Done(NamedTuple):
@@ -27,13 +29,16 @@ def use_library(check, name):
         check.end()
     os.environ['FIO2070_LIBRARY'] = LIBRARY
     sys.path.insert(0, PACKAGES)
+    from support.standin.sitecustomize import stand_in
+    stand_in()
 
 
 def fiolog(*words, text='', is_text=True):
     """A run of the tool with this input."""
     done = subprocess.run([sys.executable, '-m', 'fiolog', *words], input=text.encode('utf-8'), stdout=subprocess.PIPE,
                           stderr=subprocess.PIPE, env=ENVIRONMENT, timeout=300)
-    return Done(done.stdout.decode() if is_text else done.stdout, done.stderr.decode(), done.returncode)
+    out, err = (text.decode('utf-8', 'surrogateescape') for text in (done.stdout, done.stderr))
+    return Done(out if is_text else done.stdout, err, done.returncode)
 
 
 def on_terminal(python, words, out=None, text='', **settings):

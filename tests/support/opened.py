@@ -22,6 +22,8 @@ const opened = async (text) => { delete root.dataset.opened; const chosen = new 
     while (!root.dataset.opened) await new Promise((done) => setTimeout(done)); return cells(); };
 const cells = () => { %s; };
 (async () => { const tables = []; for (const text of texts) tables.push(await opened(text)); window.tables = tables; })();''' % CELLS
+# Directions as rows show them.
+ARROWS = {'>': '→ module', '<': '← CPU'}
 # The first and the last millisecond that are seen.
 RANGE = 'return document.getElementById("range").textContent.match(/-?\\d+/g).slice(0, 2).map(Number)'
 

@@ -30,7 +30,6 @@ def check_verdict(check, browser, name):
             ('a log with a bad line', '> 36ff\n> 36f\n< b6ff010000010200000001\n', 'partly', '1 line could not be read as a message and is not judged'),
             ('a log of the bus', '3605\nb605000000000001\n3605\n', 'partly', '1 message is not judged, since this log was not taken at the CPU'),
             ('answers below a breach', '> 36ff\n< b605000000000001\n< b605000000000001\n', 'broken', '1 message below a breach, up to the next poll, is not judged'),
-            ('a log of another link', ''.join('01 03 00 %02X 00 0A C5 CD\n' % number for number in range(6)), 'broken', '5 messages below a breach'),
             ('a log that begins in the middle', '< b605000000000001\n> 3606\n< b606000000000002\n', 'broken', 'in the middle of traffic'),
             ('a log of the other end', '07:15:02.100 RX 36 05\n07:15:02.106 TX B6 05 00 00 00 00 00 01\n', 'good', '')]:
         pasted(browser, text)
@@ -85,7 +84,8 @@ def check_no_log(check, browser, name, folder):
     for title, octets, words in [
             ('prose', b'Dear all,\nthe meeting is on Tuesday.\n', 'text without octets'), ('nothing', b'', 'empty'), ('blanks', b'  \n', 'empty'),
             ('script', text_of('lost-poll.script').encode(), 'the view Play runs it'), ('record', text_of('lost-answer.record').encode(), 'open the log itself'),
-            ('zip', b'PK\3\4' + bytes(40), 'zip'), ('gzip', b'\x1f\x8b\x08' + bytes(40), 'gzip'), ('zeros', bytes(100), 'no text')]:
+            ('zip', b'PK\3\4' + bytes(40), 'zip'), ('gzip', b'\x1f\x8b\x08' + bytes(40), 'gzip'), ('zeros', bytes(100), 'no text'),
+            ('another link', b''.join(b'01 03 00 %02X 00 0A C5 CD\n' % number for number in range(6)), 'a log of another link')]:
         path = os.path.join(folder, title + '.file')
         with open(path, 'wb') as file:
             file.write(octets)
@@ -175,7 +175,7 @@ def check_inputs(check, browser, name, folder):
 
 
 TIMES = [('an epoch', '{"ts": 1795331702.108, "data": "3605"}\n{"ts": 1795331702.120, "data": "b605000000000001"}\n', ['07:15:02.108', '07:15:02.120']),
-         ('a time after the year 9999', '{"ts": 3e11, "data": "3605"}\n{"ts": 1, "data": "b605000000000001"}\n', ['', '1.000000']),
+         ('a time after the year 9999', '{"ts": 3e11, "data": "3605"}\n{"ts": 1, "data": "b605000000000001"}\n', ['', '']),
          ('midnight', '23:59:59.999 TX 36 05\n00:00:00.001 RX B6 05 00 00 00 00 00 01\n', ['23:59:59.999', '00:00:00.001']),
          ('seconds', '(1795331702.108) TX 36 05\n(1795331702.110) RX B6 05 00 00 00 00 00 01\n', ['07:15:02.108', '07:15:02.110'])]
 

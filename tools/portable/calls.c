@@ -63,6 +63,7 @@ SAME(size_of_content_checker, sizeof(struct fio2070_content_checker), 632);
 SAME(size_of_counter, sizeof(struct fio2070_counter), 12);
 SAME(size_of_filters, sizeof(struct fio2070_filters), 216);
 SAME(size_of_sized_module, sizeof(struct fio2070_sized_module), 1056);
+SAME(size_of_log_batch, sizeof(struct fio2070_log_batch), 565264);
 SAME(size_of_slot, sizeof(struct fio2070_slot), 3);
 SAME(size_of_outputs, sizeof(struct fio2070_outputs), 16);
 SAME(size_of_item, sizeof(struct fio2070_configuration_item), 4);
@@ -403,6 +404,44 @@ uint8_t fio2070_content_heard(struct fio2070_content_checker *content, const uin
     }
     breach->items = get16((const uint8_t *)&breach->items);
     return rule;
+}
+
+OVER(log, start, 1, void, , (struct fio2070_log_reader * log, uint8_t form), it, form)
+OVER(log, end, 1, void, , (struct fio2070_log_reader * log), it)
+
+/* A batch that the module wrote, in the processor's own order of octets. */
+static void settle_batch(struct fio2070_log_batch *batch) {
+    uint32_t place;
+    batch->verdict_count = get32((const uint8_t *)&batch->verdict_count);
+    batch->frame_count = get32((const uint8_t *)&batch->frame_count);
+    batch->octet_count = get32((const uint8_t *)&batch->octet_count);
+    batch->place_count = get32((const uint8_t *)&batch->place_count);
+    for (place = 0; place < batch->verdict_count; place++) {
+        struct fio2070_log_verdict *it = &batch->verdicts[place];
+        it->line = get64((const uint8_t *)&it->line);
+        it->time = get64((const uint8_t *)&it->time);
+        it->frames = get32((const uint8_t *)&it->frames);
+        it->places = get32((const uint8_t *)&it->places);
+    }
+    for (place = 0; place < batch->place_count; place++) {
+        struct fio2070_log_place *it = &batch->places[place];
+        it->line = get64((const uint8_t *)&it->line);
+        it->start = get32((const uint8_t *)&it->start);
+        it->end = get32((const uint8_t *)&it->end);
+    }
+    for (place = 0; place < batch->frame_count; place++) batch->lengths[place] = get16((const uint8_t *)&batch->lengths[place]);
+}
+
+size_t fio2070_log_read(struct fio2070_log_reader *reader, const uint8_t *octets, size_t length,
+                        struct fio2070_log_batch *batch) {
+    size_t taken;
+    MACHINE(fio2070_log_read);
+    {
+        uint64_t a = WRITES(reader, sizeof *reader), b = READS(octets, length), c = WRITES(batch, sizeof *batch);
+        taken = (size_t)call_fio2070_log_read(&machine, a, b, length, c);
+    }
+    if (!IS_LITTLE) settle_batch(batch);
+    return taken;
 }
 
 OVER(filters, start, 1, void, , (struct fio2070_filters * filters), it)

@@ -14,10 +14,11 @@ from typing import Any, List, NamedTuple, Optional, Sequence, Tuple
 from . import _library as c
 from . import constants, encode
 from .encode import Octets
+from .logs import LogReader, Verdict
 from .records import Answer, Breach, Command, ConfigurationItem, ContentBreach, Entry, Fault, RecordItem
 
 __all__ = ['Answer', 'Breach', 'Checker', 'Command', 'ConfigurationItem', 'ContentBreach', 'ContentChecker', 'Counter',
-           'Entry', 'Fault', 'Filters', 'Heard', 'Module', 'Octets', 'Poller', 'RecordItem', 'constants',
+           'Entry', 'Fault', 'Filters', 'Heard', 'LogReader', 'Module', 'Octets', 'Poller', 'RecordItem', 'Verdict', 'constants',
            'content_rule_text', 'decode_answer', 'decode_command', 'encode', 'read_identification', 'read_outputs_answer',
            'rule_text', 'show', 'version', 'widen']
 

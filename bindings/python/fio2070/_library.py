@@ -99,6 +99,26 @@ class CContentChecker(ctypes.Structure):
     _fields_ = [('words', c_uint64 * 79)]
 
 
+class CLogVerdict(ctypes.Structure):
+    _fields_ = [('line', c_uint64), ('time', c_uint64), ('frames', c_uint32), ('places', c_uint32), ('kind', c_uint8),
+                ('reason', c_uint8), ('has_time', c_uint8), ('reserved', c_uint8 * 5)]
+
+
+class CLogPlace(ctypes.Structure):
+    _fields_ = [('line', c_uint64), ('start', c_uint32), ('end', c_uint32)]
+
+
+class CLogBatch(ctypes.Structure):
+    _fields_ = [('verdict_count', c_uint32), ('frame_count', c_uint32), ('octet_count', c_uint32),
+                ('place_count', c_uint32), ('verdicts', CLogVerdict * 4096), ('places', CLogPlace * 20480), ('lengths', c_uint16 *
+                20480), ('octets', c_uint8 * 65536)]
+
+
+class CLogReader(ctypes.Structure):
+    """The octets of struct fio2070_log_reader."""
+    _fields_ = [('words', c_uint64 * 65536)]
+
+
 class CFilters(ctypes.Structure):
     _fields_ = [('words', c_uint64 * 27)]
 
@@ -175,6 +195,9 @@ _declare('fio2070_filters_scan', c_uint64, POINTER(CFilters), c_uint64)
 _declare('fio2070_filters_filtered', c_uint64, POINTER(CFilters))
 _declare('fio2070_filters_raw', c_uint64, POINTER(CFilters))
 _declare('fio2070_filters_configure', CConfigured, POINTER(CFilters), POINTER(CItem), c_size_t)
+_declare('fio2070_log_start', None, POINTER(CLogReader), c_uint8)
+_declare('fio2070_log_read', c_size_t, POINTER(CLogReader), c_char_p, c_size_t, POINTER(CLogBatch))
+_declare('fio2070_log_end', None, POINTER(CLogReader))
 _declare('fio2070_poller_start', None, POINTER(CPoller), c_uint8)
 _declare('fio2070_poller_poll', c_size_t, POINTER(CPoller), POINTER(c_uint8), c_size_t)
 _declare('fio2070_poller_hear', CHeard, POINTER(CPoller), c_char_p, c_size_t, POINTER(CRecordItem), c_size_t)

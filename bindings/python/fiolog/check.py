@@ -9,12 +9,12 @@ from collections import Counter
 from . import log, many, terminal, unjudged
 from .counts import Counts
 from .decode import clock_of
-from .events import DAMAGED, FRAME, PASSED
+from .events import BAD, FRAME, LOSSES, PASSED
 from .late import LateRules
 from .message import POLL, message_of
 from .options import number_in
 from .protocol import BLOCK_ENTRIES, MOST_WAITING, STANDARD_WAITING
-from .rules import NineRules, Rules, is_lost
+from .rules import NineRules, Rules
 
 
 def add_place(parser):
@@ -85,8 +85,8 @@ def _place(event):
 
 
 def frames_judged(read, option, late=None):
-    """Each frame of a log with its breach and the rules that judged it, new ones for each file; with --start-at-poll from the
-    first poll on. If late answers are left out, they are counted in `late`."""
+    """Each frame of a log with its breach and the rules that judged it, new ones for each file, and each damaged line; with
+    --start-at-poll from the first poll on. If late answers are left out, they are counted in `late`."""
     def begin():
         if late:
             return LateRules(option.at, option.limits, late)
@@ -94,12 +94,14 @@ def frames_judged(read, option, late=None):
         return judged(option.at, not option.start_at_poll, option.whole, option.limits)
     judge, name, is_open = begin(), None, not option.start_at_poll
     for event in read.events():
-        if is_lost(event):
-            judge.lose()
-        if event.kind not in (FRAME, DAMAGED):
+        if event.kind not in (FRAME, BAD, *LOSSES):
             continue
         if name != read.name:
             judge, name, is_open = begin(), read.name, not option.start_at_poll
+        if event.kind in LOSSES:
+            judge.lose(event)
+            yield event, None, judge
+            continue
         is_open = is_open or event.octets[:1] == bytes([POLL])
         if is_open:
             yield event, judge.breach(read, event), judge
@@ -114,7 +116,10 @@ def run(option):
     paint, read, counts = terminal.painter('auto'), log.Log(option, sys.stdout.flush, writes=option.json), Counts()
     rules, breaches, spans = None, 0, Spans()
     for event, found, rules in frames_judged(read, option, counts if option.late_answers else None):
-        counts.add(event, message_of(event.octets) if event.kind == FRAME else None)
+        if event.kind in LOSSES:
+            counts.lose()
+        else:
+            counts.add(event, message_of(event.octets) if event.kind == FRAME else None)
         if found:
             breaches += 1
             spans.add(found.rule, event)

@@ -4,27 +4,18 @@ Wireshark, or the blocks as a VCD file for viewers of waveforms."""
 import sys
 
 from . import log
-from .decode import direction_of
 from .message import BLOCK, LOST, message_of
 from .pcapng import Writer
 from .waveform import Block, draw
 
-TEXTS = {'transcript': lambda event, direction: direction + ' ' + event.octets.hex(),
-         'frames': lambda event, direction: event.octets.hex()}
+TEXTS = {'transcript': lambda event: event.direction + ' ' + event.octets.hex(), 'frames': lambda event: event.octets.hex()}
 
 
 def add_arguments(parser):
     log.add_arguments(parser)
     parser.add_argument('--to', choices=('transcript', 'frames', 'pcapng', 'vcd'), required=True)
     parser.add_argument('-o', '--output', metavar='FILE', help='where to (standard output)')
-    parser.add_argument('--at', choices=('cpu', 'module'), default='cpu', help='the end whose log it is (cpu)')
     parser.add_argument('--times', action='store_true', help='begin lines with their time in seconds')
-
-
-def direction_at(event, place):
-    """The direction as the CPU's end has it."""
-    direction = direction_of(event)
-    return {'>': '<', '<': '>'}[direction] if place == 'module' and event.direction else direction
 
 
 def blocks_of(events):
@@ -43,12 +34,12 @@ def write(option, read, out):
     elif option.to == 'pcapng':
         writer = Writer(out)
         for event in read.frames():
-            writer.add(event.time, direction_at(event, option.at), event.octets)
+            writer.add(event.time, event.direction, event.octets)
     else:
         text = TEXTS[option.to]
         for event in read.frames():
             time = '%.6f ' % event.time if option.times and event.time is not None else ''
-            out.write(time + text(event, direction_at(event, option.at)) + '\n')
+            out.write(time + text(event) + '\n')
 
 
 def run(option):

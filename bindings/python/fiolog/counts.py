@@ -2,7 +2,7 @@
 
 from collections import Counter
 
-from .events import DAMAGED
+from .events import BAD
 from .message import AGAIN, BLOCK, LOST, MODULE_STATUS, POLL, RESET
 
 # How many response times are kept for the median and the 99th percentile: beyond, every second one, and so on.
@@ -78,7 +78,7 @@ class Counts:
         if event.time is not None:
             self.first, self.last = event.time if self.first is None else self.first, event.time
         if message is None:
-            self.damaged += event.kind == DAMAGED
+            self.damaged += event.kind == BAD
             return
         self.types[message.code] += 1
         if self.begins_with_poll is None:
@@ -87,6 +87,11 @@ class Counts:
             self._answer(event, message)
         else:
             self._command(event, message)
+
+    def lose(self):
+        """A frame may be lost here: whether the last poll was answered is not known."""
+        self.damaged += 1
+        self.open_poll = self.command = None
 
     def _command(self, event, message):
         if self.open_poll is not None:

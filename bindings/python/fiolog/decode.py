@@ -9,11 +9,15 @@ import sys
 import time
 
 from . import log, terminal
-from .events import DAMAGED, FRAME
-from .judge import is_answer
+from .events import BAD, DAMAGED, DOUBTFUL, FRAME, POSSIBLE
+from .log_words import POSSIBLE as UNSURE
 from .message import BLOCK, LETTERS, SENT_AGAIN, message_of
 from .options import line_range, message_type, number_in, status_letters
 
+# The kinds of messages that nothing makes sure.
+UNSURE_KINDS = POSSIBLE, DOUBTFUL
+# The most characters of a damaged line that are shown.
+MOST_SHOWN = 100
 # Times from here on are of a date.
 DATED = 1e8
 _OF_DAY = re.compile(r'\d{1,2}:\d\d:\d\d(?:[.,]\d{1,9})?')
@@ -58,9 +62,9 @@ def clock_of(event):
     return of_day[0] if of_day else clock(event.time)
 
 
-def direction_of(event):
-    """The direction of a frame: what the log says, or what the type does."""
-    return event.direction or ('<' if is_answer(event.octets) else '>')
+def fault_in(event):
+    """What is wrong with a line that says no message."""
+    return event.note if event.kind == BAD else 'damaged: %s: %s' % (event.note, event.text[:MOST_SHOWN])
 
 
 class Filter:
@@ -81,7 +85,7 @@ class Filter:
             return True
         if self.lines is not None and event.number not in self.lines:
             return False
-        if self.option.direction and direction_of(event) != {'sent': '>', 'heard': '<'}[self.option.direction]:
+        if self.option.direction and event.direction != {'sent': '>', 'heard': '<'}[self.option.direction]:
             return False
         if message is None:
             return not (self.types or self.bits or self.option.block is not None or self.option.input is not None)
@@ -100,18 +104,18 @@ class Filter:
 
 
 def as_text(write, paint, takes_part=lambda part: True):
-    """Writes messages in the words of `show`, and what the bits of a status say."""
+    """Writes messages in the words of `show`, and what the bits of a status say; one that is not sure is marked."""
     def line(name, event, message):
-        direction = direction_of(event)
-        head = '%-6s %s%s ' % ('%d:' % event.number, clock_of(event) + ' ' if event.time is not None else '', direction)
+        head = '%-6s %s%s ' % ('%d:' % event.number, clock_of(event) + ' ' if event.time is not None else '', event.direction or '?')
         if message is None:
-            write('%s%s\n' % (head, paint('fault', event.note)))
+            write('%s%s\n' % (head, paint('fault', fault_in(event))))
             return
-        colour = 'heard' if direction == '<' else 'sent'
+        colour = 'heard' if event.direction == '<' else 'sent'
         if message.code == BLOCK and message.fields['status']:
             colour = 'mark'
         says, *lines = message.lines()
         again = paint('dim', '  ' + SENT_AGAIN) if message.is_repeat else ''
+        again += paint('fault', '  ' + UNSURE) if event.kind in UNSURE_KINDS else ''
         bits = ''.join(paint('dim', '  %s: %s' % bit) + '\n' for bit in message.bits().items())
         write('%s%s%s\n%s' % (head, paint(colour, says), again, bits)
               + ''.join(words + '\n' for part, words in zip(message.parts, lines) if takes_part(part)))
@@ -121,10 +125,12 @@ def as_text(write, paint, takes_part=lambda part: True):
 def as_json(write, takes_part):
     """Writes an object a line."""
     def line(name, event, message):
-        one = {'file': name, 'line': event.number, 'time': event.time, 'direction': direction_of(event),
+        one = {'file': name, 'line': event.number, 'time': event.time, 'direction': event.direction,
                'octets': event.octets.hex()}
+        if event.kind in UNSURE_KINDS:
+            one['possible'] = True
         if message is None:
-            one['fault'] = event.note
+            one['fault'] = fault_in(event)
         else:
             one.update(type=message.code, says=message.lines()[0], **message.fields)
             if message.bits():
@@ -143,8 +149,8 @@ def as_csv(write, takes_part):
     rows.writerow(COLUMNS)
 
     def line(name, event, message):
-        head = [name, event.number, '' if event.time is None else event.time, direction_of(event), event.octets.hex(),
-                '' if message is None else message.code, event.note if message is None else message.lines()[0]]
+        head = [name, event.number, '' if event.time is None else event.time, event.direction, event.octets.hex(),
+                '' if message is None else message.code, fault_in(event) if message is None else message.lines()[0]]
         for part in message and list(filter(takes_part, message.parts)) or [{}]:
             rows.writerow(head + [part.get(column, '') for column in COLUMNS[len(head):]])
     return line
@@ -159,12 +165,9 @@ def run(option):
         line = as_text(write, terminal.painter(option.color), taken.takes_part)
     read = log.Log(option, sys.stdout.flush)
     for event in read.events():
-        if event.kind == FRAME:
-            message = message_of(event.octets)
-        elif event.kind == DAMAGED:
-            message = None
-        else:
+        if event.kind not in (FRAME, *UNSURE_KINDS, BAD, DAMAGED):
             continue
+        message = message_of(event.octets) if event.kind in (FRAME, *UNSURE_KINDS) else None
         if taken.takes(event, message):
             line(read.name, event, message)
-    return 0 if read.summary() and not read.kinds[DAMAGED] else 1
+    return 0 if read.summary(takes_possible=True) and not read.kinds[BAD] + read.kinds[DAMAGED] else 1

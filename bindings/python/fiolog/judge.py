@@ -1,12 +1,10 @@
 """What libfio2070 says of octets: whether they spell a message, and how many octets it needs."""
 
 from fio2070 import _library as c
-from fio2070.constants import FAULT_WRONG_LENGTH as WRONG_LENGTH, TYPE_ANSWER
+from fio2070.constants import TYPE_ANSWER
 
 _command, _answer = c.CCommand(), c.CAnswer()
 _decode_command, _decode_answer = c.library.fio2070_decode_command, c.library.fio2070_decode_answer
-# Loggers wrap octets at 8 of them or more.
-SHORTEST_WIDTH = 8
 
 
 def fault_of(octets):
@@ -33,27 +31,6 @@ _LOOSE = frozenset(octet for octet in range(256) if spells(bytes([octet])) and s
 def is_loose(octets):
     """Whether octets are of a type whose messages have any length: a cut is not seen."""
     return octets[0] in _LOOSE
-
-
-def is_sure(octets):
-    """Whether a message can hardly be other text: its length is that of its type, and above 1."""
-    return len(octets) > 1 and octets[0] not in _LOOSE
-
-
-def fits_surely(octets):
-    """Whether the octets spell a message that can hardly be other text."""
-    return len(octets) > 1 and octets[0] not in _LOOSE and fault_of(octets).kind == 0
-
-
-def fits_short(octets):
-    """Whether the octets spell a message in fewer octets than a log wraps lines at."""
-    return len(octets) < SHORTEST_WIDTH and spells(octets)
-
-
-def missing(octets):
-    """How many octets the message still needs; 0 where that cannot be said."""
-    fault = fault_of(octets)
-    return max(fault.needed - fault.got, 0) if fault.kind == WRONG_LENGTH else 0
 
 
 def words_of(octets):

@@ -72,6 +72,11 @@ class LateRules(Rules):
         self.late = LateAnswers(counts)
         self.judge = Judge(at, limits, self.late)
 
+    def lose(self, event):
+        """A frame was damaged here: an answer to a command above can still come."""
+        self.late.is_settled = False
+        super().lose(event)
+
     def breach(self, read, event):
         """The breach of a frame; None where it keeps all rules."""
         found, octets = self.judge.breach(read, event), event.octets
@@ -79,7 +84,7 @@ class LateRules(Rules):
             self.lose_place()
         if found:
             return found
-        if self.judge.direction(read, event) == '<':
+        if event.direction == '<':
             return self.heard(octets) if octets[:1] == bytes([BLOCK]) else None
         self.sent(octets, self.late.begins(octets))
         return None

@@ -19,14 +19,13 @@ from fio2070.constants import LONGEST_FRAME
 from . import check, sdlc, terminal
 from .counts import Counts
 from .decode import as_text
-from .events import DAMAGED, FRAME, PASSED, REMARK, Line
+from .events import BAD, DAMAGED, FRAME, LOSSES, PASSED, POSSIBLE, Line
 from .judge import is_answer, words_of
 from .message import message_of
 from .options import number_in
 from .pcapng import Writer
 from .reader import Reader
-from .rules import DROPPED, Rules, is_lost
-from .source import Ends
+from .rules import WRONG_CHECK, Rules
 
 CHUNK = 1 << 16
 LONGEST_DATAGRAM = 1 << 16
@@ -42,6 +41,8 @@ LONGEST_STUFFED = 2 * (LONGEST_FRAME + 4)
 QUIET = 2.0
 # Seconds that a process has to end.
 PATIENCE = 0.2
+# What is said of datagrams that the system dropped before they were read.
+DROPPED = 'dropped by the system'
 # What the status line names where it is 0 too.
 ALWAYS = ('frames', 'polls', 'breaches')
 
@@ -65,22 +66,19 @@ def add_arguments(parser):
 
 
 class Lines:
-    """Lines of a log, as they come."""
+    """Lines of a log, as they come; with the form transcript none waits for those below."""
 
-    def __init__(self):
-        self.reader, self.ends, self.number = Reader(), Ends(), 0
+    def __init__(self, form):
+        self.reader = Reader(form)
 
     def feed(self, chunk):
-        """The events of the lines that are whole now."""
-        for line in self.ends.lines(chunk):
-            self.number += 1
-            for event in self.reader.feed(self.number, line.decode('utf-8', 'replace').rstrip('\r')):
-                yield event if event.time is not None else event._replace(time=time.time())
+        """The events of the lines that are decided now."""
+        for event in self.reader.feed(chunk):
+            yield event if event.time is not None else event._replace(time=time.time())
 
     def end(self):
         """The events of what is left."""
-        yield from self.feed(self.ends.end or b'\n' if self.ends.left else b'')
-        yield from self.reader.end()
+        return self.reader.end()
 
     def losses(self):
         """What did not come whole, by its words: a line says it itself."""
@@ -88,7 +86,7 @@ class Lines:
 
 
 class Hdlc:
-    """Frames between flags. A wrong check makes a remark, since such a frame was not heard."""
+    """Frames between flags. One with a wrong check is damaged."""
 
     def __init__(self):
         self.reader, self.held, self.number, self.wrong, self.is_lost = Reader(), bytearray(), 0, 0, False
@@ -119,7 +117,7 @@ class Hdlc:
 
     def _lost(self):
         self.wrong += 1
-        return Line(self.number, REMARK, '', note='frame check is wrong')
+        return Line(self.number, DAMAGED, '', note=WRONG_CHECK)
 
     def end(self):
         """Nothing: what has no flag after it is no frame."""
@@ -131,7 +129,7 @@ class Hdlc:
 
 
 class Datagrams:
-    """A frame a datagram. One without octets is none. What the system dropped makes a remark, since the CPU may have heard it."""
+    """A frame a datagram. One without octets is none. What the system dropped is a damaged one, since the CPU may have heard it."""
 
     def __init__(self):
         self.reader, self.number, self.dropped, self.unsaid = Reader(), 0, 0, 0
@@ -147,10 +145,10 @@ class Datagrams:
         return octets
 
     def feed(self, octets):
-        """The event of a datagram, with a remark before it if others were dropped."""
+        """The event of a datagram, with one before it if others were dropped."""
         self.number += 1
         if self.unsaid:
-            yield Line(self.number, REMARK, '', note='%s: %d datagrams' % (DROPPED, self.unsaid))
+            yield Line(self.number, DAMAGED, '', note='%s: %d datagrams' % (DROPPED, self.unsaid))
             self.unsaid = 0
         if octets:
             yield event_of(self.number, octets)
@@ -167,7 +165,7 @@ class Datagrams:
 def event_of(number, octets):
     """A frame that came now."""
     words = words_of(octets)
-    return Line(number, DAMAGED if words else FRAME, '', octets, time.time(), '', words)
+    return Line(number, BAD if words else FRAME, '', octets, time.time(), '<' if is_answer(octets) else '>', words)
 
 
 class Station:
@@ -176,7 +174,7 @@ class Station:
     def __init__(self, option, source):
         self.option, self.source, self.counts = option, source, Counts()
         self.breaches, self.content_breaches, self.is_open = 0, 0, False
-        self.name, self.reader, self.form = '-', source.reader, ''
+        self.name, self.reader = '-', source.reader
         self.out = sys.stderr if option.pcapng == '-' else sys.stdout
         self.paint, self.status = terminal.painter('auto'), terminal.Status()
         self.line = as_text(self._write, self.paint)
@@ -189,12 +187,12 @@ class Station:
         self.last = time.monotonic()
 
     def add(self, event):
-        """A frame, good or damaged; other lines are passed over."""
-        self.remark()
-        if is_lost(event):
-            self.rules.lose()
-        if event.kind not in (FRAME, DAMAGED):
-            if event.kind == PASSED and self.option.verbose:
+        """A frame, good or bad; other lines are passed over, and at a damaged one the place is lost."""
+        if event.kind in LOSSES:
+            self.rules.lose(event)
+            self.counts.lose()
+        if event.kind not in (FRAME, BAD):
+            if event.kind in (PASSED, POSSIBLE, *LOSSES) and self.option.verbose:
                 self._say('line %d: %s: %s' % (event.number, event.note, event.text[:100]))
             return
         self.last = time.monotonic()
@@ -203,20 +201,10 @@ class Station:
         if not self.option.quiet:
             self.line(self.name, event, message)
         self._check(event)
-        direction = event.direction or ('<' if is_answer(event.octets) else '>')
         if self.transcript:
-            self.transcript.write('%s %s\n' % (direction, event.octets.hex()))
+            self.transcript.write('%s %s\n' % (event.direction, event.octets.hex()))
         if self.capture:
-            self.capture.add(event.time, direction, event.octets)
-
-    def remark(self):
-        """Says, once it is known, which form the lines have, and what is doubtful in those above."""
-        if self.reader.taken != self.form:
-            self.form = self.reader.taken
-            self._say('form: %s' % self.form)
-        for words in self.reader.doubts.remarks:
-            self._say(words)
-        self.reader.doubts.remarks.clear()
+            self.capture.add(event.time, event.direction, event.octets)
 
     def _say(self, words):
         self.status.clear()
@@ -229,7 +217,7 @@ class Station:
 
     def _check(self, event):
         """Says what a frame breaks. Answers above the first command are to what was sent before: they are not judged."""
-        self.is_open = self.is_open or self.rules.judge.direction(self, event) == '>'
+        self.is_open = self.is_open or event.direction == '>'
         found = self.rules.breach(self, event) if self.is_open else None
         if found:
             self.breaches += not found.is_content
@@ -253,15 +241,14 @@ class Station:
         """What was counted."""
         numbers = {name.replace('_', ' '): number for name, number in self.counts.in_short(is_over).items()}
         numbers.update({'breaches': self.breaches, 'breaches in content': self.content_breaches})
-        passed = self.source.reader.kinds['passed']
-        return {**numbers, **({'lines passed over': passed} if passed else {}),
+        kinds = {'lines passed over': self.reader.kinds[PASSED], 'damaged lines': sum(self.reader.kinds[kind] for kind in LOSSES)}
+        return {**numbers, **{words: count for words, count in kinds.items() if count},
                 **{words: count for words, count in self.source.losses().items() if count}}
 
     def end(self):
         """The summary; status 1 where a rule is broken or nothing came."""
         for event in self.source.end():
             self.add(event)
-        self.remark()
         for words in self.reader.doubts.words():
             self._say(words)
         self._write(', '.join('%s %d' % pair for pair in self.numbers().items()) + '\n')
@@ -276,14 +263,14 @@ def opened(option):
     """What is read: a file descriptor or socket, the function that reads it, what makes events of it, and what ends it."""
     if option.exec:
         process = subprocess.Popen(shlex.split(option.exec), stdout=subprocess.PIPE)
-        return process.stdout, lambda: os.read(process.stdout.fileno(), CHUNK), Lines(), lambda: end_of(process)
+        return process.stdout, lambda: os.read(process.stdout.fileno(), CHUNK), Lines('transcript'), lambda: end_of(process)
     if option.udp is not None:
         heard, source = datagram_socket(option), Datagrams()
         return heard, lambda: source.receive(heard), source, heard.close
     if option.fifo:
         # Without a writer an open would wait, and not look at the time.
         descriptor = os.open(option.fifo, os.O_RDONLY | os.O_NONBLOCK)
-        return descriptor, lambda: os.read(descriptor, CHUNK), Lines(), lambda: os.close(descriptor)
+        return descriptor, lambda: os.read(descriptor, CHUNK), Lines('auto'), lambda: os.close(descriptor)
     port = serial_port(option)
     if isinstance(port, int):
         return port, lambda: os.read(port, CHUNK), Hdlc(), lambda: os.close(port)

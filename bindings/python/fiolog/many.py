@@ -1,12 +1,11 @@
 """Many logs side by side: a row for each, the worst first, and one for all."""
 
 import json
-from collections import Counter
 from concurrent.futures import ProcessPoolExecutor
 from functools import partial, reduce
 from operator import add
 
-from . import fitting, terminal, unjudged
+from . import log, terminal, unjudged
 from .summary import Summary, summary_of
 
 # What a row has; the first columns say which log is the worst.
@@ -20,11 +19,8 @@ def add_arguments(parser):
 
 def settings_of(option):
     """The reader's settings and the rules', by the options of the command line."""
-    mode = fitting.AUTO
-    if option.sdlc:
-        mode = fitting.UNCHECKED if option.no_check else fitting.CHECKED
     return {'at': getattr(option, 'at', 'auto'), 'whole': getattr(option, 'whole', False), 'limits': getattr(option, 'limits', ()),
-            'form': option.format, 'pattern': option.pattern, 'sdlc': mode}
+            **log.settings_of(option)}
 
 
 def summary_or_fault(settings, name):
@@ -48,7 +44,6 @@ def first_words(summary):
 def left_out(summary, counts_alone):
     """What is not judged or, where it is counted alone, not counted: its key, its words and its numbers."""
     found, names = summary.left_out, unjudged.OF_LINES if counts_alone else tuple(unjudged.REASONS)
-    found += Counter(damaged_lines=summary.counts.damaged if counts_alone else 0)
     return ('not counted' if counts_alone else 'not judged', unjudged.words(found, summary.reasons, names),
             unjudged.numbers(found, names))
 

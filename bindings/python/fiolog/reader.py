@@ -1,145 +1,171 @@
-"""Reads the lines of a log, one by one, in bounded memory: each line becomes an event.
-
-A line is taken as a frame only where a reading of it spells a message. Where several do, or where a short message
-may be other text, the form of the lines around it decides, and the line waits until that is known, or is passed over
-with the reason."""
+"""The frames of a log, as libfio2070 finds them (docs/CAPTURES.md), with the text of their lines. By order of the caller's
+expression, or of SDLC without marks that show it, the octets of each line are handed to the library as one frame."""
 
 import re
+from collections import Counter, deque
 
-from . import joins, judge, rows
-from .choice import Choice
-from .clean import cleaned
-from .events import DAMAGED, FRAME, REMARK, Line
-from .fitting import AUTO, Framing
-from .grammar import BLANKS, Reading, in_pieces
-from .joined import Joined
-from .known import OWN_FORMS, Known
-from .octet_rows import OctetRows
-from .several import Several
-from .tables import Tables
-from .waiting import Queue, Waiting
+import fio2070
 
-# A frame of 773 octets as a row with much around it is shorter; of a longer line the beginning is named.
-LONGEST_ROW, LONGEST_NAMED = 1 << 16, 100
-FORMS = ('auto', *OWN_FORMS, 'log', 'csv', 'json')
-_OWN_LINE = {'frames': re.compile(r'()((?:[0-9a-fA-F]{2})+)'), 'transcript': re.compile(r'([<>]) ((?:[0-9a-fA-F]{2})+)')}
+from . import judge, sdlc
+from .doubts import Doubts
+from .events import BAD, BLANK, DAMAGED, DOUBTFUL, FRAME, PART, PASSED, POSSIBLE, Line
+from .log_words import REASONS
+from .rules import WRONG_CHECK
+from .sides import side_in, side_of
+
+FORMS = 'auto', 'frames', 'transcript'
+CHECKED, UNCHECKED = 'checked', 'unchecked'
+# Of a text the beginning is kept.
+LONGEST_TEXT = 1 << 16
+# The year 10000, which no time of a log has.
+END_OF_TIME = 253_402_300_800
+KINDS = {'blank': BLANK, 'part': PART, 'possible': POSSIBLE, 'damaged': DAMAGED, 'passed over': PASSED, 'frames': FRAME}
+_DIGITS = r'(?<![0-9A-Za-z])(?P<octets>(?:(?:0x)?[0-9A-Fa-f]{2}[ ,:;|-]*)+)\s*$'
+_UNSEEN = re.compile('\x1b\\[[^A-Za-z]*[A-Za-z]|[\0\ufeff]')
+_OWN_LINES = re.compile(rb'[^\n]*\n|[^\n]+')
+_NO_DIGIT = re.compile(r'0[xX]|\\x|[^0-9A-Fa-f]')
+# A frame that the library takes in any log: it serves to read the time before it.
+_SURE = ' b600000000000001\n'
+
+
+class Texts:
+    """The texts of the lines that have no verdict yet; a line ends at a line feed, at a carriage return, or at both, those of
+    the project's `own` texts at a line feed alone."""
+
+    def __init__(self, is_own):
+        self.lines, self.first, self.left, self.count = deque(), 1, b'', 0
+        self.split = _OWN_LINES.findall if is_own else lambda text: text.splitlines(keepends=True)
+
+    def add(self, octets):
+        """Takes octets, and returns the lines that are whole now."""
+        lines = self.split(self.left + octets)
+        is_open = lines and not lines[-1].endswith(b'\n')     # a line feed may follow a carriage return
+        left = lines.pop() if is_open else b''
+        self.left = left if len(left) <= LONGEST_TEXT else left[:LONGEST_TEXT] + b'\r' * left.endswith(b'\r')
+        self.lines += lines
+        self.count += len(lines)
+        return lines
+
+    def end(self):
+        """Returns the line that has no end, if there is one."""
+        last, self.left = [self.left] * bool(self.left), b''
+        self.lines += last
+        self.count += len(last)
+        return last
+
+    def of(self, number):
+        """Returns the text of a line; those above it are not asked for again."""
+        while self.first < number and len(self.lines) > 1:
+            self.lines.popleft()
+            self.first += 1
+        return text_of(self.lines[0]) if self.lines else ''
+
+
+def text_of(octets):
+    """A line as text, without colours and marks; octets that are no UTF-8 can be written again as they were."""
+    text = octets[:LONGEST_TEXT].rstrip(b'\r\n').decode('utf-8', 'surrogateescape')
+    return text if text.isprintable() else _UNSEEN.sub('', text)
 
 
 class Reader:
-    """Makes events of lines. `form` is one of FORMS; `pattern` is an expression with the groups time, dir, octets;
-    `sdlc` is one of the ways of `fitting`; with `is_own_sure` a line of digits alone is a frame in any log."""
+    """Makes events of the octets of a log, in pieces of any length. `form` is one of FORMS; `pattern` is an expression with the
+    group `octets`, hexadecimal digits, and perhaps `time`; `framing` is CHECKED or UNCHECKED for frames of SDLC by order."""
 
-    def __init__(self, form='auto', pattern=None, sdlc=AUTO, is_own_sure=False):
-        self.is_own_sure = is_own_sure
-        self.form, self.pattern = form, re.compile(pattern) if pattern else None
-        self.framing, self.known, self.queue = Framing(sdlc), Known(form, bool(pattern)), Queue()
-        self.quick, self.doubts = self.known.quick, self.known.doubts
-        self.kinds, self.reasons = self.queue.kinds, self.queue.reasons
-        self.choice = Choice(self.known, self.queue, self.framing)
-        self.joined = Joined(self.known, self.choice)
-        self.octet_rows = OctetRows(self.known, self.queue, self.joined)
-        self.tables = Tables(form, self.choice, self.octet_rows)
-        self.several = Several(self.tables, self.octet_rows)
+    def __init__(self, form='auto', pattern=None, framing=''):
+        self.pattern = re.compile(pattern or _DIGITS) if pattern or framing else None
+        self.form, self.framing = 'frames' if self.pattern else form, framing
+        self.library, self.texts, self.doubts = fio2070.LogReader(self.form), Texts(self.form != 'auto' and not self.pattern), Doubts()
+        self.clock, self.given = fio2070.LogReader(), {}     # reads times of lines by order; what these lines are
+        self.kinds, self.reasons = Counter(), Counter()
+        self.agreeing = self.reversed = 0
 
-    @property
-    def taken(self):
-        """What is said of the form, once it is known."""
-        return self.known.taken
-
-    @property
-    def agreeing(self):
-        """How many frames have the direction of their type."""
-        return self.known.agreeing
-
-    @property
-    def reversed(self):
-        """How many frames have the other one."""
-        return self.known.reversed
-
-    def feed(self, number, text):
-        """The events that are certain once this line is read."""
-        text = cleaned(text) if len(text) <= LONGEST_ROW else text
-        if not self.queue:
-            event = self._quickly(number, text.strip())
-            if event:
-                return [event]
-        self._read(number, text)
-        return self.queue.certain(self.joined.close)
+    def feed(self, octets):
+        """The events that are certain once these octets are read."""
+        lines = self.texts.add(octets)
+        return self._events(self.library.read(self._by_order(lines) if self.pattern else octets))
 
     def end(self):
         """The events of the lines that waited."""
-        for one in self.queue.undecided():
-            self.joined.close(one, at_end=True)
-        self.known.note_quick()
-        return self.queue.certain(self.joined.close)
+        lines = self.texts.end()
+        last = self.library.read(self._by_order(lines)) if self.pattern and lines else []
+        return self._events(last) + self._events(self.library.end())
 
-    def _quickly(self, number, text):
-        found = self.quick.read(text)
-        if not found:
-            return None
-        head, octets, time = found
-        self.kinds[FRAME] += 1
-        self.doubts.loose += judge.is_loose(octets)
-        self.doubts.heads += bool(head.direction or head.time)
-        return Line(number, FRAME, text, octets, time, self.known.direction(head, octets))
+    def _events(self, verdicts):
+        events = []
+        for verdict in verdicts:
+            found = self._of_line(verdict)
+            self.kinds[found[0].kind] += len(found)
+            if found[0].kind == PASSED:
+                self.reasons[found[0].note] += 1
+            events += found
+        return events
 
-    def _read(self, number, text):
-        if len(text) > LONGEST_ROW:
-            self.queue.pass_over(number, text[:LONGEST_NAMED], 'longer than a line with a frame can be')
-            return
-        text = text.strip(BLANKS + '\n\ufeff') if not text[:1].isspace() else text.rstrip(BLANKS + '\n')
-        stripped = text.strip()
-        open_join = self.queue.open_join()
-        if open_join and self.several.goes_on(open_join, number, text):
-            return
-        if open_join:
-            self.joined.close(open_join)
-        if not stripped or stripped.startswith(('#', ';', '//')) and not self.pattern:
-            self.queue.append(Line(number, REMARK, stripped))
-        elif self.form in OWN_FORMS:
-            self._own_line(number, stripped)
-        elif self.is_own_sure and self.framing.mode == AUTO and _OWN_LINE['frames'].fullmatch(stripped):
-            octets = bytes.fromhex(stripped)
-            note = judge.words_of(octets)
-            self.queue.append(Line(number, DAMAGED if note else FRAME, stripped, octets, note=note))
-        elif self.pattern:
-            self.choice.decide(number, stripped, self._by_pattern(stripped))
+    def _of_line(self, verdict):
+        """The events of a verdict: one, or one for each frame."""
+        number, text = verdict.line, self.texts.of(verdict.line)
+        time = None if verdict.time is None or verdict.time >= END_OF_TIME * 1_000_000 else verdict.time / 1_000_000
+        kind, note = KINDS[verdict.kind], REASONS.get(verdict.reason, verdict.reason)
+        frames = verdict.frames
+        if self.form != 'auto' and verdict.reason == 'no message':
+            kind, frames = FRAME, (self._faulty(number, text),)
+        line = Line(number, kind, text, b'', time, '', note, '', verdict.places)
+        if kind == POSSIBLE and self.kinds[FRAME]:
+            line = line._replace(kind=DOUBTFUL)
+        if self.pattern:
+            line = line._replace(**self.given.pop(number, {}))
         else:
-            self._foreign_line(number, text, stripped)
+            line = line._replace(said=side_of(text, verdict.places, self.form))
+        return [self._frame(line._replace(octets=octets)) for octets in frames] or [line]
 
-    def _own_line(self, number, text):
-        """A line of the project's own texts."""
-        found = _OWN_LINE[self.form].fullmatch(text)
-        if not found:
-            self.queue.pass_over(number, text, 'no line of ' + self.form)
-            return
-        self.choice.decide(number, text, [Reading(('direction',) if found[1] else (), 'hex', bytes.fromhex(found[2]),
-                                                  direction=found[1])])
+    def _faulty(self, number, text):
+        """The octets of a line that is a frame by order, and spells no message."""
+        if self.pattern:
+            return self.given[number].pop('octets')
+        return bytes.fromhex(text[2:] if self.form == 'transcript' else text)
 
-    def _by_pattern(self, text):
-        """The readings by the expression of the caller."""
+    def _frame(self, event):
+        """A frame with its direction: by its type, or in a transcript by order as it is written there."""
+        due = '<' if judge.is_answer(event.octets) else '>'
+        if event.said and event.kind == FRAME:
+            self.agreeing += event.said == due
+            self.reversed += event.said != due
+        fault = judge.words_of(event.octets) if self.form != 'auto' else ''
+        event = event._replace(direction=event.said if self.form == 'transcript' else due, note=fault,
+                               kind=BAD if fault and event.kind == FRAME else event.kind)
+        if event.kind == FRAME and self.form == 'auto':
+            self.doubts.add(event)
+        return event
+
+    # By order
+
+    def _by_order(self, lines):
+        """The lines of frames for lines of which the caller says how they are written."""
+        first = self.texts.count - len(lines) + 1
+        return b''.join(self._line(number, text_of(line)) for number, line in enumerate(lines, first))
+
+    def _line(self, number, text):
         found = self.pattern.search(text)
-        if not found:
-            return []
+        digits = _NO_DIGIT.sub('', found['octets']) if found else ''
+        if not digits or len(digits) % 2:
+            if text.strip():
+                self.given[number] = {'kind': PASSED, 'note': 'no octets'}
+            return b'\n'
+        octets, note = bytes.fromhex(digits), ''
+        if self.framing == CHECKED:
+            inner = sdlc.framed(octets)
+            octets, note = (b'', WRONG_CHECK) if inner is None else (sdlc.message(inner), '')
+        elif self.framing:
+            octets = sdlc.without_flags(octets)[sdlc.HEADER:]
+        if not octets:
+            self.given[number] = {'kind': DAMAGED if note else BLANK, 'note': note}
+            return b'\n'
         parts = found.groupdict()
-        time = rows.time_of(parts['time']) if parts.get('time') else None
-        direction = rows.direction_of_cell(parts['dir']) if parts.get('dir') else ''
-        return [Reading(('pattern',), 'cell', octets, time, direction) for octets in rows.octets_of(parts['octets'])]
+        self.given[number] = {'octets': octets, 'time': self._time(parts.get('time') or ''), 'said': side_in(parts.get('dir') or '')}
+        return octets.hex().encode() + b'\n'
 
-    def _foreign_line(self, number, text, stripped):
-        """A line of another tool."""
-        if self.tables.has_objects and joins.opens_object(stripped):
-            self.queue.append(Waiting(number, stripped, join=joins.Object(text)))
-            return
-        if self.tables.takes(number, stripped):
-            return
-        reason = self.choice.noise.reason(stripped)
-        if reason:
-            self.known.note_heading(stripped)
-            self.queue.pass_over(number, stripped, reason)
-            return
-        found = in_pieces(stripped)
-        if self.octet_rows.takes(number, stripped, found) or self.several.begins(number, text, found):
-            return
-        if found or not self.several.begins_array(number, stripped):
-            self.choice.decide(number, stripped, found, is_free=True)
+    def _time(self, text):
+        """The time that a text is."""
+        if not text:
+            return None
+        verdicts = self.clock.read((text + _SURE).encode('utf-8', 'replace'))
+        return verdicts[-1].time / 1_000_000 if verdicts and verdicts[-1].time is not None else None

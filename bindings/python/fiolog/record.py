@@ -13,7 +13,7 @@ import fio2070
 from . import hires, log, plot, terminal
 from .check import add_place, frames_judged
 from .decode import clock_of
-from .events import FRAME, Line
+from .events import FRAME, LOSSES, Line
 from .message import BLOCK, LOST, POLL, message_of
 from .rules import Breach
 from .waveform import Block, draw
@@ -42,10 +42,10 @@ class Taken(NamedTuple):
 
 
 class Hearing:
-    """The CPU's end, which is given the answers. `notes` are words on polls that it would not have sent."""
+    """The CPU's end, which is given the answers. Below a damaged line a poll may have any number."""
 
     def __init__(self):
-        self.poller = None
+        self.poller, self.is_lost = None, False
 
     def note(self, event):
         """What is strange in a poll: it asks for another number than the proved CPU's end. Where that is the number of the
@@ -53,14 +53,16 @@ class Hearing:
         asked = message_of(event.octets).fields['block']
         if self.poller is None:
             self.poller = fio2070.Poller(asked)
+        was_lost, self.is_lost = self.is_lost, False
         if (self.poller.number - asked) % 256 < 2:
             return None
         due, self.poller = self.poller.number, fio2070.Poller(asked)
-        return 'line %d: block %d was due by what was heard, the CPU asked for %d' % (event.number, due, asked)
+        return None if was_lost else 'line %d: block %d was due by what was heard, the CPU asked for %d' % (event.number, due, asked)
 
     def hear(self, octets):
         """What an answer adds to the record."""
-        self.poller = self.poller or fio2070.Poller(octets[1])
+        if self.poller is None or self.is_lost and octets[1] != (self.poller.number - 1) % 256:
+            self.poller = fio2070.Poller(octets[1])
         heard = self.poller.hear(octets)
         items, self.poller.record[:] = list(self.poller.record), []
         return heard.kind == 'taken', items
@@ -71,6 +73,7 @@ def taken(read, option):
     hearing = Hearing()
     for event, breach, _ in frames_judged(read, option):
         is_taken, items = False, []
+        hearing.is_lost |= event.kind in LOSSES
         if event.kind == FRAME and event.octets[0] == POLL:
             words = hearing.note(event)
             if words and not breach:

@@ -7,12 +7,12 @@ from typing import NamedTuple
 import fio2070
 from fio2070.constants import CONTENT_IGNORED, TYPE_LOAD_COUNTER
 
-from .decode import direction_of
-from .events import REMARK
 from .judge import words_of
 from .message import BLOCK, LOST, MORE, POLL, message_of
 from .protocol import CONTENT_RULES, INPUTS, RULES
 
+# What is said of a frame whose check is wrong.
+WRONG_CHECK = 'frame check is wrong'
 # What was due and what came, by rule, where the library says both.
 DUE = {'pair': 'an answer %d was due, %d came', 'number': 'block %d was asked for, %d came',
        'advance': 'block %d was due, %d came'}
@@ -46,36 +46,30 @@ class Judge:
         self.at, self.late, self.limits, self.excused, self.polled = at, late, limits, 0, None
         self.checker, self.is_behind_damage = fio2070.Checker(*limits), False
 
-    def lose(self):
+    def lose(self, event):
         """A frame was damaged here: the CPU may have heard it, so up to the next poll nothing is said against the CPU, and there
-        the rules begin anew."""
-        self.is_behind_damage = True
+        the rules begin anew. One with a wrong check was not heard, if the log was taken at the CPU."""
+        self.is_behind_damage |= not (self.at == 'cpu' and event.note == WRONG_CHECK)
 
     def place(self, read, event):
         """Where this frame was logged: the CPU's end, the module's or the bus between."""
         if self.at != 'auto':
             return self.at
-        if not event.direction:
+        if not event.said:
             return 'bus'
         is_own = event.text[:2] in ('> ', '< ')
         return 'module' if read.reader.reversed > read.reader.agreeing and not is_own else 'cpu'
 
-    def direction(self, read, event):
-        """Whether the CPU sent a frame (`>`) or heard it (`<`)."""
-        direction = direction_of(event)
-        is_turned = self.place(read, event) == 'module' and event.direction
-        return {'>': '<', '<': '>'}[direction] if is_turned else direction
-
     def breach(self, read, event):
         """The breach of a frame; None where it keeps the rules."""
-        place, direction = self.place(read, event), self.direction(read, event)
-        if self.late and self.late.leaves_out(direction, event.octets, self.checker):
+        place = self.place(read, event)
+        if self.late and self.late.leaves_out(event.direction, event.octets, self.checker):
             return None
         is_poll, before = len(event.octets) == 2 and event.octets[0] == POLL, self.polled
         was_damaged = self.is_behind_damage
-        if is_poll and was_damaged and place != 'cpu':
+        if is_poll and was_damaged:
             self.checker = fio2070.Checker(*self.limits)
-        hear = self.checker.sent if direction == '>' else self.checker.heard
+        hear = self.checker.sent if event.direction == '>' else self.checker.heard
         found = hear(event.octets)
         if is_poll:
             self.polled, self.is_behind_damage = event.octets[1], False
@@ -84,7 +78,7 @@ class Judge:
         rule, words = RULES[found.rule]
         if self.late and self.late.excuses(rule):
             return None
-        if place != 'cpu' and (was_damaged or rule == 'advance' and self.polled == before):
+        if was_damaged or place != 'cpu' and rule == 'advance' and self.polled == before:
             # Whether the CPU heard the answer is not known here: asking again, or for the next block, may be right.
             self.excused += 1
             return None
@@ -103,15 +97,6 @@ def limits_words(block):
     if block.fields['status'] & MORE:
         return 'C says that more entries wait than a block takes, and %d entries came' % len(block.parts)
     return 'F says that entries were pushed out, and C is not there: they are only where more wait than a block takes'
-
-
-# The remark on frames that the system dropped before they were read.
-DROPPED = 'dropped by the system'
-
-
-def is_lost(event):
-    """Whether frames were damaged or dropped on their way here."""
-    return event.kind == REMARK and event.note.startswith(('frame check', DROPPED))
 
 
 class Rules:
@@ -133,9 +118,9 @@ class Rules:
         """What is not judged, by its reason."""
         return self.lost + Counter(frames_not_at_the_cpu=self.excused)
 
-    def lose(self):
+    def lose(self, event):
         """A frame was damaged here: the rules on content begin again at the next poll."""
-        self.judge.lose()
+        self.judge.lose(event)
         self.lost['damaged_lines'] += 1
         self.lose_place()
 
@@ -151,7 +136,7 @@ class Rules:
         if found:
             self.lose_place()
             return found
-        if self.judge.direction(read, event) == '<':
+        if event.direction == '<':
             return self.heard(event.octets)
         self.sent(event.octets, is_poll)
         return None

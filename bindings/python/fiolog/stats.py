@@ -6,9 +6,8 @@ from collections import Counter
 
 from . import log, many, terminal, unjudged
 from .counts import Counts
-from .events import DAMAGED, FRAME, PASSED
+from .events import BAD, FRAME, LOSSES, PASSED
 from .message import message_of
-from .rules import is_lost
 
 MILLI = 1000
 
@@ -53,14 +52,15 @@ def run(option):
     """Counts a log, or several side by side; status 1 if no frame is there."""
     if len(option.files) > 1:
         return many.run(option, counts_alone=True)
-    read, counts, wrong = log.Log(option, writes=False), Counts(), 0
+    read, counts = log.Log(option, writes=False), Counts()
     for event in read.events():
-        wrong += is_lost(event)
-        if event.kind in (FRAME, DAMAGED):
+        if event.kind in LOSSES:
+            counts.lose()
+        elif event.kind in (FRAME, BAD):
             counts.add(event, message_of(event.octets) if event.kind == FRAME else None)
     if not read.summary():
         return 1
-    missing = counts.unjudged() + Counter(damaged_lines=wrong + counts.damaged, lines_passed_over=read.kinds[PASSED])
+    missing = counts.unjudged() + Counter(damaged_lines=sum(read.kinds[kind] for kind in LOSSES), lines_passed_over=read.kinds[PASSED])
     if option.json:
         json.dump({**numbers(counts), 'not_counted': unjudged.numbers(missing, unjudged.OF_LINES)}, sys.stdout, indent=1)
         print()

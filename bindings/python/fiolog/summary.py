@@ -9,11 +9,11 @@ import os
 from collections import Counter
 
 from .counts import Counts
-from .events import DAMAGED, FRAME, PASSED
+from .events import BAD, FRAME, LOSSES
 from .message import message_of
 from .reader import Reader
-from .rules import Rules, is_lost
-from .source import CHUNK, lines_in
+from .rules import Rules
+from .source import CHUNK, decoded
 
 
 class Summary:
@@ -44,11 +44,8 @@ class Summary:
         return both
 
     def add(self, event, found):
-        """Counts a line, and the breach in it if there is one."""
-        if event.kind == PASSED:
-            self.reasons[event.note] += 1
-        if event.kind in (FRAME, DAMAGED):
-            self.counts.add(event, message_of(event.octets) if event.kind == FRAME else None)
+        """Counts a frame, and the breach in it if there is one."""
+        self.counts.add(event, message_of(event.octets) if event.kind == FRAME else None)
         if found:
             self.broken[found.rule] += 1
             self.first_breach = self.first_breach or (event.number, found.rule, found.says)
@@ -70,18 +67,19 @@ def summary_of(source, at='auto', whole=False, limits=(), **settings):
     that it begins with the start of both ends, `limits` those of the module; further settings are the reader's."""
     summary, rules = Summary(), Rules(at, whole=whole, limits=limits)
     summary.reader = reader = Reader(**settings)
-    for number, text in enumerate(lines_in(chunks_of(source)), 1):
-        summary.lines = number
-        for event in reader.feed(number, text):
-            _judge(summary, rules, event)
-    for event in reader.end():
-        _judge(summary, rules, event)
+    for chunk in decoded(iter(chunks_of(source))):
+        _judge(summary, rules, reader.feed(chunk))
+    _judge(summary, rules, reader.end())
     del summary.reader      # a summary is handed from process to process
+    summary.lines, summary.reasons = reader.texts.count, reader.reasons
     summary.unjudged = rules.unjudged + Counter(lines_passed_over=sum(summary.reasons.values()))
     return summary
 
 
-def _judge(summary, rules, event):
-    if is_lost(event):
-        rules.lose()
-    summary.add(event, rules.breach(summary, event) if event.kind in (FRAME, DAMAGED) else None)
+def _judge(summary, rules, events):
+    for event in events:
+        if event.kind in LOSSES:
+            rules.lose(event)
+            summary.counts.lose()
+        elif event.kind in (FRAME, BAD):
+            summary.add(event, rules.breach(summary, event))

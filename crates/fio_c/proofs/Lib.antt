@@ -7,3 +7,6 @@ pub mod Checkers
 pub mod Decoded
 mod Rings
 mod Replies
+pub mod Batches
+pub mod Lent
+pub mod TakenOctets

@@ -1,5 +1,6 @@
-pub mod Flat
 pub mod AnswerNumbers
 pub mod Checkers
+pub mod Flat
+pub mod Logs
 pub mod Texts
 pub mod Version

@@ -1,9 +1,10 @@
 //! The field I/O transition link for C and C++: the calls of the crates below over memory of the
 //! caller. `include/fio2070.h` declares them.
 //!
-//! No export has a `requires`: each is right for all octets, all lengths and all contents of a
-//! struct. What C owes is memory alone: pointers that are valid, aligned and not shared for the time
-//! of a call. Nothing here allocates, keeps a static or calls anything but `memcpy` and its like.
+//! No export but those of the reader of logs has a `requires`: each is right for all octets, all
+//! lengths and all contents of a struct. What C owes is memory alone: pointers that are valid, aligned
+//! and not shared for the time of a call. A reader of logs has parts of its own, so C owes one that
+//! `fio2070_log_start` made (`log`). Nothing here allocates, keeps a static or calls anything but `memcpy` and its like.
 //!
 //! | To | Call |
 //! |---|---|
@@ -13,13 +14,14 @@
 //! | write what `show` writes of a message | `fio2070_show` |
 //! | write a code in words | `fio2070_fault_text`, `fio2070_rule_text`, `fio2070_content_rule_text`, `fio2070_heard_text` |
 //! | judge what the CPU's end sends and hears | `fio2070_checker_..`, `fio2070_content_..` |
+//! | read a log of any logger | `fio2070_log_..` |
 //! | be the CPU's end | `fio2070_poller_..` |
 //! | be the module | `fio2070_sized_module_..`; `fio2070_module_..` are these, in the header alone |
 //! | say which library it is | `fio2070_version` |
 //! | use its parts | `fio2070_counter_..`, `fio2070_filters_..`, `fio2070_widen` |
 //!
 //! The definitions are in `specs/`: flat forms of commands, answers and blocks (`Flat`), checkers
-//! (`Checkers`), words (`Texts`), versions (`Version`). `fio_flat` has the other structs, and what calls do to them
+//! (`Checkers`), logs (`Logs`), words (`Texts`), versions (`Version`). `fio_flat` has the other structs, and what calls do to them
 //! and to the caller's arrays.
 #![tactic(auto)]
 
@@ -35,6 +37,9 @@ mod content;
 mod counter;
 mod faults;
 mod filters;
+mod log;
+mod log_batch;
+mod log_verdicts;
 mod parts;
 mod poller;
 mod show;

@@ -2,3 +2,5 @@ pub mod Standing
 pub mod WrittenLemmas
 pub mod SayingLemmas
 pub mod ReadingLemmas
+pub mod OwnTextLemmas
+pub mod RunLemmas

@@ -7,4 +7,8 @@ pub mod Written
 pub mod Runs
 pub mod Checks
 pub mod Sayings
+pub mod Said
 pub mod Lines
+pub mod Telling
+pub mod Chains
+pub mod OwnTexts

@@ -7,7 +7,6 @@ use Rattle.fio_log.specs.Numbers.{is_break, is_closing, number_of}
 use Rattle.fio_log.specs.Written.{IsWritten}
 use Rattle.fio_log.specs.declared.marks.Word.{Word}
 use Rattle.fio_log.specs.declared.runs.Run.{Run}
-use Rattle.fio_log.specs.declared.literals.Literal.{Literal}
 
 -- a word has digits, and stands in a line at or behind a place
 pub record IsBehind (line : List ℕ) (place : ℕ) (word : Word) : Type 0 where
@@ -17,20 +16,30 @@ pub record IsBehind (line : List ℕ) (place : ℕ) (word : Word) : Type 0 where
   pub order : word.stop ≤ word.end
   pub within : word.end ≤ length line
 
--- A run stands in a line at or behind a place, and its octets are all those that its characters spell, up to the most
--- that are kept. Where the next one may begin is behind the place where it begins.
-pub record IsRun (line : List ℕ) (from : ℕ) (kept : List ℕ) (run : Run) : Type 0 where
+-- Octets are written as hexadecimal words in a line from a place to an end: they are all that the characters there spell,
+-- up to the most that are kept.
+pub record AreWords (line : List ℕ) (start end : ℕ) (octets : List ℕ) : Type 0 where
+  pub order : start ≤ end
+  pub within : end ≤ length line
+  pub all : octets ≡ take RUN_OCTETS (octets_of (slice_range line start end))
+
+-- A run stands in a line at or behind a place. Where the next one may begin is behind the place where it begins.
+pub record IsSpan (line : List ℕ) (from : ℕ) (run : Run) : Type 0 where
   pub above : from ≤ run.start
   pub forward : run.start < run.next
   pub order : run.next ≤ run.end
   pub within : run.end ≤ length line
-  pub octets : kept ≡ take RUN_OCTETS (octets_of (slice_range line run.start run.end))
 
--- A string literal stands in a line at a place, and its octets are all its characters, between its quotes.
-pub record IsLiteral (line : List ℕ) (place : ℕ) (octets : List ℕ) (literal : Literal) : Type 0 where
-  pub forward : place < literal.end
-  pub within : literal.end ≤ length line
-  pub written : IsWritten character_of is_empty line (place + 1) octets (literal.end - 1)
+-- A run stands in a line at or behind a place, and its octets are those that are written there.
+pub record IsRun (line : List ℕ) (from : ℕ) (kept : List ℕ) (run : Run) : Type 0 where
+  pub span : IsSpan line from run
+  pub words : AreWords line run.start run.end kept
+
+-- A string literal is in a line from a place to an end, and its octets are all its characters, between its quotes.
+pub record IsLiteral (line : List ℕ) (place : ℕ) (octets : List ℕ) (end : ℕ) : Type 0 where
+  pub forward : place < end
+  pub within : end ≤ length line
+  pub written : IsWritten character_of is_empty line (place + 1) octets (end - 1)
 
 -- Numbers in brackets stand in a line from a place to an end, and their octets are all of them, up to the last one's end.
 pub record IsNumbers (line : List ℕ) (place : ℕ) (octets : List ℕ) (end : ℕ) : Type 0 where

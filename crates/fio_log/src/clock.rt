@@ -3,6 +3,7 @@ ghost use Rattle.std.specs.Prelude.{◌≤◌, ◌<◌, IfSome, length};
 
 use crate::digits::{digit, is_decimal, is_letter};
 use crate::marks::character;
+use crate::parts::Parts;
 
 /// A time in a line.
 #[derive(Clone, Copy, Debug, PartialEq, Eq)]
@@ -17,7 +18,7 @@ pub struct Time {
 
 /// The forms of times: `Y` has four digits, `m` and `s` two, `M`, `D` and `h` one or two, `N` is the name of a month, `_` a
 /// gap, `E` the seconds or milliseconds since 1970, `F` seconds with a fraction.
-const FORMS: [&[u8]; 8] = [
+static FORMS: [&[u8]; 8] = [
     b"Y-M-D_h:m:s",
     b"Y/M/D_h:m:s",
     b"D.M.Y_h:m:s",
@@ -28,78 +29,8 @@ const FORMS: [&[u8]; 8] = [
     b"F",
 ];
 
-/// The names of months.
-const MONTHS: [&[u8]; 12] = [
-    b"jan", b"feb", b"mar", b"apr", b"may", b"jun", b"jul", b"aug", b"sep", b"oct", b"nov", b"dec",
-];
-
 /// How far into a line a time may begin.
 const TIME_OCTETS: usize = 200;
-
-/// The days from 1 March of the year 0 to 1970.
-const DAYS_TO_1970: u64 = 719_468;
-
-/// The parts of a time. A day of 0 says that it has no date.
-#[derive(Clone, Copy)]
-struct Parts {
-    year: u64,
-    month: u64,
-    day: u64,
-    hour: u64,
-    minute: u64,
-    second: u64,
-    microseconds: u64,
-}
-
-impl Parts {
-    /// Sets the part of a sign of a form.
-    fn set(&mut self, sign: u8, value: u64) {
-        match sign {
-            b'Y' => self.year = value,
-            b'M' => self.month = value,
-            b'D' => self.day = value,
-            b'h' => self.hour = value,
-            b'm' => self.minute = value,
-            _ => self.second = value,
-        }
-    }
-
-    /// Returns the days since 1970, 0 without a date. A year begins with March here.
-    fn days(&self) -> u64 {
-        if self.day == 0 {
-            return 0;
-        }
-        let is_early = self.month < 3;
-        let year = if is_early {
-            self.year.saturating_sub(1)
-        } else {
-            self.year
-        };
-        let month = if is_early {
-            self.month.saturating_add(9)
-        } else {
-            self.month - 3
-        };
-        let leaps = year / 4 - year / 100 + year / 400;
-        let days = year.saturating_mul(365).saturating_add(leaps);
-        let in_year = month.saturating_mul(153).saturating_add(2) / 5;
-        let all = days
-            .saturating_add(in_year)
-            .saturating_add(self.day)
-            .saturating_sub(1);
-        all.saturating_sub(DAYS_TO_1970)
-    }
-
-    /// Returns the microseconds since 1970, or since midnight.
-    fn total(&self) -> u64 {
-        let hours = self.days().saturating_mul(24).saturating_add(self.hour);
-        let minutes = hours.saturating_mul(60).saturating_add(self.minute);
-        let seconds = minutes.saturating_mul(60).saturating_add(self.second);
-        seconds
-            .saturating_mul(1_000_000)
-            .saturating_add(self.microseconds)
-    }
-}
 
 /// Returns the first time in a line.
 pub fn time_in(line: &[u8]) -> Option<Time>
@@ -108,8 +39,11 @@ pub fn time_in(line: &[u8]) -> Option<Time>
 {
     for start in 0..line.len().min(TIME_OCTETS) {
         if may_begin(line, start) {
-            for form in FORMS {
-                if let Some(time) = time_at(line, start, form) {
+            let is_name = line[start].is_ascii_alphabetic();
+            for form in &FORMS {
+                if is_name == matches!(*form, [b'N', ..])
+                    && let Some(time) = time_at(line, start, *form)
+                {
                     return Some(time);
                 }
             }
@@ -239,8 +173,21 @@ fn month_end(line: &[u8], place: usize, parts: &mut Parts) -> Option<usize>
         b.to_ascii_lowercase(),
         c.to_ascii_lowercase(),
     ];
-    let month = MONTHS.iter().position(|month| **month == *name.as_slice())?;
-    parts.month = month as u64 + 1;
+    parts.month = match name {
+        [b'j', b'a', b'n'] => 1,
+        [b'f', b'e', b'b'] => 2,
+        [b'm', b'a', b'r'] => 3,
+        [b'a', b'p', b'r'] => 4,
+        [b'm', b'a', b'y'] => 5,
+        [b'j', b'u', b'n'] => 6,
+        [b'j', b'u', b'l'] => 7,
+        [b'a', b'u', b'g'] => 8,
+        [b's', b'e', b'p'] => 9,
+        [b'o', b'c', b't'] => 10,
+        [b'n', b'o', b'v'] => 11,
+        [b'd', b'e', b'c'] => 12,
+        _ => return None,
+    };
     Some(place + 3)
 }
 

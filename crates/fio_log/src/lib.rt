@@ -1,9 +1,10 @@
 //! Reads logs that have frames of the field I/O link: octets to lines, lines to runs of octets, and what these say.
 //! Nothing here takes memory. It goes by a definition of what octets in a line are, and not by the forms of known
-//! loggers. So far it has these lower layers alone, and no tool uses it yet.
+//! loggers.
 //!
 //! | To | Call |
 //! |---|---|
+//! | read a log: a verdict of each line, with its frames | `Reader` |
 //! | make lines of octets, cut anywhere | `LineMaker` |
 //! | find the octets that are written as hexadecimal words, with each mark of `MARKS` | `next_run` |
 //! | .. as decimal numbers in brackets, or as a string literal | `numbers_at`, `literal_at` |
@@ -13,8 +14,9 @@
 //!
 //! The definitions are in `specs/`, in this order: characters (`Digits`), words with their marks (`Words`), the octets that
 //! characters spell (`Readings`, `Numbers`, `Literals`) and the places where they are written (`Written`), runs (`Runs`),
-//! frame checks (`Checks`), what octets say (`Sayings`), lines (`Lines`). That of times is the code. The laws are the
-//! contracts of the module `laws`.
+//! frame checks (`Checks`), what octets say (`Sayings`), lines (`Lines`), chains of messages (`Chains`), what a reader has
+//! read and told (`Telling`). What times are, and which messages are frames (`judge`, `deciding`), is the code alone. The laws
+//! are the contracts of `Reader` and of the module `laws`.
 //!
 //! # Examples
 //!
@@ -29,17 +31,47 @@
 //! ```
 #![tactic(auto)]
 
+mod chains;
 mod checks;
 mod clock;
+mod closing;
+mod damage;
+mod deciding;
 mod digits;
+mod directions;
+mod entries;
+mod found;
+mod glance;
+mod joins;
+mod judge;
+mod kept;
 pub mod laws;
+mod line_runs;
 mod lines;
 mod literals;
 mod marks;
+mod masks;
+mod messages;
 mod numbers;
 mod octets;
+mod offsets;
+mod openings;
+mod own_texts;
+mod own_verdicts;
+mod parts;
+mod places;
+mod queue;
+mod reader;
 mod runs;
+mod said;
 mod sayings;
+mod shapes;
+mod styles;
+mod surroundings;
+mod telling;
+mod verdict;
+mod vocabulary;
+mod ways;
 
 pub use checks::frame_check;
 pub use clock::{Time, time_in};
@@ -48,5 +80,9 @@ pub use literals::{Literal, literal_at};
 pub use marks::{MARKS, Mark};
 pub use numbers::numbers_at;
 pub use octets::{Octets, RUN_OCTETS};
+pub use own_texts::{OwnForm, OwnLine, read_own_line};
+pub use places::{Notation, Place};
+pub use reader::Reader;
 pub use runs::{Run, Separator, next_run};
 pub use sayings::{Saying, read_saying};
+pub use verdict::{Form, Kind, Reason, Verdict};

@@ -20,7 +20,7 @@ pub struct Literal {
 /// Returns the string literal whose quote is at a place of a line, and writes its octets to `octets`. It has an escape, or
 /// `b` before it, and does not write some printable characters as themselves and others as hexadecimal escapes.
 pub fn literal_at(line: &[u8], place: usize, octets: &mut Octets) -> Option<Literal>
-    ensures { IfSome result (IsLiteral line.now place octets.new.items) }
+    ensures { IfSome result (λ literal. IsLiteral line.now place octets.new.items literal.end) }
 {
     let quote = *line.get(place)?;
     if quote != b'"' && quote != b'\'' {

@@ -14,7 +14,7 @@ pub struct Mark {
 }
 
 /// The marks that words may have: none, prefixes, suffixes, brackets and quotes.
-pub const MARKS: [Mark; 15] = [
+pub static MARKS: [Mark; 15] = [
     Mark {
         before: b"",
         after: b"",
@@ -117,7 +117,7 @@ pub(crate) fn end_of(line: &[u8], place: usize, text: &[u8]) -> Option<usize>
 }
 
 /// Returns where the hexadecimal digits end that begin at a place of a line, perhaps none.
-fn digits_end(line: &[u8], start: usize) -> usize
+pub(crate) fn digits_end(line: &[u8], start: usize) -> usize
     requires { start ≤ length line.now }
     ensures order { start ≤ result }
     ensures within { result ≤ length line.now }

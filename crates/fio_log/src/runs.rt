@@ -1,8 +1,8 @@
 //! Runs: the longest rows of octets of a line that are written as hexadecimal words.
 ghost use Rattle.std.specs.Prelude.{◌≤◌, ◌<◌, IfSome, length};
-ghost use Rattle.fio_log.specs.Runs.{IsBehind, IsRun};
+ghost use Rattle.fio_log.specs.Runs.{IsBehind, IsRun, IsSpan};
 
-use crate::digits::is_letter;
+use crate::digits::{digit, is_letter};
 use crate::marks::{Mark, Word, word_at};
 use crate::octets::{Octets, read_words};
 
@@ -27,7 +27,8 @@ pub struct Run {
     pub start: usize,
     /// Where its last word ends.
     pub end: usize,
-    /// Where the next run may begin: at its end, or at its last word if another separator goes on behind it.
+    /// Where the next run may begin: at its end, or at its last word if that has fewer digits or another separator goes
+    /// on behind it.
     pub next: usize,
     /// How many digits its words have: the last one perhaps fewer; 0 where all have one or two.
     pub width: usize,
@@ -37,6 +38,8 @@ pub struct Run {
     pub separator: Option<Separator>,
     /// Whether none of its words begins with 0.
     pub is_bare: bool,
+    /// Whether one of its words has one digit.
+    pub has_single: bool,
 }
 
 /// Returns the first run at or behind a place of a line whose words have a mark, and writes its octets to `octets`. With
@@ -51,16 +54,47 @@ pub fn next_run(
 ) -> Option<Run>
     ensures { IfSome result (IsRun line.now from octets.new.items) }
 {
+    let opening = mark.before.first().copied();
     let mut place = from;
     'places: while place < line.len() {
-        if may_begin(line, place, mark)
-            && let Some(run) = run_at(line, place, mark, is_short, octets)
-        {
-            return Some(run);
+        if !is_first(line[place], opening) {
+            place += 1;
+            continue;
         }
-        place += 1;
+        place = match run_from(line, place, mark, is_short) {
+            Some(run) if is_short && !is_short_run(run, mark) => run.next,
+            Some(run) => {
+                read_words(&line[run.start..run.end], octets);
+                return Some(run);
+            }
+            None => place + 1,
+        };
     }
     None
+}
+
+/// Returns whether a word can begin with a character, if its mark begins with another.
+fn is_first(character: u8, opening: Option<u8>) -> bool {
+    match opening {
+        Some(opening) => character == opening,
+        None => digit(character).is_some(),
+    }
+}
+
+/// Returns whether a run of words of one or two digits is one: it has a word of one, and more than one word or a mark.
+fn is_short_run(run: Run, mark: Mark) -> bool {
+    run.has_single && (run.words > 1 || !mark.before.is_empty() || !mark.after.is_empty())
+}
+
+/// Returns the run that begins at a place of a line, if a word may begin there.
+fn run_from(line: &[u8], place: usize, mark: Mark, is_short: bool) -> Option<Run>
+    ensures { IfSome result (IsSpan line.now place) }
+{
+    if may_begin(line, place, mark) {
+        run_at(line, place, mark, is_short)
+    } else {
+        None
+    }
 }
 
 /// Returns whether a word may begin at a place: behind no letter, digit or point, unless its mark begins with a
@@ -72,9 +106,9 @@ fn may_begin(line: &[u8], place: usize, mark: Mark) -> bool {
     }
 }
 
-/// Returns the run that begins at a place of a line, and writes its octets.
-fn run_at(line: &[u8], place: usize, mark: Mark, is_short: bool, octets: &mut Octets) -> Option<Run>
-    ensures { IfSome result (IsRun line.now place octets.new.items) }
+/// Returns the run that begins with the word at a place of a line.
+fn run_at(line: &[u8], place: usize, mark: Mark, is_short: bool) -> Option<Run>
+    ensures { IfSome result (IsSpan line.now place) }
 {
     let first = word_at(line, place, mark)?;
     let width = if is_short {
@@ -93,24 +127,18 @@ fn run_at(line: &[u8], place: usize, mark: Mark, is_short: bool, octets: &mut Oc
         words: 1,
         separator: None,
         is_bare: line[first.start] != b'0',
+        has_single: first.stop - first.start == 1,
     };
     let mut last = first;
-    let mut is_single = first.stop - first.start == 1;
     'words: while let Some((word, separator)) = next_word(line, run, last, mark) {
         run.words += 1;
         run.separator = Some(separator);
         run.is_bare &= line[word.start] != b'0';
-        is_single |= word.stop - word.start == 1;
+        run.has_single |= word.stop - word.start == 1;
         last = word;
     }
-    if is_short
-        && (!is_single || run.words == 1 && mark.before.is_empty() && mark.after.is_empty())
-    {
-        return None;
-    }
     run.end = last.end;
-    read_words(&line[place..last.end], octets);
-    run.next = if run.words > 1 && goes_on_otherwise(line, run, last, mark) {
+    run.next = if run.words > 1 && may_begin_next(line, run, last, mark) {
         last.place
     } else {
         last.end
@@ -148,22 +176,19 @@ fn next_word(line: &[u8], run: Run, last: Word, mark: Mark) -> Option<(Word, Sep
     (is_same && fits(line, word, run.width)).then_some((word, separator))
 }
 
-/// Returns whether another separator than that of a run goes on behind its last word.
-fn goes_on_otherwise(line: &[u8], run: Run, last: Word, mark: Mark) -> bool
+/// Returns whether the last word of a run may begin the next one: it has fewer digits than the others, or another
+/// separator goes on behind it.
+fn may_begin_next(line: &[u8], run: Run, last: Word, mark: Mark) -> bool
     requires order { last.start < last.stop }
     requires within { last.end ≤ length line.now }
 {
     let alone = Run {
-        width: if run.width > 0 {
-            last.stop - last.start
-        } else {
-            0
-        },
         words: 1,
         separator: None,
         ..run
     };
-    next_word(line, alone, last, mark).is_some()
+    let is_cut = last.stop - last.start < run.width;
+    is_cut || next_word(line, alone, last, mark).is_some()
 }
 
 /// Returns the separator at a place of a line, perhaps that of nothing, and where it ends. Behind the eighth octet two

@@ -9,15 +9,16 @@ use fio_message::types::{BLOCK_ANSWER, CONFIGURE_INPUTS};
 use fio_message::{DecodeError, FRAME_OCTETS, read_answer, read_command};
 
 /// The flag before and behind the frames of SDLC.
-const FLAG: u8 = 0x7e;
+pub(crate) const FLAG: u8 = 0x7e;
 
 /// The most octets of a frame with one flag at each end.
 const FRAMED_OCTETS: usize = FRAME_OCTETS + 6;
 
 /// What octets say.
-#[derive(Clone, Copy, Debug, PartialEq, Eq)]
+#[derive(Clone, Copy, Debug, Default, PartialEq, Eq)]
 pub enum Saying {
     /// They spell no message and begin none.
+    #[default]
     NoMessage,
     /// They begin a message or a frame.
     Begins {
@@ -109,7 +110,7 @@ fn is_checked(octets: &[u8], start: usize, end: usize) -> bool
 }
 
 /// Returns nothing if octets spell a message, else why they spell none.
-fn spelled(octets: &[u8]) -> Result<(), DecodeError>
+pub(crate) fn spelled(octets: &[u8]) -> Result<(), DecodeError>
     ensures ok { is_ok result ≡ spells octets.now }
     ensures refused { (fault : DecodeError)
         → (result ≡ Err fault) ↔ Refuses (length_of octets.now) octets.now fault }
@@ -123,7 +124,7 @@ fn spelled(octets: &[u8]) -> Result<(), DecodeError>
 }
 
 /// Returns the length that a message needs, by the fault of octets that have another; 0 for any other fault.
-fn needed_of(fault: DecodeError) -> usize
+pub(crate) fn needed_of(fault: DecodeError) -> usize
     ensures { result ≡ needed_of fault }
 {
     match fault {
@@ -140,7 +141,7 @@ fn is_answer(octets: &[u8]) -> bool
 }
 
 /// Returns whether a count in a message confirms its length.
-fn is_counted(octets: &[u8]) -> bool
+pub(crate) fn is_counted(octets: &[u8]) -> bool
     ensures { result ≡ is_counted octets.now }
 {
     match octets {

@@ -1,14 +1,21 @@
-// How times are shown: those of rows, their dates, and how long one is after another.
+// How times are shown, which are in seconds since 1970 if the log has dates, else since midnight or as the log counts them: those of
+// rows, their dates, and how long one is after another.
 
 // Times from here on have a date.
 const DATED = 1e8;
 const DAY = 86_400;
+// Zones differ by multiples of this.
+const QUARTER = 900;
+const OF_DAY = /\d{1,2}:(\d\d):(\d\d)(?:[.,:]\d{1,9})?(?: ?[ap]\.?m\b\.?)?/gi;
 
-// The time of a line as a row shows it: the time of the day as the log writes it, else that of a date in UTC, else seconds.
-export function clockOf(clock, time) {
+// A time as a row shows it: the time of the day as one of these lines writes it, else that of a date in UTC, else seconds.
+export function clockOf(lines, time) {
   if (time === null) return '';
-  const ofDay = /\d{1,2}:\d\d:\d\d(?:[.,:]\d{1,9})?(?: ?[ap]\.?m\b\.?)?/i.exec(clock);
-  if (ofDay) return ofDay[0];
+  for (const line of lines) {
+    for (const [written, minute, second] of line.matchAll(OF_DAY)) {
+      if ((Number(minute) * 60 + Number(second) - Math.floor(time)) % QUARTER === 0) return written;
+    }
+  }
   return time >= DATED ? new Date(time * 1000).toISOString().replace(/.*T(.*)Z$/, '$1') : time.toFixed(6);
 }
 

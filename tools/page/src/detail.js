@@ -6,6 +6,7 @@ import { element } from './dom.js';
 import { fieldsOf, wordsIn } from './fields.js';
 import { hexText } from './hex.js';
 import { DIRECTION } from './messagelist.js';
+import { doubtOf } from './notes.js';
 
 const WAYS = { [DIRECTION.none]: 'No direction', [DIRECTION.sent]: 'Sent by the CPU', [DIRECTION.heard]: 'Heard by the CPU' };
 const LONGEST = 4096;
@@ -58,7 +59,8 @@ function octetSpan(octet, index, names) {
 export function detailOf(log, place, textOf) {
   const head = element('h2', {}, `Line ${log.lines[place]}`);
   const way = element('p', { class: 'soft' }, WAYS[log.directions[place]] + timesOf(log, place));
-  const reason = log.reason(place) ? element('p', { class: 'reason' }, `Breaks ${log.reason(place)}.`) : null;
+  const says = log.reason(place) ? `Breaks ${log.reason(place)}.` : doubtOf(log, place);
+  const reason = says ? element('p', { class: 'reason' }, says) : null;
   const lines = log.words(place), octets = log.octets(place).slice(0, LONGEST);
   const all = wordsIn(lines);
   const isMessage = !log.isFaulty[place];

@@ -15,11 +15,15 @@ const KINDS = [
   [(file) => /^fio2070 script /.test(text(file)), 'It is a script for fio2070 simulate: the view Play runs it.'],
   [(file) => /^record \d+\n/.test(text(file)), 'It is a record, which fio2070 record wrote of a log: open the log itself.'],
   [(file) => file.subarray(0, TEXT_LIMIT).some((octet) => octet === 0), 'It is no text.'],
-  [() => true, 'It is text without octets of a message.'],
 ];
 
-// One sentence on a file, by its octets.
-export const kindOf = (file) => KINDS.find(([test]) => test(file))[1];
+// One sentence on a file, by its octets, and by whether lines of it have octets.
+export function kindOf(file, hasOctets) {
+  const found = KINDS.find(([test]) => test(file));
+  if (found) return found[1];
+  return hasOctets ? 'It is text with octets that spell no message. Perhaps it is a log of another link, or its octets are turned.'
+    : 'It is text without octets of a message.';
+}
 
 // What can be read, with an example of each.
 export const CAN_READ = [

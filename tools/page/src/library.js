@@ -8,6 +8,8 @@ import { AT, SIZE } from './layouts.js';
 
 const FAULTS = { none: 0, unknownType: 3 };
 export const LOAD = 50, POLL = 54, BLOCK = POLL + 128;
+// Octets from here on begin an answer.
+export const FIRST_ANSWER = 128;
 export const HEARD = { taken: 0, unreadable: 1, other: 2, stale: 3, noRoom: 4 };
 export const STATUS_BITS = { more: 8, lost: 4, again: 2, outOfSequence: 1 };
 

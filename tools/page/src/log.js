@@ -1,26 +1,23 @@
 // A log that is open: its messages in the machine's memory, each decoded and judged once by the proved library, and
 // counts of what was found.
 
-import { BLOCK, POLL, STATUS_BITS } from './library.js';
+import { LOG_FORMS } from './constants.js';
+import { BLOCK, FIRST_ANSWER, POLL, STATUS_BITS } from './library.js';
 import { DIRECTION } from './messagelist.js';
 import { recordOf } from './record.js';
 import { breachWords, ENDS, ruleOf, Rules } from './rules.js';
 import { verdictOf } from './verdict.js';
 import { wordsOf } from './words.js';
 
-const FIRST_ANSWER = 128;
-// The form in which the directions are those of the CPU's end.
-const TRANSCRIPT = 'transcript';
-
 export class Log {
   // `read` is what readLog gives. `end` says where the log was taken: what was sent there is what the CPU sent or heard. If it is
   // `auto`, most directions say which end it was.
   constructor(library, arena, name, read, end) {
-    const { messages } = read;
-    Object.assign(this, { library, name, form: read.form, doubts: read.doubts, hasTimes: messages.clocks.some((clock) => clock !== '') });
-    this.hasDirections = messages.directions.some((it) => it !== DIRECTION.none);
+    const { messages, form, passed, doubts, isReversed } = read;
+    Object.assign(this, { library, name, form, passed, doubts, isReversed, hasTimes: messages.clocks.some((clock) => clock !== '') });
+    this.hasDirections = messages.sides.some((it) => it !== DIRECTION.none);
     Object.assign(this, { count: messages.count, starts: messages.starts, lengths: messages.lengths, lines: messages.lines,
-      times: messages.times, clocks: messages.clocks });
+      times: messages.times, clocks: messages.clocks, sides: messages.sides, isPossible: messages.isPossible, damaged: messages.damaged });
     this.arena = arena.hold(messages.octets.subarray(0, messages.end));
     this.poller = arena.poller;
     this.checker = arena.checker;
@@ -33,11 +30,9 @@ export class Log {
     this.isFaulty = new Uint8Array(this.count);
     this.breaches = new Map();
     this.decodeAll();
-    this.written = messages.directions;
-    this.end = !this.hasDirections ? ENDS.bus : end !== ENDS.auto ? end
-      : this.form !== TRANSCRIPT && mostAreReversed(this) ? ENDS.module : ENDS.cpu;
-    this.directions = this.directionsOf(this.written);
-    this.judgeAll(messages.lost);
+    this.end = !this.hasDirections ? ENDS.bus : end !== ENDS.auto ? end : isReversed && !read.isOwn ? ENDS.module : ENDS.cpu;
+    this.directions = this.directionsOf();
+    this.judgeAll();
     this.record = recordOf(this);
     this.summary = summaryOf(this);
     this.verdict = verdictOf(this);
@@ -61,8 +56,10 @@ export class Log {
     return wordsOf(this.library, this.address(place), this.lengths[place]);
   }
 
+  // What a message that is only possible says stays out of counts, of what is judged, and of the record.
   decodeAll() {
     for (let place = 0; place < this.count; place++) {
+      if (this.isPossible[place]) continue;
       const message = this.isBadLine(place) ? null : this.library.decode(this.address(place), this.lengths[place]);
       if (message === null || message.fault) {
         this.isFaulty[place] = 1;
@@ -75,22 +72,24 @@ export class Log {
     }
   }
 
-  // The CPU sends commands. Where a line says no direction the type gives it; a log of the module's end is turned.
-  directionsOf(written) {
-    const own = (place) => this.codes[place] === 0 ? DIRECTION.none : this.codes[place] < 128 ? DIRECTION.sent : DIRECTION.heard;
-    const turned = (it) => this.end === ENDS.module ? DIRECTION.sent + DIRECTION.heard - it : it;
-    return Uint8Array.from({ length: this.count }, (_, place) => written[place] === DIRECTION.none ? own(place) : turned(written[place]));
+  // The CPU sends commands. A transcript by order says itself who sent a frame.
+  directionsOf() {
+    const own = (place) => this.isFaulty[place] ? DIRECTION.none : this.wayByType(place);
+    return Uint8Array.from({ length: this.count }, (_, place) => this.form === LOG_FORMS.transcript ? this.sides[place] : own(place));
+  }
+
+  wayByType(place) {
+    return this.octets(place)[0] < FIRST_ANSWER ? DIRECTION.sent : DIRECTION.heard;
   }
 
   // Where a message was logged: on the bus if nothing says who sent it.
   endOf(place) {
-    return this.written[place] === DIRECTION.none ? ENDS.bus : this.end;
+    return this.sides[place] === DIRECTION.none ? ENDS.bus : this.end;
   }
 
   // Whether the CPU sent or heard a message, as it is judged: by its first octet if nothing says it.
   judgedWay(place) {
-    if (this.directions[place] !== DIRECTION.none) return this.directions[place];
-    return this.octets(place)[0] < FIRST_ANSWER ? DIRECTION.sent : DIRECTION.heard;
+    return this.directions[place] === DIRECTION.none ? this.wayByType(place) : this.directions[place];
   }
 
   // What `fio2070 check` says of a transcript, by the rules on messages alone.
@@ -106,20 +105,28 @@ export class Log {
     return this.hasDirections && this.end !== ENDS.bus;
   }
 
-  // Judges each message; `lost` are the lines in which a frame was damaged on its way.
-  judgeAll(lost) {
+  // Judges each message that is sure. A damaged line may have held a frame: nobody is accused for it up to the next poll.
+  judgeAll() {
     const rules = new Rules(this);
+    let judged = 0;
     this.badLines = 0;
     for (let place = 0; place < this.count; place++) {
-      if (lost.has(place)) rules.lose();
+      if (this.damaged.has(place)) rules.lose();
       if (this.isBadLine(place)) {
         this.badLines += 1;
         continue;
       }
+      if (this.isPossible[place]) {
+        // Among messages that are sure it may have been one.
+        if (judged > 0) rules.lose();
+        continue;
+      }
+      judged += 1;
       const breach = rules.judge(place);
       if (breach) this.breaches.set(place, breach);
     }
-    Object.assign(this, { excused: rules.excused, skipped: rules.skipped, withoutContent: rules.withoutContent });
+    const { excused, belowDamage, skipped, withoutContent } = rules;
+    Object.assign(this, { excused, belowDamage, skipped, withoutContent });
   }
 
   // The breach of a rule on content of a message; undefined if it has none.
@@ -145,9 +152,9 @@ export class Log {
     return this.breaches.has(place);
   }
 
-  // Whether a message is a poll with no block answer directly below.
+  // Whether a message is a poll with no block answer directly below. Above a damaged line that is not known.
   isUnanswered(place) {
-    return this.codes[place] === POLL && this.codes[place + 1] !== BLOCK;
+    return this.codes[place] === POLL && this.codes[place + 1] !== BLOCK && !this.damaged.has(place + 1);
   }
 
   // The text that `show` writes of these messages.
@@ -157,21 +164,12 @@ export class Log {
   }
 }
 
-// Whether most directions that a log says are those of the module's end.
-export function mostAreReversed(log) {
-  let agreeing = 0;
-  for (let place = 0; place < log.count; place++) {
-    if (log.codes[place] === 0 || log.written[place] === DIRECTION.none) continue;
-    agreeing += (log.written[place] === DIRECTION.heard) === log.codes[place] >= FIRST_ANSWER ? 1 : -1;
-  }
-  return agreeing < 0;
-}
-
 function summaryOf(log) {
-  const counts = { messages: log.count, faults: 0, polls: 0, unanswered: 0, blocks: 0, entries: 0, repeats: 0, gaps: 0 };
+  const counts = { messages: log.count, possible: 0, faults: 0, polls: 0, unanswered: 0, blocks: 0, entries: 0, repeats: 0, gaps: 0 };
   for (let place = 0; place < log.count; place++) {
     const code = log.codes[place];
     counts.faults += log.isFaulty[place];
+    counts.possible += log.isPossible[place];
     if (code === POLL) {
       counts.polls += 1;
       counts.unanswered += log.isUnanswered(place) ? 1 : 0;

@@ -2,16 +2,15 @@
 
 import { byId } from './dom.js';
 import { InputsView } from './inputs.js';
-import { Judge } from './judge.js';
 import { Library } from './library.js';
 import { Log } from './log.js';
+import { LogReader } from './log_reader.js';
 import { startMachine } from './machine.js';
 import { MessagesView } from './messages.js';
 import { OpenView } from './open.js';
-import { Patterns } from './patterns.js';
 import { PlanView } from './plan.js';
 import { PlayView } from './play.js';
-import { readLog, textOf } from './reader.js';
+import { formOf, readLog } from './reader.js';
 import { Tabs } from './tabs.js';
 import { wordsOf } from './words.js';
 
@@ -53,8 +52,7 @@ function useTheme() {
 }
 
 function startViews(library) {
-  const arena = new Arena(library);
-  const patterns = new Patterns(FORMS), judge = new Judge(library);
+  const arena = new Arena(library), logReader = new LogReader(library);
   const tabs = new Tabs();
   const messages = new MessagesView(byId('view-messages'), (octets) => wordsOf(library, library.place(octets), octets.length),
     () => tabs.show('open'));
@@ -63,9 +61,9 @@ function startViews(library) {
     messages.goTo(place);
   }, () => tabs.show('open'));
   tabs.whenShown((name) => name === 'inputs' && inputs.draw());
-  const open = (name, octets, end) => {
+  const open = (name, octets, end, form) => {
     trouble('');
-    const log = new Log(library, arena, name, readLog(textOf(octets), patterns, judge), end);
+    const log = new Log(library, arena, name, readLog(library, logReader, octets, formOf(name, form)), end);
     tabs.show('messages');
     messages.open(log, octets);
     inputs.open(log);

@@ -1,11 +1,12 @@
 // The view Messages: the verdict, what was counted, a search, the table, and the message that is selected.
 
+import { LOG_REASONS } from './constants.js';
 import { counted, element, say, select, withCommas } from './dom.js';
 import { detailOf } from './detail.js';
 import { kindOf, CAN_READ } from './foreign.js';
 import { hexText } from './hex.js';
 import { BLOCK, POLL, STATUS_BITS } from './library.js';
-import { mostAreReversed } from './log.js';
+import { REASONS } from './log_words.js';
 import { DIRECTION } from './messagelist.js';
 import { hasNotes, noteOf } from './notes.js';
 import { ENDS } from './rules.js';
@@ -22,6 +23,7 @@ const FACTS = [
   ['messages', 'message', () => true],
   ['broken', 'breach', (log, place) => log.isBroken(place), 'bad'],
   ['faults', 'faulty line', (log, place) => log.isFaulty[place] === 1, 'bad'],
+  ['possible', 'possible message', (log, place) => log.isPossible[place] === 1, 'warn'],
   ['gaps', 'gap mark', (log, place) => hasBit(log, place, STATUS_BITS.lost), 'bad'],
   ['repeats', 'repeated block', (log, place) => hasBit(log, place, STATUS_BITS.again), 'warn'],
   ['unanswered', 'unanswered poll', (log, place) => log.isUnanswered(place), 'warn'],
@@ -31,8 +33,17 @@ const FACTS = [
 ];
 
 const pluralOf = (noun) => noun.endsWith('y') ? noun.slice(0, -1) + 'ies' : noun.endsWith('h') ? noun + 'es' : noun + 's';
+// What is said of a log by its form, after its name.
+const FORMS = ['', ', read as frames', ', read as a transcript'];
 const SIGNS = { good: '✓', partly: '✓', broken: '✗', none: '?' };
 const hasBit = (log, place, bit) => log.codes[place] === BLOCK && (log.status[place] & bit) !== 0;
+
+// How many lines are passed over, and why; the most frequent reasons first.
+function passedWords(passed) {
+  const reasons = passed.map((count, reason) => [count, REASONS[reason]]).filter(([count]) => count > 0).sort(([one], [other]) => other - one);
+  const all = passed.reduce((sum, count) => sum + count, 0);
+  return all === 0 ? '' : ` ${counted(all, 'line')} passed over: ${reasons.map(([count, words]) => `${withCommas(count)} ${words}`).join(', ')}.`;
+}
 
 export class MessagesView {
   // `textOf(octets)` gives the lines of a message, `back()` shows the view Open.
@@ -89,23 +100,24 @@ export class MessagesView {
     this.drawFacts();
     this.note.textContent = this.noteOf(log);
     this.narrow({});
-    if (log.verdict.kind === VERDICTS.none) this.showNoMessage(file);
+    if (log.verdict.kind === VERDICTS.none && log.summary.possible === 0) this.showNoMessage(file);
   }
 
   // Says what a text is that is no log, and what can be read.
   showNoMessage(file) {
-    const { log } = this;
-    this.showNone(element('h2', {}, `No message was found in ${log.name}`), element('p', { id: 'no-log-kind' }, kindOf(file)),
+    const { log } = this, hasOctets = log.passed.some((count, reason) => count > 0 && reason !== LOG_REASONS.noOctets);
+    this.showNone(element('h2', {}, `No message was found in ${log.name}`), element('p', { id: 'no-log-kind' }, kindOf(file, hasOctets)),
       ...log.count === 0 ? [] : [element('p', {}, `${counted(log.count, 'line')} may have octets and could not be read, the first in line ${log.lines[0]}.`)],
+      element('p', { id: 'no-log-passed' }, passedWords(log.passed)),
       element('p', {}, 'What can be read:'), element('dl', { class: 'readable' },
         ...CAN_READ.flatMap(([what, text]) => [element('dt', {}, what), element('dd', {}, element('pre', {}, text))])));
   }
 
   noteOf(log) {
     const turned = log.end === ENDS.module ? ' It was taken at the module: directions are turned, so that they are those of the CPU.' : '';
-    const reversed = log.end === ENDS.cpu && mostAreReversed(log) ? ' Most directions are those of the other end: was it taken at the module?' : '';
+    const reversed = log.end === ENDS.cpu && log.isReversed ? ' Most directions are those of the other end: was it taken at the module?' : '';
     const doubts = log.doubts.map((words) => ` ${words[0].toUpperCase()}${words.slice(1)}.`).join('');
-    return `${log.name}, read as ${log.form}.${turned}${reversed}${doubts}`;
+    return `${log.name}${FORMS[log.form]}.${passedWords(log.passed)}${turned}${reversed}${doubts}`;
   }
 
   // The one verdict, a way to the first breach, and what was not judged.
@@ -182,7 +194,8 @@ export class MessagesView {
     const { log } = this;
     const kinds = [];
     if (log.directions[place] === DIRECTION.sent) kinds.push('sent');
-    if (log.isBroken(place)) kinds.push('broken');
+    if (log.isPossible[place]) kinds.push('possible');
+    else if (log.isBroken(place)) kinds.push('broken');
     else if (log.isFaulty[place]) kinds.push('faulty');
     else if (hasBit(log, place, STATUS_BITS.lost)) kinds.push('marked');
     return kinds;

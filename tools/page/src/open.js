@@ -43,9 +43,9 @@ const IN_WORDS = {
 };
 
 export class OpenView {
-  // `open(name, octets, end)` opens a log.
+  // `open(name, octets, end, form)` opens a log, which is read in a form by order, or in `auto`.
   constructor(root, examples, open) {
-    Object.assign(this, { open, end: ENDS.auto, examples });
+    Object.assign(this, { open, end: ENDS.auto, form: 'auto', examples });
     const names = Object.keys(examples).filter((name) => !name.endsWith('.script') && !STORIES.some(([story]) => story === name));
     root.append(
       element('p', { class: 'lead' }, 'See what a 2070 controller’s CPU and its field I/O module said to each other. Every message of a log is '
@@ -65,11 +65,14 @@ export class OpenView {
     const ends = select('Where the log was taken', [[ENDS.auto, 'Take it from the directions'], [ENDS.cpu, 'At the CPU'],
       [ENDS.module, 'At the module'], [ENDS.bus, 'Elsewhere on the bus']], (end) => { this.end = end; });
     ends.id = 'end';
+    const forms = select('How the log is written', [['auto', 'Take it from the lines'], ['frames', 'Frames, as fio2070 show reads them'],
+      ['transcript', 'A transcript, as fio2070 check reads it']], (form) => { this.form = form; });
+    forms.id = 'form';
     this.zone = element('div', { class: 'drop' },
       element('p', { class: 'large' }, 'Drop a log here'),
       element('p', {}, element('button', { class: 'main', onclick: () => file.click() }, 'Choose a file'), file),
       element('p', { class: 'soft' }, 'Hexadecimal digits, transcripts, hex dumps, tables, or logs with times and directions. Nothing leaves this browser.'),
-      element('p', { class: 'row' }, labelled('Where was it taken?', ends)));
+      element('p', { class: 'row' }, labelled('Where was it taken?', ends), labelled('How is it written?', forms)));
     this.zone.addEventListener('dragenter', () => this.zone.classList.add('over'));
     this.zone.addEventListener('dragleave', () => this.zone.classList.remove('over'));
     return this.zone;
@@ -94,7 +97,7 @@ export class OpenView {
 
   example(name) {
     const octets = Uint8Array.from(atob(this.examples[name]), (letter) => letter.charCodeAt(0));
-    this.open(name, octets, ENDS.auto);
+    this.open(name, octets, ENDS.auto, 'auto');
   }
 
   dropped(event) {
@@ -121,6 +124,6 @@ export class OpenView {
   }
 
   give(name, octets) {
-    this.open(name, octets, this.end);
+    this.open(name, octets, this.end, this.form);
   }
 }

@@ -23,8 +23,8 @@ export class Rules {
   constructor(log) {
     Object.assign(this, { log, checker: log.checker, content: log.contentChecker, isOpen: true, load: -1, polled: -1,
       isBelowDamage: false, isBelowBreach: false });
-    // How many messages are not judged: since the log is of the bus, since they are below a breach, and not by their content.
-    Object.assign(this, { excused: 0, skipped: 0, withoutContent: 0 });
+    // How many messages are not judged: since the log is of the bus, since they are below damage or a breach, and not by their content.
+    Object.assign(this, { excused: 0, belowDamage: 0, skipped: 0, withoutContent: 0 });
     this.checker.start();
     this.content.start();
   }
@@ -52,7 +52,7 @@ export class Rules {
   frame(place) {
     const { log, checker } = this, isAtCpu = log.endOf(place) === ENDS.cpu, isPoll = log.codes[place] === POLL;
     const { polled, isBelowDamage } = this;
-    if (isPoll && isBelowDamage && !isAtCpu) checker.start();
+    if (isPoll && isBelowDamage) checker.start();
     // Below a breach the checker goes on at the next poll.
     if (isPoll) this.isBelowBreach = false;
     else if (this.isBelowBreach) this.skipped += 1;
@@ -60,7 +60,11 @@ export class Rules {
     if (isPoll) [this.polled, this.isBelowDamage] = [log.blocks[place], false];
     if (!found) return null;
     this.isBelowBreach = true;
-    if (!isAtCpu && (isBelowDamage || found.rule === ADVANCE && this.polled === polled)) {
+    if (isBelowDamage) {
+      this.belowDamage += 1;
+      return null;
+    }
+    if (!isAtCpu && found.rule === ADVANCE && this.polled === polled) {
       // Whether the CPU heard the answer is not known here: to ask again, or for the next block, may be right.
       this.excused += 1;
       return null;

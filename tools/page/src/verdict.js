@@ -9,10 +9,11 @@ export const VERDICTS = { good: 'good', partly: 'partly', broken: 'broken', none
 // The kind of a verdict, its sentence, more on it, the place of the first breach (-1 if there is none), and sentences on what was
 // not judged.
 export function verdictOf(log) {
-  const { messages, broken } = log.summary, readable = messages - log.badLines, judged = readable - log.excused - log.skipped;
+  const { messages, broken, possible } = log.summary, readable = messages - log.badLines - possible;
+  const judged = readable - log.excused - log.belowDamage - log.skipped;
   const notJudged = sentencesOf(log);
   const said = { more: '', first: -1, notJudged };
-  if (readable === 0) return { ...said, kind: VERDICTS.none, text: 'No message was found.' };
+  if (readable === 0) return { ...said, kind: VERDICTS.none, text: possible > 0 ? 'No message is sure, so none is judged.' : 'No message was found.' };
   if (broken > 0) {
     const [place, breach] = log.breaches.entries().next().value;
     const rule = `line ${log.lines[place]} breaks the rule ${ruleOf(breach)}`, more = `: ${log.meaning(place)}.`;
@@ -23,7 +24,7 @@ export function verdictOf(log) {
     const text = broken === 1 ? rule.replace('line', 'Line') : `${counted(broken, 'message')} of ${withCommas(readable)} break a rule. The first: ${rule}`;
     return { kind: VERDICTS.broken, text, more, first: place, notJudged };
   }
-  if (log.badLines > 0 || judged < readable) {
+  if (log.badLines > 0 || judged < readable || possible > 0) {
     return { ...said, kind: VERDICTS.partly, text: `No rule is broken in the ${counted(judged, 'message')} that could be judged.` };
   }
   return { ...said, kind: VERDICTS.good, text: `No rule is broken in ${counted(judged, 'message')}.` };
@@ -31,11 +32,18 @@ export function verdictOf(log) {
 
 // What was not judged, and why.
 function sentencesOf(log) {
-  const { badLines, excused, skipped, withoutContent, hasDirections, end } = log, said = [];
+  const { badLines, excused, belowDamage, skipped, withoutContent, hasDirections, end, summary: { possible } } = log, said = [];
   if (badLines > 0) said.push(`${counted(badLines, 'line')} could not be read as a message and ${are(badLines)} not judged.`);
+  if (possible > 0) {
+    said.push(`${counted(possible, 'message')} ${are(possible)} possible and not judged: nothing in the log makes sure that the octets are a message.`);
+  }
   if (excused > 0) {
     said.push(`${counted(excused, 'message')} ${are(excused)} not judged, since this log was not taken at the CPU: whether the CPU heard the `
       + 'answer above is not known, and to ask for the same block again is right if it did not.');
+  }
+  if (belowDamage > 0) {
+    said.push(`${counted(belowDamage, 'message')} below a damaged line, up to the next poll, ${are(belowDamage)} not judged: what that line held is `
+      + 'not known.');
   }
   if (skipped > 0) {
     said.push(`${counted(skipped, 'message')} below a breach, up to the next poll, ${are(skipped)} not judged: what was asked above is not sure there.`);

@@ -83,3 +83,26 @@ pub const CONTENT_DONE: u8 = 8;
 pub const CONTENT_ACCEPTED: u8 = 9;
 pub const CONTENT_CLEARED: u8 = 10;
 pub const CONTENT_WATCHDOG: u8 = 11;
+
+// How the lines of a log are read.
+pub const LOG_AUTO: u8 = 0;
+pub const LOG_FRAMES: u8 = 1;
+pub const LOG_TRANSCRIPT: u8 = 2;
+
+// What a line of a log is.
+pub const LOG_BLANK: u8 = 0;
+pub const LOG_SAYS: u8 = 1;
+pub const LOG_PART: u8 = 2;
+pub const LOG_POSSIBLE: u8 = 3;
+pub const LOG_DAMAGED: u8 = 4;
+pub const LOG_PASSED_OVER: u8 = 5;
+
+// Why a line of a log gives no frame.
+pub const LOG_NO_REASON: u8 = 0;
+pub const LOG_NO_OCTETS: u8 = 1;
+pub const LOG_NO_MESSAGE: u8 = 2;
+pub const LOG_SHORT_MESSAGE: u8 = 3;
+pub const LOG_SEVERAL_MESSAGES: u8 = 4;
+pub const LOG_MAY_BE_LONGER: u8 = 5;
+pub const LOG_TOO_LONG: u8 = 6;
+pub const LOG_BAD_LINE: u8 = 7;

@@ -25,6 +25,7 @@ pub mod constants;
 mod encode;
 mod ends;
 mod errors;
+mod logs;
 mod raw;
 mod written;
 
@@ -36,9 +37,10 @@ pub use encode::{
 };
 pub use ends::{Checker, ContentChecker, Counter, Filters, Heard, Module, Poller};
 pub use errors::ConfigurationError;
+pub use logs::{Frames, LogBatch, LogReader, Verdict};
 pub use raw::{
-    Answer, Breach, Command, ConfigurationItem, ContentBreach, Entry, ErrorCounts, Fault, Outputs,
-    RecordItem,
+    Answer, Breach, Command, ConfigurationItem, ContentBreach, Entry, ErrorCounts, Fault, LogPlace,
+    Outputs, RecordItem,
 };
 pub use written::Unwritten;
 

@@ -172,6 +172,42 @@ pub struct RawLimits {
     pub reserved: u8,
 }
 
+/// What the reader of logs says of a line.
+#[derive(Clone, Copy, Debug, Default, PartialEq, Eq)]
+#[repr(C)]
+pub struct LogVerdict {
+    pub line: u64,
+    pub time: u64,
+    pub frames: u32,
+    pub places: u32,
+    pub kind: u8,
+    pub reason: u8,
+    pub has_time: u8,
+    pub reserved: [u8; 5],
+}
+
+/// Where octets are written in a log: a line, and the indexes of its characters.
+#[derive(Clone, Copy, Debug, Default, PartialEq, Eq)]
+#[repr(C)]
+pub struct LogPlace {
+    pub line: u64,
+    pub start: u32,
+    pub end: u32,
+}
+
+#[derive(Clone, Copy)]
+#[repr(C)]
+pub(crate) struct RawLogBatch {
+    pub verdict_count: u32,
+    pub frame_count: u32,
+    pub octet_count: u32,
+    pub place_count: u32,
+    pub verdicts: [LogVerdict; 4096],
+    pub places: [LogPlace; 20480],
+    pub lengths: [u16; 20480],
+    pub octets: [u8; 65536],
+}
+
 /// Structs that the calls alone read, as words of 64 bits.
 macro_rules! opaque {
     ($($name:ident: $words:literal,)*) => {$(
@@ -190,6 +226,7 @@ macro_rules! opaque {
 opaque! {
     RawContentChecker: 79,
     RawFilters: 27,
+    RawLogReader: 65536,
     RawSizedModule: 132,
 }
 
@@ -347,6 +384,14 @@ extern "C" {
         items: *const ConfigurationItem,
         items_count: usize,
     ) -> RawConfigured;
+    pub(crate) fn fio2070_log_start(reader: &mut RawLogReader, form: u8);
+    pub(crate) fn fio2070_log_read(
+        reader: &mut RawLogReader,
+        octets: *const u8,
+        octets_count: usize,
+        batch: &mut RawLogBatch,
+    ) -> usize;
+    pub(crate) fn fio2070_log_end(reader: &mut RawLogReader);
     pub(crate) fn fio2070_poller_start(poller: &mut RawPoller, number: u8);
     pub(crate) fn fio2070_poller_poll(poller: &RawPoller, out: *mut u8, out_count: usize) -> usize;
     pub(crate) fn fio2070_poller_hear(

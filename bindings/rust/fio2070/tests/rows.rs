@@ -238,9 +238,24 @@ fn codes_have_words() {
         items: 4,
     };
     assert_eq!(taken.to_string(), "block entries 3 status 0c");
-    assert_eq!(Heard::Stale { number: 4, stamp: 0 }.to_string(), "stale 4");
+    assert_eq!(
+        Heard::Stale {
+            number: 4,
+            stamp: 0
+        }
+        .to_string(),
+        "stale 4"
+    );
     assert_eq!(Heard::Other(177).to_string(), "other 177");
-    assert_eq!(Heard::NoRoom { number: 0, stamp: 0, items: 256 }.to_string(), "no room needed 256");
+    assert_eq!(
+        Heard::NoRoom {
+            number: 0,
+            stamp: 0,
+            items: 256
+        }
+        .to_string(),
+        "no room needed 256"
+    );
     let fault = decode_command(&[0x33]).unwrap_err();
     assert_eq!(
         Heard::Unreadable(fault).to_string(),
@@ -471,5 +486,47 @@ fn an_answer_breaks_a_rule_on_content_and_a_start_counts() {
     assert_eq!(later.heard(&block), None);
     begun.sent(&[54, 0]);
     let breach = begun.heard(&block).unwrap();
-    assert_eq!((breach.rule, breach.input), (constants::CONTENT_IGNORED, 12));
+    assert_eq!(
+        (breach.rule, breach.input),
+        (constants::CONTENT_IGNORED, 12)
+    );
+}
+
+fn told(batch: &LogBatch) -> Vec<(u64, u8, Vec<Vec<u8>>)> {
+    let frames = |frames: Frames<'_>| frames.map(<[u8]>::to_vec).collect();
+    batch
+        .verdicts()
+        .map(|one| (one.line, one.kind, frames(one.frames)))
+        .collect()
+}
+
+/// A block answer, and a line without octets.
+#[test]
+fn a_log_gives_its_frames() {
+    // Reader and batch have a megabyte, which a build for debugging copies.
+    let thread = std::thread::Builder::new().stack_size(1 << 24);
+    thread.spawn(reads_a_log).unwrap().join().unwrap();
+}
+
+fn reads_a_log() {
+    let text = b"07:15:02.000 RX b6 05 01 8c 03 e7 00 00 00 03 e8\nno octets\n";
+    let (mut reader, mut batch) = (
+        LogReader::new(constants::LOG_AUTO),
+        Box::new(LogBatch::new()),
+    );
+    let mut lines = Vec::new();
+    for piece in text.chunks(7) {
+        assert_eq!(reader.read(piece, &mut batch), piece.len());
+        lines.extend(told(&batch));
+    }
+    reader.end();
+    assert_eq!(reader.read(&[], &mut batch), 0);
+    lines.extend(told(&batch));
+    assert_eq!(
+        lines,
+        [
+            (1, constants::LOG_SAYS, vec![BLOCK.to_vec()]),
+            (2, constants::LOG_PASSED_OVER, vec![])
+        ]
+    );
 }

@@ -18,8 +18,8 @@ words-preserved c =
       words = omega (arith, found.above, found.opened, found.some, found.order, c.words.invariant.words);
     }
 
-pub returns-then-goes_on_otherwise : goal.returns-then-goes_on_otherwise
-returns-then-goes_on_otherwise c =
+pub returns-then-may_begin_next : goal.returns-then-may_begin_next
+returns-then-may_begin_next c =
     let last = c.words.invariant.last in
     let on : c.args.place < c.words.last.place = c.words.invariant.on c.if-run-gt1.true in
     record {
@@ -27,7 +27,6 @@ returns-then-goes_on_otherwise c =
       forward = omega (arith, c.words.invariant.start, on);
       order = omega (arith, last.opened, last.some, last.order);
       within = last.within;
-      octets = rw c.words.invariant.start c.read_words.ensures;
     }
 
 pub returns-else-run-gt1 : goal.returns-else-run-gt1
@@ -38,5 +37,4 @@ returns-else-run-gt1 c =
       forward = omega (arith, c.words.invariant.start, last.above, last.opened, last.some, last.order);
       order = omega arith;
       within = last.within;
-      octets = rw c.words.invariant.start c.read_words.ensures;
     }

@@ -1,0 +1,84 @@
+"""The reader of logs: the frames of the link in a log of any logger."""
+
+import itertools
+import struct
+from typing import List, NamedTuple, Optional, Tuple
+
+from . import _library as c
+from . import constants
+from .encode import Octets
+
+_FORMS = {'auto': constants.LOG_AUTO, 'frames': constants.LOG_FRAMES, 'transcript': constants.LOG_TRANSCRIPT}
+_KINDS = ('blank', 'frames', 'part', 'possible', 'damaged', 'passed over')
+_REASONS = ('', 'no octets', 'no message', 'short message', 'several messages', 'may be longer', 'too long',
+            'bad line')
+# The numbers of struct fio2070_log_verdict and struct fio2070_log_place, in the processor's order of octets.
+_VERDICT, _PLACE = struct.Struct('=QQIIBBB5x'), struct.Struct('=QII')
+
+
+class Verdict(NamedTuple):
+    """What the reader says of a line of a log.
+
+    `line` is its number, from 1. `kind` is 'blank'; 'frames', whose frames these are; 'part', of the frames of a line above;
+    'possible', a message that nothing makes sure; 'damaged', which may have held a frame; or 'passed over'. `reason` says why
+    the line gives no frame, in one of these words: 'no octets', 'no message', 'short message', 'several messages', 'may be
+    longer', 'too long', and by order 'bad line'; else it is empty. The octets of `frames` are written at `places`, in their
+    order: each is the number of a line, and where it begins and ends there, in characters, after colours, NUL and marks are
+    taken out. `time` is in microseconds since 1970, or since midnight or a start; None if the log has none there."""
+    line: int
+    kind: str
+    reason: str
+    frames: Tuple[bytes, ...]
+    places: Tuple[Tuple[int, int, int], ...]
+    time: Optional[int]
+
+
+class LogReader:
+    """A reader of a log, which takes its octets in pieces of any length."""
+
+    def __init__(self, form: str = 'auto') -> None:
+        """`form` is 'auto', by the definition of docs/CAPTURES.md; or by order 'frames' or 'transcript', whose lines are read
+        as `fio2070 show` and `fio2070 check` read theirs; other than there a line also ends at CR."""
+        if form not in _FORMS:
+            raise ValueError('the form is auto, frames or transcript')
+        self._reader, self._batch = c.CLogReader(), c.CLogBatch()
+        self._verdicts, self._places, self._octets = (memoryview(getattr(self._batch, name)).cast('B')
+                                                      for name in ('verdicts', 'places', 'octets'))
+        c.library.fio2070_log_start(self._reader, _FORMS[form])
+
+    def read(self, octets: Octets) -> List[Verdict]:
+        """Takes the next octets of the log, and returns the verdicts that are due, in the order of the lines. A line gets its
+        verdict once it is decided, which can be lines later."""
+        octets, taken = bytes(octets), 0
+        verdicts: List[Verdict] = []
+        while taken < len(octets):
+            piece = octets[taken:] if taken else octets
+            taken += c.library.fio2070_log_read(self._reader, piece, len(piece), self._batch)
+            verdicts += self._told()
+        return verdicts
+
+    def end(self) -> List[Verdict]:
+        """Ends the log, and returns the verdicts on all lines that had none."""
+        c.library.fio2070_log_end(self._reader)
+        verdicts: List[Verdict] = []
+        while True:
+            c.library.fio2070_log_read(self._reader, b'', 0, self._batch)
+            if not self._batch.verdict_count:
+                return verdicts
+            verdicts += self._told()
+
+    def _told(self) -> List[Verdict]:
+        """The verdicts of the batch."""
+        batch, verdicts = self._batch, []
+        lengths = iter(batch.lengths[:batch.frame_count])
+        places = _PLACE.iter_unpack(self._places[:_PLACE.size * batch.place_count])
+        octets, end = bytes(self._octets[:batch.octet_count]), 0
+        for line, time, frame_count, place_count, kind, reason, has_time in _VERDICT.iter_unpack(
+                self._verdicts[:_VERDICT.size * batch.verdict_count]):
+            frames = []
+            for length in itertools.islice(lengths, frame_count):
+                begin, end = end, end + length
+                frames.append(octets[begin:end])
+            verdicts.append(Verdict(line, _KINDS[kind], _REASONS[reason], tuple(frames),
+                                    tuple(itertools.islice(places, place_count)), time if has_time else None))
+        return verdicts

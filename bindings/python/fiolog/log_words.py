@@ -1,0 +1,20 @@
+"""What is said of the lines of a log: why one gives no frame, by the reasons of `fio2070.Verdict`; of which frames damage is not
+seen; and by which words a log says who sent a frame. Written by tools/generate-messages."""
+
+REASONS = {
+    'no octets': 'no octets',
+    'no message': 'octets that spell no message',
+    'short message': 'a short message in a line unlike those of other messages',
+    'several messages': 'more than one message',
+    'may be longer': 'it may be one message with the line below or above, or one by itself',
+    'too long': 'longer than a line with a frame can be',
+    'bad line': 'bad line',
+}
+POSSIBLE = 'possible: nothing makes it sure'
+DOUBTS = {
+    'rows': 'an octet is in each row: where a row is missing, the rest may spell another message',
+    'numbers': '{count} frames have octets as numbers without zeros before them: a digit that is lost is not seen',
+    'loose': '{count} frames are of types that have any length: a cut in one of them is not seen',
+}
+SENT = {'tx', 'sent', 'send', 'out', 'write', 'wrote', 'cpu', 'outgoing', '>', '->', '-->', '>>', '=>', '\u2192'}
+HEARD = {'rx', 'received', 'recv', 'in', 'read', 'fio', 'incoming', '<', '<-', '<--', '<<', '<=', '\u2190'}

@@ -1,0 +1,133 @@
+//! The reader of logs.
+
+use crate::raw::{self, LogPlace, LogVerdict, RawLogBatch, RawLogReader};
+
+/// A reader of a log, which takes its octets in pieces of any length. It has half a megabyte: keep it in a static or a box.
+pub struct LogReader(RawLogReader);
+
+impl LogReader {
+    /// Above the first line. `form` is `constants::LOG_AUTO`, or by order `LOG_FRAMES` or `LOG_TRANSCRIPT`.
+    pub fn new(form: u8) -> LogReader {
+        let mut reader = RawLogReader::default();
+        // SAFETY: `reader` is room for a reader, borrowed by this call alone.
+        unsafe { raw::fio2070_log_start(&mut reader, form) };
+        LogReader(reader)
+    }
+
+    /// Takes octets until all are taken or the batch has no room for another verdict, and returns how many it took. The
+    /// batch then has the verdicts that were due.
+    pub fn read(&mut self, octets: &[u8], batch: &mut LogBatch) -> usize {
+        // SAFETY: a slice is initialised memory of its length; the reader was begun by `_start`.
+        unsafe { raw::fio2070_log_read(&mut self.0, octets.as_ptr(), octets.len(), &mut batch.0) }
+    }
+
+    /// Ends the log. Read no octets then, until the batch has no verdicts.
+    pub fn end(&mut self) {
+        // SAFETY: the reader was begun by `_start`.
+        unsafe { raw::fio2070_log_end(&mut self.0) };
+    }
+}
+
+/// Verdicts on lines of a log. It is some 600 KB.
+pub struct LogBatch(RawLogBatch);
+
+impl Default for LogBatch {
+    fn default() -> LogBatch {
+        LogBatch::new()
+    }
+}
+
+impl LogBatch {
+    /// A batch without verdicts.
+    pub const fn new() -> LogBatch {
+        const NO_VERDICT: LogVerdict = LogVerdict {
+            line: 0,
+            time: 0,
+            frames: 0,
+            places: 0,
+            kind: 0,
+            reason: 0,
+            has_time: 0,
+            reserved: [0; 5],
+        };
+        const NO_PLACE: LogPlace = LogPlace {
+            line: 0,
+            start: 0,
+            end: 0,
+        };
+        LogBatch(RawLogBatch {
+            verdict_count: 0,
+            frame_count: 0,
+            octet_count: 0,
+            place_count: 0,
+            verdicts: [NO_VERDICT; 4096],
+            places: [NO_PLACE; 20480],
+            lengths: [0; 20480],
+            octets: [0; 65536],
+        })
+    }
+
+    /// The verdicts, in the order of the lines.
+    pub fn verdicts(&self) -> impl Iterator<Item = Verdict<'_>> + '_ {
+        let (mut lengths, mut octets) = (&self.0.lengths[..], &self.0.octets[..]);
+        let mut places = &self.0.places[..];
+        self.0.verdicts[..self.0.verdict_count as usize]
+            .iter()
+            .map(move |verdict| {
+                let (counts, more) = lengths.split_at(verdict.frames as usize);
+                let (said, rest) =
+                    octets.split_at(counts.iter().map(|count| usize::from(*count)).sum());
+                let (here, below) = places.split_at(verdict.places as usize);
+                lengths = more;
+                octets = rest;
+                places = below;
+                Verdict {
+                    line: verdict.line,
+                    kind: verdict.kind,
+                    reason: verdict.reason,
+                    time: Some(verdict.time).filter(|_| verdict.has_time != 0),
+                    frames: Frames {
+                        lengths: counts,
+                        octets: said,
+                    },
+                    places: here,
+                }
+            })
+    }
+}
+
+/// What the reader says of a line of a log.
+#[derive(Clone, Debug)]
+pub struct Verdict<'a> {
+    /// The number of the line, from 1.
+    pub line: u64,
+    /// One of `constants::LOG_BLANK` and those after it.
+    pub kind: u8,
+    /// Why it gives no frame: one of `constants::LOG_NO_REASON` and those after it.
+    pub reason: u8,
+    /// The time in microseconds since 1970, or since midnight or a start.
+    pub time: Option<u64>,
+    /// Its frames, each of which spells a message.
+    pub frames: Frames<'a>,
+    /// Where the octets of the frames are written.
+    pub places: &'a [LogPlace],
+}
+
+/// The frames of a verdict, each as its octets.
+#[derive(Clone, Debug)]
+pub struct Frames<'a> {
+    lengths: &'a [u16],
+    octets: &'a [u8],
+}
+
+impl<'a> Iterator for Frames<'a> {
+    type Item = &'a [u8];
+
+    fn next(&mut self) -> Option<&'a [u8]> {
+        let (length, lengths) = self.lengths.split_first()?;
+        let (frame, octets) = self.octets.split_at(usize::from(*length));
+        self.lengths = lengths;
+        self.octets = octets;
+        Some(frame)
+    }
+}

@@ -1,0 +1,117 @@
+-- What the reader of logs says of lines, as C sees it.
+use Rattle.std.specs.Prelude.{◌≡◌, ℕ, ◌+◌, ◌≤◌, ◌<◌, ◌-◌, ◌^◌, true, false, List, [], ◌∷◌, ◌++◌, length, map, take, unwrap_or, is_some}
+use Rattle.std.specs.List.{All, concat, sum_by}
+use Rattle.fio_message.specs.Bits.{bit_of}
+use Rattle.fio_log.specs.Sayings.{spells}
+use Rattle.fio_log.specs.Lines.{Text, finished, lines_after, no_line, only}
+use Rattle.fio_log.specs.Telling.{Telling, read_after}
+use Rattle.fio_log.specs.declared.verdict.Kind.{Kind}
+use Rattle.fio_log.specs.declared.verdict.Kind.TheVariants as kinds
+use Rattle.fio_log.specs.declared.verdict.Reason.{Reason}
+use Rattle.fio_log.specs.declared.verdict.Reason.TheVariants as reasons
+use Rattle.fio_log.specs.declared.verdict.Verdict.{Verdict}
+use Rattle.fio_c.specs.declared.log_batch.LogBatch.{LogBatch}
+use Rattle.fio_c.specs.declared.log_batch.LogPlace.{LogPlace}
+use Rattle.fio_c.specs.declared.log_batch.LogVerdict.{LogVerdict}
+
+-- the number of a kind
+abbrev pub kind_number : Kind → ℕ
+kind_number kinds.Blank = 0
+kind_number kinds.Frames = 1
+kind_number kinds.Part = 2
+kind_number kinds.Possible = 3
+kind_number kinds.Damaged = 4
+kind_number kinds.PassedOver = 5
+
+-- the number of a reason
+abbrev pub reason_number : Reason → ℕ
+reason_number reasons.None = 0
+reason_number reasons.NoOctets = 1
+reason_number reasons.NoMessage = 2
+reason_number reasons.ShortMessage = 3
+reason_number reasons.SeveralMessages = 4
+reason_number reasons.MayBeLonger = 5
+reason_number reasons.TooLong = 6
+reason_number reasons.BadLine = 7
+
+-- a verdict as C sees it, with so many frames and places
+abbrev pub flat_verdict : Verdict → ℕ → ℕ → LogVerdict
+flat_verdict verdict frames places = record {
+  line = verdict.line;
+  time = unwrap_or verdict.time 0;
+  frames = frames;
+  places = places;
+  kind = kind_number verdict.kind;
+  reason = reason_number verdict.reason;
+  has_time = bit_of (is_some verdict.time);
+  reserved = 0 ∷ 0 ∷ 0 ∷ 0 ∷ 0 ∷ [];
+}
+
+-- what a batch says: verdicts, and the frames and places of all of them, in order
+pub record Content : Type 0 where
+  pub verdicts : List LogVerdict
+  pub frames : List (List ℕ)
+  pub places : List LogPlace
+
+-- a batch says this, at the front of its arrays
+pub record Holds (batch : LogBatch) (content : Content) : Type 0 where
+  pub verdicts : take batch.verdict_count batch.verdicts ≡ content.verdicts
+  pub lengths : take batch.frame_count batch.lengths ≡ map length content.frames
+  pub octets : take batch.octet_count batch.octets ≡ concat content.frames
+  pub places : take batch.place_count batch.places ≡ content.places
+
+-- A batch has these frames more than a content says, and each of them spells a message.
+pub record HasFramesMore (content : Content) (count : ℕ) (batch : LogBatch) : Type 0 where
+  pub frames : List (List ℕ)
+  pub counted : length frames ≡ count
+  pub spelled : All (λ frame. spells frame ≡ true) frames
+  pub holds : Holds batch (record content { frames = content.frames ++ frames })
+
+-- A batch has these places more than a content says.
+pub record HasPlacesMore (content : Content) (count : ℕ) (batch : LogBatch) : Type 0 where
+  pub places : List LogPlace
+  pub counted : length places ≡ count
+  pub holds : Holds batch (record content { places = content.places ++ places })
+
+-- the verdicts are those of the lines after this one, each once and in order, up to the other
+abbrev pub AreNext : ℕ → List LogVerdict → ℕ → Type 0
+AreNext told [] last = last ≡ told
+AreNext told (verdict ∷ verdicts) last = (verdict.line ≡ told + 1) × AreNext verdict.line verdicts last
+
+-- A batch has the verdicts of the lines after one up to another, each once and in order. These have all its frames and
+-- places, and each frame spells a message.
+pub record HasVerdicts (told : ℕ) (batch : LogBatch) (last : ℕ) : Type 0 where
+  pub content : Content
+  pub holds : Holds batch content
+  pub next : AreNext told content.verdicts last
+  pub frames : sum_by (λ verdict. verdict.frames) content.verdicts ≡ length content.frames
+  pub places : sum_by (λ verdict. verdict.places) content.verdicts ≡ length content.places
+  pub spelled : All (λ frame. spells frame ≡ true) content.frames
+
+-- A reader has read nothing.
+pub record HasBegun (telling : Telling) : Type 0 where
+  pub making : telling.making ≡ no_line
+  pub read : telling.read ≡ 0
+  pub told : telling.told ≡ 0
+  pub is_ended : telling.is_ended ≡ false
+
+-- A log has ended. The line that was made is its last one, if it has octets.
+pub record HasEnded (before after : Telling) : Type 0 where
+  pub is_ended : after.is_ended ≡ true
+  pub told : after.told ≡ before.told
+  pub line :
+      before.is_ended ≡ false → before.read < 2 ^ 64 - 1
+      → (after.making ≡ finished before.making) × (after.read ≡ read_after before.read after.making)
+
+-- A reader has taken octets: they made these lines whole, which are read, and the line that is made.
+pub record HasTakenAll (before : Telling) (octets : List ℕ) (after : Telling) : Type 0 where
+  pub whole : List Text
+  pub lines : lines_after (only before.making) octets ≡ record { whole = whole; making = after.making }
+  pub read : after.read ≡ before.read + length whole
+  pub is_ended : after.is_ended ≡ before.is_ended
+
+-- A reader has taken so many octets of a text, and has told all verdicts that are in a batch.
+pub record HasRead (before : Telling) (text : List ℕ) (taken : ℕ) (after : Telling) (batch : LogBatch) : Type 0 where
+  pub within : taken ≤ length text
+  pub octets : HasTakenAll before (take taken text) after
+  pub verdicts : HasVerdicts before.told batch after.told

@@ -1,0 +1,151 @@
+//! What the reader of logs says of lines, in memory of the caller.
+ghost use Rattle.std.specs.Prelude.{◌≡◌, ◌<◌, true, false};
+
+use crate::written::write_at;
+use fio_message::FRAME_OCTETS;
+
+/// The most verdicts of a batch.
+pub const LOG_VERDICTS: usize = 4_096;
+
+/// The most octets that several lines say together, and so the most frames and places of a verdict.
+const VERDICT_OCTETS: usize = 16_384;
+
+/// The most frames of a batch.
+pub const LOG_FRAMES: usize = LOG_VERDICTS + VERDICT_OCTETS;
+
+/// The most places of a batch.
+pub const LOG_PLACES: usize = LOG_VERDICTS + VERDICT_OCTETS;
+
+/// The most octets of the frames of a batch.
+pub const LOG_OCTETS: usize = 4 * VERDICT_OCTETS;
+
+/// What the reader says of a line of a log.
+#[derive(Clone, Copy)]
+#[repr(C)]
+pub struct LogVerdict {
+    /// The number of the line, from 1.
+    pub line: u64,
+    /// The time in microseconds since 1970, or since midnight or a start if the log has no date; 0 if there is none.
+    pub time: u64,
+    /// How many frames the line gives, with those of the lines below that go on with it.
+    pub frames: u32,
+    /// At how many places the octets of these frames are written.
+    pub places: u32,
+    /// What the line is: one of `FIO2070_LOG_BLANK` and those after it.
+    pub kind: u8,
+    /// Why it gives no frame: one of `FIO2070_LOG_NO_OCTETS` and those after it, else 0.
+    pub reason: u8,
+    /// 1 if there is a time, else 0.
+    pub has_time: u8,
+    /// 0 in each octet that the library writes.
+    pub reserved: [u8; 5],
+}
+
+/// Where octets are written in a log. Colour sequences, NUL and byte order marks are no characters of a line.
+#[derive(Clone, Copy)]
+#[repr(C)]
+pub struct LogPlace {
+    /// The number of the line, from 1.
+    pub line: u64,
+    /// The index of the first character, with its mark, bracket or quote.
+    pub start: u32,
+    /// The index after the last character.
+    pub end: u32,
+}
+
+/// Verdicts on lines of a log, with their frames and places, each at the front of its array and in order.
+#[derive(Clone, Copy)]
+#[repr(C)]
+pub struct LogBatch {
+    /// How many verdicts there are.
+    pub verdict_count: u32,
+    /// How many frames these have.
+    pub frame_count: u32,
+    /// How many octets the frames have.
+    pub octet_count: u32,
+    /// How many places there are.
+    pub place_count: u32,
+    /// The verdicts.
+    pub verdicts: [LogVerdict; LOG_VERDICTS],
+    /// The places of all verdicts, those of each after those of the one before.
+    pub places: [LogPlace; LOG_PLACES],
+    /// How many octets each frame has.
+    pub lengths: [u16; LOG_FRAMES],
+    /// The octets of all frames, those of each after those of the one before.
+    pub octets: [u8; LOG_OCTETS],
+}
+
+impl LogBatch {
+    ghost use Rattle.std.specs.Prelude.{[], ◌∷◌, ◌++◌};
+    ghost use Rattle.fio_c.specs.Logs.{Content, Holds};
+
+    /// Takes all out.
+    pub(crate) fn clear(&mut self)
+        ensures { Holds self.new (record { verdicts = []; frames = []; places = [] }) }
+    {
+        self.verdict_count = 0;
+        self.frame_count = 0;
+        self.octet_count = 0;
+        self.place_count = 0;
+    }
+
+    /// Returns whether there is room for any verdict.
+    pub(crate) fn has_room(&self) -> bool
+        ensures { result ≡ true → self.now.verdict_count < LOG_VERDICTS }
+    {
+        (self.verdict_count as usize) < LOG_VERDICTS
+            && self.frame_count as usize <= LOG_VERDICTS
+            && self.place_count as usize <= LOG_VERDICTS
+            && self.octet_count as usize <= LOG_OCTETS - VERDICT_OCTETS
+    }
+
+    /// Adds a verdict.
+    pub(crate) fn push_verdict(&mut self, verdict: LogVerdict)
+        requires { self.old.verdict_count < LOG_VERDICTS }
+        ensures { (content : Content) → Holds self.old content
+            → Holds self.new (record content { verdicts = content.verdicts ++ verdict ∷ [] }) }
+    {
+        let at = self.verdict_count as usize;
+        self.verdicts[at] = verdict;
+        self.verdict_count += 1;
+    }
+
+    /// Adds a frame if there is room, and returns whether there was.
+    pub(crate) fn push_frame(&mut self, octets: &[u8]) -> bool
+        ensures added { result ≡ true → (content : Content) → Holds self.old content
+            → Holds self.new (record content { frames = content.frames ++ octets.now ∷ [] }) }
+        ensures refused { result ≡ false → self.new ≡ self.old }
+        ensures verdicts { self.new.verdict_count ≡ self.old.verdict_count }
+    {
+        let at = self.frame_count as usize;
+        let start = self.octet_count as usize;
+        if at >= LOG_FRAMES || start > LOG_OCTETS || octets.len() > FRAME_OCTETS {
+            return false;
+        }
+        let end = start + octets.len();
+        if end > LOG_OCTETS {
+            return false;
+        }
+        self.lengths[at] = octets.len() as u16;
+        write_at(start, octets, &mut self.octets);
+        self.frame_count += 1;
+        self.octet_count = end as u32;
+        true
+    }
+
+    /// Adds a place if there is room, and returns whether there was.
+    pub(crate) fn push_place(&mut self, place: LogPlace) -> bool
+        ensures added { result ≡ true → (content : Content) → Holds self.old content
+            → Holds self.new (record content { places = content.places ++ place ∷ [] }) }
+        ensures refused { result ≡ false → self.new ≡ self.old }
+        ensures verdicts { self.new.verdict_count ≡ self.old.verdict_count }
+    {
+        let at = self.place_count as usize;
+        if at >= LOG_PLACES {
+            return false;
+        }
+        self.places[at] = place;
+        self.place_count += 1;
+        true
+    }
+}

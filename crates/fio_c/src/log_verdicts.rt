@@ -1,0 +1,127 @@
+//! Verdicts of the reader of logs, put into a batch.
+ghost use Rattle.std.specs.Prelude.{◌≡◌, ◌+◌, ◌<◌, ℕ};
+ghost use Rattle.fio_c.specs.declared.log_batch.TheConstants.{LOG_VERDICTS};
+ghost use Rattle.fio_c.specs.Logs.{Content, HasFramesMore, HasPlacesMore, HasVerdicts, Holds, flat_verdict, kind_number, reason_number};
+
+use crate::log_batch::{LOG_FRAMES, LOG_PLACES, LOG_VERDICTS, LogBatch, LogPlace, LogVerdict};
+use fio_log::{Kind, Place, Reader, Reason, Verdict};
+
+/// Puts the verdicts that are due into a batch, until it has no room for another one.
+pub(crate) fn fill(reader: &mut Reader, batch: &mut LogBatch)
+    ensures verdicts { (first : ℕ) → HasVerdicts first batch.old reader.old.told
+        → HasVerdicts first batch.new reader.new.told }
+    ensures making { reader.new.making ≡ reader.old.making }
+    ensures read { reader.new.read ≡ reader.old.read }
+    ensures is_ended { reader.new.is_ended ≡ reader.old.is_ended }
+{
+    'verdicts: for _ in 0..LOG_VERDICTS {
+        if !batch.has_room() {
+            return;
+        }
+        let Some(verdict) = reader.verdict() else {
+            return;
+        };
+        add(&verdict, reader, batch);
+    }
+}
+
+/// Adds the verdict that a reader has told last, with its frames and places.
+fn add(verdict: &Verdict, reader: &Reader, batch: &mut LogBatch)
+    requires { batch.old.verdict_count < LOG_VERDICTS }
+    ensures { (first told : ℕ) → HasVerdicts first batch.old told → verdict.now.line ≡ told + 1
+        → HasVerdicts first batch.new verdict.now.line }
+{
+    let frames = add_frames(reader, batch);
+    let places = add_places(reader, verdict.places, batch);
+    batch.push_verdict(told_from(verdict, frames, places));
+}
+
+/// Adds the frames of the last verdict, and returns how many they are.
+fn add_frames(reader: &Reader, batch: &mut LogBatch) -> u32
+    ensures more { (content : Content) → Holds batch.old content → HasFramesMore content result batch.new }
+    ensures verdicts { batch.new.verdict_count ≡ batch.old.verdict_count }
+{
+    'frames: for index in 0..LOG_FRAMES {
+        let Some(octets) = reader.frame(index) else {
+            return index as u32;
+        };
+        if !batch.push_frame(octets) {
+            return index as u32;
+        }
+    }
+    LOG_FRAMES as u32
+}
+
+/// Adds so many places of the last verdict, and returns how many they are.
+fn add_places(reader: &Reader, count: usize, batch: &mut LogBatch) -> u32
+    ensures more { (content : Content) → Holds batch.old content → HasPlacesMore content result batch.new }
+    ensures verdicts { batch.new.verdict_count ≡ batch.old.verdict_count }
+{
+    'places: for index in 0..LOG_PLACES {
+        if index == count {
+            return index as u32;
+        }
+        let Some(place) = reader.place(index) else {
+            return index as u32;
+        };
+        if !batch.push_place(flat_place(place)) {
+            return index as u32;
+        }
+    }
+    LOG_PLACES as u32
+}
+
+/// Returns a verdict as C sees it.
+fn told_from(verdict: &Verdict, frames: u32, places: u32) -> LogVerdict
+    ensures { result ≡ flat_verdict verdict.now frames places }
+{
+    LogVerdict {
+        line: verdict.line,
+        time: verdict.time.unwrap_or(0),
+        frames,
+        places,
+        kind: kind_number(verdict.kind),
+        reason: reason_number(verdict.reason),
+        has_time: u8::from(verdict.time.is_some()),
+        reserved: [0; 5],
+    }
+}
+
+/// Returns the number of a kind.
+fn kind_number(kind: Kind) -> u8
+    ensures { result ≡ kind_number kind }
+{
+    match kind {
+        Kind::Blank => 0,
+        Kind::Frames => 1,
+        Kind::Part => 2,
+        Kind::Possible => 3,
+        Kind::Damaged => 4,
+        Kind::PassedOver => 5,
+    }
+}
+
+/// Returns the number of a reason.
+fn reason_number(reason: Reason) -> u8
+    ensures { result ≡ reason_number reason }
+{
+    match reason {
+        Reason::None => 0,
+        Reason::NoOctets => 1,
+        Reason::NoMessage => 2,
+        Reason::ShortMessage => 3,
+        Reason::SeveralMessages => 4,
+        Reason::MayBeLonger => 5,
+        Reason::TooLong => 6,
+        Reason::BadLine => 7,
+    }
+}
+
+/// Returns a place as C sees it.
+fn flat_place(place: Place) -> LogPlace {
+    LogPlace {
+        line: place.line,
+        start: place.start.min(u32::MAX as usize) as u32,
+        end: place.end.min(u32::MAX as usize) as u32,
+    }
+}

@@ -1,0 +1,10 @@
+-- Chains: several messages in a row.
+use Rattle.std.specs.Prelude.{◌≡◌, ℕ, ◌≤◌, true, List, length, slice_range}
+use Rattle.fio_log.specs.Sayings.{spells}
+use Rattle.fio_log.specs.declared.chains.Part.{Part}
+
+-- a part of octets spells a message
+pub record IsPart (octets : List ℕ) (part : Part) : Type 0 where
+  pub spelled : spells (slice_range octets part.start part.end) ≡ true
+  pub order : part.start ≤ part.end
+  pub within : part.end ≤ length octets

@@ -1,0 +1,229 @@
+//! Chains: messages of known length, or frames with flags and checks, one after the other in the octets of several lines.
+ghost use Rattle.std.specs.Prelude.{◌≡◌, ◌≤◌, ◌<◌, ◌↔◌, ◌+◌, [], ◌∷◌, ◌++◌, true, false, IfSome, IsSome, IsTrue, length, slice_range};
+ghost use Rattle.std.specs.List.{All};
+ghost use Rattle.arrayvec.specs.ArrayVec.{array_vec_len};
+ghost use Rattle.fio_log.specs.Chains.{IsPart};
+ghost use Rattle.fio_log.specs.Sayings.{spells};
+
+use crate::messages::has_open_length;
+use crate::sayings::{FLAG, Saying, is_counted, needed_of, read_saying, spelled};
+use arrayvec::ArrayVec;
+use fio_message::FRAME_OCTETS;
+
+/// The most octets of several lines that are kept.
+pub(crate) const CHAIN_OCTETS: usize = 16_384;
+
+/// The most frames of a chain.
+pub(crate) const CHAIN_FRAMES: usize = 2_048;
+
+/// Where a message is in the octets.
+#[derive(Clone, Copy, Debug, Default, PartialEq, Eq)]
+pub(crate) struct Part {
+    /// Where it begins.
+    pub start: u16,
+    /// Where it ends.
+    pub end: u16,
+}
+
+/// Octets of several lines, and the messages that they say.
+#[derive(Debug, Drop)]
+pub(crate) struct Chain {
+    octets: ArrayVec<u8, CHAIN_OCTETS>,
+    parts: ArrayVec<Part, CHAIN_FRAMES>,
+    ghost spelled: { All (IsPart octets.items) parts.items },
+}
+
+impl Chain {
+    /// Returns a chain without octets.
+    pub(crate) fn new() -> Chain {
+        Chain {
+            octets: ArrayVec::new(),
+            parts: ArrayVec::new(),
+        }
+    }
+
+    /// Takes all octets out.
+    pub(crate) fn clear(&mut self) {
+        self.parts.clear();
+        self.octets.clear();
+    }
+
+    /// Returns the octets.
+    pub(crate) fn octets(&self) -> &[u8] {
+        self.octets.as_slice()
+    }
+
+    /// Appends octets, of which the messages are not known yet. Returns whether there was room; if not, none is appended.
+    pub(crate) fn extend(&mut self, octets: &[u8]) -> bool {
+        self.parts.clear();
+        self.octets.try_extend_from_slice(octets).is_ok()
+    }
+
+    /// Takes the octets out that come after the first ones.
+    pub(crate) fn truncate(&mut self, count: usize) {
+        self.parts.clear();
+        self.octets.truncate(count);
+    }
+
+    /// Returns how many messages are known.
+    pub(crate) fn len(&self) -> usize
+        ensures { result ≡ array_vec_len self.now.parts }
+    {
+        self.parts.len()
+    }
+
+    /// Returns a message.
+    pub(crate) fn message(&self, index: usize) -> Option<&[u8]>
+        ensures given { IsSome result ↔ (index < array_vec_len self.now.parts) }
+        ensures spelled { IfSome result (λ octets. spells octets.now ≡ true) }
+    {
+        let parts = self.parts.as_slice();
+        if index >= parts.len() {
+            return None;
+        }
+        let part = parts[index];
+        let octets = self.octets.as_slice();
+        Some(&octets[usize::from(part.start)..usize::from(part.end)])
+    }
+
+    /// Appends a message; returns whether there was room.
+    fn add(&mut self, part: Part) -> bool
+        requires { IsPart self.old.octets.items part }
+        ensures { self.new.octets ≡ self.old.octets }
+    {
+        if self.parts.is_full() {
+            return false;
+        }
+        self.parts.push(part);
+        true
+    }
+
+    /// Finds the messages of the octets, if they are a chain of them, and returns whether one is sure by itself. If they
+    /// are none, no message is known.
+    pub(crate) fn split(&mut self) -> Option<bool> {
+        self.parts.clear();
+        let mut place = 0;
+        let mut is_sure = false;
+        'messages: while place < self.octets.len() {
+            let Some(next) = next_in(self.octets.as_slice(), place) else {
+                self.parts.clear();
+                return None;
+            };
+            if let Some(part) = next.part
+                && !self.add(part)
+            {
+                self.parts.clear();
+                return None;
+            }
+            is_sure |= next.is_sure;
+            place = next.end;
+        }
+        if self.parts.is_empty() {
+            return None;
+        }
+        Some(is_sure)
+    }
+}
+
+/// What is next in a chain.
+#[derive(Clone, Copy)]
+struct Next {
+    /// Its message; `None` for a flag.
+    part: Option<Part>,
+    /// Whether it is sure by itself.
+    is_sure: bool,
+    /// Where what comes after it begins.
+    end: usize,
+}
+
+/// Returns what is next in octets at a place.
+fn next_in(octets: &[u8], place: usize) -> Option<Next>
+    requires { place < length octets.now }
+    ensures forward { IfSome result (λ next. place < next.end) }
+    ensures part { IfSome result (λ next. IfSome next.part (IsPart octets.now)) }
+{
+    if octets[place] != FLAG {
+        let length = message_length(&octets[place..])?;
+        let end = place + length;
+        return Some(Next {
+            part: Some(part_in(octets, place, end)?),
+            is_sure: is_counted(&octets[place..end]),
+            end,
+        });
+    }
+    if let Some((part, end)) = framed_in(octets, place) {
+        return Some(Next {
+            part: Some(part),
+            is_sure: true,
+            end,
+        });
+    }
+    Some(Next {
+        part: None,
+        is_sure: false,
+        end: place + 1,
+    })
+}
+
+/// Returns the message of the frame between the flag at a place and one after it, and where that flag is.
+fn framed_in(octets: &[u8], place: usize) -> Option<(Part, usize)>
+    requires { place < length octets.now }
+    ensures forward { IfSome result (λ found. place < found.1) }
+    ensures part { IfSome result (λ found. IsPart octets.now found.0) }
+{
+    let most = octets.len().min(place + FRAME_OCTETS + 6);
+    'ends: for end in place + 6..most {
+        if octets[end] == FLAG
+            && let Saying::Says {
+                from: 2,
+                to,
+                is_sure: true,
+            } = read_saying(&octets[place + 1..end])
+            && let Some(part) = part_in(octets, place + 3, place + 1 + to)
+        {
+            return Some((part, end));
+        }
+    }
+    None
+}
+
+/// Returns the part of octets from a place to another, if it spells a message.
+fn part_in(octets: &[u8], start: usize, end: usize) -> Option<Part>
+    ensures { IfSome result (IsPart octets.now) }
+{
+    spelled(octets.get(start..end)?).ok()?;
+    let start = u16::try_from(start).ok()?;
+    let end = u16::try_from(end).ok()?;
+    Some(Part { start, end })
+}
+
+/// Returns how many octets the message has that octets begin with, if its length is known by its type and count.
+fn message_length(octets: &[u8]) -> Option<usize>
+    ensures some { IfSome result (λ count. 0 < count) }
+    ensures within { IfSome result (λ count. count ≤ length octets.now) }
+    ensures spelled { IfSome result (λ count. spells (slice_range octets.now 0 count) ≡ true) }
+{
+    let [code, ..] = *octets else {
+        return None;
+    };
+    if has_open_length(code) {
+        return None;
+    }
+    let mut count = 1;
+    'counts: for _ in 0..3 {
+        if count > octets.len() {
+            return None;
+        }
+        match spelled(&octets[..count]) {
+            Ok(()) => return Some(count),
+            Err(fault) => {
+                let needed = needed_of(fault);
+                if needed <= count {
+                    return None;
+                }
+                count = needed;
+            }
+        }
+    }
+    None
+}

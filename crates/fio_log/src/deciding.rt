@@ -1,0 +1,269 @@
+//! Decisions of the judge: which entries are frames, and which are passed over.
+use crate::entries::State;
+use crate::judge::Judge;
+use crate::messages::Brief;
+use crate::queue::{ENTRIES, WAITING};
+use crate::verdict::{Kind, Reason};
+
+/// How many frames more are read before a message of unknown shape is given up.
+const LATER: u64 = 2;
+
+/// How many frames a log has at least before one is given up.
+const YOUNG: u64 = 16;
+
+impl Judge {
+    /// Sets what is decided of an entry.
+    pub(crate) fn settle(&mut self, slot: usize, state: State) {
+        if let Some(entry) = self.queue.get_mut(slot) {
+            entry.state = state;
+        }
+    }
+
+    /// Decides on an entry as far as its own runs, those of the entry above and known shapes do.
+    pub(crate) fn decide(&mut self, slot: usize) {
+        let Some(entry) = self.queue.get(slot) else {
+            return;
+        };
+        if entry.kept.is_empty() {
+            self.has_others = true;
+            self.tally_seen();
+            self.pass_over(slot);
+            return;
+        }
+        self.has_others |= !entry.is_bare();
+        self.tally_kept(slot);
+        self.pair_with_above(slot);
+        self.judge(slot);
+        let waits = self.count.saturating_add(LATER).max(YOUNG);
+        if let Some(entry) = self.queue.get_mut(slot) {
+            entry.waits = waits;
+        }
+    }
+
+    /// Counts a line that says no message, for each front of its runs.
+    fn tally_seen(&mut self) {
+        let seen = self.seen.as_slice();
+        for (index, run) in seen.iter().enumerate() {
+            let is_first = !seen
+                .iter()
+                .take(index)
+                .any(|other| other.count > 1 && other.front == run.front);
+            if run.count > 1 && is_first {
+                self.shapes.tally(run.front, false);
+            }
+        }
+    }
+
+    /// Counts a line that says a message, for each front of its runs that do.
+    fn tally_kept(&mut self, slot: usize) {
+        let Some(entry) = self.queue.get(slot) else {
+            return;
+        };
+        let kept = entry.kept.as_slice();
+        for (index, run) in kept.iter().enumerate() {
+            let is_first = !kept
+                .iter()
+                .take(index)
+                .any(|other| other.is_long && other.front == run.front);
+            if run.is_long && is_first {
+                self.shapes.tally(run.front, true);
+            }
+        }
+    }
+
+    /// Makes an entry and the one above sure, if they say a command and its answer; then the entry is the one above.
+    fn pair_with_above(&mut self, slot: usize) {
+        let pair = self.pair_above(slot);
+        let above = self.above.slot;
+        if let Some((command, answer)) = pair {
+            self.make_sure(above, command);
+            self.make_sure(Some(slot), answer);
+            if let Some(above) = above {
+                self.judge(above);
+            }
+        }
+        self.above.briefs.clear();
+        self.above.chosen = None;
+        self.above.slot = Some(slot);
+        if let Some(entry) = self.queue.get(slot) {
+            for kept in entry.kept.as_slice() {
+                let _room = self.above.briefs.try_push(kept.brief);
+            }
+        }
+    }
+
+    /// Returns the command that the entry above says and its answer in an entry, if these are only one pair.
+    fn pair_above(&self, slot: usize) -> Option<(Brief, Brief)> {
+        let entry = self.queue.get(slot)?;
+        let chosen = match self.above.slot {
+            Some(above) => self.queue.get(above).and_then(|above| above.chosen()),
+            None => self.above.chosen,
+        };
+        let mut pair: Option<(Brief, Brief)> = None;
+        for (index, command) in self.above.briefs.as_slice().iter().enumerate() {
+            if chosen.is_some_and(|chosen| chosen != index) {
+                continue;
+            }
+            for kept in entry.kept.as_slice() {
+                let found = (*command, kept.brief);
+                if !command.is_answered_by(kept.brief) {
+                    continue;
+                }
+                match pair {
+                    Some(other) if other.0 != found.0 || other.1 != found.1 => return None,
+                    _ => pair = Some(found),
+                }
+            }
+        }
+        pair
+    }
+
+    /// Makes the runs of an entry sure that say a message.
+    fn make_sure(&mut self, slot: Option<usize>, brief: Brief) {
+        let Some(slot) = slot else {
+            return;
+        };
+        let Some(entry) = self.queue.get_mut(slot) else {
+            return;
+        };
+        entry.make_sure(brief);
+    }
+
+    /// Judges an entry that waits; if its shape is new then, all others that wait.
+    pub(crate) fn judge(&mut self, slot: usize) {
+        self.judge_one(slot);
+        for _ in 0..ENTRIES {
+            if !self.is_news {
+                return;
+            }
+            self.is_news = false;
+            for position in 0..self.queue.len().min(ENTRIES) {
+                let other = self.queue.slot(position);
+                if self.open != Some(other) {
+                    self.judge_one(other);
+                }
+            }
+        }
+    }
+
+    /// Judges an entry that waits.
+    fn judge_one(&mut self, slot: usize) {
+        let Some(entry) = self.queue.get_mut(slot) else {
+            return;
+        };
+        if !entry.is_waiting() {
+            return;
+        }
+        entry.judge(&self.shapes);
+        if entry.chosen().is_some() {
+            self.take(slot);
+        }
+    }
+
+    /// Counts the frame of an entry, and learns the shapes of its sure runs that say it.
+    fn take(&mut self, slot: usize) {
+        self.count = self.count.saturating_add(1);
+        let Some(entry) = self.queue.get(slot) else {
+            return;
+        };
+        for kept in entry.kept.as_slice() {
+            if kept.is_sure && kept.is_long && entry.is_of_frame(kept.brief) {
+                self.styles.learn(kept.mark, kept.ways);
+                if self.shapes.learn(kept.whole, kept.ways) {
+                    self.is_news = true;
+                    let (start, end) = entry.written_at(kept);
+                    if let Some(message) = &kept.message {
+                        self.texts.learn(slot, start, end, message.octets());
+                    }
+                }
+            }
+        }
+    }
+
+    /// Passes an entry over.
+    fn pass_over(&mut self, slot: usize) {
+        let Some(entry) = self.queue.get(slot) else {
+            return;
+        };
+        let state = if entry.possible().is_some() {
+            State::Passed(Kind::Possible, Reason::ShortMessage)
+        } else if !entry.kept.is_empty() {
+            State::Passed(Kind::PassedOver, Reason::ShortMessage)
+        } else if !self.seen.as_slice().iter().any(|seen| seen.count > 1) {
+            State::Passed(Kind::PassedOver, Reason::NoOctets)
+        } else if self.is_damaged() {
+            State::Passed(Kind::Damaged, Reason::NoMessage)
+        } else {
+            State::Passed(Kind::PassedOver, Reason::NoMessage)
+        };
+        self.settle(slot, state);
+    }
+
+    /// Returns whether one of the runs of the line that is decided may have been a frame.
+    fn is_damaged(&self) -> bool {
+        self.seen.as_slice().iter().any(|seen| seen.is_known(&self.shapes)
+            || seen.is_begun && self.styles.has(seen.mark, seen.ways))
+    }
+
+    /// Ends the wait of an entry. A line that is nothing but a message is a frame if each line of its shape so far said
+    /// one; without a word for its direction, if each line of the log did.
+    pub(crate) fn give_up(&mut self, slot: usize) {
+        let Some(entry) = self.queue.get(slot) else {
+            return;
+        };
+        if !entry.is_waiting() {
+            return;
+        }
+        let is_sure = match entry.kept.as_slice() {
+            [only] => only.is_bare && self.is_alone(only.has_before, only.front),
+            _ => false,
+        };
+        if !is_sure {
+            self.pass_over(slot);
+            return;
+        }
+        if let Some(entry) = self.queue.get_mut(slot) {
+            entry.take_only();
+        }
+        self.take(slot);
+        self.judge(slot);
+    }
+
+    /// Returns whether each line so far with a front said a message, or each line of the log if nothing is before it.
+    pub(crate) fn is_alone(&self, has_before: bool, front: u64) -> bool {
+        if has_before {
+            self.shapes.is_always_good(front)
+        } else {
+            !self.has_others && !self.shapes.has_known()
+        }
+    }
+
+    /// Ends the wait of all entries but the one that is open.
+    pub(crate) fn give_up_all(&mut self) {
+        for position in 0..self.queue.len().min(ENTRIES) {
+            let slot = self.queue.slot(position);
+            if self.open != Some(slot) {
+                self.give_up(slot);
+            }
+        }
+    }
+
+    /// Ends the wait of those that have waited long enough.
+    pub(crate) fn give_up_old(&mut self) {
+        let count = self.queue.len().min(ENTRIES);
+        for position in 0..count {
+            let slot = self.queue.slot(position);
+            let Some(entry) = self.queue.get(slot) else {
+                return;
+            };
+            if !entry.is_waiting() {
+                continue;
+            }
+            let may_wait = self.count < entry.waits && count - position <= WAITING;
+            if self.open == Some(slot) || may_wait {
+                return;
+            }
+            self.give_up(slot);
+        }
+    }
+}

@@ -1,0 +1,291 @@
+//! Octets on several lines: a dump, the rows of a message, or rows of one octet.
+use crate::chains::{CHAIN_OCTETS, Chain};
+use crate::kept::Around;
+use crate::octets::Octets;
+use crate::offsets::{OffsetRow, offset_row};
+use crate::openings::last_run;
+use crate::said::{LineRuns, Said};
+use crate::sayings::{Saying, read_saying};
+use crate::shapes::{Shapes, front_key};
+use arrayvec::ArrayVec;
+
+/// Where a row is written in its line.
+#[derive(Clone, Copy, Debug, Default, PartialEq, Eq)]
+pub(crate) struct Row {
+    /// The index of its first character.
+    pub start: u16,
+    /// How many characters it has.
+    pub length: u16,
+}
+
+/// Why lines are one run.
+#[derive(Clone, Copy, Debug, PartialEq, Eq)]
+pub(crate) enum Joining {
+    /// They are rows of one message.
+    Rows,
+    /// They begin with the offset of their octets.
+    Dump,
+    /// Each has one octet.
+    Octets,
+}
+
+/// Whether a line goes on with those above it.
+#[derive(Clone, Copy, Debug, PartialEq, Eq)]
+pub(crate) enum Going {
+    /// It does not.
+    No,
+    /// It does, and more lines may.
+    On,
+    /// It does, as the last one.
+    Over,
+}
+
+/// Lines whose octets are one run.
+#[derive(Debug, Drop)]
+pub(crate) struct Join {
+    /// Why they are.
+    pub joining: Joining,
+    /// Their octets.
+    pub chain: Chain,
+    /// Where each row is written, from the first line on.
+    pub rows: ArrayVec<Row, CHAIN_OCTETS>,
+    /// What surrounds the first row.
+    pub around: Around,
+    /// How many octets the first row has.
+    pub width: usize,
+    /// Whether the octets are to be passed over: they may be one message or several.
+    pub is_bad: bool,
+    /// Whether a row had before it what the first has.
+    pub is_same: bool,
+    /// How many octets the last row has.
+    last: usize,
+    /// The time of the last row.
+    time: Option<u64>,
+    /// Whether the octets begin a message.
+    is_begun: bool,
+}
+
+impl Join {
+    /// Returns no lines.
+    pub(crate) fn new() -> Join {
+        Join {
+            joining: Joining::Rows,
+            chain: Chain::new(),
+            rows: ArrayVec::new(),
+            around: Around::default(),
+            width: 0,
+            is_bad: false,
+            is_same: false,
+            last: 0,
+            time: None,
+            is_begun: false,
+        }
+    }
+
+    /// Begins with the first row, and returns whether there was room for it.
+    pub(crate) fn begin(&mut self, joining: Joining, said: &Said, time: Option<u64>) -> bool {
+        self.clear(joining, Around::of(said), said.octets.len());
+        self.is_begun = matches!(said.saying, Saying::Begins { .. });
+        self.add(said, time)
+    }
+
+    /// Begins with no row.
+    fn clear(&mut self, joining: Joining, around: Around, width: usize) {
+        self.joining = joining;
+        self.around = around;
+        self.chain.clear();
+        self.rows.clear();
+        self.width = width;
+        self.is_bad = false;
+        self.is_same = false;
+    }
+
+    /// Appends a row, and returns whether there was room for it.
+    fn add(&mut self, said: &Said, time: Option<u64>) -> bool {
+        self.chain.extend(said.octets.as_slice()) && self.add_place(said, time)
+    }
+
+    /// Appends where a row is written, and returns whether there was room for it.
+    fn add_place(&mut self, said: &Said, time: Option<u64>) -> bool {
+        self.last = said.octets.len();
+        self.time = time;
+        self.add_row(said.start, said.end)
+    }
+
+    /// Appends the characters of a row, and returns whether there was room for them.
+    fn add_row(&mut self, start: usize, end: usize) -> bool {
+        let Some(length) = end.checked_sub(start) else {
+            return false;
+        };
+        let (Ok(start), Ok(length)) = (u16::try_from(start), u16::try_from(length)) else {
+            return false;
+        };
+        self.rows.try_push(Row { start, length }).is_ok()
+    }
+
+    /// Returns the key of the front of the lines: that of the first row, or for octet rows and dumps one of their own.
+    pub(crate) fn surroundings(&self) -> Around {
+        let mut around = self.around;
+        match self.joining {
+            Joining::Rows => {}
+            Joining::Dump => {
+                around.shape.after = u64::MAX;
+                around.shape.before = around.shape.before.wrapping_add(DUMP);
+                around.ways = Default::default();
+            }
+            Joining::Octets => {
+                around.shape.after = u64::MAX;
+                around.shape.before = around.letters.wrapping_add(OCTETS);
+                around.ways = Default::default();
+            }
+        }
+        around
+    }
+
+    /// Reads the next line as a row of the message.
+    pub(crate) fn wrap(&mut self, runs: &LineRuns, is_indented: bool, shapes: &Shapes) -> Going {
+        let Some(index) = self.next_row(runs) else {
+            return Going::No;
+        };
+        let Some(row) = runs.said.as_slice().get(index) else {
+            return Going::No;
+        };
+        let hangs = self.around.has_before && !row.has_before;
+        if hangs && !is_indented {
+            return Going::No;
+        }
+        let count = self.chain.octets().len();
+        let is_loose = !self.is_begun;
+        if !self.chain.extend(row.octets.as_slice()) {
+            return Going::No;
+        }
+        let saying = read_saying(self.chain.octets());
+        let is_other = saying == Saying::NoMessage || self.is_other(row, hangs, shapes);
+        if is_other || !self.add_place(row, runs.time) {
+            self.chain.truncate(count);
+            return Going::No;
+        }
+        self.is_begun = matches!(saying, Saying::Begins { .. });
+        self.is_same |= !hangs;
+        if self.is_bad || !self.is_begun && (!is_loose || row.octets.len() < self.width) {
+            Going::Over
+        } else {
+            Going::On
+        }
+    }
+
+    /// Returns whether a row may be a message by itself, so that it is none of this one. If that is not known, all rows
+    /// are to be passed over.
+    fn is_other(&mut self, row: &Said, hangs: bool, shapes: &Shapes) -> bool {
+        let is_loose = !self.is_begun;
+        if hangs {
+            return false;
+        }
+        if shapes.width(front_key(self.around.shape)) == self.width {
+            return is_loose && matches!(row.saying, Saying::Says { is_sure: true, .. });
+        }
+        let says = matches!(row.saying, Saying::Says { .. });
+        self.is_bad |= is_loose != says;
+        is_loose && says
+    }
+
+    /// Returns the index of the longest run of a line that may be the next row.
+    fn next_row(&self, runs: &LineRuns) -> Option<usize> {
+        let mut longest = 0;
+        let mut found = None;
+        for (index, said) in runs.said.as_slice().iter().enumerate() {
+            let is_row = said.shape.mark == self.around.shape.mark
+                && said.is_last
+                && (!said.has_before || said.shape.before == self.around.shape.before)
+                && said.ways.meets(self.around.ways)
+                && self.last == self.width
+                && said.octets.len() <= self.width;
+            if is_row && said.octets.len() > longest {
+                longest = said.octets.len();
+                found = Some(index);
+            }
+        }
+        found
+    }
+
+    /// Reads the next line as an octet row. `step` is the shortest time between two rows so far.
+    pub(crate) fn follow(&mut self, runs: &LineRuns, step: &mut Option<u64>) -> Going {
+        let Some(row) = last_run(runs) else {
+            return Going::No;
+        };
+        let most = if self.chain.octets().len() > 2 { 2 } else { 1 };
+        if row.shape.mark != self.around.shape.mark || row.octets.len() > most {
+            return Going::No;
+        }
+        let is_next = match (self.time, runs.time) {
+            (Some(above), Some(time)) => {
+                row.letters == self.around.letters && is_in_step(above, time, step)
+            }
+            _ => row.shape.before == self.around.shape.before,
+        };
+        if is_next && self.add(row, runs.time) {
+            Going::On
+        } else {
+            Going::No
+        }
+    }
+
+    /// Begins with the first row of a dump; `None` if a line is none. Returns whether it has octets.
+    pub(crate) fn begin_dump(&mut self, text: &[u8]) -> Option<bool> {
+        let mut octets = Octets::new();
+        let row = offset_row(text, &mut octets)?;
+        if !row.offset.may_be(0) {
+            return None;
+        }
+        let around = Around {
+            shape: row.shape,
+            has_before: true,
+            ..Default::default()
+        };
+        self.clear(Joining::Dump, around, octets.len());
+        Some(row.has_octets && self.add_dump_row(&octets, row))
+    }
+
+    /// Reads the next line as a row of the dump.
+    pub(crate) fn dump_line(&mut self, text: &[u8]) -> Going {
+        let mut octets = Octets::new();
+        match offset_row(text, &mut octets) {
+            Some(row) if row.offset.may_be(self.chain.octets().len() as u64) => {
+                if !row.has_octets {
+                    Going::Over
+                } else if self.add_dump_row(&octets, row) {
+                    Going::On
+                } else {
+                    Going::No
+                }
+            }
+            _ => Going::No,
+        }
+    }
+
+    /// Appends a row of a dump, and returns whether there was room for it.
+    fn add_dump_row(&mut self, octets: &Octets, row: OffsetRow) -> bool {
+        self.chain.extend(octets.as_slice()) && self.add_row(row.start, row.end)
+    }
+}
+
+/// What sets the shapes of dumps and of octet rows apart from those of lines.
+const DUMP: u64 = 0x9e37_79b9_7f4a_7c15;
+
+const OCTETS: u64 = 0xc2b2_ae3d_27d4_eb4f;
+
+/// Returns whether a time comes at most two and a half times the shortest step after another, and keeps the shortest.
+fn is_in_step(above: u64, time: u64, step: &mut Option<u64>) -> bool {
+    let Some(passed) = time.checked_sub(above) else {
+        return true;
+    };
+    if let Some(shortest) = *step
+        && passed.saturating_mul(2) > shortest.saturating_mul(5)
+    {
+        return false;
+    }
+    if passed > 0 {
+        *step = Some(step.unwrap_or(passed).min(passed));
+    }
+    true
+}

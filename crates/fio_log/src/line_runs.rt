@@ -1,0 +1,211 @@
+//! The runs of a line, in all notations.
+ghost use Rattle.std.specs.Prelude.{◌≡◌, ◌<◌, ◌≤◌, length, IfSome};
+ghost use Rattle.std.specs.List.{All};
+ghost use Rattle.fio_log.specs.Sayings.{IsSaying};
+ghost use Rattle.fio_log.specs.Said.{IsSaidIn, IsWrittenAt};
+
+use crate::clock::time_in;
+use crate::directions::direction_of;
+use crate::found::{Found, bracketed_at, next_words};
+use crate::glance::Glance;
+use crate::marks::MARKS;
+use crate::octets::Octets;
+use crate::places::Notation;
+use crate::said::{LINE_SINGLES, LITERAL_MARK, LineRuns, Said, Shape};
+use crate::sayings::{Saying, read_saying};
+use crate::surroundings::{Before, Gap, read_after};
+use std::mem;
+
+/// What is known while the runs of a line are looked for.
+#[derive(Drop)]
+struct Finder {
+    /// The time of the line.
+    gap: Gap,
+    /// What is before the last run that was kept.
+    before: Before,
+    /// The last run of one octet that says no message.
+    lone: Option<Found>,
+}
+
+/// Finds the runs of a line. It is no longer than `LINE_OCTETS`.
+pub(crate) fn read_line(line: &[u8], runs: &mut LineRuns)
+    ensures { All (IsSaidIn line.now) runs.new.said.items }
+{
+    let time = time_in(line);
+    runs.said.clear();
+    runs.is_over = false;
+    runs.time = time.map(|time| time.microseconds);
+    let (start, end) = match time {
+        Some(time) => (time.start, time.end),
+        None => (line.len(), line.len()),
+    };
+    let mut finder = Finder {
+        gap: Gap { start, end },
+        before: Before::new(),
+        lone: None,
+    };
+    let glance = Glance::of(line);
+    let mut octets = Octets::new();
+    if glance.has_any(b"\"'[({<") {
+        find_in_brackets(line, &mut octets, &mut finder, runs);
+    }
+    find_words(line, glance, &mut octets, &mut finder, runs);
+    keep_lone(line, &mut octets, &mut finder, runs);
+}
+
+/// Keeps the runs of hexadecimal words.
+fn find_words(
+    line: &[u8],
+    glance: Glance,
+    octets: &mut Octets,
+    finder: &mut Finder,
+    runs: &mut LineRuns,
+)
+    requires { All (IsSaidIn line.now) runs.old.said.items }
+    ensures { All (IsSaidIn line.now) runs.new.said.items }
+{
+    for mark in 0..LITERAL_MARK {
+        if glance.may_have(MARKS[usize::from(mark)]) {
+            if glance.has_single {
+                find_marked(line, mark, true, octets, finder, runs);
+            }
+            find_marked(line, mark, false, octets, finder, runs);
+        }
+    }
+}
+
+/// Keeps the runs of words with a mark, before the time of the line and after it.
+fn find_marked(
+    line: &[u8],
+    mark: u8,
+    is_short: bool,
+    octets: &mut Octets,
+    finder: &mut Finder,
+    runs: &mut LineRuns,
+)
+    requires { All (IsSaidIn line.now) runs.old.said.items }
+    ensures { All (IsSaidIn line.now) runs.new.said.items }
+{
+    let mut place = 0;
+    'runs: while let Some(found) = next_words(line, place, finder.gap, mark, is_short, octets) {
+        keep(line, found, octets, finder, runs);
+        place = found.next;
+    }
+}
+
+/// Keeps the literals and the numbers in brackets.
+fn find_in_brackets(line: &[u8], octets: &mut Octets, finder: &mut Finder, runs: &mut LineRuns)
+    requires { All (IsSaidIn line.now) runs.old.said.items }
+    ensures { All (IsSaidIn line.now) runs.new.said.items }
+{
+    for place in 0..line.len() {
+        if let Some(found) = bracketed_at(line, place, octets) {
+            keep(line, found, octets, finder, runs);
+        }
+    }
+}
+
+/// Keeps a run, unless it has one octet and says no message or finds no room.
+fn keep(line: &[u8], found: Found, octets: &mut Octets, finder: &mut Finder, runs: &mut LineRuns)
+    requires written { IsWrittenAt line.now found.notation found.start found.end octets.old.items }
+    requires said { All (IsSaidIn line.now) runs.old.said.items }
+    ensures { All (IsSaidIn line.now) runs.new.said.items }
+{
+    let saying = read_saying(octets.as_slice());
+    let has_room = runs.said.len() < LINE_SINGLES;
+    if octets.len() > 1 || has_room && matches!(saying, Saying::Says { .. }) {
+        if octets.len() > 1 && found.start < finder.gap.end {
+            runs.time = None;
+        }
+        keep_run(line, found, saying, octets, finder, runs);
+    } else if finder
+        .lone
+        .is_none_or(|lone| found.is_later(lone.start, lone.end))
+    {
+        finder.lone = Some(found);
+    }
+}
+
+/// Returns whether a run is within a longer one that is kept.
+fn is_covered(found: Found, runs: &LineRuns) -> bool {
+    for said in runs.said.as_slice() {
+        let is_longer = said.start < found.start || found.end < said.end;
+        if said.start <= found.start && found.end <= said.end && is_longer {
+            return true;
+        }
+    }
+    false
+}
+
+/// Appends a run to those that are kept, if there is room.
+fn keep_run(
+    line: &[u8],
+    found: Found,
+    saying: Saying,
+    octets: &mut Octets,
+    finder: &mut Finder,
+    runs: &mut LineRuns,
+)
+    requires written { IsWrittenAt line.now found.notation found.start found.end octets.old.items }
+    requires saying { IsSaying octets.old.items saying }
+    requires said { All (IsSaidIn line.now) runs.old.said.items }
+    ensures { All (IsSaidIn line.now) runs.new.said.items }
+{
+    if runs.said.is_full() {
+        runs.is_over |= !is_covered(found, runs);
+        return;
+    }
+    let text = &line[..found.start];
+    finder.before.reach(line, finder.gap, found.start);
+    let mask = finder.before.mask;
+    let after = read_after(&line[found.end..], octets.as_slice());
+    runs.said.push(Said {
+        start: found.start,
+        end: found.end,
+        octets: mem::replace(octets, Octets::new()),
+        saying,
+        shape: Shape {
+            before: mask.sum(),
+            mark: found.mark,
+            after: after.sum,
+        },
+        letters: mask.letters(),
+        ways: found.ways,
+        notation: found.notation,
+        direction: direction_of(text, finder.gap),
+        has_before: mask.has_text(),
+        has_tail: after.has_tail,
+        is_last: after.is_last,
+    });
+}
+
+/// Keeps the last run of the line if it has one octet and says no message: it may be a row of octets.
+fn keep_lone(line: &[u8], octets: &mut Octets, finder: &mut Finder, runs: &mut LineRuns)
+    requires { All (IsSaidIn line.now) runs.old.said.items }
+    ensures { All (IsSaidIn line.now) runs.new.said.items }
+{
+    let Some(lone) = finder.lone else {
+        return;
+    };
+    for said in &runs.said {
+        if !lone.is_later(said.start, said.end) {
+            return;
+        }
+    }
+    let again = if lone.notation == Notation::Words {
+        next_words(
+            line,
+            lone.start,
+            finder.gap,
+            lone.mark,
+            lone.is_short,
+            octets,
+        )
+    } else {
+        bracketed_at(line, lone.start, octets)
+    };
+    if let Some(found) = again {
+        let saying = read_saying(octets.as_slice());
+        keep_run(line, found, saying, octets, finder, runs);
+    }
+}

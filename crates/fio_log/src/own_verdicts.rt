@@ -1,0 +1,58 @@
+//! What is told of the lines of the program's own texts, by order.
+use crate::judge::Line;
+use crate::messages::Message;
+use crate::own_texts::{OwnForm, OwnLine, read_own_line};
+use crate::places::{Notation, Place};
+use crate::telling::{Frames, Told};
+use crate::verdict::{Form, Kind, Reason};
+use fio_message::FRAME_OCTETS;
+
+impl Form {
+    /// Returns the text whose lines are read by order.
+    pub(crate) fn own(self) -> Option<OwnForm> {
+        match self {
+            Form::Auto => None,
+            Form::Frames => Some(OwnForm::Frames),
+            Form::Transcript => Some(OwnForm::Transcript),
+        }
+    }
+}
+
+impl Frames {
+    /// Tells what a line of an own text is, and takes its frame.
+    pub(crate) fn tell_own(&mut self, form: OwnForm, line: Line) -> Told {
+        self.clear();
+        let mut room = [0; FRAME_OCTETS];
+        let (kind, reason) = match read_own_line(form, line.text, &mut room) {
+            OwnLine::Skipped => (Kind::Blank, Reason::None),
+            _ if line.is_long => (Kind::Damaged, Reason::TooLong),
+            OwnLine::Bad => (Kind::Damaged, Reason::BadLine),
+            OwnLine::Faulty { .. } => (Kind::Damaged, Reason::NoMessage),
+            OwnLine::Frame { count } => self.take_own(form, line, room.get(..count)),
+        };
+        Told {
+            kind,
+            reason,
+            places: self.messages.len(),
+            time: None,
+        }
+    }
+
+    /// Takes the frame of a line, and returns what the line is.
+    fn take_own(&mut self, form: OwnForm, line: Line, octets: Option<&[u8]>) -> (Kind, Reason) {
+        let Some(message) = octets.and_then(Message::of) else {
+            return (Kind::Damaged, Reason::NoMessage);
+        };
+        let _room = self.messages.try_push(message);
+        self.own_place = Some(Place {
+            line: line.number,
+            start: match form {
+                OwnForm::Frames => 0,
+                OwnForm::Transcript => 2,
+            },
+            end: line.text.len(),
+            notation: Notation::Words,
+        });
+        (Kind::Frames, Reason::None)
+    }
+}

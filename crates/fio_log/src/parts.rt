@@ -1,0 +1,66 @@
+//! The parts of a time, and how late it is.
+
+/// The days from 1 March of the year 0 to 1970.
+const DAYS_TO_1970: u64 = 719_468;
+
+/// The parts of a time. A day of 0 says that it has no date.
+#[derive(Clone, Copy)]
+pub(crate) struct Parts {
+    pub year: u64,
+    pub month: u64,
+    pub day: u64,
+    pub hour: u64,
+    pub minute: u64,
+    pub second: u64,
+    pub microseconds: u64,
+}
+
+impl Parts {
+    /// Sets the part of a sign of a form.
+    pub(crate) fn set(&mut self, sign: u8, value: u64) {
+        match sign {
+            b'Y' => self.year = value,
+            b'M' => self.month = value,
+            b'D' => self.day = value,
+            b'h' => self.hour = value,
+            b'm' => self.minute = value,
+            _ => self.second = value,
+        }
+    }
+
+    /// Returns the days since 1970, 0 without a date. A year begins with March here.
+    fn days(&self) -> u64 {
+        if self.day == 0 {
+            return 0;
+        }
+        let is_early = self.month < 3;
+        let year = if is_early {
+            self.year.saturating_sub(1)
+        } else {
+            self.year
+        };
+        let month = if is_early {
+            self.month.saturating_add(9)
+        } else {
+            self.month - 3
+        };
+        let leaps = year / 4 - year / 100 + year / 400;
+        let days = year.saturating_mul(365).saturating_add(leaps);
+        let in_year = month.saturating_mul(153).saturating_add(2) / 5;
+        let all = days
+            .saturating_add(in_year)
+            .saturating_add(self.day)
+            .saturating_sub(1);
+        all.saturating_sub(DAYS_TO_1970)
+    }
+
+    /// Returns the microseconds since 1970, or since midnight.
+    pub(crate) fn total(&self) -> u64 {
+        let hours = self.days().saturating_mul(24).saturating_add(self.hour);
+        let minutes = hours.saturating_mul(60).saturating_add(self.minute);
+        let seconds = minutes.saturating_mul(60).saturating_add(self.second);
+        seconds
+            .saturating_mul(1_000_000)
+            .saturating_add(self.microseconds)
+    }
+}

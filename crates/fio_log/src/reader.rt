@@ -1,0 +1,267 @@
+//! The reader of a log: octets to lines, and lines to verdicts.
+ghost use Rattle.std.specs.Prelude.{◌≡◌, ◌+◌, ◌≤◌, ◌<◌, ◌↔◌, true, false, IfSome, IsSome, IsTrue, MatchOption, length, take};
+ghost use Rattle.fio_log.specs.Lines.{finished, no_line};
+ghost use Rattle.fio_log.specs.Sayings.{spells};
+ghost use Rattle.fio_log.specs.Telling.{HasNoMore, HasTaken, HasTold, read_after};
+
+use crate::judge::{Judge, Line};
+use crate::line_runs::read_line;
+use crate::lines::LineMaker;
+use crate::places::Place;
+use crate::said::LineRuns;
+use crate::telling::{Frames, Told};
+use crate::verdict::{Form, Verdict};
+use std::marker::Model;
+
+/// A reader of a log. It takes the octets of the log, and tells a verdict of each line, in order.
+///
+/// Verdicts are fetched with `verdict` until there is none, then the next octets are fed.
+#[derive(Drop)]
+pub struct Reader {
+    maker: LineMaker,
+    runs: LineRuns,
+    judge: Judge,
+    frames: Frames,
+    form: Form,
+    /// What is told of the last line, if it is read by order.
+    own: Told,
+    read: u64,
+    told: u64,
+    /// Whether the last line is still to be judged, after the verdicts of those above it are fetched.
+    is_held: bool,
+    is_ready: bool,
+    is_ended: bool,
+}
+
+impl Model for Reader {
+    ghost use Rattle.std.specs.Prelude.{◌≡◌, ◌≤◌, ◌<◌, true, if◌then◌else◌};
+    ghost use Rattle.arrayvec.specs.ArrayVec.{array_vec_len};
+    ghost use Rattle.fio_log.specs.Telling.{Telling};
+
+    ghost Value = { Telling };
+
+    ghost view = { λ r. record {
+      making = r.maker;
+      read = r.read;
+      told = r.told;
+      is_ready = r.is_ready;
+      frames = if r.frames.are_chain then array_vec_len r.judge.join.chain.parts else array_vec_len r.frames.messages;
+      is_ended = r.is_ended;
+    } };
+
+    ghost invariant = { λ r. (r.told ≤ r.read)
+        × (r.is_ready ≡ true → r.told < r.read)
+        × (r.is_ended ≡ true → r.told < r.read → r.is_ready ≡ true) };
+}
+
+impl Reader {
+    /// Returns a reader that has read nothing.
+    pub fn new(form: Form) -> Reader
+        ensures line { result.making ≡ no_line }
+        ensures none_read { result.read ≡ 0 }
+        ensures none_told { result.told ≡ 0 }
+        ensures open { result.is_ended ≡ false }
+    {
+        Reader {
+            maker: LineMaker::new(),
+            runs: LineRuns::new(),
+            judge: Judge::new(),
+            frames: Frames::new(),
+            form,
+            own: Told::none(),
+            read: 0,
+            told: 0,
+            is_held: false,
+            is_ready: false,
+            is_ended: false,
+        }
+    }
+
+    /// Begins anew with another log.
+    pub fn start(&mut self, form: Form)
+        ensures line { self.new.making ≡ no_line }
+        ensures none_read { self.new.read ≡ 0 }
+        ensures none_told { self.new.told ≡ 0 }
+        ensures open { self.new.is_ended ≡ false }
+    {
+        *self = Reader::new(form);
+    }
+
+    /// Takes octets of the log until they end a line or there are no more, and returns how many it has taken. While a
+    /// verdict can be fetched, after the end, and after 2^64 - 1 lines it takes none.
+    pub fn feed(&mut self, octets: &[u8]) -> usize
+        ensures within { result ≤ length octets.now }
+        ensures taken { 0 < result → HasTaken self.old (take result octets.now) self.new }
+        ensures none { result ≡ 0 → self.new ≡ self.old }
+        ensures forward { self.old.is_ready ≡ false → self.old.is_ended ≡ false → self.old.read < u64.MAX
+            → 0 < length octets.now → 0 < result }
+    {
+        if self.is_ready || self.is_ended || self.read == u64::MAX || octets.is_empty() {
+            return 0;
+        }
+        self.judge_held();
+        let count = self.maker.take(octets);
+        if self.maker.is_whole() {
+            self.read_line();
+        } else {
+            self.refresh();
+        }
+        count
+    }
+
+    /// Ends the log: the line that is made is its last one, if it has octets. Then each line has its verdict. Of the verdicts
+    /// that can be fetched before, one with several frames of several lines may be lost: it is fetched as `TooLong`.
+    pub fn end(&mut self)
+        ensures ended { self.new.is_ended ≡ true }
+        ensures line { self.old.is_ended ≡ false → self.old.read < u64.MAX
+            → (self.new.making ≡ finished self.old.making)
+            × (self.new.read ≡ read_after self.old.read self.new.making) }
+        ensures told { self.new.told ≡ self.old.told }
+    {
+        if !self.is_ended && self.read < u64::MAX {
+            self.judge_held();
+            self.maker.finish();
+            if self.maker.is_whole() {
+                self.read_line();
+            }
+        }
+        self.is_ended = true;
+        self.is_ready = self.told < self.read;
+        self.refresh();
+    }
+
+    /// Reads the line that is whole.
+    fn read_line(&mut self)
+        requires room { self.old.read < u64.MAX }
+        requires open { self.old.is_ended ≡ false }
+        ensures line { self.new.making ≡ self.old.making }
+        ensures read { self.new.read ≡ self.old.read + 1 }
+        ensures told { self.new.told ≡ self.old.told }
+        ensures ended { self.new.is_ended ≡ self.old.is_ended }
+    {
+        self.read += 1;
+        let line = Line {
+            number: self.read,
+            text: self.maker.octets(),
+            is_long: self.maker.is_long(),
+        };
+        if let Some(form) = self.form.own() {
+            self.own = self.frames.tell_own(form, line);
+            self.refresh();
+            return;
+        }
+        read_line(line.read_part(), &mut self.runs);
+        self.is_held = !self.judge.goes_on(line, &self.runs);
+        self.refresh();
+    }
+
+    /// Judges the line that is held.
+    fn judge_held(&mut self)
+        ensures line { self.new.making ≡ self.old.making }
+        ensures read { self.new.read ≡ self.old.read }
+        ensures told { self.new.told ≡ self.old.told }
+        ensures ended { self.new.is_ended ≡ self.old.is_ended }
+    {
+        if self.is_held {
+            self.is_held = false;
+            let line = Line {
+                number: self.read,
+                text: self.maker.octets(),
+                is_long: self.maker.is_long(),
+            };
+            self.judge.begin(line, &self.runs);
+        }
+    }
+
+    /// Judges the line that is held, and after the end what waits, once no verdict is left to be fetched; then finds
+    /// whether there is one.
+    fn refresh(&mut self)
+        ensures line { self.new.making ≡ self.old.making }
+        ensures read { self.new.read ≡ self.old.read }
+        ensures told { self.new.told ≡ self.old.told }
+        ensures ended { self.new.is_ended ≡ self.old.is_ended }
+    {
+        if self.told == self.read {
+            self.is_ready = false;
+            return;
+        }
+        if self.form != Form::Auto {
+            self.is_ready = true;
+            return;
+        }
+        let next = self.told + 1;
+        if !self.judge.is_decided(next) {
+            self.judge_held();
+        }
+        self.judge.give_up_old();
+        if self.is_ended && !self.judge.is_decided(next) {
+            self.judge.finish();
+        }
+        self.is_ready = self.is_ended || self.judge.is_decided(next);
+    }
+
+    /// Returns the verdict of the next line; `None` if more octets decide on it, or if each line that is read has its
+    /// verdict. After the end that is each line of the log.
+    pub fn verdict(&mut self) -> Option<Verdict>
+        ensures ready { self.old.is_ready ≡ true → IsSome result }
+        ensures told { MatchOption result (HasNoMore self.old self.new) (λ verdict. HasTold self.old verdict self.new) }
+        ensures all { self.old.is_ended ≡ true → result ≡ None → self.old.told ≡ self.old.read }
+    {
+        let was_ready = self.is_ready;
+        self.refresh();
+        if !was_ready && !self.is_ready {
+            return None;
+        }
+        self.told += 1;
+        let told = if self.form == Form::Auto {
+            self.judge.tell(self.told, &mut self.frames)
+        } else {
+            self.own
+        };
+        self.is_ready = self.told < self.read
+            && (self.is_ended || self.form != Form::Auto || self.judge.is_decided(self.told + 1));
+        Some(Verdict {
+            line: self.told,
+            kind: told.kind,
+            reason: told.reason,
+            frames: self.frame_count(),
+            places: told.places,
+            time: told.time,
+        })
+    }
+
+    /// Returns how many frames the last verdict has.
+    fn frame_count(&self) -> usize
+        ensures { result ≡ self.now.frames }
+    {
+        if self.frames.are_chain {
+            self.judge.join.chain.len()
+        } else {
+            self.frames.messages.len()
+        }
+    }
+
+    /// Returns a frame of the last verdict, until the next call that changes the reader.
+    pub fn frame(&self, index: usize) -> Option<&[u8]>
+        ensures given { IsSome result ↔ (index < self.now.frames) }
+        ensures spelled { IfSome result (λ octets. spells octets.now ≡ true) }
+    {
+        if self.frames.are_chain {
+            return self.judge.join.chain.message(index);
+        }
+        let messages = self.frames.messages.as_slice();
+        if index < messages.len() {
+            Some(messages[index].octets())
+        } else {
+            None
+        }
+    }
+
+    /// Returns a place where octets of the last verdict's frames are written.
+    pub fn place(&self, index: usize) -> Option<Place> {
+        if self.form != Form::Auto {
+            return self.frames.own_place.filter(|_| index == 0);
+        }
+        self.judge.place(index)
+    }
+}

@@ -1,0 +1,68 @@
+//! What a reader says of the lines of a log.
+
+/// How lines are read. By order each line is one of `show` or `check`, without what is no character of a line; other than
+/// there a line also ends at CR.
+#[derive(Clone, Copy, Debug, PartialEq, Eq)]
+pub enum Form {
+    /// By the definition: what octets of a line say, and what makes that sure.
+    Auto,
+    /// As the lines of `show` are.
+    Frames,
+    /// As the lines of `check` are.
+    Transcript,
+}
+
+/// What a line is.
+#[derive(Clone, Copy, Debug, PartialEq, Eq)]
+pub enum Kind {
+    /// It has nothing but blanks.
+    Blank,
+    /// It says one or more frames, or their first octets.
+    Frames,
+    /// It has octets of the frames of a line above.
+    Part,
+    /// It says a message, and nothing makes that sure.
+    Possible,
+    /// It may have held a frame, and gave none.
+    Damaged,
+    /// It is none of these.
+    PassedOver,
+}
+
+/// Why a line gave no frame.
+#[derive(Clone, Copy, Debug, PartialEq, Eq)]
+pub enum Reason {
+    /// It did, or it is blank.
+    None,
+    /// It has no octets.
+    NoOctets,
+    /// Its octets spell no message.
+    NoMessage,
+    /// It says a short message, and is unlike the lines of other messages.
+    ShortMessage,
+    /// It says more than one message.
+    SeveralMessages,
+    /// It may be one message with the line below or above, or one by itself.
+    MayBeLonger,
+    /// It is longer than a line, or than the octets of several lines, that are kept.
+    TooLong,
+    /// It is no line of the text that it is read as by order.
+    BadLine,
+}
+
+/// What a reader says of a line.
+#[derive(Clone, Copy, Debug, PartialEq, Eq)]
+pub struct Verdict {
+    /// The number of the line, from 1.
+    pub line: u64,
+    /// What it is.
+    pub kind: Kind,
+    /// Why it gave no frame.
+    pub reason: Reason,
+    /// How many frames it gives, with those of the lines below that go on with it.
+    pub frames: usize,
+    /// At how many places their octets are written.
+    pub places: usize,
+    /// Its time, in microseconds since 1970, or since midnight or a start if it has no date.
+    pub time: Option<u64>,
+}

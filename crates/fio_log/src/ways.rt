@@ -1,0 +1,123 @@
+//! Ways of writing octets: how many digits the words have, and what separates them.
+ghost use Rattle.std.specs.Prelude.{◌<◌};
+
+use crate::literals::Literal;
+use crate::runs::{Run, Separator};
+
+/// A set of ways of writing, a bit each. Without any it is that of one word, which can be of all ways.
+///
+/// Four bits belong to each separator, for words of 2, 4, 8, and of one or two digits.
+#[derive(Clone, Copy, Debug, Default, PartialEq, Eq)]
+pub(crate) struct Ways {
+    bits: u64,
+}
+
+/// The bits of words of two digits.
+const TWO_DIGITS: u64 = 0x0011_1111_1111_1111;
+
+/// The bits of words of one or two digits.
+const ONE_DIGIT: u64 = 0x0088_8888_8888_8888;
+
+/// The bit of a single word that is not of two digits.
+const ONE_WORD: u64 = 1 << 56;
+
+/// The bit of literals that write printable characters as themselves.
+const PLAIN: u64 = 1 << 57;
+
+/// The bit of literals that write them as escapes.
+const ESCAPED: u64 = 1 << 58;
+
+/// The bit of several decimal numbers.
+const NUMBERS: u64 = 1 << 59;
+
+impl Ways {
+    /// Returns the ways that a run of hexadecimal words can be of.
+    pub(crate) fn of_run(run: Run) -> Ways {
+        let Some(separator) = run.separator else {
+            let bits = if run.width > 2 { ONE_WORD } else { 0 };
+            return Ways { bits };
+        };
+        let bits: u64 = match run.width {
+            2 if run.is_bare => 0b1001,
+            2 => 0b0001,
+            4 => 0b0010,
+            8 => 0b0100,
+            _ => 0b1000,
+        };
+        Ways {
+            bits: bits << (4 * separator_index(separator)),
+        }
+    }
+
+    /// Returns the ways that a string literal can be of.
+    pub(crate) fn of_literal(literal: Literal) -> Ways {
+        Ways {
+            bits: match (literal.is_plain, literal.is_escaped) {
+                (true, _) => PLAIN,
+                (false, true) => ESCAPED,
+                (false, false) => PLAIN | ESCAPED,
+            },
+        }
+    }
+
+    /// Returns the ways that decimal numbers in brackets can be of.
+    pub(crate) fn of_numbers(count: usize) -> Ways {
+        Ways {
+            bits: if count > 1 { NUMBERS } else { 0 },
+        }
+    }
+
+    /// Returns whether a run with these ways can be of all ways.
+    pub(crate) fn is_any(self) -> bool {
+        self.bits == 0
+    }
+
+    /// Returns whether two runs can be written in one way.
+    pub(crate) fn meets(self, other: Ways) -> bool {
+        self.is_any() || other.is_any() || self.bits & other.bits != 0
+    }
+
+    /// Returns whether a run was written in one of the ways that `known` has.
+    pub(crate) fn is_known_in(self, known: Ways) -> bool {
+        self.is_any() || self.bits & known.bits != 0
+    }
+
+    /// Returns whether all its words are of one or two digits, and one has one.
+    pub(crate) fn is_one_digit(self) -> bool {
+        !self.is_any() && self.bits & !ONE_DIGIT == 0
+    }
+
+    /// Returns whether it has words of one digit, and `known` has the same with two digits.
+    pub(crate) fn has_lost_a_digit(self, known: Ways) -> bool {
+        self.is_one_digit() && self.bits & !((known.bits & TWO_DIGITS) << 3) == 0
+    }
+
+    /// Returns the ways of both sets. What `other` has with two digits it does not add with one.
+    pub(crate) fn with(self, other: Ways) -> Ways {
+        let doubtful = (other.bits & TWO_DIGITS) << 3;
+        Ways {
+            bits: self.bits | other.bits & !doubtful,
+        }
+    }
+}
+
+/// Returns the index of a separator, from 0 to 13. Blanks before a sign count as blanks after it.
+fn separator_index(separator: Separator) -> u32
+    ensures { result < 14 }
+{
+    let sign = match separator.sign {
+        0 => return 0,
+        b' ' => return 1,
+        b'\t' => 2,
+        b',' => 4,
+        b';' => 6,
+        b':' => 8,
+        b'-' => 10,
+        _ => 12,
+    };
+    if separator.before || separator.behind {
+        sign + 1
+    } else {
+        sign
+    }
+}

@@ -1,0 +1,487 @@
+"""The independent model of the reader of logs, line by line, as docs/CAPTURES.md defines it. `LogReader` has the interface of
+`fio2070.LogReader`: the tests of the library compare the two, and `fiolog` runs on it where the library has no such class."""
+
+import re
+from typing import NamedTuple, Optional, Tuple
+
+from support.log_clock import DIGITS, HEX, MONTHS, without_time
+from support.log_runs import (BLANK, HELD, LATER, LINE, LOOSE, MOST, ROW, SHAPES, WORD, YOUNG, frames_of, hex_runs, is_pair, lacks,
+                              runs, spells)
+
+NO_OCTETS, NO_MESSAGE, SHORT, SEVERAL, LONGER, TOO_LONG, BAD_LINE = (
+    'no octets', 'no message', 'short message', 'several messages', 'may be longer', 'too long', 'bad line')
+
+
+class Verdict(NamedTuple):
+    """What is said of a line, as `fio2070.Verdict`."""
+    line: int
+    kind: str
+    reason: str
+    frames: Tuple[bytes, ...] = ()
+    places: Tuple[Tuple[int, int, int], ...] = ()
+    time: Optional[int] = None
+
+
+# 1. Lines ---------------------------------------------------------------------------------------------------------------
+
+def cleaned(text):
+    """The text without byte order mark, colours, CR and NUL."""
+    out, place = [], 0
+    while place < len(text):
+        if text.startswith('\x1b[', place):
+            place += 2
+            while place < len(text) and not text[place].isalpha():
+                place += 1
+        elif text[place] not in '\r\0\ufeff':
+            out.append(' ' if text[place] == '\u00a0' else text[place])
+        place += 1
+    return ''.join(out)
+
+
+def masked(text, letters=False):
+    """The text with each word that has a digit as 0, and one blank for several."""
+    out, place = [], 0
+    while place < len(text):
+        end = place
+        while end < len(text) and (text[end].isalnum() or text[end] in WORD):
+            end += 1
+        if end > place:
+            word = text[place:end]
+            out.append('0' if set(word) & DIGITS else 'a' if letters else word.lower())
+        elif text[place] in BLANK:
+            out.append(' ' if out and out[-1] != ' ' else '')
+        else:
+            out.append(text[place])
+        place = max(end, place + 1)
+    return ''.join(out).strip()
+
+
+def words_of(text):
+    """The words of a text."""
+    return ''.join(char if char.isalnum() else ' ' for char in text).split()
+
+
+def beginning(text, heads):
+    """What of a text is the beginning of one of these masked texts, and the rest; of a word the beginning is that too."""
+    end = 0
+    while end < len(text):
+        stop = end + 1
+        while stop < len(text) and all(one.isalnum() or one in WORD for one in text[stop - 1:stop + 1]):
+            stop += 1
+        if not any(head.startswith(masked(text[:stop])) for head in heads):
+            stop -= 1
+            while stop > end and not any(head.startswith(masked(text[:stop])) for head in heads):
+                stop -= 1
+            return text[:stop].strip(), text[stop:]
+        end = stop
+    return text.strip(), ''
+
+
+def rest_of(text, octets):
+    """What stands behind octets, without a column of their characters, and without separators."""
+    if text[:2] in ('  ', ' |') or text[:1] in ('\t', '|'):
+        column = iter(text)
+        if len(text.strip(' \t|')) <= len(octets) + 1 and all(chr(one) in column for one in octets if 32 < one < 127):
+            return ''
+    return text.strip(' \t,;\\')
+
+
+SENT, HEARD = {'tx', 'sent', 'out', 'write', 'cpu', '>'}, {'rx', 'received', 'in', 'read', 'fio', '<'}
+
+
+def direction_of(shape):
+    """The direction that a shape ends with, where it has no other words."""
+    words = ''.join(char if char.isalnum() else ' > ' if char in '>\u2192' else ' < ' if char in '<\u2190' else ' '
+                    for char in shape).split()
+    letters = {word for word in words if word != '0'}
+    return '' if len(letters) != 1 or words[-1] == '0' else '>' if letters <= SENT else '<' if letters <= HEARD else ''
+
+
+class Said:
+    """A run with what stands around it."""
+    def __init__(self, run, line, number, text):
+        self.run, self.octets, self.frames, self.sure = run, run.octets, run.frames, run.sure
+        self.before, self.tail = masked(line[:run.start]), text[run.end:].strip(' \t,;')
+        self.after = rest_of(text[run.end:], run.octets)
+        self.shape, self.ways = (self.before, run.mark, masked(self.after)), run.ways
+        self.places, self.key = [(number, run.start, run.end)], self.shape[:2]
+
+    def is_bare(self):
+        """Whether a line is nothing but a message, perhaps behind a number, a time and its right direction."""
+        is_directed = direction_of(self.before) == '<>'[self.octets[0] < 128] and len(self.octets) > 1 and self.octets[0] not in LOOSE
+        return (is_directed or not self.before) and not self.tail and (
+            self.run.mark[0] not in ('literal', 'numbers') and not (self.ways and all(way[0] == 0 for way in self.ways)))
+
+
+class Line:
+    def __init__(self, number, text):
+        self.number, self.text = number, text
+        self.is_long = len(text) > LINE
+        self.time, self.masked, place = (None, '', 0) if self.is_long else without_time(text)
+        self.said = [Said(run, self.masked, number, text) for run in runs(self.masked)]
+        self.fits = [one for one in self.said if one.frames]
+        self.time = None if any(len(one.octets) > 1 and one.run.start < place for one in self.said) else self.time
+
+
+# 2. The reader ------------------------------------------------------------------------------------------------------------
+
+class Entry:
+    """Lines that stand or fall together. `kind` is None while it waits."""
+    def __init__(self, line, said, join=None, heading=None):
+        self.numbers, self.said, self.fits, self.join = [line.number], said, [one for one in said if one.frames], join
+        self.time, self.kind, self.reason, self.frames, self.until, self.places = line.time, None, '', [], None, []
+        self.text = line.masked
+        self.time = heading if self.time is None else self.time
+        self.chosen = None
+
+    def settle(self, kind, reason='', said=()):
+        self.kind, self.reason = kind, reason
+        self.frames = [frame for one in said for frame in one.frames]
+        self.places = [place for one in said for place in one.places]
+
+
+class Join:
+    """Octets on several lines: `way` is wrap, dump or burst."""
+    def __init__(self, way, said, line):
+        self.way, self.first, self.octets, self.places, self.width, self.last = way, said, said.octets, list(said.places), len(
+            said.octets), len(said.octets)
+        self.time, self.bad, self.same = line.time, '', False
+
+    def add(self, said, line):
+        self.octets += said.octets
+        self.places += said.places
+        self.last, self.time = len(said.octets), line.time
+
+
+class Reader:
+    """Gives a verdict of each line, in order."""
+    def __init__(self):
+        self.shapes, self.widths, self.tallies, self.queue, self.open, self.step = {}, {}, {}, [], None, None
+        # The marks and separators of frames, what is before their octets, and the words after them.
+        self.ways, self.heads, self.tails = set(), set(), set()
+        self.count, self.others, self.above, self.heading = 0, 0, None, None
+
+    def feed(self, number, text):
+        line = Line(number, cleaned(text))
+        if not (self.open and self.goes_on(line)):
+            if self.open:
+                self.close()
+            self.begin(line)
+        return self.certain()
+
+    def end(self):
+        if self.open:
+            self.close()
+        for one in [one for one in self.queue if one.kind is None]:
+            self.give_up(one)
+        for one in self.queue if not self.count else ():
+            self.ask(one)
+        return self.certain()
+
+    def give_up(self, entry):
+        """Ends a wait. A line that is nothing but a message is a frame, where each line of its shape so far was one; one
+        without a direction, where each line of the log was."""
+        if entry.kind is None:
+            one = entry.fits[0]
+            others = self.tallies.get(one.key, (0, 1))[1] if one.before else self.others or self.shapes
+            one.sure = len(entry.fits) == 1 and one.is_bare() and not others
+            self.take(entry, one) if one.sure else self.pass_over(entry)
+
+    def begin(self, line):
+        if line.is_long:
+            self.queue.append(Entry(line, []))
+            self.queue[-1].settle('passed over', TOO_LONG)
+            return
+        if not line.text.strip():
+            self.queue.append(Entry(line, []))
+            self.queue[-1].settle('blank')
+            return
+        heading, self.heading = self.heading, None if any(len(one.octets) > 1 for one in line.said) else line.time
+        dump = offset_row(line)
+        if dump and 0 in dump[0]:
+            self.open = Entry(line, [], Join('dump', dump[1], line), heading) if dump[1] else None
+        elif not any(one.sure for one in line.fits):
+            tails = {one.octets: one for one in line.said if not one.after and len(one.octets) >= ROW
+                     and (lacks(one.octets) or one.frames and one.octets[0] in LOOSE)}
+            last = last_run(line)
+            if len(tails) == 1:
+                self.open = Entry(line, line.said, Join('wrap', *tails.values(), line), heading)
+            elif last and len(last.octets) == 1 and not any(len(one.octets) > 1 for one in line.fits) and (
+                    last.before, last.run.mark) not in self.tallies:
+                self.open = Entry(line, line.said, Join('burst', last, line))
+        if self.open:
+            self.queue.append(self.open)
+        else:
+            self.queue.append(Entry(line, line.said, None, heading))
+            self.decide(self.queue[-1])
+
+    # Several lines
+
+    def goes_on(self, line):
+        entry, join = self.open, self.open.join
+        way = {'wrap': self.wraps, 'dump': self.dumps, 'burst': self.bursts}[join.way](join, line)
+        if way:
+            entry.numbers.append(line.number)
+            if way != 'more':
+                self.close()
+                self.open = None
+        return bool(way)
+
+    def dumps(self, join, line):
+        row = offset_row(line)
+        if not row or len(join.octets) not in row[0] or len(join.octets) > MOST:
+            return ''
+        if row[1]:
+            join.add(row[1], line)
+        return 'more' if row[1] else 'end'
+
+    def wraps(self, join, line):
+        """Whether a line is the next row: nothing before its octets but blanks, or what stood in the row above."""
+        first = join.first
+        rows = [one for one in line.said if one.run.mark == first.run.mark and not one.after and one.before in ('', first.before)
+                and (one.ways is None or first.ways is None or one.ways & first.ways) and join.last == join.width >= len(one.octets)]
+        row = max(rows, key=lambda one: len(one.octets), default=None)
+        if not row:
+            return ''
+        total, is_loose = join.octets + row.octets, not lacks(join.octets)
+        hangs = bool(first.before) and not row.before
+        if hangs and line.text[0] not in BLANK:
+            return ''
+        if not (spells(total) or lacks(total) or frames_of(total, False)[0]):
+            return ''
+        if not hangs and self.widths.get(first.shape[:2]) != join.width:
+            fits = any(one.frames for one in line.said if one is row)
+            if is_loose and fits:
+                return ''
+            if is_loose or fits:
+                join.bad = LONGER
+        elif not hangs and is_loose and row.sure:
+            return ''
+        join.add(row, line)
+        join.same |= not hangs
+        over = not lacks(join.octets) and (not is_loose or len(row.octets) < join.width) or join.bad
+        return 'end' if over else 'more'
+
+    def bursts(self, join, line):
+        row = last_run(line)
+        if not row or row.run.mark != join.first.run.mark or len(row.octets) > (2 if len(join.octets) > 2 else 1) or (
+                len(join.octets) > MOST):
+            return ''
+        if line.time is None or join.time is None:
+            if row.before != join.first.before:
+                return ''
+        else:
+            if masked(row.before, True) != masked(join.first.before, True):
+                return ''
+            step = line.time - join.time
+            if self.step is not None and step > 2.5 * self.step:
+                return ''
+            if step > 0:
+                self.step = step if self.step is None else min(step, self.step)
+        join.add(row, line)
+        return 'more'
+
+    def close(self):
+        """Ends what is open: its octets are judged, and its lines stand or fall together."""
+        entry, self.open = self.open, None
+        join = entry.join
+        one = join.first
+        if len(entry.numbers) == 1 and join.way != 'dump' and (join.way == 'wrap' or (masked(one.before, True), one.run.mark,
+                                                                                     'burst') not in self.shapes):
+            self.decide(entry)
+            return
+        one.octets, one.places = join.octets, join.places
+        one.frames, one.sure = frames_of(join.octets, join.way != 'wrap')
+        one.shape = (masked(one.before, True) if join.way == 'burst' else one.before, one.run.mark, join.way) if join.way != 'wrap' else one.shape
+        one.ways = one.ways if join.way == 'wrap' else None
+        one.key = one.shape if join.way != 'wrap' else one.key
+        entry.said, entry.fits = [one], [one] if one.frames and not join.bad else []
+        if join.same and one.sure and not join.bad:
+            self.widths[one.shape[:2]] = join.width
+        if join.bad:
+            entry.settle('passed over', join.bad)
+        else:
+            self.decide(entry)
+
+    # One line
+
+    def decide(self, entry):
+        if not entry.fits:
+            self.others += 1
+            self.tally(entry.said, 1)
+            self.pass_over(entry)
+            return
+        self.tally(entry.fits, 0)
+        self.others += not (len(entry.fits) == 1 and entry.fits[0].is_bare())
+        above, self.above = self.above, entry
+        if above:
+            pairs = [(a, b) for a in above.fits for b in entry.fits if is_pair(a, b) and above.chosen in (None, a)]
+            if len({(a.octets, b.octets) for a, b in pairs}) == 1:
+                for a, b in pairs:
+                    a.sure = b.sure = True
+                if above.kind is None:
+                    self.judge(above)
+        self.judge(entry)
+        if entry.kind is None:
+            entry.until = max(self.count + LATER, YOUNG)
+
+    def judge(self, entry):
+        """Takes the one message that a line says surely, or in a shape that is known; or a command and its answer."""
+        known = [one for one in entry.fits if self.is_known(one)]
+        sure = [one for one in entry.fits if one.sure and not self.lost_a_digit(one) or one in known]
+        pairs = [(a, b) for a in entry.fits for b in entry.fits if a.run.end <= b.run.start and is_pair(a, b)]
+        if len({(a.octets, b.octets) for a, b in pairs}) == 1:
+            self.take(entry, *pairs[0])
+        elif len({tuple(one.frames) for one in sure}) == 1:
+            self.take(entry, sure[0])
+        elif len({tuple(one.frames) for one in known}) == 1:
+            self.take(entry, known[0])
+        elif sure:
+            entry.settle('passed over', SEVERAL)
+
+    def tally(self, said, place):
+        """Counts, for each shape, the lines whose octets spell messages, and those whose octets spell none."""
+        for shape in {one.key for one in said if len(one.octets) > 1}:
+            if shape in self.tallies or len(self.tallies) < SHAPES:
+                self.tallies.setdefault(shape, [0, 0])[place] += 1
+
+    def is_known(self, one):
+        ways = self.shapes.get(one.shape)
+        good, bad = self.tallies.get(one.key, (1, 0))
+        return ways is not None and good >= bad and (one.ways is None or bool(ways & one.ways))
+
+    def lost_a_digit(self, one):
+        """Whether it has octets of one digit where the others of its shape have two."""
+        ways = self.shapes.get(one.shape, ())
+        return bool(one.ways) and all(way[0] == 0 and (2, way[1]) in ways for way in one.ways)
+
+    def take(self, entry, *found):
+        entry.settle('frames', '', found)
+        entry.chosen, new = found[-1], False
+        self.count += 1
+        for same in entry.fits:
+            if same.sure and len(same.octets) > 1 and any(same.frames == one.frames for one in found) and (
+                    len(self.shapes) < SHAPES):
+                self.ways |= {(same.run.mark, way) for way in (None, *(same.ways or ()))}
+                self.heads.add(same.before)
+                self.tails.add(tuple(words_of(masked(same.after))))
+                ways = self.shapes.setdefault(same.shape, set())
+                size = len(ways)
+                ways |= {(2, way[1]) if (2, way[1]) in same.ways else way for way in same.ways or ()}
+                new |= len(ways) > size or not size
+        for other in self.queue if new else ():
+            if other.kind is None and other is not self.open:
+                self.judge(other)
+
+    def pass_over(self, entry):
+        has_octets = any(len(one.octets) > 1 for one in entry.said)
+        entry.settle('passed over', SHORT if entry.fits else NO_MESSAGE if has_octets else NO_OCTETS)
+
+    def ask(self, entry):
+        """Marks the one message that a line says, where no line of the log is a frame, as possible: one of two octets or more, or
+        one that is the whole line."""
+        told = {tuple(one.frames) for one in entry.fits if len(one.octets) > 1 or not one.before and not one.tail}
+        if entry.reason == SHORT and len(told) == 1:
+            entry.settle('possible', SHORT, [one for one in entry.fits if tuple(one.frames) in told][:1])
+
+    def is_damaged(self, entry):
+        """Whether a line may have held a frame: its shape is known; a run that is written as the frames are says or begins a
+        message; or the line is what is left of one after a cut."""
+        octets = [one for one in entry.said if len(one.octets) > 1]
+        written = [one for one in entry.said if (one.run.mark, None) in self.ways and one.before in self.heads and not one.ways or any(
+            (one.run.mark, way) in self.ways for way in one.ways or ())]
+        return any(self.is_known(one) for one in octets) or any(one.frames or lacks(one.octets) for one in written) or (
+            self.is_left(entry.text))
+
+    def is_left(self, text):
+        """Whether a text is the beginning of what is before the octets of others, perhaps nothing, then words of digits, of which one
+        may be a piece of a time, then the end of what is after them."""
+        head, rest = beginning(text, self.heads)
+        words = [word for word in words_of(rest) if not any(word.lower() in tail for tail in self.tails)]
+        digits = [word for word in words if set(word) <= HEX | set('xXTZ') or any(month.startswith(word.lower()) for month in MONTHS)]
+        return digits == words and bool(words or words_of(head))
+
+    def certain(self):
+        """The verdicts of the lines that are decided, in order."""
+        done = []
+        while self.queue and self.queue[0] is not self.open:
+            entry = self.queue[0]
+            if entry.kind is None:
+                if self.count < entry.until and len(self.queue) <= HELD:
+                    break
+                self.give_up(entry)
+            self.queue.pop(0)
+            if entry.kind == 'passed over' and entry.reason != TOO_LONG and self.count and self.is_damaged(entry):
+                entry.kind = 'damaged'
+            time = None if entry.time is None else round(entry.time * 1_000_000)
+            first, *others = entry.numbers
+            done.append(Verdict(first, entry.kind, entry.reason, tuple(entry.frames), tuple(entry.places), time))
+            kind = 'part' if entry.frames else entry.kind
+            done += [Verdict(number, kind, entry.reason, time=time) for number in others]
+        return done
+
+
+def last_run(line):
+    """The last run of a line, the widest that ends there."""
+    return max(line.said, key=lambda one: (one.run.end, -one.run.start), default=None)
+
+
+def offset_row(line):
+    """The values that the offset before a row may have, and the row's run; None where there is no offset."""
+    text = line.text
+    start = len(text) - len(text.lstrip(' \t'))
+    start += 2 if text[start:start + 2] in ('0x', '0X') else 0
+    end = start
+    while end < len(text) and text[end] in HEX:
+        end += 1
+    if not 4 <= end - start <= 16 or text[end:end + 1] not in (':', ' ', '\t', ''):
+        return None
+    digits, place = text[start:end], end + (text[end:end + 1] == ':')
+    while place < len(text) and text[place] in ' \t':
+        place += 1
+    if place == end and place < len(text):
+        return None
+    values = {int(digits, 16)} | ({int(digits)} if set(digits) <= DIGITS else set()) | (
+        {int(digits, 8)} if set(digits) <= set('01234567') else set())
+    found = [run for run in hex_runs(text, place) if run.start == place]
+    best = max(found, key=lambda run: run.end, default=None)
+    if not best and place < len(text):
+        return None
+    return values, Said(best, text, line.number, text) if best else None
+
+
+# 3. Its interface -------------------------------------------------------------------------------------------------------
+
+ENDS = re.compile(b'\r\n|\n|\r')
+OWN = {'frames': re.compile(b'((?:[0-9a-fA-F]{2})+)'), 'transcript': re.compile(b'[<>] ((?:[0-9a-fA-F]{2})+)')}
+
+
+class LogReader:
+    """As `fio2070.LogReader`."""
+
+    def __init__(self, form='auto'):
+        self.reader, self.form, self.left, self.number = Reader(), form, b'', 0
+
+    def read(self, octets):
+        """The verdicts that are due."""
+        text = self.left + bytes(octets)
+        end = len(text) - text.endswith(b'\r')
+        *lines, left = (ENDS if self.form == 'auto' else re.compile(b'\n')).split(text[:end])
+        self.left = left + text[end:]
+        return [verdict for line in lines for verdict in self.line(line)]
+
+    def end(self):
+        """The verdicts on all lines that had none."""
+        last = self.line(self.left.removesuffix(b'\r') if self.form == 'auto' else self.left) if self.left else []
+        return last + (self.reader.end() if self.form == 'auto' else [])
+
+    def line(self, octets):
+        """The verdicts that a line brings."""
+        self.number += 1
+        if self.form == 'auto':
+            return self.reader.feed(self.number, octets.decode('utf-8', 'replace'))
+        found = OWN[self.form].fullmatch(octets)
+        if found:
+            return [Verdict(self.number, 'frames', '', (bytes.fromhex(found[1].decode()),), ((self.number, *found.span(1)),))]
+        is_blank = not octets or octets.startswith(b'#')
+        return [Verdict(self.number, 'blank' if is_blank else 'passed over', '' if is_blank else BAD_LINE)]

@@ -1,0 +1,245 @@
+"""The independent model of the reader of logs: what octets say, and the runs of octets of a line. docs/CAPTURES.md has the
+definition; each function is a scanner without regular expressions."""
+
+from support.log_clock import DIGITS, HEX, is_word
+
+LENGTHS = {49: 2, 50: 5, 52: 1, 53: 1, 54: 2, 55: 17, 58: 2, 60: 1, 177: 8, 178: 2, 179: 2, 180: 13, 181: 13, 186: 2}
+LOOSE = {56, 57, 59, 183, 184, 185, 187, 188}
+LONGEST, ROW, MOST, HELD, LATER, YOUNG, SHAPES, LINE = 773, 8, 1 << 14, 64, 2, 16, 256, 1 << 16
+BLANK, WORD = ' \t\u00a0', '_.'
+
+
+# 1. Messages ------------------------------------------------------------------------------------------------------------
+
+def length_of(octets):
+    """The length of the message that octets begin: 0 for none, -1 for any, None where its count is missing."""
+    if octets[0] in LENGTHS:
+        return LENGTHS[octets[0]]
+    if octets[0] in LOOSE:
+        return -1
+    place, least = {51: (1, 2), 182: (2, 8)}.get(octets[0], (0, 0))
+    return 0 if not place else None if len(octets) <= place else least + 3 * octets[place]
+
+
+def spells(octets):
+    return 0 < len(octets) <= LONGEST and length_of(octets) in (-1, len(octets))
+
+
+def lacks(octets):
+    """Whether octets are a proper beginning of a message, or of a frame with a flag before it."""
+    length = length_of(octets) if octets else 0
+    return length is None or length > len(octets) or octets[:1] == b'\x7e' and len(octets) < LONGEST + 8
+
+
+def check_of(octets):
+    check = 0xffff
+    for octet in octets:
+        check ^= octet
+        for _ in range(8):
+            check = check >> 1 ^ (0x8408 if check & 1 else 0)
+    return check ^ 0xffff
+
+
+def is_checked(octets):
+    return len(octets) > 4 and check_of(octets[:-2]) == int.from_bytes(octets[-2:], 'little')
+
+
+def frames_of(octets, may_chain):
+    """The messages that octets say, and whether that is sure by their check or their counts; an empty list for none."""
+    for one in (octets, octets[1:-1] if octets[:1] == octets[-1:] == b'\x7e' else b'', octets.strip(b'\x7e')):
+        if is_checked(one):
+            return ([one[2:-2]], True) if spells(one[2:-2]) else ([], False)
+    if spells(octets):
+        return [octets], is_counted(octets)
+    found, place, sure = [], 0, False
+    while may_chain and place < len(octets):
+        if octets[place] == 0x7e:
+            end = next((end for end in range(place + 6, min(place + LONGEST + 6, len(octets)))
+                        if octets[end] == 0x7e and is_checked(octets[place + 1:end])), 0)
+            frame, place, checked = octets[place + 3:end - 2], end or place + 1, bool(end)
+            if not checked:
+                continue
+        else:
+            length = length_of(octets[place:]) or 0
+            frame, checked = octets[place:place + max(length, 0)], False
+            place += length
+            if place > len(octets):
+                return [], False
+        if not spells(frame):
+            return [], False
+        found.append(frame)
+        sure |= checked or is_counted(frame)
+    return found, sure
+
+
+def is_counted(octets):
+    """Whether a count inside confirms the length."""
+    return octets[0] == 182 or octets[0] == 51 and len(octets) > 2
+
+
+def is_pair(one, other):
+    """Whether two runs say a command and its answer, by their types, and by the block number."""
+    if len(one.frames) != 1 or len(other.frames) != 1:
+        return False
+    command, answer = one.frames[0], other.frames[0]
+    return answer[0] == command[0] + 128 and command[0] not in LOOSE and (len(command) > 1 or answer[0] not in LOOSE) and (
+        command[0] != 54 or command[1] == answer[1])
+
+
+# 2. Runs ----------------------------------------------------------------------------------------------------------------
+
+class Run:
+    """Octets as one place of a line says them. `ways` are the ways of writing that it can be of; None for any."""
+    def __init__(self, octets, start, end, mark, ways):
+        self.octets, self.start, self.end, self.mark, self.ways = octets, start, end, mark, ways
+        self.frames, self.sure = frames_of(octets, False) if octets else ([], False)
+
+
+MARKS = [('', ''), ('0x', ''), ('0X', ''), ('\\x', ''), ('$', ''), ('%', ''), ('', 'h'), ('', 'H'), ('[', ']'), ('<', '>'),
+         ('{', '}'), ("'0x", "'"), ('"0x', '"'), ("'", "'"), ('"', '"')]
+
+
+def tokens(line, mark, begin):
+    """The words of hex digits between these marks."""
+    before, after = mark
+    found, place, last = [], begin, -1
+    while place < len(line):
+        start = place + len(before)
+        end = start
+        if line.startswith(before, place):
+            while end < len(line) and line[end] in HEX:
+                end += 1
+        stop = end + len(after)
+        free = place == 0 or place == last or not (is_word(line[place - 1]) or line[place - 1] == '.') or before == '\\x'
+        if end > start and free and line.startswith(after, end) and not is_word(line[stop:stop + 1]) and not (
+                line[stop:stop + 1] == '.' and line[stop + 1:stop + 2] in DIGITS and line[stop + 1:stop + 2]):
+            found.append((place, stop, line[start:end]))
+            place = last = stop
+        else:
+            place = max(end if not before else place + 1, place + 1)
+    return found
+
+
+def separator(text, octets):
+    """The separator that a text is; None if it is none. A blank may be two behind eight octets."""
+    if text == '  ' and octets == 8:
+        return ' '
+    bare = text.strip(' ')
+    return text if len(text) <= 3 and (bare in ('', ',', ';', ':', '-', '|', '\t', '\u00a0') and text not in ('  ', '   ')) else None
+
+
+def hex_runs(line, begin=0):
+    for mark in MARKS:
+        if mark[0] and mark[0] not in line:
+            continue
+        words = tokens(line, mark, begin)
+        for width in (2, 4, 8, 0):
+            yield from runs_of(line, words, mark, width)
+        for start, end, digits in words:
+            if len(digits) % 2 == 0 and len(digits) not in (2, 4, 8):
+                yield Run(bytes.fromhex(digits), start, end, mark, {'word'})
+
+
+def runs_of(line, words, mark, width):
+    """The runs of words of one width; width 0 is of one or two digits without zeros before them."""
+    place = 0
+    while place < len(words):
+        if not fits_width(words[place][2], width):
+            place += 1
+            continue
+        last, between, octets, is_short = place, None, len(words[place][2]) + 1 >> 1, False
+        while last + 1 < len(words):
+            text = separator(line[words[last][1]:words[last + 1][0]], octets)
+            digits = words[last + 1][2]
+            is_short = width > 2 and len(digits) < width and len(digits) % 2 == 0
+            if text is None or text == '' and mark == ('', '') or between not in (None, text) or not (
+                    fits_width(digits, width) or is_short):
+                break
+            between, last, octets = text, last + 1, octets + (len(digits) + 1 >> 1)
+            if is_short:
+                break
+        digits = [word[2] for word in words[place:last + 1]]
+        single, padded = any(len(one) == 1 for one in digits), any(len(one) == 2 and one[0] == '0' for one in digits)
+        if width or single and (len(digits) > 1 or mark != ('', '')):
+            if len(digits) == 1:
+                ways = {'word'} if width > 2 else None
+            else:
+                ways = {(width, between)} | ({(0, between)} if width == 2 and not padded else set())
+            yield Run(bytes.fromhex(''.join(one.zfill(2) for one in digits)), words[place][0], words[last][1], mark, ways)
+        goes_on = last > place and last + 1 < len(words) and separator(line[words[last][1]:words[last + 1][0]], 0) is not None
+        place = last if goes_on and not is_short else last + 1
+
+
+def fits_width(digits, width):
+    return len(digits) == width if width else len(digits) == 1 or len(digits) == 2 and digits[0] != '0'
+
+
+ESCAPES = {'n': 10, 'r': 13, 't': 9, '\\': 92, '"': 34, "'": 39, 'a': 7, 'b': 8, 'f': 12, 'v': 11, '/': 47}
+
+
+def literal(line, place):
+    """The run of the string literal whose quote is here, with an escape in it, or with a b before it."""
+    quote, start, octets, escaped, plain, hexed = line[place], place, bytearray(), False, False, False
+    place += 1
+    while place < len(line) and line[place] != quote:
+        char, place = line[place], place + 1
+        if char != '\\':
+            if ord(char) > 255:
+                return None
+            octets.append(ord(char))
+            plain = True
+            continue
+        escaped = True
+        char = line[place:place + 1]
+        width = {'x': 2, 'u': 4}.get(char, 0)
+        if width:
+            digits = line[place + 1:place + 1 + width]
+            if len(digits) < width or not set(digits) <= HEX or int(digits, 16) > 255:
+                return None
+            octets.append(int(digits, 16))
+            hexed |= 32 <= octets[-1] < 127 and octets[-1] not in b'\'"\\'
+            place += 1 + width
+        elif char and char in '01234567':
+            end = place
+            while end < min(place + 3, len(line)) and line[end] in '01234567':
+                end += 1
+            if int(line[place:end], 8) > 255:
+                return None
+            octets.append(int(line[place:end], 8))
+            place = end
+        elif char and char in ESCAPES:
+            octets.append(ESCAPES[char])
+            place += 1
+        else:
+            return None
+    is_bytes = start > 0 and line[start - 1] in 'bB' and (start < 2 or not is_word(line[start - 2]))
+    if place >= len(line) or not (escaped or is_bytes) or plain and hexed:
+        return None
+    return Run(bytes(octets), start, place + 1, ('literal', ''), {'some'} if plain else {'all'} if hexed else {'some', 'all'})
+
+
+def numbers(line, place):
+    """The run of decimal numbers in the brackets that open here."""
+    opened = '<<' if line.startswith('<<', place) else line[place]
+    shut = {'[': ']', '(': ')', '{': '}', '<<': '>>'}.get(opened)
+    end = line.find(shut, place) if shut else -1
+    if end < 0 or end - place > 6 * LONGEST:
+        return None
+    words = line[place + len(opened):end].replace(', ', ',').replace(' ', ',').split(',')
+    found = []
+    for word in words:
+        digits = word[1:] if word[:1] == '-' else word
+        if not 0 < len(digits) <= 3 or not set(digits) <= DIGITS or digits[0] == '0' and len(digits) > 1:
+            return None
+        found.append(int(word))
+    if opened == '(' and len(found) == 1 or not all(-129 < one < 256 for one in found) or min(found) < 0 and max(found) > 127:
+        return None
+    return Run(bytes(one & 255 for one in found), place, end + len(shut), ('numbers', ''), None if len(found) == 1 else {'numbers'})
+
+
+def runs(line):
+    yield from hex_runs(line)
+    for place, char in enumerate(line):
+        one = literal(line, place) if char in '"\'' else numbers(line, place) if char in '[({<' else None
+        if one:
+            yield one

@@ -1,0 +1,136 @@
+"""What the page shows of the lines of logs, beside the independent model of the reader: frames with their octets, messages that are
+only possible, damaged lines, times, and how many lines are passed over."""
+
+import glob
+import os
+import re
+
+from support.damage import DAMAGED
+from support.log_model import LogReader
+from support.loggers import LOGGERS
+from support.opened import ARROWS, CELLS, OPEN_ALL, example, pasted
+from support.sessions import SESSION, timed
+from support.strangers import PASSED, READ
+from support.tables import TOP
+
+# How many octets a row shows.
+SHOWN_OCTETS = 40
+# The rows of the log that is open, and what is said below the verdict.
+SEEN = '''const rows = () => { %s }; return { rows: rows(), note: document.getElementById("note").textContent };''' % CELLS
+POSSIBLE, BAD_LINE = 'possible: nothing makes it sure', 'bad line'
+
+# What is captured, and the messages that it has, by docs/CAPTURES.md.
+CAPTURES = {
+    'octets.txt': ['poll block 5', 'block 5 entries 1 status 00 stamp 1000', 'poll block 6', 'block 6 entries 0 status 00 stamp 1001'],
+    'serial-log.txt': ['poll block 255', 'poll block 255', 'block 255 entries 1 status 02 stamp 1', 'poll block 0',
+                       'block 0 entries 1 status 00 stamp 2', 'poll block 0', 'block 0 entries 1 status 02 stamp 2'],
+    'module-log.txt': ['poll block 5', 'block 5 entries 0 status 00 stamp 1000', 'poll block 6', 'block 6 entries 1 status 00 stamp 1020'],
+    'powershell.txt': ['poll block 5', 'block 5 entries 0 status 00 stamp 1000'],
+}
+
+
+def check_captures(check, browser, name):
+    """Logs of other tools give their messages, with directions and times."""
+    for capture, words in CAPTURES.items():
+        example(browser, capture)
+        rows = [row for row in browser.run(CELLS) if row[3] != BAD_LINE]
+        rows = rows[:len(words)]
+        check.equal('%s in %s' % (capture, name), words, [row[3] for row in rows])
+        if capture != 'octets.txt':
+            arrows = [ARROWS['>' if word.startswith('poll') else '<'] for word in words]
+            check.equal('the directions of %s in %s' % (capture, name), arrows, [row[2] for row in rows])
+    check.equal('a time of powershell.txt in %s' % name, '07:15:02.108', rows[1][1])
+
+
+def logs():
+    """The logs: a title and the text of each."""
+    frames = timed(SESSION)
+    yield from ((form, written(frames)) for form, written in LOGGERS.items())
+    yield from ((title, text) for title, text, _ in READ + PASSED)
+    yield from ((title, text) for title, text, *_ in DAMAGED)
+    for path in sorted(glob.glob(os.path.join(TOP, 'examples', 'captures', '*.txt'))):
+        with open(path, 'rb') as file:
+            octets = file.read()
+        yield os.path.basename(path), octets.decode('utf-16' if octets.startswith(b'\xff\xfe') else 'utf-8')
+
+
+def row_of(verdict, octets):
+    """A frame as its row shows it: line, whether there is a time, direction, whether it is only possible, and octets."""
+    arrow = ARROWS['<' if octets[0] >= 128 else '>']
+    digits = octets[:SHOWN_OCTETS].hex() + '…' * (len(octets) > SHOWN_OCTETS)
+    return [verdict.line, verdict.time is not None, arrow, verdict.kind == 'possible', digits]
+
+
+def by_model(text):
+    """The rows of a log, and how many lines are passed over, by the model."""
+    model, rows = LogReader(), []
+    verdicts = model.read(text.encode()) + model.end()
+    for verdict in verdicts:
+        rows += [row_of(verdict, octets) for octets in verdict.frames]
+        rows += [[verdict.line, False, '', False, '']] * (verdict.kind == 'damaged')
+    return rows, sum(verdict.kind == 'passed over' for verdict in verdicts)
+
+
+def by_page(seen):
+    """The same by the page."""
+    passed = re.search(r'([\d,]+) lines? passed over', seen['note'])
+    return ([[int(row[0]), row[1] != '', row[2], POSSIBLE in row[4], row[5]] for row in seen['rows']],
+            int(passed[1].replace(',', '')) if passed else 0)
+
+
+def check_lines(check, browser, name):
+    """Each log of another tool: the page shows what the definition finds."""
+    wanted = [log for log in logs() if check.wants('the log %s in %s' % (log[0], name))]
+    browser.run(OPEN_ALL.replace(CELLS, SEEN), [text for _, text in wanted])
+    browser.wait('return window.tables !== null')
+    for (title, text), seen in zip(wanted, browser.run('return window.tables')):
+        check.equal('the log %s in %s' % (title, name), by_model(text), by_page(seen))
+
+
+def verdict_on(browser, text):
+    """The kind of the verdict on a text that is pasted, and all that it says."""
+    pasted(browser, text)
+    return browser.run('const it = document.getElementById("verdict"); return [it.dataset.kind, it.textContent]')
+
+
+# Polls and their answers.
+ROUNDS = ['> 36%02x\n< b6%02x0000%08x\n' % (number, number, number) for number in range(1, 9)]
+
+
+def check_unsure(check, browser, name):
+    """A possible message is shown, and not judged; a damaged line accuses nobody up to the next poll; a breach below is found."""
+    kind, says = verdict_on(browser, 'poll 36 05 now\n')
+    check.equal('a short message alone in %s' % name, [[1, False, ARROWS['>'], True, '3605']], by_page({'rows': browser.run(CELLS), 'note': ''})[0])
+    check.holds('it is not judged in %s' % name, kind == 'none' and 'possible and not judged' in says, (kind, says))
+    poll, answer = ROUNDS[3].splitlines()
+    for size in range(len('< b6'), len(answer)):
+        # The module answers; the log has a part of it. The CPU goes on.
+        kind, says = verdict_on(browser, ''.join(ROUNDS[:3]) + poll + '\n' + answer[:size] + '\n' + ''.join(ROUNDS[4:]))
+        check.equal('an answer that is cut to %d characters accuses nobody in %s' % (size, name), 'partly', kind)
+    kind, says = verdict_on(browser, ''.join(ROUNDS[:3]) + poll + '\n' + answer[:9] + '\n' + ROUNDS[4].replace('< b605', '< b607') + ''.join(ROUNDS[5:]))
+    check.holds('a breach below is found in %s' % name, kind == 'broken' and 'Line 10' in says, (kind, says))
+
+
+# A text, and the first cell of words of each line by the form in which it is read.
+BY_ORDER = '> 3605\n> 33\nx\n< b605000000000001\n'
+AS_TRANSCRIPT = ['poll block 5', 'wrong length needed 2 got 1', BAD_LINE, 'block 5 entries 0 status 00 stamp 1']
+
+
+def check_order(check, browser, name):
+    """A log is read as `check` reads it by order, or if it is named as a transcript; else by the definition."""
+    chosen = 'const it = document.getElementById("form"); it.value = arguments[0]; it.dispatchEvent(new Event("change"))'
+    for form, words in (('transcript', AS_TRANSCRIPT), ('frames', [BAD_LINE] * 4), ('auto', None)):
+        browser.run(chosen, form)
+        pasted(browser, BY_ORDER)
+        rows = browser.run(CELLS)
+        if words:
+            check.equal('a text by order as %s in %s' % (form, name), words, [row[3] for row in rows])
+        else:
+            check.equal('and again as any log in %s' % name, by_model(BY_ORDER)[0], by_page({'rows': rows, 'note': ''})[0])
+
+
+def rows(check, browser, name):
+    """Each of these checks but those of captures."""
+    check_lines(check, browser, name)
+    check_order(check, browser, name)
+    check_unsure(check, browser, name)
