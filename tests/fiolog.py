@@ -117,6 +117,9 @@ def check_lines(check):
             check.equal('the line %r' % line, [], [octets.hex() for octets in read.octets])
     below = 'TX 36 05 poll\nRX b6 05 00 00 00 00 00 01 block\n'
     check.equal('an answer below makes a short message sure', ['3605', 'b605000000000001'], [octets.hex() for octets in Read(below).octets])
+    pair = 'size 3146\nat b1b42ef307ec49c3\n'
+    for name, above, expected in (('half', 'size 9912\n', ['3146', 'b1b42ef307ec49c3']), ('a third', 'size 9912\nsize 7741\n', [])):
+        check.equal('a pair, %s of whose lines say messages' % name, expected, [octets.hex() for octets in Read(above + pair).octets])
 
 
 def check_strangers(check):

@@ -315,7 +315,8 @@ class Reader:
         self.others += not (len(entry.fits) == 1 and entry.fits[0].is_bare())
         above, self.above = self.above, entry
         if above:
-            pairs = [(a, b) for a in above.fits for b in entry.fits if is_pair(a, b) and above.chosen in (None, a)]
+            pairs = [(a, b) for a in above.fits for b in entry.fits if is_pair(a, b) and above.chosen in (None, a)
+                     and self.is_mostly_good(a) and self.is_mostly_good(b)]
             if len({(a.octets, b.octets) for a, b in pairs}) == 1:
                 for a, b in pairs:
                     a.sure = b.sure = True
@@ -347,8 +348,12 @@ class Reader:
 
     def is_known(self, one):
         ways = self.shapes.get(one.shape)
+        return ways is not None and self.is_mostly_good(one) and (one.ways is None or bool(ways & one.ways))
+
+    def is_mostly_good(self, one):
+        """Whether at least half of the lines that have before a run what this one has say messages."""
         good, bad = self.tallies.get(one.key, (1, 0))
-        return ways is not None and good >= bad and (one.ways is None or bool(ways & one.ways))
+        return good >= bad
 
     def lost_a_digit(self, one):
         """Whether it has octets of one digit where the others of its shape have two."""

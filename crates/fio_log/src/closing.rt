@@ -80,7 +80,7 @@ impl Judge {
         let is_known = self.shapes.ways(whole).is_some() && self.shapes.is_mostly_good(front);
         let is_frame = is_sure || is_known || is_bare && self.is_alone(around.has_before, front);
         self.has_others |= !is_bare;
-        self.above.briefs.clear();
+        self.above.halves.clear();
         self.above.slot = None;
         if !is_frame {
             self.settle(slot, State::Passed(Kind::PassedOver, Reason::ShortMessage));

@@ -2,6 +2,7 @@
 use crate::entries::State;
 use crate::judge::Judge;
 use crate::messages::Brief;
+use crate::pairs::Half;
 use crate::queue::{ENTRIES, WAITING};
 use crate::verdict::{Kind, Reason};
 
@@ -82,12 +83,12 @@ impl Judge {
                 self.judge(above);
             }
         }
-        self.above.briefs.clear();
+        self.above.halves.clear();
         self.above.chosen = None;
         self.above.slot = Some(slot);
         if let Some(entry) = self.queue.get(slot) {
             for kept in entry.kept.as_slice() {
-                let _room = self.above.briefs.try_push(kept.brief);
+                let _room = self.above.halves.try_push(Half::of(kept));
             }
         }
     }
@@ -100,13 +101,13 @@ impl Judge {
             None => self.above.chosen,
         };
         let mut pair: Option<(Brief, Brief)> = None;
-        for (index, command) in self.above.briefs.as_slice().iter().enumerate() {
+        for (index, command) in self.above.halves.as_slice().iter().enumerate() {
             if chosen.is_some_and(|chosen| chosen != index) {
                 continue;
             }
             for kept in entry.kept.as_slice() {
-                let found = (*command, kept.brief);
-                if !command.is_answered_by(kept.brief) {
+                let found = (command.brief, kept.brief);
+                if !command.is_answered_by(Half::of(kept), &self.shapes) {
                     continue;
                 }
                 match pair {

@@ -3,8 +3,8 @@ use crate::damage::Texts;
 use crate::entries::{KEPT, State};
 use crate::joins::{Going, Join, Joining};
 use crate::kept::{Kept, Seen};
-use crate::messages::Brief;
 use crate::openings::{first_row, is_octet_row, last_run};
+use crate::pairs::Half;
 use crate::queue::Queue;
 use crate::said::{LINE_RUNS, LineRuns, Said};
 use crate::sayings::Saying;
@@ -17,7 +17,7 @@ use arrayvec::ArrayVec;
 #[derive(Drop)]
 pub(crate) struct Above {
     /// What pairs them.
-    pub briefs: ArrayVec<Brief, KEPT>,
+    pub halves: ArrayVec<Half, KEPT>,
     /// Which of them is its frame, as far as that is known.
     pub chosen: Option<usize>,
     /// The slot of the entry, while it is kept.
@@ -93,7 +93,7 @@ impl Judge {
             texts: Texts::new(),
             join: Join::new(),
             above: Above {
-                briefs: ArrayVec::new(),
+                halves: ArrayVec::new(),
                 chosen: None,
                 slot: None,
             },

@@ -58,6 +58,7 @@ mod offsets;
 mod openings;
 mod own_texts;
 mod own_verdicts;
+mod pairs;
 mod parts;
 mod places;
 mod queue;
