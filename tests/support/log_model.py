@@ -6,10 +6,11 @@ from typing import NamedTuple, Optional, Tuple
 
 from support.log_clock import DIGITS, HEX, MONTHS, without_time
 from support.log_runs import (BLANK, HELD, LATER, LINE, LOOSE, MOST, ROW, SHAPES, WORD, YOUNG, frames_of, hex_runs, is_pair, lacks,
-                              runs, spells)
+                              remark_of, runs, spells)
 
 NO_OCTETS, NO_MESSAGE, SHORT, SEVERAL, LONGER, TOO_LONG, BAD_LINE = (
     'no octets', 'no message', 'short message', 'several messages', 'may be longer', 'too long', 'bad line')
+REMARKS = 'exchanged', 'two more'
 
 
 class Verdict(NamedTuple):
@@ -380,7 +381,8 @@ class Reader:
 
     def pass_over(self, entry):
         has_octets = any(len(one.octets) > 1 for one in entry.said)
-        entry.settle('passed over', SHORT if entry.fits else NO_MESSAGE if has_octets else NO_OCTETS)
+        remark = next(filter(None, (remark_of(one.octets) for one in entry.said)), NO_MESSAGE)
+        entry.settle('passed over', SHORT if entry.fits else remark if has_octets else NO_OCTETS)
 
     def ask(self, entry):
         """Marks the one message that a line says, where no line of the log is a frame, as possible: one of two octets or more, or
@@ -418,6 +420,7 @@ class Reader:
             self.queue.pop(0)
             if entry.kind == 'passed over' and entry.reason != TOO_LONG and self.count and self.is_damaged(entry):
                 entry.kind = 'damaged'
+                entry.reason = NO_MESSAGE if entry.reason in REMARKS else entry.reason
             time = None if entry.time is None else round(entry.time * 1_000_000)
             first, *others = entry.numbers
             done.append(Verdict(first, entry.kind, entry.reason, tuple(entry.frames), tuple(entry.places), time))

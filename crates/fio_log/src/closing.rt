@@ -43,7 +43,7 @@ impl Judge {
         let around = self.join.surroundings();
         let octets = self.join.chain.octets();
         let saying = read_saying(octets);
-        let seen = Seen::of_octets(&around, octets.len(), saying);
+        let seen = Seen::of_octets(&around, octets, saying);
         let kept = if self.join.rows.len() <= KEPT_ROWS {
             Kept::of(&around, octets, saying)
         } else {

@@ -195,9 +195,19 @@ impl Judge {
         } else if self.is_damaged() {
             State::Passed(Kind::Damaged, Reason::NoMessage)
         } else {
-            State::Passed(Kind::PassedOver, Reason::NoMessage)
+            State::Passed(Kind::PassedOver, self.no_message())
         };
         self.settle(slot, state);
+    }
+
+    /// Returns why the line that is decided gives no frame, if its octets spell no message.
+    fn no_message(&self) -> Reason {
+        for seen in self.seen.as_slice() {
+            if let Some(remark) = seen.remark {
+                return remark;
+            }
+        }
+        Reason::NoMessage
     }
 
     /// Returns whether one of the runs of the line that is decided may have been a frame.

@@ -63,6 +63,7 @@ mod parts;
 mod places;
 mod queue;
 mod reader;
+mod remarks;
 mod runs;
 mod said;
 mod sayings;
