@@ -19,7 +19,8 @@ from programs import TOP, succeed
 
 TEXTS = Path(__file__).resolve().parent / 'logs'
 LINES, ROUNDS = 1_000_000, 3
-# Instructions are those of the lines that the longer of two logs has more, so that no start counts.
+# Instructions are those of the lines that the longer of two logs has more, so that no start counts. Those of Python are not
+# counted: its start alone takes as many as 5,000 lines.
 COUNTED = 10_000, 20_000
 BEGIN = datetime(2026, 3, 1, 7)
 PERIOD, ANSWERED = timedelta(milliseconds=10), timedelta(microseconds=730)
@@ -76,9 +77,12 @@ def instructions(bench, words, path):
 
 
 def of_a_line(bench, programs, paths):
-    """The instructions of a line, of each program."""
-    short, long = ([instructions(bench, words, path) for words in programs] for path in paths)
-    return [(more - less) / (COUNTED[1] - COUNTED[0]) for less, more in zip(short, long)]
+    """The instructions of a line, of each program in C."""
+    counts = []
+    for words in programs:
+        short, long = (None if words[0] == sys.executable else instructions(bench, words, path) for path in paths)
+        counts.append(short and (long - short) / (COUNTED[1] - COUNTED[0]))
+    return counts
 
 
 def compare(bench):
