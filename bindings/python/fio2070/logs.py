@@ -70,16 +70,13 @@ class LogReader:
 
     def _told(self) -> List[Verdict]:
         """The verdicts of the batch."""
-        batch, verdicts = self._batch, []
-        lengths = iter(batch.lengths[:batch.frame_count])
-        places = _PLACE.iter_unpack(self._places[:_PLACE.size * batch.place_count])
-        octets, end = bytes(self._octets[:batch.octet_count]), 0
+        batch, verdicts, frame, place = self._batch, [], 0, 0
+        octets, ends = bytes(self._octets[:batch.octet_count]), list(itertools.accumulate(batch.lengths[:batch.frame_count]))
+        frames = tuple(octets[begin:end] for begin, end in zip([0, *ends], ends))
+        places = tuple(_PLACE.iter_unpack(self._places[:_PLACE.size * batch.place_count]))
         for line, time, frame_count, place_count, kind, reason, has_time in _VERDICT.iter_unpack(
                 self._verdicts[:_VERDICT.size * batch.verdict_count]):
-            frames = []
-            for length in itertools.islice(lengths, frame_count):
-                begin, end = end, end + length
-                frames.append(octets[begin:end])
-            verdicts.append(Verdict(line, _KINDS[kind], _REASONS[reason], tuple(frames),
-                                    tuple(itertools.islice(places, place_count)), time if has_time else None))
+            verdicts.append(Verdict(line, _KINDS[kind], _REASONS[reason], frames[frame:frame + frame_count],
+                                    places[place:place + place_count], time if has_time else None))
+            frame, place = frame + frame_count, place + place_count
         return verdicts
