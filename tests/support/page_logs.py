@@ -8,10 +8,10 @@ import re
 from support.damage import DAMAGED
 from support.log_model import LogReader
 from support.loggers import LOGGERS
-from support.opened import ARROWS, CELLS, OPEN_ALL, example, pasted
+from support.opened import ARROWS, CELLS, OPEN_ALL, dropped, example, pasted, saved
 from support.sessions import SESSION, timed
-from support.strangers import PASSED, READ
-from support.tables import TOP
+from support.strangers import BLOCK, DUMP, PASSED, READ
+from support.tables import TOP, output_of
 
 # How many octets a row shows.
 SHOWN_OCTETS = 40
@@ -111,6 +111,23 @@ def check_unsure(check, browser, name):
     check.holds('a breach below is found in %s' % name, kind == 'broken' and 'Line 10' in says, (kind, says))
 
 
+# Chooses how the next log is written.
+CHOOSE_FORM = 'const it = document.getElementById("form"); it.value = arguments[0]; it.dispatchEvent(new Event("change"))'
+
+
+def check_dump(check, browser, name):
+    """The frame of a dump is read, however the dump comes; as frames by order each line is what `show` says of it."""
+    ways = {'pasted': pasted, 'dropped as text': dropped, 'dropped as a file': lambda *given: dropped(*given, 'dump.txt')}
+    for way, give in ways.items():
+        give(browser, DUMP)
+        check.equal('a dump of one frame that is %s in %s' % (way, name), [[1, False, ARROWS['<'], False, BLOCK]],
+                    by_page({'rows': browser.run(CELLS), 'note': ''})[0])
+    browser.run(CHOOSE_FORM, 'frames')
+    pasted(browser, DUMP)
+    check.equal('a dump of one frame as frames by order in %s' % name, output_of('show', DUMP)[0], saved(browser))
+    browser.run(CHOOSE_FORM, 'auto')
+
+
 # A text, and the first cell of words of each line by the form in which it is read.
 BY_ORDER = '> 3605\n> 33\nx\n< b605000000000001\n'
 AS_TRANSCRIPT = ['poll block 5', 'wrong length needed 2 got 1', BAD_LINE, 'block 5 entries 0 status 00 stamp 1']
@@ -118,9 +135,8 @@ AS_TRANSCRIPT = ['poll block 5', 'wrong length needed 2 got 1', BAD_LINE, 'block
 
 def check_order(check, browser, name):
     """A log is read as `check` reads it by order, or if it is named as a transcript; else by the definition."""
-    chosen = 'const it = document.getElementById("form"); it.value = arguments[0]; it.dispatchEvent(new Event("change"))'
     for form, words in (('transcript', AS_TRANSCRIPT), ('frames', [BAD_LINE] * 4), ('auto', None)):
-        browser.run(chosen, form)
+        browser.run(CHOOSE_FORM, form)
         pasted(browser, BY_ORDER)
         rows = browser.run(CELLS)
         if words:
@@ -132,5 +148,6 @@ def check_order(check, browser, name):
 def rows(check, browser, name):
     """Each of these checks but those of captures."""
     check_lines(check, browser, name)
+    check_dump(check, browser, name)
     check_order(check, browser, name)
     check_unsure(check, browser, name)
