@@ -82,4 +82,4 @@ def dropped(browser, text, file=''):
 
 def is_message(row):
     """Whether a row has a message, and no line or octets that are none."""
-    return row[3] != 'bad line' and not re.match('wrong length|unknown|empty', row[3])
+    return row[5] != '' and not re.match('wrong length|unknown|empty', row[3])

@@ -33,8 +33,7 @@ def check_captures(check, browser, name):
     """Logs of other tools give their messages, with directions and times."""
     for capture, words in CAPTURES.items():
         example(browser, capture)
-        rows = [row for row in browser.run(CELLS) if row[3] != BAD_LINE]
-        rows = rows[:len(words)]
+        rows = [row for row in browser.run(CELLS) if row[5] != ''][:len(words)]
         check.equal('%s in %s' % (capture, name), words, [row[3] for row in rows])
         if capture != 'octets.txt':
             arrows = [ARROWS['>' if word.startswith('poll') else '<'] for word in words]
@@ -98,7 +97,8 @@ ROUNDS = ['> 36%02x\n< b6%02x0000%08x\n' % (number, number, number) for number i
 
 
 def check_unsure(check, browser, name):
-    """A possible message is shown, and not judged; a damaged line accuses nobody up to the next poll; a breach below is found."""
+    """A possible message is shown, and not judged; a damaged line is shown as it is written, and accuses nobody up to the next poll;
+    a breach below is found."""
     kind, says = verdict_on(browser, 'poll 36 05 now\n')
     check.equal('a short message alone in %s' % name, [[1, False, ARROWS['>'], True, '3605']], by_page({'rows': browser.run(CELLS), 'note': ''})[0])
     check.holds('it is not judged in %s' % name, kind == 'none' and 'possible and not judged' in says, (kind, says))
@@ -107,6 +107,8 @@ def check_unsure(check, browser, name):
         # The module answers; the log has a part of it. The CPU goes on.
         kind, says = verdict_on(browser, ''.join(ROUNDS[:3]) + poll + '\n' + answer[:size] + '\n' + ''.join(ROUNDS[4:]))
         check.equal('an answer that is cut to %d characters accuses nobody in %s' % (size, name), 'partly', kind)
+    seen = [row[3:5] for row in browser.run(CELLS) if row[5] == '']
+    check.equal('a damaged line is shown as it is written in %s' % name, [[answer[:-1], 'damaged: octets that spell no message']], seen)
     kind, says = verdict_on(browser, ''.join(ROUNDS[:3]) + poll + '\n' + answer[:9] + '\n' + ROUNDS[4].replace('< b605', '< b607') + ''.join(ROUNDS[5:]))
     check.holds('a breach below is found in %s' % name, kind == 'broken' and 'Line 10' in says, (kind, says))
 
@@ -126,6 +128,8 @@ def check_dump(check, browser, name):
     pasted(browser, DUMP)
     check.equal('a dump of one frame as frames by order in %s' % name, output_of('show', DUMP)[0], saved(browser))
     browser.run(CHOOSE_FORM, 'auto')
+    browser.click('#as-any')
+    check.equal('and as any log by a button in %s' % name, [BLOCK], [row[5] for row in browser.run(CELLS)])
 
 
 # A text, and the first cell of words of each line by the form in which it is read.
