@@ -17,7 +17,7 @@ from support.tables import TOP, output_of
 SHOWN_OCTETS = 40
 # The rows of the log that is open, and what is said below the verdict.
 SEEN = '''const rows = () => { %s }; return { rows: rows(), note: document.getElementById("note").textContent };''' % CELLS
-POSSIBLE, BAD_LINE = 'possible: nothing makes it sure', 'bad line'
+POSSIBLE, BAD_LINE = 'possible: nothing makes it sure', 'damaged: bad line'
 
 # What is captured, and the messages that it has, by docs/CAPTURES.md.
 CAPTURES = {
@@ -108,7 +108,7 @@ def check_unsure(check, browser, name):
         kind, says = verdict_on(browser, ''.join(ROUNDS[:3]) + poll + '\n' + answer[:size] + '\n' + ''.join(ROUNDS[4:]))
         check.equal('an answer that is cut to %d characters accuses nobody in %s' % (size, name), 'partly', kind)
     seen = [row[3:5] for row in browser.run(CELLS) if row[5] == '']
-    check.equal('a damaged line is shown as it is written in %s' % name, [[answer[:-1], 'damaged: octets that spell no message']], seen)
+    check.equal('a damaged line is shown as it is written in %s' % name, [[answer[:-1], 'damaged: no octets']], seen)
     kind, says = verdict_on(browser, ''.join(ROUNDS[:3]) + poll + '\n' + answer[:9] + '\n' + ROUNDS[4].replace('< b605', '< b607') + ''.join(ROUNDS[5:]))
     check.holds('a breach below is found in %s' % name, kind == 'broken' and 'Line 10' in says, (kind, says))
 
@@ -132,19 +132,20 @@ def check_dump(check, browser, name):
     check.equal('and as any log by a button in %s' % name, [BLOCK], [row[5] for row in browser.run(CELLS)])
 
 
-# A text, and the first cell of words of each line by the form in which it is read.
+# A text, and the cell of words of each line by the form in which it is read; a bad line is shown as it is written.
 BY_ORDER = '> 3605\n> 33\nx\n< b605000000000001\n'
-AS_TRANSCRIPT = ['poll block 5', 'wrong length needed 2 got 1', BAD_LINE, 'block 5 entries 0 status 00 stamp 1']
+AS_TRANSCRIPT = ['poll block 5', 'wrong length needed 2 got 1', 'x', 'block 5 entries 0 status 00 stamp 1']
 
 
 def check_order(check, browser, name):
     """A log is read as `check` reads it by order, or if it is named as a transcript; else by the definition."""
-    for form, words in (('transcript', AS_TRANSCRIPT), ('frames', [BAD_LINE] * 4), ('auto', None)):
+    for form, words in (('transcript', AS_TRANSCRIPT), ('frames', BY_ORDER.splitlines()), ('auto', None)):
         browser.run(CHOOSE_FORM, form)
         pasted(browser, BY_ORDER)
         rows = browser.run(CELLS)
         if words:
             check.equal('a text by order as %s in %s' % (form, name), words, [row[3] for row in rows])
+            check.equal('its bad lines in %s' % name, [BAD_LINE] * (1 if form == 'transcript' else 4), [row[4] for row in rows if row[5] == ''])
         else:
             check.equal('and again as any log in %s' % name, by_model(BY_ORDER)[0], by_page({'rows': rows, 'note': ''})[0])
 
