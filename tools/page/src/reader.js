@@ -71,7 +71,7 @@ class Found {
   addFrames({ line, kind, time, frames, places }) {
     const text = this.textOf(line), isPossible = kind === LOG_KINDS.possible, inTime = time < END_OF_TIME ? time : null;
     const side = sideOf(text, places.length > 0 ? places[0].start : 0, this.form);
-    const clock = clockOf([text, this.textOf(line - 1)], inTime);
+    const clock = inTime === null ? '' : clockOf([text, this.textOf(line - 1)], inTime);
     for (const octets of frames) {
       this.messages.add({ line, side, octets, isPossible, time: inTime, clock });
       if (isPossible) continue;
