@@ -4,7 +4,7 @@
  * call, which the proof excludes, ends in FIO2070_TRAP(). FIO2070_UNCHECKED leaves the test of accesses to arguments out.
  * FIO2070_FAST makes the code longer and faster.
  *
- * Sources: ca852dd5736f004b70e5e1a53f9116fc9d545cf7a61025ef76126417730cb6ee (SHA-256; packaging/release-files --sources)
+ * Sources: b0dfdd5328c828dd386965bee10e2b9c19beb46c9dc470cb7044731f6e922c39 (SHA-256; packaging/release-files --sources)
  * Kit: rattle-kit-13f logic dac8208d650f15bf
  * Proof: logic=proved functions=144 target=wasm64-unknown-unknown sum=dac8208d650f15bf native=nat,char,string
  * Made by `make release-files`: do not edit.
