@@ -2,7 +2,7 @@
 
 import itertools
 import struct
-from typing import List, NamedTuple, Optional, Tuple
+from typing import Iterator, List, NamedTuple, Optional, Tuple, cast
 
 from . import _library as c
 from . import constants
@@ -71,7 +71,7 @@ class LogReader:
         """The verdicts of the batch."""
         batch, verdicts = self._batch, []
         lengths = iter(batch.lengths[:batch.frame_count])
-        places = _PLACE.iter_unpack(self._places[:_PLACE.size * batch.place_count])
+        places = cast(Iterator[Tuple[int, int, int]], _PLACE.iter_unpack(self._places[:_PLACE.size * batch.place_count]))
         octets, end = bytes(self._octets[:batch.octet_count]), 0
         for line, time, frame_count, place_count, kind, reason, has_time in _VERDICT.iter_unpack(
                 self._verdicts[:_VERDICT.size * batch.verdict_count]):
