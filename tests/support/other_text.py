@@ -75,8 +75,6 @@ BY_CHANCE = {
     ('addresses of a kernel, 54', 1230): 'b10c2702314d27a9',
     ('addresses of a kernel, 54', 1397): '3173',
     ('addresses of a kernel, 54', 1398): 'b15c3c182a9d442d',
-    ('addresses of version 6, 60', 402): '3a6e',
-    ('addresses of version 6, 60', 410): 'ba59',
     ('a table of numbers, 61', 898): '3301865125',
     ('addresses of a kernel, 80', 429): '3174',
     ('addresses of a kernel, 80', 435): 'b1b5fe07551d1495',
