@@ -4,7 +4,7 @@
  * call, which the proof excludes, ends in FIO2070_TRAP(). FIO2070_UNCHECKED leaves the test of accesses to arguments out.
  * FIO2070_FAST makes the code longer and faster.
  *
- * Sources: b0dfdd5328c828dd386965bee10e2b9c19beb46c9dc470cb7044731f6e922c39 (SHA-256; packaging/release-files --sources)
+ * Sources: af28420e8cf34bda1449bd2179f995c390d4c7a9bcf87d5053853687057877b8 (SHA-256; packaging/release-files --sources)
  * Kit: rattle-kit-13f logic dac8208d650f15bf
  * Proof: logic=proved functions=144 target=wasm64-unknown-unknown sum=dac8208d650f15bf native=nat,char,string
  * Made by `make release-files`: do not edit.

@@ -37,7 +37,7 @@ export function readLog(library, logReader, file, form) {
   const octets = octetsOf(file), lines = new TextDecoder().decode(octets).split(form === LOG_FORMS.auto ? /\r\n|\r|\n/ : '\n');
   const found = new Found(lines, form, new MessageList(lines.length, octets.length), new Doubts(library));
   for (const verdict of logReader.read(octets, form)) found.add(verdict);
-  return { form, messages: found.messages, passed: found.passed, doubts: form === LOG_FORMS.auto ? found.doubts.words() : [],
+  return { form, messages: found.messages, passed: found.passed, doubts: found.doubts.words(),
     isReversed: found.reversed > found.agreeing, isOwn: found.own === found.agreeing + found.reversed };
 }
 
@@ -76,7 +76,7 @@ class Found {
       this.messages.add({ line, side, octets, isPossible, time: inTime, clock });
       if (isPossible) continue;
       this.noteSide(side, octets[0], text);
-      this.doubts.add(text, octets, places);
+      if (this.form === LOG_FORMS.auto) this.doubts.add(text, octets, places);
     }
   }
 
