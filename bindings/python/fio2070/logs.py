@@ -70,17 +70,10 @@ class LogReader:
 
     def _told(self) -> List[Verdict]:
         """The verdicts of the batch."""
-<<<<<<< HEAD
         batch, verdicts, frame, place = self._batch, [], 0, 0
         octets, ends = bytes(self._octets[:batch.octet_count]), list(itertools.accumulate(batch.lengths[:batch.frame_count]))
         frames = tuple(octets[begin:end] for begin, end in zip([0, *ends], ends))
-        places = tuple(_PLACE.iter_unpack(self._places[:_PLACE.size * batch.place_count]))
-=======
-        batch, verdicts = self._batch, []
-        lengths = iter(batch.lengths[:batch.frame_count])
-        places = cast(Iterator[Tuple[int, int, int]], _PLACE.iter_unpack(self._places[:_PLACE.size * batch.place_count]))
-        octets, end = bytes(self._octets[:batch.octet_count]), 0
->>>>>>> h-rel
+        places = tuple(cast(Iterator[Tuple[int, int, int]], _PLACE.iter_unpack(self._places[:_PLACE.size * batch.place_count])))
         for line, time, frame_count, place_count, kind, reason, has_time in _VERDICT.iter_unpack(
                 self._verdicts[:_VERDICT.size * batch.verdict_count]):
             verdicts.append(Verdict(line, _KINDS[kind], _REASONS[reason], frames[frame:frame + frame_count],
