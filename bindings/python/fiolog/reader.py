@@ -11,7 +11,6 @@ from .doubts import Doubts
 from .events import BAD, BLANK, DAMAGED, DOUBTFUL, FRAME, PART, PASSED, POSSIBLE, Line
 from .log_words import REASONS
 from .rules import WRONG_CHECK
-from .sides import side_in, side_of
 
 FORMS = 'auto', 'frames', 'transcript'
 CHECKED, UNCHECKED = 'checked', 'unchecked'
@@ -24,7 +23,7 @@ _DIGITS = r'(?<![0-9A-Za-z])(?P<octets>(?:(?:0x)?[0-9A-Fa-f]{2}[ ,:;|-]*)+)\s*$'
 _UNSEEN = re.compile('\x1b\\[[^A-Za-z]*[A-Za-z]|[\0\ufeff]')
 _OWN_LINES = re.compile(rb'[^\n]*\n|[^\n]+')
 _NO_DIGIT = re.compile(r'0[xX]|\\x|[^0-9A-Fa-f]')
-# A frame that the library takes in any log: it serves to read the time before it.
+# A frame that the library takes in any log: it serves to read the time and the side before it.
 _SURE = ' b600000000000001\n'
 
 
@@ -75,7 +74,7 @@ class Reader:
         self.pattern = re.compile(pattern or _DIGITS) if pattern or framing else None
         self.form, self.framing = 'frames' if self.pattern else form, framing
         self.library, self.texts, self.doubts = fio2070.LogReader(self.form), Texts(self.form != 'auto' and not self.pattern), Doubts()
-        self.clock, self.given = fio2070.LogReader(), {}     # reads times of lines by order; what these lines are
+        self.words, self.given = fio2070.LogReader(), {}     # reads times and sides of lines by order; what these lines are
         self.kinds, self.reasons = Counter(), Counter()
         self.agreeing = self.reversed = 0
 
@@ -108,13 +107,11 @@ class Reader:
         frames = verdict.frames
         if self.form != 'auto' and verdict.reason == 'no message':
             kind, frames = FRAME, (self._faulty(number, text),)
-        line = Line(number, kind, text, b'', time, '', note, '', verdict.places)
+        line = Line(number, kind, text, b'', time, '', note, verdict.said, verdict.places)
         if kind == POSSIBLE and self.kinds[FRAME]:
             line = line._replace(kind=DOUBTFUL)
         if self.pattern:
             line = line._replace(**self.given.pop(number, {}))
-        else:
-            line = line._replace(said=side_of(text, verdict.places, self.form))
         return [self._frame(line._replace(octets=octets)) for octets in frames] or [line]
 
     def _faulty(self, number, text):
@@ -160,12 +157,20 @@ class Reader:
             self.given[number] = {'kind': DAMAGED if note else BLANK, 'note': note}
             return b'\n'
         parts = found.groupdict()
-        self.given[number] = {'octets': octets, 'time': self._time(parts.get('time') or ''), 'said': side_in(parts.get('dir') or '')}
+        self.given[number] = {'octets': octets, 'time': self._time(parts.get('time') or ''), 'said': self._side(parts.get('dir') or '')}
         return octets.hex().encode() + b'\n'
 
     def _time(self, text):
         """The time that a text is."""
-        if not text:
-            return None
-        verdicts = self.clock.read((text + _SURE).encode('utf-8', 'replace'))
-        return verdicts[-1].time / 1_000_000 if verdicts and verdicts[-1].time is not None else None
+        verdict = self._before(text) if text else None
+        return verdict.time / 1_000_000 if verdict and verdict.time is not None else None
+
+    def _side(self, text):
+        """The side that a text says."""
+        verdict = self._before(text) if text else None
+        return verdict.said if verdict else ''
+
+    def _before(self, text):
+        """The verdict on a frame with this text before it."""
+        verdicts = self.words.read((text + _SURE).encode('utf-8', 'replace'))
+        return verdicts[-1] if verdicts else None

@@ -46,7 +46,7 @@ export class LogReader {
       const at = this.batch + logBatch.verdicts + index * SIZE.logVerdict;
       return {
         line: Number(data.getBigUint64(at + logVerdict.line, true)), kind: data.getUint8(at + logVerdict.kind),
-        reason: data.getUint8(at + logVerdict.reason),
+        reason: data.getUint8(at + logVerdict.reason), said: data.getUint8(at + logVerdict.said),
         // In seconds.
         time: data.getUint8(at + logVerdict.has_time) === 1 ? Number(data.getBigUint64(at + logVerdict.time, true)) / 1e6 : null,
         frames: frames.splice(0, data.getUint32(at + logVerdict.frames, true)),
