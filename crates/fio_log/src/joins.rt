@@ -7,6 +7,7 @@ use crate::openings::last_run;
 use crate::said::{LineRuns, Said};
 use crate::sayings::{Saying, read_saying};
 use crate::shapes::{Shapes, front_key};
+use crate::sides::said_at;
 use arrayvec::ArrayVec;
 
 /// Where a row is written in its line.
@@ -240,6 +241,7 @@ impl Join {
         let around = Around {
             shape: row.shape,
             has_before: true,
+            said: said_at(text, row.start),
             ..Default::default()
         };
         self.clear(Joining::Dump, around, octets.len());

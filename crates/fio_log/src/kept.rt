@@ -17,6 +17,7 @@ pub(crate) struct Around {
     pub ways: Ways,
     pub notation: Notation,
     pub direction: Option<Direction>,
+    pub said: Option<Direction>,
     pub has_before: bool,
     pub has_tail: bool,
 }
@@ -30,6 +31,7 @@ impl Around {
             ways: said.ways,
             notation: said.notation,
             direction: said.direction,
+            said: said.said,
             has_before: said.has_before,
             has_tail: said.has_tail,
         }
@@ -83,6 +85,8 @@ pub(crate) struct Kept {
     pub is_bare: bool,
     /// Whether there is more than blanks before it.
     pub has_before: bool,
+    /// Who sent it, as its line says.
+    pub said: Option<Direction>,
 }
 
 impl Kept {
@@ -116,6 +120,7 @@ impl Kept {
             is_long: octets.len() > 1,
             is_bare: around.is_bare(octets),
             has_before: around.has_before,
+            said: around.said,
         })
     }
 

@@ -68,6 +68,7 @@ mod runs;
 mod said;
 mod sayings;
 mod shapes;
+mod sides;
 mod styles;
 mod surroundings;
 mod telling;
@@ -77,6 +78,7 @@ mod ways;
 
 pub use checks::frame_check;
 pub use clock::{Time, time_in};
+pub use directions::Direction;
 pub use lines::{LINE_OCTETS, LineMaker};
 pub use literals::{Literal, literal_at};
 pub use marks::{MARKS, Mark};

@@ -13,6 +13,7 @@ use crate::octets::Octets;
 use crate::places::Notation;
 use crate::said::{LINE_SINGLES, LITERAL_MARK, LineRuns, Said, Shape};
 use crate::sayings::{Saying, read_saying};
+use crate::sides::said_at;
 use crate::surroundings::{Before, Gap, read_after};
 use std::mem;
 
@@ -173,6 +174,7 @@ fn keep_run(
         ways: found.ways,
         notation: found.notation,
         direction: direction_of(text, finder.gap),
+        said: said_at(line, found.start),
         has_before: mask.has_text(),
         has_tail: after.has_tail,
         is_last: after.is_last,

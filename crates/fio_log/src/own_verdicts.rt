@@ -3,6 +3,7 @@ use crate::judge::Line;
 use crate::messages::Message;
 use crate::own_texts::{OwnForm, OwnLine, read_own_line};
 use crate::places::{Notation, Place};
+use crate::sides::said_at;
 use crate::telling::{Frames, Told};
 use crate::verdict::{Form, Kind, Reason};
 use fio_message::FRAME_OCTETS;
@@ -35,6 +36,10 @@ impl Frames {
             reason,
             places: self.messages.len(),
             time: None,
+            said: match form {
+                OwnForm::Frames => None,
+                OwnForm::Transcript => said_at(line.text, 0),
+            },
         }
     }
 

@@ -227,6 +227,7 @@ impl Reader {
             frames: self.frame_count(),
             places: told.places,
             time: told.time,
+            said: told.said,
         })
     }
 

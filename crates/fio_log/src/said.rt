@@ -52,6 +52,8 @@ pub(crate) struct Said {
     pub notation: Notation,
     /// The direction of the words before it, if there are no words of another meaning.
     pub direction: Option<Direction>,
+    /// The direction of the last word before it that says one, or of the sign at the line's beginning.
+    pub said: Option<Direction>,
     /// Whether there is more than blanks before it.
     pub has_before: bool,
     /// Whether there is more than separators after it.
@@ -76,6 +78,7 @@ impl Default for Said {
             ways: Ways::default(),
             notation: Notation::Words,
             direction: None,
+            said: None,
             has_before: false,
             has_tail: false,
             is_last: false,

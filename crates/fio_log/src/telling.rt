@@ -1,4 +1,5 @@
 //! What is told of a line, and its frames and their places.
+use crate::directions::Direction;
 use crate::entries::{Entry, State};
 use crate::judge::Judge;
 use crate::messages::Message;
@@ -17,6 +18,8 @@ pub(crate) struct Told {
     pub places: usize,
     /// Its time.
     pub time: Option<u64>,
+    /// Who sent its octets, as it says.
+    pub said: Option<Direction>,
 }
 
 impl Told {
@@ -27,6 +30,7 @@ impl Told {
             reason: Reason::NoOctets,
             places: 0,
             time: None,
+            said: None,
         }
     }
 }
@@ -139,11 +143,14 @@ impl Judge {
                 entry.rows.len()
             };
         }
+        let time = entry.time;
+        let said = if places > 0 { self.said() } else { None };
         Told {
             kind,
             reason,
             places,
-            time: entry.time,
+            time,
+            said,
         }
     }
 
