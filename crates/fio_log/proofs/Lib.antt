@@ -4,3 +4,4 @@ pub mod SayingLemmas
 pub mod ReadingLemmas
 pub mod OwnTextLemmas
 pub mod RunLemmas
+pub mod FrameLemmas

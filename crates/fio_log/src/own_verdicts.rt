@@ -33,7 +33,6 @@ impl Frames {
         Told {
             kind,
             reason,
-            places: self.messages.len(),
             time: None,
         }
     }
@@ -44,7 +43,7 @@ impl Frames {
             return (Kind::Damaged, Reason::NoMessage);
         };
         let _room = self.messages.try_push(message);
-        self.own_place = Some(Place {
+        let _fits = self.places.try_push(Place {
             line: line.number,
             start: match form {
                 OwnForm::Frames => 0,

@@ -104,4 +104,11 @@ impl LineRuns {
             time: None,
         }
     }
+
+    /// Takes all runs out.
+    pub(crate) fn clear(&mut self) {
+        self.said.clear();
+        self.is_over = false;
+        self.time = None;
+    }
 }
