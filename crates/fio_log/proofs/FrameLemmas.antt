@@ -1,9 +1,9 @@
 -- Frames and the places where they are written, put together.
-use Rattle.std.proofs.Common.{◌≡◌, ◌≤◌, ℕ, zero, suc, ◌+◌, ◌-◌, List, [], ◌∷◌, ◌++◌, length, map, take, drop, refl, ap, sym, ◌∙◌, arith, append-nil, append_assoc, length-append}
+use Rattle.std.proofs.Common.{◌≡◌, ◌≤◌, ◌<◌, ℕ, zero, suc, ◌+◌, ◌-◌, List, [], ◌∷◌, ◌++◌, length, take, drop, get_or, refl, ap, sym, ◌∙◌, arith, append-nil, append_assoc, length-append}
 use Rattle.std.specs.List.{All}
 use Rattle.std.specs.Prelude.{slice_range}
-use Rattle.std.proofs.lemmas.List.{drop-append-le, length-drop, take-append-le, take_all}
-use Rattle.std.proofs.lemmas.List.Elements.{All-append, All-map}
+use Rattle.std.proofs.lemmas.List.{drop-append-le, length-drop, length-take-le, take-append-le, take_all, take_more}
+use Rattle.std.proofs.lemmas.List.Elements.{All-append, All-nil}
 use Rattle.std.proofs.Math.Seq.{drop-append-add}
 use Rattle.fio_log.specs.Frames.{AreAt, AreFramesAt, AreJoined, IsWithin, Log, row_place, row_places}
 use Rattle.fio_log.specs.Said.{IsWrittenAt}
@@ -77,8 +77,7 @@ within-all octets = record {
 all-within : (octets others : List ℕ) (frames : List (List ℕ))
     → ((part : List ℕ) → IsWithin octets part → IsWithin others part)
     → All (IsWithin octets) frames → All (IsWithin others) frames
-all-within octets others [] more all = all
-all-within octets others (frame ∷ frames) more all = (more frame all.0, all-within octets others frames more all.1)
+all-within octets others frames more all = λ k d inside. more (get_or frames k d) (all k d inside)
 
 -- frames at some places, and others at more places
 pub AreFramesAt-append : (log : Log) (frames more : List (List ℕ)) (places others : List Place)
@@ -93,7 +92,7 @@ AreFramesAt-append log frames more places others are next = record {
 
 -- no frames at no places
 pub AreFramesAt-none : (log : Log) → AreFramesAt log [] []
-AreFramesAt-none log = record { octets = []; written = refl; parts = tt }
+AreFramesAt-none log = record { octets = []; written = refl; parts = All-nil (IsWithin []) }
 
 -- joined lines with one row more
 pub AreJoined-push : (log : Log) (octets more : List ℕ) (from : ℕ) (notation : Notation) (rows : List Row) (row : Row)
@@ -104,3 +103,35 @@ AreJoined-push log octets more from notation rows row end ends joined written =
     rw (row_places-append from notation rows row)
     (AreAt-append log octets more (row_places from notation rows) (row_place (from + length rows) notation row ∷ []) joined
     (AreAt-one log more (row_place (from + length rows) notation row) (rw (sym ends) at written)))
+
+-- a row has one place
+pub length_row_places : (line : ℕ) (notation : Notation) (rows : List Row)
+    → length (row_places line notation rows) ≡ length rows
+length_row_places line notation [] = refl
+length_row_places line notation (row ∷ rows) = ap suc (length_row_places (line + 1) notation rows)
+
+-- and that is the place of the row with its index
+pub row_places-at : (line : ℕ) (notation : Notation) (rows : List Row) (index : ℕ) (row : Row) (place : Place)
+    → index < length rows → row ≡ get_or rows index row
+    → row_place (line + index) notation row ≡ get_or (row_places line notation rows) index place
+row_places-at line notation [] index row place inside is = absurd (omega (arith, inside))
+row_places-at line notation (first ∷ rows) zero row place inside is =
+    let here : line + 0 ≡ line = omega arith in
+    rw here (ap (row_place line notation) is)
+row_places-at line notation (first ∷ rows) (suc index) row place inside is =
+    let below : line + suc index ≡ line + 1 + index = omega arith in
+    rw below (row_places-at (line + 1) notation rows index row place (omega (arith, inside)) is)
+
+-- the places of the first rows, and of one more
+pub row_places-more : (from line : ℕ) (notation : Notation) (rows : List Row) (index : ℕ) (blank : Row) (place : Place)
+    (above places : List Place) → index < length rows → line ≡ from + index
+    → place ≡ row_place line notation (get_or rows index blank)
+    → places ≡ (above ++ row_places from notation (take index rows)) ++ place ∷ []
+    → places ≡ above ++ row_places from notation (take (index + 1) rows)
+row_places-more from line notation rows index blank place above places inside here is more =
+    let count : length (take index rows) ≡ index = length-take-le index rows (omega (arith, inside)) in
+    let last : row_place (from + length (take index rows)) notation (get_or rows index blank) ≡ place =
+    rw count (rw here at (sym is)) in
+    more ∙ append_assoc above (row_places from notation (take index rows)) (place ∷ [])
+    ∙ ap (λ ps. above ++ ps) (sym (rw (take_more rows index blank inside) (row_places-append from notation (take index rows) (get_or rows index blank)
+        ∙ ap (λ p. row_places from notation (take index rows) ++ p ∷ []) last)))

@@ -1,10 +1,11 @@
 //! The end of lines that are joined: their octets are judged together.
-ghost use Rattle.fio_log.specs.Frames.{IsJudgeOf, Log};
+ghost use Rattle.std.specs.Prelude.{IfSome};
+ghost use Rattle.fio_log.specs.Frames.{IsJudgeOf, IsMessageOf, Log};
 
 use crate::deciding::Decider;
 use crate::decisions::State;
 use crate::entries::{Entries, KEPT_ROWS};
-use crate::joins::Joining;
+use crate::joins::{Join, Joining};
 use crate::judge::Judge;
 use crate::kept::{Around, Kept, Seen};
 use crate::sayings::{Saying, read_saying};
@@ -50,20 +51,9 @@ impl Judge {
             return;
         }
         let around = self.join.surroundings();
-        let octets = self.join.lines.chain.octets();
-        let saying = read_saying(octets);
-        let seen = Seen::of_octets(&around, octets.len(), saying);
-        let kept = if self.join.lines.rows.len() <= KEPT_ROWS {
-            Kept::of(&around, octets, saying)
-        } else {
-            None
-        };
-        self.decider.seen.clear();
-        let _room = self.decider.seen.try_push(seen);
-        if self.join.is_same && matches!(saying, Saying::Says { is_sure: true, .. }) {
-            let front = front_key(around.shape);
-            self.decider.shapes.set_width(front, self.join.width);
-        }
+        let saying = read_saying(self.join.lines.chain.octets());
+        let kept = self.join.run(&around, saying);
+        self.decider.see_joined(&self.join, &around, saying);
         let is_chain = kept.is_none() && self.join.joining != Joining::Rows;
         self.entries.set_only(slot, kept, &self.join.lines);
         if is_chain {
@@ -88,7 +78,30 @@ impl Judge {
     }
 }
 
+impl Join {
+    /// Returns the run that the lines are, if it says a message and its rows can be kept.
+    fn run(&self, around: &Around, saying: Saying) -> Option<Kept>
+        ensures { IfSome result (IsMessageOf self.now.lines.chain.octets.items) }
+    {
+        if self.lines.rows.len() > KEPT_ROWS {
+            return None;
+        }
+        Kept::of(around, self.lines.chain.octets(), saying)
+    }
+}
+
 impl Decider {
+    /// Counts joined lines as one, and learns how wide the rows of a message are.
+    fn see_joined(&mut self, join: &Join, around: &Around, saying: Saying) {
+        let octets = join.lines.chain.octets();
+        let seen = Seen::of_octets(around, octets.len(), saying);
+        self.seen.clear();
+        let _room = self.seen.try_push(seen);
+        if join.is_same && matches!(saying, Saying::Says { is_sure: true, .. }) {
+            self.shapes.set_width(front_key(around.shape), join.width);
+        }
+    }
+
     /// Decides on an entry that is a chain of messages, and on all that wait above it.
     fn decide_chain(
         &mut self,

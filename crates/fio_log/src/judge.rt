@@ -1,5 +1,5 @@
 //! The judge of a log's lines: which of their messages are frames.
-ghost use Rattle.std.specs.Prelude.{◌≡◌, ◌+◌, length};
+ghost use Rattle.std.specs.Prelude.{◌≡◌, ℕ, List, IfSome};
 ghost use Rattle.std.specs.List.{All};
 ghost use Rattle.fio_log.specs.Frames.{IsJudgeOf, Log};
 ghost use Rattle.fio_log.specs.Said.{IsSaidIn};
@@ -74,26 +74,26 @@ impl Judge {
         let Some(slot) = self.decider.open else {
             return false;
         };
-        let going = if self.join.lines.next_line() == Some(line.number) {
-            self.join_line(line, runs)
-        } else {
-            Going::No
-        };
-        if going != Going::No {
-            self.decider.queue.reach(slot, line.number);
+        let going = self.join_line(line, runs);
+        if going == Going::No {
+            self.close();
+            return false;
         }
-        if going != Going::On {
+        self.decider.queue.reach(slot, line.number);
+        if going == Going::Over {
             self.close();
         }
-        going != Going::No
+        true
     }
 
-    /// Reads the line after those that are open as one more of them.
+    /// Reads a line as one more of those that are open, if it is the next one.
     fn join_line(&mut self, line: Line, runs: &LineRuns) -> Going
-        requires { line.number ≡ self.old.join.lines.from + length self.old.join.lines.rows.items }
         ensures { (log : Log) → IsJudgeOf log self.old → line.entry.text.now ≡ log line.entry.number
             → All (IsSaidIn (log line.entry.number)) runs.now.said.items → IsJudgeOf log self.new }
     {
+        if self.join.lines.next_line() != Some(line.number) {
+            return Going::No;
+        }
         match self.join.joining {
             Joining::Rows => self
                 .join
@@ -181,15 +181,27 @@ impl Judge {
             self.decider.forget_chain();
             return is_open;
         }
-        let (joining, row) = match (first_row(runs), last_run(runs)) {
-            (Some(row), _) => (Joining::Rows, row),
-            (None, Some(row)) if is_octet_row(row, runs, &self.decider.shapes) => {
-                (Joining::Octets, row)
-            }
-            _ => return false,
+        let Some((joining, row)) = self.first_of_several(runs) else {
+            return false;
         };
         self.decider.forget_chain();
         self.join.begin(joining, line.number, row, runs.time)
+    }
+
+    /// Returns the run of a line that may go on in the next one, and why.
+    fn first_of_several<'a>(&self, runs: &'a LineRuns) -> Option<(Joining, &'a Said)>
+        ensures { (line : List ℕ) → All (IsSaidIn line) runs.now.said.items
+            → IfSome result (λ found. IsSaidIn line found.1.now) }
+    {
+        if let Some(row) = first_row(runs) {
+            return Some((Joining::Rows, row));
+        }
+        let row = last_run(runs)?;
+        if is_octet_row(row, runs, &self.decider.shapes) {
+            Some((Joining::Octets, row))
+        } else {
+            None
+        }
     }
 }
 

@@ -148,6 +148,7 @@ impl Reader {
         requires room { self.old.read < u64.MAX }
         requires open { self.old.is_ended ≡ false }
         requires whole { is_whole self.old.making.ending ≡ true }
+        requires none { self.old.held ≡ [] }
         ensures line { self.new.making ≡ self.old.making }
         ensures read { self.new.read ≡ self.old.read + 1 }
         ensures told { self.new.told ≡ self.old.told }
@@ -271,6 +272,7 @@ impl Reader {
     }
 
     /// Returns how many places the last verdict has.
+    #[tactic(auto, using(crate::proofs::FrameLemmas::length_row_places))]
     fn place_count(&self) -> usize
         ensures { result ≡ length (places_of self.now) }
     {
