@@ -131,6 +131,18 @@ def of_library(found):
     return table(['Call', 'case', 'C', 'crate', 'ratio'], rows).replace('| --- | ---: |', '| --- | --- |', 1)
 
 
+def of_logs(found):
+    """Time, and instructions of a line, of each program for each log, and their ratios to those of the first, the plain one."""
+    rows = []
+    for log, costs in found:
+        plain = next(iter(costs.values()))
+        for program, cost in costs.items():
+            ratios = [figure(one and one / other, 1) for one, other in zip(cost, plain)]
+            rows.append([log, program, figure(cost[0], 0), ratios[0], figure(cost[1], 0), ratios[1]])
+    heads = ['Log', 'program', 'time, ms', 'ratio', 'instructions of a line', 'ratio']
+    return table(heads, rows).replace('| --- | ---: |', '| --- | --- |', 1)
+
+
 def measured():
     """The commit that was measured, and the name of this machine's processor."""
     commit = subprocess.run(['git', 'describe', '--always', '--dirty'], cwd=TOP, capture_output=True, text=True, check=True)

@@ -1,8 +1,8 @@
 /* The field I/O transition link of the Model 2070: the header of fio2070.c.
  *
- * Sources: 01e7d3c5130c59da797977db0a30779d839f2654b692bb43ee9a73c310eff2fc (SHA-256; packaging/release-files --sources)
- * Kit: rattle-kit-13b logic dac8208d650f15bf
- * Proof: logic=proved functions=125 target=wasm64-unknown-unknown sum=dac8208d650f15bf native=nat,char,string
+ * Sources: b0dfdd5328c828dd386965bee10e2b9c19beb46c9dc470cb7044731f6e922c39 (SHA-256; packaging/release-files --sources)
+ * Kit: rattle-kit-13f logic dac8208d650f15bf
+ * Proof: logic=proved functions=144 target=wasm64-unknown-unknown sum=dac8208d650f15bf native=nat,char,string
  * Made by `make release-files`: do not edit.
  *
  * Proved is the module of which fio2070.c was made, for wasm64: each call does what fio2070.h says for all octets,
@@ -23,14 +23,15 @@
  * What the caller owes, and nothing checks:
  *  - A pointer points to as many objects as its length says, aligned as C asks of their type. Where that
  *    length is 0 it may be null (tested, not proved); any other pointer is not null.
- *  - What an argument with const points to is initialised. What a call writes need not be.
+ *  - Initialise what a const argument points to. What a call only writes may be uninitialised.
  *  - During a call no one else writes what an argument points to, and no one else reads what an
  *    argument without const points to. Such an argument overlaps no other. So threads may call at once, each with its
  *    own structs. A firmware that scans in a timer interrupt makes each other call on the module, getters too, with
  *    that interrupt held off.
- *  - The structs filters, counter, checker, content_checker, module and sized_module are written by the calls of
- *    this header alone, _start first, and so are the slots of a sized_module. Before _start they may hold any octets;
- *    _start sets each of those of a struct. They may be copied and moved by memcpy.
+ *  - The structs filters, counter, checker, content_checker, module, sized_module and log_reader are written by the calls
+ *    of this header alone, _start first, and so are the slots of a sized_module. Before _start they may hold any octets;
+ *    _start sets each of those of a struct but a log_reader. They may be copied and moved by memcpy. A log_reader that
+ *    other code wrote, or that was not started, is no reader: what a call then does is not promised at all.
  *
  * Sources: TEES 2009 is Caltrans TEES 2009. "Own profile" is a choice of this project where TEES
  * leaves one: 64 inputs, 64 outputs, and what docs/PROTOCOL.md marks so.
@@ -679,6 +680,107 @@ FIO2070_MUST_USE
 uint8_t fio2070_content_heard(struct fio2070_content_checker *content, const uint8_t *octets, size_t length,
                               struct fio2070_content_breach *breach);
 
+/* ---- Logs ---- */
+
+/** How the lines of a log are read. By order a line is read without what is no character of it, and also ends at CR. */
+enum fio2070_log_form {
+    FIO2070_LOG_AUTO = 0,      /**< by the definition of docs/CAPTURES.md */
+    FIO2070_LOG_FRAMES = 1,    /**< as `fio2070 show` reads its lines */
+    FIO2070_LOG_TRANSCRIPT = 2 /**< as `fio2070 check` reads its lines */
+};
+
+/** What a line of a log is. */
+enum fio2070_log_kind {
+    FIO2070_LOG_BLANK = 0,      /**< it has nothing but blanks */
+    FIO2070_LOG_SAYS = 1,       /**< it says frames, with the lines below that go on with it */
+    FIO2070_LOG_PART = 2,       /**< it has octets of the frames of a line above */
+    FIO2070_LOG_POSSIBLE = 3,   /**< it says a message, and nothing makes that sure */
+    FIO2070_LOG_DAMAGED = 4,    /**< it may have held a frame, and gives none */
+    FIO2070_LOG_PASSED_OVER = 5 /**< it is none of these */
+};
+
+/** Why a line gives no frame. */
+enum fio2070_log_reason {
+    FIO2070_LOG_NO_REASON = 0,        /**< it does, or it is blank */
+    FIO2070_LOG_NO_OCTETS = 1,        /**< it has no octets */
+    FIO2070_LOG_NO_MESSAGE = 2,       /**< its octets spell no message */
+    FIO2070_LOG_SHORT_MESSAGE = 3,    /**< a short message in a line unlike those of other messages */
+    FIO2070_LOG_SEVERAL_MESSAGES = 4, /**< it says more than one message */
+    FIO2070_LOG_MAY_BE_LONGER = 5,    /**< it may be one message with the line below or above, or one by itself */
+    FIO2070_LOG_TOO_LONG = 6,         /**< it is longer than a line, or than the octets of several lines, that are kept */
+    FIO2070_LOG_BAD_LINE = 7          /**< it is no line of the text that it is read as by order */
+};
+
+/** What the reader says of a line of a log. */
+struct fio2070_log_verdict {
+    /** The number of the line, from 1. */
+    uint64_t line;
+    /** The time in microseconds since 1970, or since midnight or a start if the log has no date; 0 if
+     *  there is none. */
+    uint64_t time;
+    /** How many frames the line gives, with those of the lines below that go on with it. */
+    uint32_t frames;
+    /** At how many places the octets of these frames are written. */
+    uint32_t places;
+    /** What the line is: one of `FIO2070_LOG_BLANK` and those after it. */
+    uint8_t kind;
+    /** Why it gives no frame: one of `FIO2070_LOG_NO_OCTETS` and those after it, else 0. */
+    uint8_t reason;
+    /** 1 if there is a time, else 0. */
+    uint8_t has_time;
+    /** 0 in each octet that the library writes. */
+    uint8_t reserved[5];
+};
+
+/** Where octets are written in a log. Colour sequences, NUL and byte order marks are no characters of a line. */
+struct fio2070_log_place {
+    /** The number of the line, from 1. */
+    uint64_t line;
+    /** The index of the first character, with its mark, bracket or quote. */
+    uint32_t start;
+    /** The index after the last character. */
+    uint32_t end;
+};
+
+/** Verdicts on lines of a log, with their frames and places, each at the front of its array and in order: the frames of the
+ * first verdict, then those of the second, and so the places. */
+struct fio2070_log_batch {
+    /** How many verdicts there are. */
+    uint32_t verdict_count;
+    /** How many frames these have. */
+    uint32_t frame_count;
+    /** How many octets the frames have. */
+    uint32_t octet_count;
+    /** How many places there are. */
+    uint32_t place_count;
+    /** The verdicts. */
+    struct fio2070_log_verdict verdicts[4096];
+    /** The places of all verdicts, those of each after those of the one before. */
+    struct fio2070_log_place places[20480];
+    /** How many octets each frame has. */
+    uint16_t lengths[20480];
+    /** The octets of all frames, those of each after those of the one before. */
+    uint8_t octets[65536];
+};
+
+/** A reader of a log. Its octets are the library's own. */
+struct fio2070_log_reader {
+    uint64_t words[65536];
+};
+
+/** Begins a log, in a form of `enum fio2070_log_form`; any other number is FIO2070_LOG_AUTO. */
+void fio2070_log_start(struct fio2070_log_reader *reader, uint8_t form);
+/** Takes octets of the log until all are taken or `batch` has no room for another verdict, and returns how many it took. The
+ * log is cut into pieces anywhere. The batch then has the verdicts that were due, each line's once and in order: a line gets
+ * its verdict as soon as it is decided, which can be lines later. Each of its frames spells a message. Call it again with the
+ * octets that were not taken. What the batch held before is overwritten. */
+FIO2070_MUST_USE
+size_t fio2070_log_read(struct fio2070_log_reader *reader, const uint8_t *octets, size_t length,
+                        struct fio2070_log_batch *batch);
+/** Ends the log: octets after the last line end are its last line. `fio2070_log_read` with no octets then gives the verdicts
+ * that are left; call it until it gives none. */
+void fio2070_log_end(struct fio2070_log_reader *reader);
+
 /* ---- Parts of a module ---- */
 
 /** The millisecond counter. Its fields are the library's own. */
@@ -1016,6 +1118,30 @@ FIO2070_SAME(fault, sizeof(struct fio2070_fault) == 16 &&
 FIO2070_SAME(configured, sizeof(struct fio2070_configured) == 16 &&
              offsetof(struct fio2070_configured, reserved) == 1 &&
              offsetof(struct fio2070_configured, place) == 8);
+
+FIO2070_SAME(log_reader, sizeof(struct fio2070_log_reader) == 524288);
+
+FIO2070_SAME(log_verdict, sizeof(struct fio2070_log_verdict) == 32 &&
+             offsetof(struct fio2070_log_verdict, time) == 8 &&
+             offsetof(struct fio2070_log_verdict, frames) == 16 &&
+             offsetof(struct fio2070_log_verdict, places) == 20 &&
+             offsetof(struct fio2070_log_verdict, kind) == 24 &&
+             offsetof(struct fio2070_log_verdict, reason) == 25 &&
+             offsetof(struct fio2070_log_verdict, has_time) == 26 &&
+             offsetof(struct fio2070_log_verdict, reserved) == 27);
+
+FIO2070_SAME(log_place, sizeof(struct fio2070_log_place) == 16 &&
+             offsetof(struct fio2070_log_place, start) == 8 &&
+             offsetof(struct fio2070_log_place, end) == 12);
+
+FIO2070_SAME(log_batch, sizeof(struct fio2070_log_batch) == 565264 &&
+             offsetof(struct fio2070_log_batch, frame_count) == 4 &&
+             offsetof(struct fio2070_log_batch, octet_count) == 8 &&
+             offsetof(struct fio2070_log_batch, place_count) == 12 &&
+             offsetof(struct fio2070_log_batch, verdicts) == 16 &&
+             offsetof(struct fio2070_log_batch, places) == 131088 &&
+             offsetof(struct fio2070_log_batch, lengths) == 458768 &&
+             offsetof(struct fio2070_log_batch, octets) == 499728);
 
 FIO2070_SAME(limits, sizeof(struct fio2070_limits) == 4 &&
              offsetof(struct fio2070_limits, per_block) == 2 &&

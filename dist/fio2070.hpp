@@ -1,8 +1,8 @@
 /* The field I/O transition link of the Model 2070: the header for C++17, above fio2070.h.
  *
- * Sources: e41587c1c77330d1ebd198753099dd46d5fa972324ca268c8408d220b9c19020 (SHA-256; packaging/release-files --sources)
- * Kit: rattle-kit-13b logic dac8208d650f15bf
- * Proof: logic=proved functions=125 target=wasm64-unknown-unknown sum=dac8208d650f15bf native=nat,char,string
+ * Sources: b0dfdd5328c828dd386965bee10e2b9c19beb46c9dc470cb7044731f6e922c39 (SHA-256; packaging/release-files --sources)
+ * Kit: rattle-kit-13f logic dac8208d650f15bf
+ * Proof: logic=proved functions=144 target=wasm64-unknown-unknown sum=dac8208d650f15bf native=nat,char,string
  * Made by `make release-files`: do not edit.
  *
  * Proved is the module of which fio2070.c was made, for wasm64: each call does what fio2070.h says for all octets,
@@ -421,6 +421,24 @@ public:
 
 private:
     ::fio2070_content_checker content_{};
+};
+
+/// A reader of a log, which takes its octets in pieces of any length. It has half a megabyte: make it static or on the heap.
+class LogReader {
+public:
+    explicit LogReader(::fio2070_log_form form = FIO2070_LOG_AUTO) {
+        ::fio2070_log_start(&reader_, static_cast<std::uint8_t>(form));
+    }
+    /// Takes octets until all are taken or the batch has no room for another verdict, and returns how many it took. The batch
+    /// then has the verdicts that were due.
+    std::size_t read(Octets octets, ::fio2070_log_batch &batch) {
+        return ::fio2070_log_read(&reader_, octets.data(), octets.size(), &batch);
+    }
+    /// Ends the log. Read no octets then, until the batch has no verdicts.
+    void end() { ::fio2070_log_end(&reader_); }
+
+private:
+    ::fio2070_log_reader reader_;
 };
 
 /// The millisecond counter.

@@ -709,7 +709,9 @@ enum fio2070_log_reason {
     FIO2070_LOG_SEVERAL_MESSAGES = 4, /**< it says more than one message */
     FIO2070_LOG_MAY_BE_LONGER = 5,    /**< it may be one message with the line below or above, or one by itself */
     FIO2070_LOG_TOO_LONG = 6,         /**< it is longer than a line, or than the octets of several lines, that are kept */
-    FIO2070_LOG_BAD_LINE = 7          /**< it is no line of the text that it is read as by order */
+    FIO2070_LOG_BAD_LINE = 7,         /**< it is no line of the text that it is read as by order */
+    FIO2070_LOG_EXCHANGED = 8,        /**< its octets spell a message with a count if those of each pair are exchanged */
+    FIO2070_LOG_TWO_MORE = 9          /**< its octets spell a message with a count but for two at one end */
 };
 
 /** What the reader says of a line of a log. */

@@ -11,9 +11,9 @@ sys.dont_write_bytecode = True
 
 from support.check import Check
 from support.fiolog import use_library
-from support.log_model import LogReader as Model
+from support.log_model import REMARKS, LogReader as Model
 from support.loggers import LOGGERS
-from support.other_text import BY_CHANCE, other_text
+from support.other_text import BY_CHANCE, REMARKED, other_text
 from support.sessions import SESSION, random_session, timed
 from support.strangers import PASSED, READ
 
@@ -48,6 +48,23 @@ LINES = [
     ('7E 14 83 36 05 C4 1B 7E', '3605'), ('14 83 36 05 C4 1B', '3605'), ('14 83 36 05 1B C4', None),
     ('connected at 9600 baud', None), ('', None), ('be ad', None), ('b6', None), ('TX', None), ('> poll', None),
 ]
+
+# Lines that give no frame, and the reasons of their verdicts. Of a message with a count a reason says what hides it: that octets
+# are exchanged in pairs, or that two are more at one end. The dumps are of `od -x` and of `hexdump`.
+REASONS = {
+    'od -x': ('0000000 05b6 8c01 e703 0000 0300 00e8\n0000013\n', ['exchanged', 'no octets']),
+    'od -x of two lines': ('0000000 05b6 8c03 e703 038d 8ee8 e903 0000 0300\n0000020 00e8\n0000021\n', ['exchanged'] * 2 + ['no octets']),
+    'hexdump': ('0000000 05b6 8c01 e703 0000 0300 00e8          \n000000b\n', ['exchanged', 'no octets']),
+    'hexdump after a time': ('07:15:02.100 0233 e903 0703 05ea\n', ['exchanged']),
+    'words of two octets': ('RX 05b6 0000 0000 0100\n', ['exchanged']),
+    'a check of another kind': ('RX b6 05 00 00 00 00 00 01 a4 7c\n', ['two more']),
+    'a sum of words': ('33 02 03 e9 03 00 ea 07 05 02 0a\n', ['no message']),
+    'a configuration and a check': ('TX: 33 01 03 e9 03 9d 10\n', ['two more']),
+    'a header': ('RX 00 08 b6 05 00 00 00 00 00 01\n', ['two more']),
+    'a header and a check': ('RX 14 83 b6 05 00 00 00 00 00 01 a4 7c\n', ['no message']),
+    'a short message of exchanged octets': ('TX 0536\n', ['no message']),
+    'a short message and a check': ('TX 36 05 a4 7c\n', ['no message']),
+}
 
 # Forms of which frames are lost: a loose type whose rows may go on is passed over; the others are none of the definition's.
 LOST = {'candump': 1.0, 'C arrays': 0.05, 'socat -x -v': 0.02}
@@ -117,6 +134,18 @@ def check_lines(check):
             check.equal('the line %r' % line, [], [octets.hex() for octets in read.octets])
     below = 'TX 36 05 poll\nRX b6 05 00 00 00 00 00 01 block\n'
     check.equal('an answer below makes a short message sure', ['3605', 'b605000000000001'], [octets.hex() for octets in Read(below).octets])
+    pair = 'size 3146\nat b1b42ef307ec49c3\n'
+    for name, above, expected in (('half', 'size 9912\n', ['3146', 'b1b42ef307ec49c3']), ('a third', 'size 9912\nsize 7741\n', [])):
+        check.equal('a pair, %s of whose lines say messages' % name, expected, [octets.hex() for octets in Read(above + pair).octets])
+
+
+def check_reasons(check):
+    """Each text of the table has no frame, and its lines have these reasons; in a line like those of frames it is damaged."""
+    for name, (text, expected) in REASONS.items():
+        read = Read(text)
+        check.equal('%s: no frame, and why' % name, ([], expected), (read.octets + read.possible, [one.reason for one in read.verdicts]))
+    read = Read('RX b6 05 00 00 00 00 00 01\nRX b6 06 00 00 00 00 00 02 a4 7c\n')
+    check.equal('a check of another kind below a frame', [('frames', ''), ('damaged', 'no message')], [(one.kind, one.reason) for one in read.verdicts])
 
 
 def check_strangers(check):
@@ -190,14 +219,22 @@ def fault_of_noise(seed):
 def check_other_text(check):
     """Text of other programs: each frame in it is listed, with what makes it one by chance."""
     count = 256_000 if check.whole('256,000 lines of other text') else 13_000
-    found = {}
+    found, remarked = {}, {}
     for name, text in other_text(count, 2000 if count > 13_000 else 500):
         read = Read(text)
         check.holds('%s: each line has a verdict' % name, read.is_whole)
         for one, octets in read.frames:
             found[name, one.line] = octets.hex()
-    expected = {key: octets for key, octets in BY_CHANCE.items() if count > 13_000 or key[1] <= 500 and int(key[0].split(', ')[-1]) < 26}
-    check.equal('frames in other text', expected, found)
+        remarked.update({(name, one.line): one.reason for one in read.verdicts if one.reason in REMARKS})
+    for row, listed, got in (('frames', BY_CHANCE, found), ('remarks', REMARKED, remarked)):
+        expected = {key: value for key, value in listed.items() if count > 13_000 or key[1] <= 500 and int(key[0].split(', ')[-1]) < 26}
+        check.equal('%s in other text' % row, expected, got)
+
+
+def agreed(one, other):
+    """What of a verdict is the same in the library and in the model, whose verdicts on a line these are."""
+    remark = one.reason if one.reason in REMARKS and one.kind == other.kind else ''
+    return one.line, one.kind if one.kind in FOUND else 'none', one.frames if one.kind == 'frames' else (), remark
 
 
 def check_model(check):
@@ -208,6 +245,7 @@ def check_model(check):
         return
     texts = {name: logger(timed(random_session(len(name), 60))) for name, logger in LOGGERS.items()}
     texts.update({name: text for name, text, _ in READ + PASSED})
+    texts.update({name: text for name, (text, _) in REASONS.items()})
     for name, text in texts.items():
         for seed in range(4):
             draw, lines = random.Random('%s %d' % (name, seed)), text.split('\n')
@@ -215,16 +253,15 @@ def check_model(check):
                 lines[place] = draw.choice(DAMAGES)(lines[place], draw.randrange(len(lines[place]) + 1))
             octets = '\n'.join(lines).encode()
             model = Model()
-            expected, read = model.read(octets) + model.end(), Read('\n'.join(lines))
-            check.equal('the model on %s, %d' % (name, seed), *([
-                one[:1] + (one.kind if one.kind in FOUND else 'none', one.frames if one.kind == 'frames' else ()) for one in verdicts]
-                for verdicts in (expected, read.verdicts)))
+            expected, read = model.read(octets) + model.end(), Read('\n'.join(lines)).verdicts
+            check.equal('the model on %s, %d' % (name, seed), (len(expected), list(map(agreed, expected, read))),
+                        (len(read), list(map(agreed, read, expected))))
 
 
 def main():
     check = Check()
     use_library(check, 'all of fiolog')
-    for part in (check_forms, check_lines, check_strangers, check_other_text, check_model):
+    for part in (check_forms, check_lines, check_reasons, check_strangers, check_other_text, check_model):
         part(check)
     seeds = 2 if check.whole('damage, seed 1') else 1
     for place, name in enumerate(LOGGERS):

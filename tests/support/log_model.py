@@ -6,10 +6,11 @@ from typing import NamedTuple, Optional, Tuple
 
 from support.log_clock import DIGITS, HEX, MONTHS, without_time
 from support.log_runs import (BLANK, HELD, LATER, LINE, LOOSE, MOST, ROW, SHAPES, WORD, YOUNG, frames_of, hex_runs, is_pair, lacks,
-                              runs, spells)
+                              remark_of, runs, spells)
 
 NO_OCTETS, NO_MESSAGE, SHORT, SEVERAL, LONGER, TOO_LONG, BAD_LINE = (
     'no octets', 'no message', 'short message', 'several messages', 'may be longer', 'too long', 'bad line')
+REMARKS = 'exchanged', 'two more'
 
 
 class Verdict(NamedTuple):
@@ -315,7 +316,8 @@ class Reader:
         self.others += not (len(entry.fits) == 1 and entry.fits[0].is_bare())
         above, self.above = self.above, entry
         if above:
-            pairs = [(a, b) for a in above.fits for b in entry.fits if is_pair(a, b) and above.chosen in (None, a)]
+            pairs = [(a, b) for a in above.fits for b in entry.fits if is_pair(a, b) and above.chosen in (None, a)
+                     and self.is_mostly_good(a) and self.is_mostly_good(b)]
             if len({(a.octets, b.octets) for a, b in pairs}) == 1:
                 for a, b in pairs:
                     a.sure = b.sure = True
@@ -347,8 +349,12 @@ class Reader:
 
     def is_known(self, one):
         ways = self.shapes.get(one.shape)
+        return ways is not None and self.is_mostly_good(one) and (one.ways is None or bool(ways & one.ways))
+
+    def is_mostly_good(self, one):
+        """Whether at least half of the lines that have before a run what this one has say messages."""
         good, bad = self.tallies.get(one.key, (1, 0))
-        return ways is not None and good >= bad and (one.ways is None or bool(ways & one.ways))
+        return good >= bad
 
     def lost_a_digit(self, one):
         """Whether it has octets of one digit where the others of its shape have two."""
@@ -375,7 +381,8 @@ class Reader:
 
     def pass_over(self, entry):
         has_octets = any(len(one.octets) > 1 for one in entry.said)
-        entry.settle('passed over', SHORT if entry.fits else NO_MESSAGE if has_octets else NO_OCTETS)
+        remark = next(filter(None, (remark_of(one.octets) for one in entry.said)), NO_MESSAGE)
+        entry.settle('passed over', SHORT if entry.fits else remark if has_octets else NO_OCTETS)
 
     def ask(self, entry):
         """Marks the one message that a line says, where no line of the log is a frame, as possible: one of two octets or more, or
@@ -413,6 +420,7 @@ class Reader:
             self.queue.pop(0)
             if entry.kind == 'passed over' and entry.reason != TOO_LONG and self.count and self.is_damaged(entry):
                 entry.kind = 'damaged'
+                entry.reason = NO_MESSAGE if entry.reason in REMARKS else entry.reason
             time = None if entry.time is None else round(entry.time * 1_000_000)
             first, *others = entry.numbers
             done.append(Verdict(first, entry.kind, entry.reason, tuple(entry.frames), tuple(entry.places), time))

@@ -77,6 +77,16 @@ def is_counted(octets):
     return octets[0] == 182 or octets[0] == 51 and len(octets) > 2
 
 
+def remark_of(octets):
+    """What is remarked of octets that spell no message: that they spell one with a count if the octets of each pair are exchanged,
+    perhaps with a 0 at the end, or without their first or last two octets."""
+    swapped = octets if len(octets) % 2 else bytes(octets[place ^ 1] for place in range(len(octets)))
+    for remark, texts in (('exchanged', (swapped, swapped[:-1] if swapped[-1:] == b'\0' else b'')), ('two more', (octets[2:], octets[:-2]))):
+        if any(spells(text) and is_counted(text) for text in texts):
+            return remark
+    return None
+
+
 def is_pair(one, other):
     """Whether two runs say a command and its answer, by their types, and by the block number."""
     if len(one.frames) != 1 or len(other.frames) != 1:

@@ -22,6 +22,10 @@ const opened = async (text) => { delete root.dataset.opened; const chosen = new 
     while (!root.dataset.opened) await new Promise((done) => setTimeout(done)); return cells(); };
 const cells = () => { %s; };
 (async () => { const tables = []; for (const text of texts) tables.push(await opened(text)); window.tables = tables; })();''' % CELLS
+# Drops a text on the page, as text or, if it has a name, as a file.
+DROP = '''const [text, name] = arguments, dropped = new DataTransfer();
+if (name) dropped.items.add(new File([text], name)); else dropped.setData("text/plain", text);
+document.querySelector(".drop").dispatchEvent(new DragEvent("drop", { bubbles: true, cancelable: true, dataTransfer: dropped }));'''
 # Directions as rows show them.
 ARROWS = {'>': '→ module', '<': '← CPU'}
 # The first and the last millisecond that are seen.
@@ -68,6 +72,14 @@ def pasted(browser, text):
     browser.wait(OPENED, 'pasted text')
 
 
+def dropped(browser, text, file=''):
+    """Opens a text that is dropped, as text or as a file of this name."""
+    browser.click('#tab-open')
+    browser.run(CLOSE)
+    browser.run(DROP, text, file)
+    browser.wait(OPENED, file or 'dropped text')
+
+
 def is_message(row):
     """Whether a row has a message, and no line or octets that are none."""
-    return row[3] != 'bad line' and not re.match('wrong length|unknown|empty', row[3])
+    return row[5] != '' and not re.match('wrong length|unknown|empty', row[3])

@@ -8,16 +8,16 @@ import re
 from support.damage import DAMAGED
 from support.log_model import LogReader
 from support.loggers import LOGGERS
-from support.opened import ARROWS, CELLS, OPEN_ALL, example, pasted
+from support.opened import ARROWS, CELLS, OPEN_ALL, dropped, example, pasted, saved
 from support.sessions import SESSION, timed
-from support.strangers import PASSED, READ
-from support.tables import TOP
+from support.strangers import BLOCK, DUMP, PASSED, READ
+from support.tables import TOP, output_of
 
 # How many octets a row shows.
 SHOWN_OCTETS = 40
 # The rows of the log that is open, and what is said below the verdict.
 SEEN = '''const rows = () => { %s }; return { rows: rows(), note: document.getElementById("note").textContent };''' % CELLS
-POSSIBLE, BAD_LINE = 'possible: nothing makes it sure', 'bad line'
+POSSIBLE, BAD_LINE = 'possible: nothing makes it sure', 'damaged: bad line'
 
 # What is captured, and the messages that it has, by docs/CAPTURES.md.
 CAPTURES = {
@@ -33,8 +33,7 @@ def check_captures(check, browser, name):
     """Logs of other tools give their messages, with directions and times."""
     for capture, words in CAPTURES.items():
         example(browser, capture)
-        rows = [row for row in browser.run(CELLS) if row[3] != BAD_LINE]
-        rows = rows[:len(words)]
+        rows = [row for row in browser.run(CELLS) if row[5] != ''][:len(words)]
         check.equal('%s in %s' % (capture, name), words, [row[3] for row in rows])
         if capture != 'octets.txt':
             arrows = [ARROWS['>' if word.startswith('poll') else '<'] for word in words]
@@ -98,7 +97,8 @@ ROUNDS = ['> 36%02x\n< b6%02x0000%08x\n' % (number, number, number) for number i
 
 
 def check_unsure(check, browser, name):
-    """A possible message is shown, and not judged; a damaged line accuses nobody up to the next poll; a breach below is found."""
+    """A possible message is shown, and not judged; a damaged line is shown as it is written, and accuses nobody up to the next poll;
+    a breach below is found."""
     kind, says = verdict_on(browser, 'poll 36 05 now\n')
     check.equal('a short message alone in %s' % name, [[1, False, ARROWS['>'], True, '3605']], by_page({'rows': browser.run(CELLS), 'note': ''})[0])
     check.holds('it is not judged in %s' % name, kind == 'none' and 'possible and not judged' in says, (kind, says))
@@ -107,24 +107,45 @@ def check_unsure(check, browser, name):
         # The module answers; the log has a part of it. The CPU goes on.
         kind, says = verdict_on(browser, ''.join(ROUNDS[:3]) + poll + '\n' + answer[:size] + '\n' + ''.join(ROUNDS[4:]))
         check.equal('an answer that is cut to %d characters accuses nobody in %s' % (size, name), 'partly', kind)
+    seen = [row[3:5] for row in browser.run(CELLS) if row[5] == '']
+    check.equal('a damaged line is shown as it is written in %s' % name, [[answer[:-1], 'damaged: no octets']], seen)
     kind, says = verdict_on(browser, ''.join(ROUNDS[:3]) + poll + '\n' + answer[:9] + '\n' + ROUNDS[4].replace('< b605', '< b607') + ''.join(ROUNDS[5:]))
     check.holds('a breach below is found in %s' % name, kind == 'broken' and 'Line 10' in says, (kind, says))
 
 
-# A text, and the first cell of words of each line by the form in which it is read.
+# Chooses how the next log is written.
+CHOOSE_FORM = 'const it = document.getElementById("form"); it.value = arguments[0]; it.dispatchEvent(new Event("change"))'
+
+
+def check_dump(check, browser, name):
+    """The frame of a dump is read, however the dump comes; as frames by order each line is what `show` says of it."""
+    ways = {'pasted': pasted, 'dropped as text': dropped, 'dropped as a file': lambda *given: dropped(*given, 'dump.txt')}
+    for way, give in ways.items():
+        give(browser, DUMP)
+        check.equal('a dump of one frame that is %s in %s' % (way, name), [[1, False, ARROWS['<'], False, BLOCK]],
+                    by_page({'rows': browser.run(CELLS), 'note': ''})[0])
+    browser.run(CHOOSE_FORM, 'frames')
+    pasted(browser, DUMP)
+    check.equal('a dump of one frame as frames by order in %s' % name, output_of('show', DUMP)[0], saved(browser))
+    browser.run(CHOOSE_FORM, 'auto')
+    browser.click('#as-any')
+    check.equal('and as any log by a button in %s' % name, [BLOCK], [row[5] for row in browser.run(CELLS)])
+
+
+# A text, and the cell of words of each line by the form in which it is read; a bad line is shown as it is written.
 BY_ORDER = '> 3605\n> 33\nx\n< b605000000000001\n'
-AS_TRANSCRIPT = ['poll block 5', 'wrong length needed 2 got 1', BAD_LINE, 'block 5 entries 0 status 00 stamp 1']
+AS_TRANSCRIPT = ['poll block 5', 'wrong length needed 2 got 1', 'x', 'block 5 entries 0 status 00 stamp 1']
 
 
 def check_order(check, browser, name):
     """A log is read as `check` reads it by order, or if it is named as a transcript; else by the definition."""
-    chosen = 'const it = document.getElementById("form"); it.value = arguments[0]; it.dispatchEvent(new Event("change"))'
-    for form, words in (('transcript', AS_TRANSCRIPT), ('frames', [BAD_LINE] * 4), ('auto', None)):
-        browser.run(chosen, form)
+    for form, words in (('transcript', AS_TRANSCRIPT), ('frames', BY_ORDER.splitlines()), ('auto', None)):
+        browser.run(CHOOSE_FORM, form)
         pasted(browser, BY_ORDER)
         rows = browser.run(CELLS)
         if words:
             check.equal('a text by order as %s in %s' % (form, name), words, [row[3] for row in rows])
+            check.equal('its bad lines in %s' % name, [BAD_LINE] * (1 if form == 'transcript' else 4), [row[4] for row in rows if row[5] == ''])
         else:
             check.equal('and again as any log in %s' % name, by_model(BY_ORDER)[0], by_page({'rows': rows, 'note': ''})[0])
 
@@ -132,5 +153,6 @@ def check_order(check, browser, name):
 def rows(check, browser, name):
     """Each of these checks but those of captures."""
     check_lines(check, browser, name)
+    check_dump(check, browser, name)
     check_order(check, browser, name)
     check_unsure(check, browser, name)

@@ -30,11 +30,15 @@ def check_verdict(check, browser, name):
             ('a log with a bad line', '> 36ff\n> 36f\n< b6ff010000010200000001\n', 'partly', '1 line could not be read as a message and is not judged'),
             ('a log of the bus', '3605\nb605000000000001\n3605\n', 'partly', '1 message is not judged, since this log was not taken at the CPU'),
             ('answers below a breach', '> 36ff\n< b605000000000001\n< b605000000000001\n', 'broken', '1 message below a breach, up to the next poll, is not judged'),
+            ('an answer alone', 'b605018c4121000000416a\n', 'broken', 'The log has no poll'),
             ('a log that begins in the middle', '< b605000000000001\n> 3606\n< b606000000000002\n', 'broken', 'in the middle of traffic'),
             ('a log of the other end', '07:15:02.100 RX 36 05\n07:15:02.106 TX B6 05 00 00 00 00 00 01\n', 'good', '')]:
         pasted(browser, text)
         got = browser.run('const it = document.getElementById("not-judged"); return [document.getElementById("verdict").dataset.kind, it ? it.textContent : ""]')
         check.equal('the verdict on %s in %s' % (title, name), (kind, True), (got[0], words in got[1]))
+    pasted(browser, 'poll 36 05 now\n')
+    check.equal('if nothing is judged the page does not say how in %s' % name, '1 message is possible and not judged: nothing in the log makes '
+                'sure that the octets are a message.', browser.run('return document.getElementById("not-judged").textContent'))
     pasted(browser, '> 3605\n< b60501400001' + '0000000001\n')
     note = browser.run('return [...document.querySelectorAll(".line.broken .rule")].map((it) => it.textContent)')
     check.holds('a breach of the limits says which in %s' % name, any('an entry is of input 64, above 63' in words for words in note), note)

@@ -5,6 +5,8 @@ or one without."""
 POLL, EMPTY, BLOCK = '3605', 'b605000000000001', 'b605018c4121000000416a'
 BOTH, NONE = ['>' + POLL, '<' + BLOCK], ['-' + POLL, '-' + BLOCK]
 ROWS = '36 05 | B6 05 01 8C 41 21 00 00 00 41 6A'.split(' | ')
+# One frame as `hexdump -C` writes it. Its last line, an offset, is digits alone, as a line of frames is.
+DUMP = '00000000  b6 05 01 8c 41 21 00 00  00 41 6a                 |....A!...Aj|\n0000000b\n'
 
 
 def lines(sent, heard, form='%s %s\n', rows=ROWS):
@@ -79,6 +81,7 @@ READ = [
     ('Zephyr', '[00:00:00.100,000] <dbg> fio: link_tx:\n' + ' ' * 30 + '33 02 0c 05 03 83 00 00  |3....... \n'
      '[00:00:00.106,000] <dbg> fio: link_rx:\n' + ' ' * 30 + 'b6 05 01 8c 41 21 00 00  00 41 6a                |....A!.. .Aj\n',
      ['-33020c0503830000', '-' + BLOCK]),
+    ('hexdump -C of one frame', DUMP, ['-' + BLOCK]),
     ('Format-Hex of PowerShell 7', '   Label: Byte[]\n\n          Offset Bytes                                           Ascii\n'
      '                 00 01 02 03 04 05 06 07 08 09 0A 0B 0C 0D 0E 0F\n          ------ ----------------------------------------------- -----\n'
      '0000000000000000 B6 05 01 8C 41 21 00 00 00 41 6A                 ¶���A!   Aj\n', ['-' + BLOCK]),

@@ -23,6 +23,10 @@ __all__ = ['Answer', 'Breach', 'Checker', 'Command', 'ConfigurationItem', 'Conte
            'rule_text', 'show', 'version', 'widen']
 
 
+# Room for what `show` writes of most frames.
+_SHORT_TEXT = ctypes.c_uint8 * 512
+
+
 def _text(name: str, of: Any) -> str:
     text = (ctypes.c_uint8 * c.LONGEST_TEXT)()
     count = getattr(c.library, 'fio2070_' + name)(of, text, len(text))
@@ -71,10 +75,12 @@ def _written(count: int) -> int:
 
 def show(octets: Octets) -> str:
     """What `fio2070 show` writes of a frame, or the words of its fault and a line feed."""
-    octets = bytes(octets)
-    text = (ctypes.c_uint8 * (c.library.fio2070_show(octets, len(octets), None, 0) + 1))()
+    octets, text = bytes(octets), _SHORT_TEXT()
     count = c.library.fio2070_show(octets, len(octets), text, len(text))
-    return bytes(text[:count]).decode('ascii')
+    if count >= len(text):
+        text = (ctypes.c_uint8 * (count + 1))()
+        count = c.library.fio2070_show(octets, len(octets), text, len(text))
+    return ctypes.string_at(text, count).decode('ascii')
 
 
 def decode_answer(octets: Octets) -> Answer:

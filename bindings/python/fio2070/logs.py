@@ -11,7 +11,7 @@ from .encode import Octets
 _FORMS = {'auto': constants.LOG_AUTO, 'frames': constants.LOG_FRAMES, 'transcript': constants.LOG_TRANSCRIPT}
 _KINDS = ('blank', 'frames', 'part', 'possible', 'damaged', 'passed over')
 _REASONS = ('', 'no octets', 'no message', 'short message', 'several messages', 'may be longer', 'too long',
-            'bad line')
+            'bad line', 'exchanged', 'two more')
 # The numbers of struct fio2070_log_verdict and struct fio2070_log_place, in the processor's order of octets.
 _VERDICT, _PLACE = struct.Struct('=QQIIBBB5x'), struct.Struct('=QII')
 
@@ -22,9 +22,10 @@ class Verdict(NamedTuple):
     `line` is its number, from 1. `kind` is 'blank'; 'frames', whose frames these are; 'part', of the frames of a line above;
     'possible', a message that nothing makes sure; 'damaged', which may have held a frame; or 'passed over'. `reason` says why
     the line gives no frame, in one of these words: 'no octets', 'no message', 'short message', 'several messages', 'may be
-    longer', 'too long', and by order 'bad line'; else it is empty. The octets of `frames` are written at `places`, in their
-    order: each is the number of a line, and where it begins and ends there, in characters, after colours, NUL and marks are
-    taken out. `time` is in microseconds since 1970, or since midnight or a start; None if the log has none there."""
+    longer', 'too long', 'exchanged' (a message that has a count, if the octets of each pair are exchanged), 'two more' (one but
+    for two octets at one end), and by order 'bad line'; else it is empty. The octets of `frames` are written at `places`, in
+    their order: each is the number of a line, and where it begins and ends there, in characters, after colours, NUL and marks
+    are taken out. `time` is in microseconds since 1970, or since midnight or a start; None if the log has none there."""
     line: int
     kind: str
     reason: str
@@ -69,16 +70,13 @@ class LogReader:
 
     def _told(self) -> List[Verdict]:
         """The verdicts of the batch."""
-        batch, verdicts = self._batch, []
-        lengths = iter(batch.lengths[:batch.frame_count])
-        places = _PLACE.iter_unpack(self._places[:_PLACE.size * batch.place_count])
-        octets, end = bytes(self._octets[:batch.octet_count]), 0
+        batch, verdicts, frame, place = self._batch, [], 0, 0
+        octets, ends = bytes(self._octets[:batch.octet_count]), list(itertools.accumulate(batch.lengths[:batch.frame_count]))
+        frames = tuple(octets[begin:end] for begin, end in zip([0, *ends], ends))
+        places = tuple(_PLACE.iter_unpack(self._places[:_PLACE.size * batch.place_count]))
         for line, time, frame_count, place_count, kind, reason, has_time in _VERDICT.iter_unpack(
                 self._verdicts[:_VERDICT.size * batch.verdict_count]):
-            frames = []
-            for length in itertools.islice(lengths, frame_count):
-                begin, end = end, end + length
-                frames.append(octets[begin:end])
-            verdicts.append(Verdict(line, _KINDS[kind], _REASONS[reason], tuple(frames),
-                                    tuple(itertools.islice(places, place_count)), time if has_time else None))
+            verdicts.append(Verdict(line, _KINDS[kind], _REASONS[reason], frames[frame:frame + frame_count],
+                                    places[place:place + place_count], time if has_time else None))
+            frame, place = frame + frame_count, place + place_count
         return verdicts

@@ -9,7 +9,7 @@ from collections import Counter
 from . import log, many, terminal, unjudged
 from .counts import Counts
 from .decode import clock_of
-from .events import BAD, FRAME, LOSSES, PASSED
+from .events import FRAME, JUDGED, LOSSES, PASSED
 from .late import LateRules
 from .message import POLL, message_of
 from .options import number_in
@@ -94,7 +94,7 @@ def frames_judged(read, option, late=None):
         return judged(option.at, not option.start_at_poll, option.whole, option.limits)
     judge, name, is_open = begin(), None, not option.start_at_poll
     for event in read.events():
-        if event.kind not in (FRAME, BAD, *LOSSES):
+        if event.kind not in JUDGED:
             continue
         if name != read.name:
             judge, name, is_open = begin(), read.name, not option.start_at_poll

@@ -16,6 +16,7 @@ from .options import line_range, message_type, number_in, status_letters
 
 # The kinds of messages that nothing makes sure.
 UNSURE_KINDS = POSSIBLE, DOUBTFUL
+SPOKEN = FRAME, *UNSURE_KINDS
 # The most characters of a damaged line that are shown.
 MOST_SHOWN = 100
 # Times from here on are of a date.
@@ -165,9 +166,9 @@ def run(option):
         line = as_text(write, terminal.painter(option.color), taken.takes_part)
     read = log.Log(option, sys.stdout.flush)
     for event in read.events():
-        if event.kind not in (FRAME, *UNSURE_KINDS, BAD, DAMAGED):
+        if event.kind not in (*SPOKEN, BAD, DAMAGED):
             continue
-        message = message_of(event.octets) if event.kind in (FRAME, *UNSURE_KINDS) else None
+        message = message_of(event.octets) if event.kind in SPOKEN else None
         if taken.takes(event, message):
             line(read.name, event, message)
     return 0 if read.summary(takes_possible=True) and not read.kinds[BAD] + read.kinds[DAMAGED] else 1

@@ -16,12 +16,12 @@ class Doubts:
     def __init__(self):
         self.loose = self.numbers = self.rows = 0
 
-    def add(self, event):
-        """Notes how a frame is written."""
-        self.loose += judge.is_loose(event.octets)
-        self.rows += len(event.places) > 1 and len(event.places) == len(event.octets)
-        begin, end = event.places[0][1:] if event.places else (0, 0)
-        self.numbers += bool(_NUMBERS.match(event.text, begin, end) or _SINGLE.search(event.text, begin, end))
+    def add(self, text, places, code, is_row, count):
+        """Notes how `count` frames of a type are written; `is_row` says that they have an octet in each row."""
+        begin, end = places[0][1:] if places else (0, 0)
+        self.loose += count * judge.is_loose(code)
+        self.rows += count * is_row
+        self.numbers += count * bool(_NUMBERS.match(text, begin, end) or _SINGLE.search(text, begin, end))
 
     def words(self):
         """What is said of them."""

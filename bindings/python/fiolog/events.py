@@ -1,24 +1,48 @@
 """What the reader makes of each line."""
 
+import re
 from typing import NamedTuple, Optional, Tuple
+
+from .sides import side_of
 
 FRAME, BAD, POSSIBLE, DOUBTFUL, DAMAGED, PASSED, PART, BLANK = (
     'frame', 'bad', 'possible', 'doubtful', 'damaged', 'passed', 'part', 'blank')
-# Where judges lose their place.
+# Where judges lose their place; and what they are given.
 LOSSES = DAMAGED, DOUBTFUL
+JUDGED = FRAME, BAD, *LOSSES
+# Of a text the beginning is kept.
+LONGEST_TEXT = 1 << 16
+_UNSEEN = re.compile('\x1b\\[[^A-Za-z]*[A-Za-z]|[\0\ufeff]')
+
+
+def text_of(line):
+    """A line as text, without colours and marks; octets that are no UTF-8 can be written again as they were."""
+    text = line[:LONGEST_TEXT].rstrip(b'\r\n').decode('utf-8', 'surrogateescape')
+    return text if text.isprintable() else _UNSEEN.sub('', text)
 
 
 class Line(NamedTuple):
-    """A line of a log. `kind` is FRAME for octets that spell a message; BAD for those that are a frame by order or by their
-    carrier, and spell none; POSSIBLE for a message that nothing makes sure, DOUBTFUL for one below frames; DAMAGED for a line that
-    may have held a frame, or frames that were lost on their way here; PART for a further line of the frame above; BLANK; PASSED for any other. `note` is
-    the reason, `direction` is `>` or `<`, `said` what the log says of it, if it does, `time` is in seconds."""
+    """A line of a log, `raw` as it is there. `kind` is FRAME for octets that spell a message; BAD for those that are a frame by
+    order or by their carrier, and spell none; POSSIBLE for a message that nothing makes sure, DOUBTFUL for one below frames; DAMAGED
+    for a line that may have held a frame, or frames that were lost on their way here; PART for a further line of the frame above;
+    BLANK; PASSED for any other. `time` is in seconds, `direction` is `>` or `<`, `note` is the reason, `places` are those of the
+    octets; `side` is what the log says of the direction, if it is known without the text."""
     number: int
     kind: str
-    text: str
+    raw: bytes = b''
     octets: bytes = b''
     time: Optional[float] = None
     direction: str = ''
     note: str = ''
-    said: str = ''
     places: Tuple = ()
+    side: Optional[str] = None
+
+    @property
+    def text(self):
+        """The line as text."""
+        return text_of(self.raw)
+
+    @property
+    def said(self):
+        """The side that the log says, or nothing."""
+        return side_of(self.text, self.places) if self.side is None else self.side

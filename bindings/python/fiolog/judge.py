@@ -45,3 +45,8 @@ def words_of(octets):
 def is_answer(octets):
     """Whether `show` reads the octets as an answer."""
     return bool(octets) and octets[0] >= TYPE_ANSWER
+
+
+def direction_of(octets):
+    """The direction of a frame by its type: `<` if the module sent it, else `>`."""
+    return '<' if octets and octets[0] >= TYPE_ANSWER else '>'

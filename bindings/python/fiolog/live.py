@@ -20,7 +20,7 @@ from . import check, sdlc, terminal
 from .counts import Counts
 from .decode import as_text
 from .events import BAD, DAMAGED, FRAME, LOSSES, PASSED, POSSIBLE, Line
-from .judge import is_answer, words_of
+from .judge import direction_of, words_of
 from .message import message_of
 from .options import number_in
 from .pcapng import Writer
@@ -117,7 +117,7 @@ class Hdlc:
 
     def _lost(self):
         self.wrong += 1
-        return Line(self.number, DAMAGED, '', note=WRONG_CHECK)
+        return Line(self.number, DAMAGED, note=WRONG_CHECK)
 
     def end(self):
         """Nothing: what has no flag after it is no frame."""
@@ -148,7 +148,7 @@ class Datagrams:
         """The event of a datagram, with one before it if others were dropped."""
         self.number += 1
         if self.unsaid:
-            yield Line(self.number, DAMAGED, '', note='%s: %d datagrams' % (DROPPED, self.unsaid))
+            yield Line(self.number, DAMAGED, note='%s: %d datagrams' % (DROPPED, self.unsaid))
             self.unsaid = 0
         if octets:
             yield event_of(self.number, octets)
@@ -165,7 +165,7 @@ class Datagrams:
 def event_of(number, octets):
     """A frame that came now."""
     words = words_of(octets)
-    return Line(number, BAD if words else FRAME, '', octets, time.time(), '<' if is_answer(octets) else '>', words)
+    return Line(number, BAD if words else FRAME, b'', octets, time.time(), direction_of(octets), words)
 
 
 class Station:
@@ -249,7 +249,7 @@ class Station:
         """The summary; status 1 where a rule is broken or nothing came."""
         for event in self.source.end():
             self.add(event)
-        for words in self.reader.doubts.words():
+        for words in self.reader.manners.doubts.words():
             self._say(words)
         self._write(', '.join('%s %d' % pair for pair in self.numbers().items()) + '\n')
         self._flush()

@@ -37,7 +37,7 @@ class Log:
         self.option, self.idle, self.writes = option, idle, writes
         self.name, self.reader, self.lines = '-', None, 0
         self.kinds, self.reasons = Counter(), Counter()
-        self.agreeing = self.reversed = 0
+        self.balance = 0    # as of Manners
         self.above = 0      # the frames above the first poll, where the log is to begin there
 
     def events(self):
@@ -46,14 +46,13 @@ class Log:
             self.name, self.reader = name, Reader(**settings_of(self.option))
             for event in self._of_file(name):
                 self.lines = event.number if event.kind != PART else self.lines
-                if event.kind in (PASSED, *LOSSES) and self.option.verbose:
+                if self.option.verbose and event.kind in (PASSED, *LOSSES):
                     self.name_passed(event)
                 yield event
             self.kinds += self.reader.kinds
             self.reasons += self.reader.reasons
-            self.agreeing += self.reader.agreeing
-            self.reversed += self.reader.reversed
-            for words in () if self.option.quiet else self.reader.doubts.words():
+            self.balance += self.reader.manners.balance
+            for words in () if self.option.quiet else self.reader.manners.doubts.words():
                 say(words)
 
     def frames(self):
@@ -97,4 +96,4 @@ class Log:
     @property
     def is_reversed(self):
         """Whether most directions contradict the types: then it is the log of the module's end."""
-        return self.reversed > self.agreeing
+        return self.balance > 0

@@ -9,6 +9,8 @@ REASONS = {
     'may be longer': 'it may be one message with the line below or above, or one by itself',
     'too long': 'longer than a line with a frame can be',
     'bad line': 'bad line',
+    'exchanged': 'octets that spell a message if those of each pair are exchanged',
+    'two more': 'octets that spell a message but for two at their beginning or end',
 }
 POSSIBLE = 'possible: nothing makes it sure'
 DOUBTS = {

@@ -1,5 +1,7 @@
-"""A message as the library reads it: its fields by name, and the lines that `fio2070 show` writes of it."""
+"""A message as the library reads it: its fields by name, and the lines that `fio2070 show` writes of it. A link has few short
+messages, which come again and again: these are read once."""
 
+import functools
 from typing import NamedTuple
 
 import fio2070
@@ -16,7 +18,12 @@ BLOCK, MODULE_STATUS = POLL + TYPE_ANSWER, TYPE_STATUS + TYPE_ANSWER
 LETTERS = {'C': MORE, 'F': LOST, 'E': AGAIN, 'G': OUT_OF_SEQUENCE}
 # What the row of a repeated block says.
 SENT_AGAIN = 'E: sent again'
+# The fields that are octets; all others are numbers.
+IN_DIGITS = {'body', 'inputs', 'levels', 'controls'}
+# Messages of fewer octets are kept.
+SHORT = 8
 
+_BITS_OF = {code: [(name, BITS[code, name]) for name in names if (code, name) in BITS] for code, names in FIELDS.items()}
 _items, _entries = (c.CItem * c.MOST_ENTRIES)(), (c.CEntry * c.MOST_ENTRIES)()
 _widen = c.library.fio2070_widen
 
@@ -31,12 +38,11 @@ class Message(NamedTuple):
 
     def lines(self):
         """Returns the lines that `show` writes: one of the message, and one of each part."""
-        return fio2070.show(self.octets).splitlines()
+        return (_short_lines if len(self.octets) < SHORT else _lines)(self.octets)
 
     def bits(self):
         """Returns what the bits of its flags or its status that are 1 say, by their letters."""
-        return {letter: says for name, value in self.fields.items()
-                for letter, bit, says in BITS.get((self.code, name), ()) if value & bit}
+        return {letter: says for name, bits in _BITS_OF.get(self.code, ()) for letter, bit, says in bits if self.fields[name] & bit}
 
     @property
     def is_repeat(self):
@@ -49,18 +55,22 @@ class Message(NamedTuple):
         return self.code >= TYPE_ANSWER
 
 
-def _field(octets, read, name):
-    """A field that was read of octets: a number, or octets in hexadecimal."""
+def _lines(octets):
+    return fio2070.show(octets).splitlines()
+
+
+def _digits(octets, read, name):
+    """A field that is shown in hexadecimal."""
     value = getattr(read, name)
     if name == 'body':
         return octets[1:1 + value].hex()
-    if name == 'inputs':
-        return value.to_bytes(8, 'little').hex()
-    return value if isinstance(value, int) else bytes(value).hex()
+    return (value.to_bytes(8, 'little') if name == 'inputs' else bytes(value)).hex()
 
 
-def _parts(octets, code, stamp):
-    """The entries or the items, as the library copies them."""
+def _parts(octets, code, count, stamp):
+    """The entries or the items, as the library copies them, `count` in all."""
+    if not count:
+        return []
     if code == BLOCK:
         count = c.library.fio2070_block_entries(octets, len(octets), _entries, len(_entries))
         return [{'input': one.input, 'state': one.state, 'stamp': one.stamp, 'wide': _widen(stamp, one.stamp)}
@@ -74,8 +84,15 @@ def _parts(octets, code, stamp):
 
 def message_of(octets):
     """The message that octets spell. Raises ValueError with the words of the fault where they spell none."""
+    return (_short_message if len(octets) < SHORT else _message)(octets)
+
+
+def _message(octets):
     if judge.fault_of(octets).kind:
         raise ValueError(judge.words_of(octets))
     read = judge.last_read(octets)
-    fields = {name: _field(octets, read, name) for name in FIELDS[read.code]}
-    return Message(octets, read.code, fields, _parts(octets, read.code, fields.get('stamp', 0)))
+    fields = {name: _digits(octets, read, name) if name in IN_DIGITS else getattr(read, name) for name in FIELDS[read.code]}
+    return Message(octets, read.code, fields, _parts(octets, read.code, read.count, fields.get('stamp', 0)))
+
+
+_short_lines, _short_message = (functools.lru_cache(maxsize=1024)(read) for read in (_lines, _message))

@@ -2,26 +2,24 @@
 expression, or of SDLC without marks that show it, the octets of each line are handed to the library as one frame."""
 
 import re
-from collections import Counter, deque
+from collections import Counter
 
 import fio2070
 
 from . import judge, sdlc
-from .doubts import Doubts
-from .events import BAD, BLANK, DAMAGED, DOUBTFUL, FRAME, PART, PASSED, POSSIBLE, Line
+from .events import BAD, BLANK, DAMAGED, DOUBTFUL, FRAME, LONGEST_TEXT, PART, PASSED, POSSIBLE, Line, text_of
+from .judge import direction_of
 from .log_words import REASONS
+from .manners import Manners
 from .rules import WRONG_CHECK
 from .sides import side_in, side_of
 
 FORMS = 'auto', 'frames', 'transcript'
 CHECKED, UNCHECKED = 'checked', 'unchecked'
-# Of a text the beginning is kept.
-LONGEST_TEXT = 1 << 16
-# The year 10000, which no time of a log has.
-END_OF_TIME = 253_402_300_800
+# The year 10000, which no time of a log has, in microseconds.
+END_OF_TIME = 253_402_300_800_000_000
 KINDS = {'blank': BLANK, 'part': PART, 'possible': POSSIBLE, 'damaged': DAMAGED, 'passed over': PASSED, 'frames': FRAME}
 _DIGITS = r'(?<![0-9A-Za-z])(?P<octets>(?:(?:0x)?[0-9A-Fa-f]{2}[ ,:;|-]*)+)\s*$'
-_UNSEEN = re.compile('\x1b\\[[^A-Za-z]*[A-Za-z]|[\0\ufeff]')
 _OWN_LINES = re.compile(rb'[^\n]*\n|[^\n]+')
 _NO_DIGIT = re.compile(r'0[xX]|\\x|[^0-9A-Fa-f]')
 # A frame that the library takes in any log: it serves to read the time before it.
@@ -33,7 +31,7 @@ class Texts:
     the project's `own` texts at a line feed alone."""
 
     def __init__(self, is_own):
-        self.lines, self.first, self.left, self.count = deque(), 1, b'', 0
+        self.lines, self.first, self.left, self.count = [], 1, b'', 0
         self.split = _OWN_LINES.findall if is_own else lambda text: text.splitlines(keepends=True)
 
     def add(self, octets):
@@ -54,17 +52,15 @@ class Texts:
         return last
 
     def of(self, number):
-        """Returns the text of a line; those above it are not asked for again."""
-        while self.first < number and len(self.lines) > 1:
-            self.lines.popleft()
-            self.first += 1
-        return text_of(self.lines[0]) if self.lines else ''
+        """Returns a line; the last one if its end was not seen yet."""
+        lines, index = self.lines, number - self.first
+        return lines[index] if index < len(lines) else b''.join(lines[-1:])
 
-
-def text_of(octets):
-    """A line as text, without colours and marks; octets that are no UTF-8 can be written again as they were."""
-    text = octets[:LONGEST_TEXT].rstrip(b'\r\n').decode('utf-8', 'surrogateescape')
-    return text if text.isprintable() else _UNSEEN.sub('', text)
+    def drop(self, number):
+        """Forgets the lines above this one."""
+        count = max(0, min(number - self.first, len(self.lines) - 1))
+        del self.lines[:count]
+        self.first += count
 
 
 class Reader:
@@ -74,10 +70,9 @@ class Reader:
     def __init__(self, form='auto', pattern=None, framing=''):
         self.pattern = re.compile(pattern or _DIGITS) if pattern or framing else None
         self.form, self.framing = 'frames' if self.pattern else form, framing
-        self.library, self.texts, self.doubts = fio2070.LogReader(self.form), Texts(self.form != 'auto' and not self.pattern), Doubts()
+        self.library, self.texts, self.manners = fio2070.LogReader(self.form), Texts(self.form != 'auto' and not self.pattern), Manners()
         self.clock, self.given = fio2070.LogReader(), {}     # reads times of lines by order; what these lines are
         self.kinds, self.reasons = Counter(), Counter()
-        self.agreeing = self.reversed = 0
 
     def feed(self, octets):
         """The events that are certain once these octets are read."""
@@ -98,45 +93,46 @@ class Reader:
             if found[0].kind == PASSED:
                 self.reasons[found[0].note] += 1
             events += found
+        if verdicts:
+            self.texts.drop(verdicts[-1].line)
         return events
 
     def _of_line(self, verdict):
         """The events of a verdict: one, or one for each frame."""
-        number, text = verdict.line, self.texts.of(verdict.line)
-        time = None if verdict.time is None or verdict.time >= END_OF_TIME * 1_000_000 else verdict.time / 1_000_000
-        kind, note = KINDS[verdict.kind], REASONS.get(verdict.reason, verdict.reason)
-        frames = verdict.frames
-        if self.form != 'auto' and verdict.reason == 'no message':
-            kind, frames = FRAME, (self._faulty(number, text),)
-        line = Line(number, kind, text, b'', time, '', note, '', verdict.places)
-        if kind == POSSIBLE and self.kinds[FRAME]:
-            line = line._replace(kind=DOUBTFUL)
-        if self.pattern:
-            line = line._replace(**self.given.pop(number, {}))
-        else:
-            line = line._replace(said=side_of(text, verdict.places, self.form))
-        return [self._frame(line._replace(octets=octets)) for octets in frames] or [line]
-
-    def _faulty(self, number, text):
-        """The octets of a line that is a frame by order, and spells no message."""
-        if self.pattern:
-            return self.given[number].pop('octets')
-        return bytes.fromhex(text[2:] if self.form == 'transcript' else text)
-
-    def _frame(self, event):
-        """A frame with its direction: by its type, or in a transcript by order as it is written there."""
-        due = '<' if judge.is_answer(event.octets) else '>'
-        if event.said and event.kind == FRAME:
-            self.agreeing += event.said == due
-            self.reversed += event.said != due
-        fault = judge.words_of(event.octets) if self.form != 'auto' else ''
-        event = event._replace(direction=event.said if self.form == 'transcript' else due, note=fault,
-                               kind=BAD if fault and event.kind == FRAME else event.kind)
-        if event.kind == FRAME and self.form == 'auto':
-            self.doubts.add(event)
-        return event
+        kind, raw, time = KINDS[verdict.kind], self.texts.of(verdict.line), verdict.time
+        kind = DOUBTFUL if kind == POSSIBLE and self.kinds[FRAME] else kind
+        time = None if time is None or time >= END_OF_TIME else time / 1_000_000
+        if self.form != 'auto' or not verdict.frames:
+            line = Line(verdict.line, kind, raw, b'', time, '', REASONS.get(verdict.reason, verdict.reason))
+            return [line] if self.form == 'auto' else self._by_form(line, verdict)
+        if kind == FRAME:
+            for octets in verdict.frames:
+                self.manners.add(raw, verdict.places, octets)
+        return [Line(verdict.line, kind, raw, octets, time, direction_of(octets), '', verdict.places) for octets in verdict.frames]
 
     # By order
+
+    def _by_form(self, line, verdict):
+        """The events of a line that is read as the caller says."""
+        frames, said = verdict.frames, {'side': side_of(line.text, verdict.places, self.form)}
+        if verdict.reason == 'no message':
+            line, frames = line._replace(kind=FRAME), (self._faulty(line),)
+        line = line._replace(**self.given.pop(line.number, {}) if self.pattern else said)
+        return [self._frame(line._replace(octets=octets)) for octets in frames] or [line]
+
+    def _faulty(self, line):
+        """The octets of a line that is a frame by order, and spells no message."""
+        if self.pattern:
+            return self.given[line.number].pop('octets')
+        return bytes.fromhex(line.text[2:] if self.form == 'transcript' else line.text)
+
+    def _frame(self, event):
+        """A frame with its fault, and with its direction: by its type, or in a transcript as it is written there."""
+        due, fault = direction_of(event.octets), judge.words_of(event.octets)
+        if event.kind == FRAME:
+            self.manners.add_side(event.said, due)
+        return event._replace(direction=event.said if self.form == 'transcript' else due, note=fault,
+                              kind=BAD if fault and event.kind == FRAME else event.kind)
 
     def _by_order(self, lines):
         """The lines of frames for lines of which the caller says how they are written."""
@@ -160,7 +156,7 @@ class Reader:
             self.given[number] = {'kind': DAMAGED if note else BLANK, 'note': note}
             return b'\n'
         parts = found.groupdict()
-        self.given[number] = {'octets': octets, 'time': self._time(parts.get('time') or ''), 'said': side_in(parts.get('dir') or '')}
+        self.given[number] = {'octets': octets, 'time': self._time(parts.get('time') or ''), 'side': side_in(parts.get('dir') or '')}
         return octets.hex().encode() + b'\n'
 
     def _time(self, text):

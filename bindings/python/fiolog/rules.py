@@ -58,11 +58,10 @@ class Judge:
         if not event.said:
             return 'bus'
         is_own = event.text[:2] in ('> ', '< ')
-        return 'module' if read.reader.reversed > read.reader.agreeing and not is_own else 'cpu'
+        return 'module' if read.reader.manners.balance > 0 and not is_own else 'cpu'
 
     def breach(self, read, event):
         """The breach of a frame; None where it keeps the rules."""
-        place = self.place(read, event)
         if self.late and self.late.leaves_out(event.direction, event.octets, self.checker):
             return None
         is_poll, before = len(event.octets) == 2 and event.octets[0] == POLL, self.polled
@@ -78,7 +77,7 @@ class Judge:
         rule, words = RULES[found.rule]
         if self.late and self.late.excuses(rule):
             return None
-        if was_damaged or place != 'cpu' and rule == 'advance' and self.polled == before:
+        if was_damaged or rule == 'advance' and self.polled == before and self.place(read, event) != 'cpu':
             # Whether the CPU heard the answer is not known here: asking again, or for the next block, may be right.
             self.excused += 1
             return None

@@ -33,6 +33,8 @@ reason_number reasons.SeveralMessages = 4
 reason_number reasons.MayBeLonger = 5
 reason_number reasons.TooLong = 6
 reason_number reasons.BadLine = 7
+reason_number reasons.Exchanged = 8
+reason_number reasons.TwoMore = 9
 
 -- a verdict as C sees it, with so many frames and places
 abbrev pub flat_verdict : Verdict → ℕ → ℕ → LogVerdict

@@ -114,6 +114,8 @@ fn reason_number(reason: Reason) -> u8
         Reason::MayBeLonger => 5,
         Reason::TooLong => 6,
         Reason::BadLine => 7,
+        Reason::Exchanged => 8,
+        Reason::TwoMore => 9,
     }
 }
 

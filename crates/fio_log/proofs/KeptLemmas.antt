@@ -27,7 +27,12 @@ pub run-of_line : (log : Log) (octets : List ℕ) (place : Place) (message : Opt
 run-of_line log octets place None written within = within
 run-of_line log octets place (Some one) written within = frame-at log octets place one.octets.items written within
 
+-- what holds of what is there
+if-some : {X : Type 0} (P : X → Type 0) (found : Option X) (one : X) → found ≡ Some one → IfSome found P → P one
+if-some P found one is all = rw is at all
+
 -- the message of a run is written where the run is
 pub message-at : (log : Log) (from : ℕ) (rows : List Row) (kept : Kept) (message : Message) → kept.message ≡ Some message
     → IsRunOf log from rows kept → AreFramesAt log (message.octets.items ∷ []) (run_places from rows kept)
-message-at log from rows kept message is run = rw is at run
+message-at log from rows kept message is run =
+    if-some (λ one. AreFramesAt log (one.octets.items ∷ []) (run_places from rows kept)) kept.message message is run

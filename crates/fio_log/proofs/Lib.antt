@@ -6,3 +6,4 @@ pub mod OwnTextLemmas
 pub mod RunLemmas
 pub mod FrameLemmas
 pub mod KeptLemmas
+pub mod TellingLemmas

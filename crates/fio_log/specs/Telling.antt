@@ -14,8 +14,8 @@ use Rattle.fio_log.specs.declared.verdict.Form.TheVariants.{Auto}
 use Rattle.fio_log.specs.declared.verdict.Verdict.{Verdict}
 
 -- A reader: how it reads, the line that is made, how many lines are read, how many verdicts are told, whether the next one
--- can be told, and whether the log has ended; the frames of the last verdict, what is kept of the lines above, and the runs of
--- the last line while it waits to be judged.
+-- can be told, and whether the log has ended; the frames of the last verdict, what is kept of the lines above, whether the last
+-- line waits to be judged, and its runs.
 pub record Telling : Type 0 where
   pub form : Form
   pub making : Making
@@ -25,7 +25,8 @@ pub record Telling : Type 0 where
   pub is_ended : Bool
   pub last : Frames
   pub judge : Judge
-  pub held : List Said
+  pub is_held : Bool
+  pub runs : List Said
 
 -- the frames of the last verdict
 abbrev pub frames_of : Telling → List (List ℕ)
@@ -49,7 +50,7 @@ IsLineOf log telling = is_whole telling.making.ending ≡ true → telling.makin
 pub record IsReaderOf (log : Log) (telling : Telling) : Type 0 where
   pub line : IsLineOf log telling
   pub judge : IsJudgeOf log telling.judge
-  pub held : All (IsSaidIn (log telling.read)) telling.held
+  pub held : telling.is_held ≡ true → All (IsSaidIn (log telling.read)) telling.runs
   pub frames : telling.form ≡ Auto → AreFramesOf log telling.last
 
 -- how many lines are read after a line, which is one more if it is whole

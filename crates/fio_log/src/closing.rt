@@ -94,7 +94,7 @@ impl Decider {
     /// Counts joined lines as one, and learns how wide the rows of a message are.
     fn see_joined(&mut self, join: &Join, around: &Around, saying: Saying) {
         let octets = join.lines.chain.octets();
-        let seen = Seen::of_octets(around, octets.len(), saying);
+        let seen = Seen::of_octets(around, octets, saying);
         self.seen.clear();
         let _room = self.seen.try_push(seen);
         if join.is_same && matches!(saying, Saying::Says { is_sure: true, .. }) {
@@ -117,7 +117,7 @@ impl Decider {
         let is_known = self.shapes.ways(whole).is_some() && self.shapes.is_mostly_good(front);
         let is_frame = is_sure || is_known || is_bare && self.is_alone(around.has_before, front);
         self.has_others |= !is_bare;
-        self.above.briefs.clear();
+        self.above.halves.clear();
         self.above.slot = None;
         if !is_frame {
             self.settle(slot, State::Passed(Kind::PassedOver, Reason::ShortMessage));

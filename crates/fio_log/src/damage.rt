@@ -77,10 +77,10 @@ impl Decider {
         }
         let is_damaged = says_in_style(entry, &self.shapes, &self.styles)
             || self.texts.may_be_left(slot);
-        let kind = if is_damaged {
-            Kind::Damaged
-        } else {
-            Kind::PassedOver
+        let (kind, reason) = match reason {
+            Reason::Exchanged | Reason::TwoMore if is_damaged => (Kind::Damaged, Reason::NoMessage),
+            _ if is_damaged => (Kind::Damaged, reason),
+            _ => (Kind::PassedOver, reason),
         };
         self.settle(slot, State::Passed(kind, reason));
     }

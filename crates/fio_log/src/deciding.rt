@@ -4,6 +4,7 @@ use crate::decisions::State;
 use crate::entries::{Entries, KEPT};
 use crate::kept::Seen;
 use crate::messages::Brief;
+use crate::pairs::Half;
 use crate::queue::{ENTRIES, Queue, WAITING};
 use crate::said::LINE_RUNS;
 use crate::shapes::Shapes;
@@ -21,7 +22,7 @@ const YOUNG: u64 = 16;
 #[derive(Drop)]
 pub(crate) struct Above {
     /// What pairs them.
-    pub briefs: ArrayVec<Brief, KEPT>,
+    pub halves: ArrayVec<Half, KEPT>,
     /// Which of them is its frame, as far as that is known.
     pub chosen: Option<usize>,
     /// The slot of the entry, while it is kept.
@@ -59,7 +60,7 @@ impl Decider {
             queue: Queue::new(),
             texts: Texts::new(),
             above: Above {
-                briefs: ArrayVec::new(),
+                halves: ArrayVec::new(),
                 chosen: None,
                 slot: None,
             },
@@ -165,12 +166,12 @@ impl Decider {
                 self.judge(entries, above);
             }
         }
-        self.above.briefs.clear();
+        self.above.halves.clear();
         self.above.chosen = None;
         self.above.slot = Some(slot);
         if let Some(entry) = entries.get(slot) {
             for kept in entry.kept.as_slice() {
-                let _room = self.above.briefs.try_push(kept.brief);
+                let _room = self.above.halves.try_push(Half::of(kept));
             }
         }
     }
@@ -183,13 +184,13 @@ impl Decider {
             None => self.above.chosen,
         };
         let mut pair: Option<(Brief, Brief)> = None;
-        for (index, command) in self.above.briefs.as_slice().iter().enumerate() {
+        for (index, command) in self.above.halves.as_slice().iter().enumerate() {
             if chosen.is_some_and(|chosen| chosen != index) {
                 continue;
             }
             for kept in entry.kept.as_slice() {
-                let found = (*command, kept.brief);
-                if !command.is_answered_by(kept.brief) {
+                let found = (command.brief, kept.brief);
+                if !command.is_answered_by(Half::of(kept), &self.shapes) {
                     continue;
                 }
                 match pair {
@@ -282,9 +283,19 @@ impl Decider {
         } else if self.is_damaged() {
             State::Passed(Kind::Damaged, Reason::NoMessage)
         } else {
-            State::Passed(Kind::PassedOver, Reason::NoMessage)
+            State::Passed(Kind::PassedOver, self.no_message())
         };
         self.settle(slot, state);
+    }
+
+    /// Returns why the line that is decided gives no frame, if its octets spell no message.
+    fn no_message(&self) -> Reason {
+        for seen in self.seen.as_slice() {
+            if let Some(remark) = seen.remark {
+                return remark;
+            }
+        }
+        Reason::NoMessage
     }
 
     /// Returns whether one of the runs of the line that is decided may have been a frame.

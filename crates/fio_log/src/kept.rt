@@ -6,9 +6,11 @@ ghost use Rattle.fio_log.specs.Said.{IsSaidIn};
 use crate::directions::Direction;
 use crate::messages::{Brief, Message, has_open_length};
 use crate::places::Notation;
+use crate::remarks::remark_of;
 use crate::said::{LITERAL_MARK, NUMBERS_MARK, Said, Shape};
 use crate::sayings::Saying;
 use crate::shapes::{Shapes, front_key, whole_key};
+use crate::verdict::Reason;
 use crate::ways::Ways;
 
 /// What surrounds a run.
@@ -166,23 +168,29 @@ pub(crate) struct Seen {
     pub count: usize,
     /// Whether it begins a message.
     pub is_begun: bool,
+    /// What is remarked of it if it says none.
+    pub remark: Option<Reason>,
 }
 
 impl Seen {
     /// Returns what counting needs of a run.
     pub(crate) fn of(said: &Said) -> Seen {
-        Seen::of_octets(&Around::of(said), said.octets.len(), said.saying)
+        Seen::of_octets(&Around::of(said), said.octets.as_slice(), said.saying)
     }
 
     /// Returns what counting needs of octets.
-    pub(crate) fn of_octets(around: &Around, count: usize, saying: Saying) -> Seen {
+    pub(crate) fn of_octets(around: &Around, octets: &[u8], saying: Saying) -> Seen {
         Seen {
             whole: whole_key(around.shape),
             front: front_key(around.shape),
             mark: around.shape.mark,
             ways: around.ways,
-            count,
+            count: octets.len(),
             is_begun: matches!(saying, Saying::Begins { .. }),
+            remark: match saying {
+                Saying::Says { .. } => None,
+                _ => remark_of(octets),
+            },
         }
     }
 

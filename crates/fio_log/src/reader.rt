@@ -1,7 +1,9 @@
 //! The reader of a log: octets to lines, and lines to verdicts.
 ghost use Rattle.std.specs.Prelude.{◌≡◌, ◌+◌, ◌≤◌, ◌<◌, ◌↔◌, true, false, IfSome, IsSome, MatchOption, [], get_or, length, slice_index_or, take};
 ghost use Rattle.fio_log.specs.Lines.{finished, is_whole, no_line};
+ghost use Rattle.fio_log.specs.Said.{IsSaidIn};
 ghost use Rattle.fio_log.specs.Sayings.{spells};
+ghost use Rattle.std.specs.List.{All};
 ghost use Rattle.fio_log.specs.Frames.{AreFramesAt, AreFramesOf, IsJudgeOf, Log};
 ghost use Rattle.fio_log.specs.Telling.{HasNoMore, HasTaken, HasTold, IsLineOf, IsReaderOf, frames_of, places_of, read_after};
 ghost use Rattle.fio_log.specs.declared.verdict.Form.TheVariants.{Auto};
@@ -36,7 +38,7 @@ pub struct Reader {
 }
 
 impl Model for Reader {
-    ghost use Rattle.std.specs.Prelude.{◌≡◌, ◌≤◌, ◌<◌, [], true, if◌then◌else◌};
+    ghost use Rattle.std.specs.Prelude.{◌≡◌, ◌≤◌, ◌<◌, true};
     ghost use Rattle.fio_log.specs.Lines.{is_whole};
     ghost use Rattle.fio_log.specs.Telling.{Telling};
 
@@ -51,7 +53,8 @@ impl Model for Reader {
       is_ended = r.is_ended;
       last = r.frames;
       judge = r.judge;
-      held = if r.is_held then r.runs.said.items else [];
+      is_held = r.is_held;
+      runs = r.runs.said.items;
     } };
 
     ghost invariant = { λ r. (r.told ≤ r.read)
@@ -131,16 +134,30 @@ impl Reader {
         ensures form { self.new.form ≡ self.old.form }
         ensures kept { (log : Log) → IsReaderOf log self.old → IsLineOf log self.new → IsReaderOf log self.new }
     {
-        if !self.is_ended && self.read < u64::MAX {
-            self.judge_held();
-            self.maker.finish();
-            if self.maker.is_whole() {
-                self.read_line();
-            }
-        }
+        self.finish_line();
         self.is_ended = true;
         self.is_ready = self.told < self.read;
         self.refresh();
+    }
+
+    /// Ends the line that is made, and reads it if it has octets, unless the log has ended.
+    fn finish_line(&mut self)
+        ensures line { self.old.is_ended ≡ false → self.old.read < u64.MAX
+            → (self.new.making ≡ finished self.old.making)
+            × (self.new.read ≡ read_after self.old.read self.new.making) }
+        ensures told { self.new.told ≡ self.old.told }
+        ensures ended { self.new.is_ended ≡ self.old.is_ended }
+        ensures form { self.new.form ≡ self.old.form }
+        ensures kept { (log : Log) → IsReaderOf log self.old → IsLineOf log self.new → IsReaderOf log self.new }
+    {
+        if self.is_ended || self.read == u64::MAX {
+            return;
+        }
+        self.judge_held();
+        self.maker.finish();
+        if self.maker.is_whole() {
+            self.read_line();
+        }
     }
 
     /// Reads the line that is whole.
@@ -148,7 +165,7 @@ impl Reader {
         requires room { self.old.read < u64.MAX }
         requires open { self.old.is_ended ≡ false }
         requires whole { is_whole self.old.making.ending ≡ true }
-        requires none { self.old.held ≡ [] }
+        requires none { self.old.is_held ≡ false }
         ensures line { self.new.making ≡ self.old.making }
         ensures read { self.new.read ≡ self.old.read + 1 }
         ensures told { self.new.told ≡ self.old.told }
@@ -168,11 +185,7 @@ impl Reader {
             self.refresh();
             return;
         }
-        if line.is_long {
-            self.runs.clear();
-        } else {
-            read_line(line.text, &mut self.runs);
-        }
+        read_runs(line, &mut self.runs);
         self.is_held = !self.judge.goes_on(line, &self.runs);
         self.refresh();
     }
@@ -184,7 +197,7 @@ impl Reader {
         ensures told { self.new.told ≡ self.old.told }
         ensures ended { self.new.is_ended ≡ self.old.is_ended }
         ensures form { self.new.form ≡ self.old.form }
-        ensures none { self.new.held ≡ [] }
+        ensures none { self.new.is_held ≡ false }
         ensures kept { (log : Log) → IsReaderOf log self.old → IsReaderOf log self.new }
     {
         if self.is_held {
@@ -242,12 +255,8 @@ impl Reader {
         if !was_ready && !self.is_ready {
             return None;
         }
+        let told = self.tell_line(self.told + 1);
         self.told += 1;
-        let told = if self.form == Form::Auto {
-            self.judge.tell(self.told, &mut self.frames)
-        } else {
-            self.own
-        };
         self.is_ready = self.told < self.read
             && (self.is_ended || self.form != Form::Auto || self.judge.is_decided(self.told + 1));
         Some(Verdict {
@@ -258,6 +267,22 @@ impl Reader {
             places: self.place_count(),
             time: told.time,
         })
+    }
+
+    /// Tells what a line is, and takes its frames.
+    fn tell_line(&mut self, line: u64) -> Told
+        ensures line { self.new.making ≡ self.old.making }
+        ensures read { self.new.read ≡ self.old.read }
+        ensures told { self.new.told ≡ self.old.told }
+        ensures ended { self.new.is_ended ≡ self.old.is_ended }
+        ensures form { self.new.form ≡ self.old.form }
+        ensures kept { (log : Log) → IsReaderOf log self.old → IsReaderOf log self.new }
+    {
+        if self.form == Form::Auto {
+            self.judge.tell(line, &mut self.frames)
+        } else {
+            self.own
+        }
     }
 
     /// Returns how many frames the last verdict has.
@@ -309,5 +334,16 @@ impl Reader {
         } else {
             self.frames.places.as_slice().get(index).copied()
         }
+    }
+}
+
+/// Finds the runs of a line; of one that is too long none.
+fn read_runs(line: Line, runs: &mut LineRuns)
+    ensures { All (IsSaidIn line.entry.text.now) runs.new.said.items }
+{
+    if line.is_long {
+        runs.clear();
+    } else {
+        read_line(line.text, runs);
     }
 }

@@ -48,6 +48,10 @@ pub enum Reason {
     TooLong,
     /// It is no line of the text that it is read as by order.
     BadLine,
+    /// Its octets spell a message that has a count if those of each pair are exchanged.
+    Exchanged,
+    /// Its octets spell a message that has a count, but for two at their beginning or at their end.
+    TwoMore,
 }
 
 /// What a reader says of a line.

@@ -10,7 +10,6 @@ const OF_DAY = /\d{1,2}:(\d\d):(\d\d)(?:[.,:]\d{1,9})?(?: ?[ap]\.?m\b\.?)?/gi;
 
 // A time as a row shows it: the time of the day as one of these lines writes it, else that of a date in UTC, else seconds.
 export function clockOf(lines, time) {
-  if (time === null) return '';
   for (const line of lines) {
     for (const [written, minute, second] of line.matchAll(OF_DAY)) {
       if ((Number(minute) * 60 + Number(second) - Math.floor(time)) % QUARTER === 0) return written;

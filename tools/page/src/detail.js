@@ -59,9 +59,10 @@ function octetSpan(octet, index, names) {
 export function detailOf(log, place, textOf) {
   const head = element('h2', {}, `Line ${log.lines[place]}`);
   const way = element('p', { class: 'soft' }, WAYS[log.directions[place]] + timesOf(log, place));
-  const says = log.reason(place) ? `Breaks ${log.reason(place)}.` : doubtOf(log, place);
-  const reason = says ? element('p', { class: 'reason' }, says) : null;
-  const lines = log.words(place), octets = log.octets(place).slice(0, LONGEST);
+  const doubt = doubtOf(log, place), rule = log.reason(place);
+  const reason = rule ? element('p', { class: 'reason' }, `Breaks ${rule}.`)
+    : doubt ? element('p', { class: 'doubt' }, `${doubt[0].toUpperCase()}${doubt.slice(1)}.`) : null;
+  const lines = log.written(place), octets = log.octets(place).slice(0, LONGEST);
   const all = wordsIn(lines);
   const isMessage = !log.isFaulty[place];
   const fields = isMessage ? fieldsOf(octets, lines, textOf) : Array.from(octets, () => []);
@@ -73,7 +74,7 @@ export function detailOf(log, place, textOf) {
   const content = log.content(place);
   const broken = content && content.entry >= 0 ? content.entry + 1 : -1;
   return element('div', {}, head, way, reason, ...(isMessage ? bitsOf(octets[0], lines[0]) : []), linesWith(lines, wordSpans, broken),
-    element('h3', {}, 'Octets'), grid);
+    ...octets.length > 0 ? [element('h3', {}, 'Octets'), grid] : []);
 }
 
 // What the bits that are 1 say, of the flags or the status that the first line has.

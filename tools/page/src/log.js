@@ -56,6 +56,11 @@ export class Log {
     return wordsOf(this.library, this.address(place), this.lengths[place]);
   }
 
+  // What is written of a message: its lines, or the text of a damaged line.
+  written(place) {
+    return this.damaged.has(place) ? [this.damaged.get(place).text] : this.words(place);
+  }
+
   // What a message that is only possible says stays out of counts, of what is judged, and of the record.
   decodeAll() {
     for (let place = 0; place < this.count; place++) {

@@ -10,6 +10,8 @@ export const REASONS = [
   'it may be one message with the line below or above, or one by itself',
   'longer than a line with a frame can be',
   'bad line',
+  'octets that spell a message if those of each pair are exchanged',
+  'octets that spell a message but for two at their beginning or end',
 ];
 export const POSSIBLE = 'possible: nothing makes it sure';
 export const DOUBTS = {

@@ -65,7 +65,7 @@ function startViews(library) {
     trouble('');
     const log = new Log(library, arena, name, readLog(library, logReader, octets, formOf(name, form)), end);
     tabs.show('messages');
-    messages.open(log, octets);
+    messages.open(log, octets, () => open(name, octets, end, 'any'));
     inputs.open(log);
     document.documentElement.dataset.opened = name;
   };

@@ -24,7 +24,7 @@ export class MessageList {
     this.isPossible = new Uint8Array(room);
     this.times = new Float64Array(room);
     this.clocks = [];
-    // What is said of lines that may have held a frame and gave none, by the places of the rows that they have.
+    // Why lines that may have held a frame gave none, and their texts, by the places of the rows that they have.
     this.damaged = new Map();
   }
 
@@ -46,9 +46,9 @@ export class MessageList {
     this.end += octets.length;
   }
 
-  // A line that can't be read: a message without octets. `damage` is what is said of it if it may have held a frame.
-  addBad(line, damage = '') {
-    if (damage !== '') this.damaged.set(this.count, damage);
+  // A line that can't be read: a message without octets. `damage` is why it gave no frame, and its text, if it may have held one.
+  addBad(line, damage = null) {
+    if (damage) this.damaged.set(this.count, damage);
     this.add({ line, side: DIRECTION.none, octets: new Uint8Array(0), isPossible: false, time: null, clock: '' });
   }
 }

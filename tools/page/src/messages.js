@@ -1,6 +1,6 @@
 // The view Messages: the verdict, what was counted, a search, the table, and the message that is selected.
 
-import { LOG_REASONS } from './constants.js';
+import { LOG_FORMS, LOG_REASONS } from './constants.js';
 import { counted, element, say, select, withCommas } from './dom.js';
 import { detailOf } from './detail.js';
 import { kindOf, CAN_READ } from './foreign.js';
@@ -86,19 +86,21 @@ export class MessagesView {
     this.sheet.show(element('p', { class: 'none' }, 'Select a message to see its octets and fields.'), false);
   }
 
-  // Shows a log; `file` are its octets.
-  open(log, file) {
+  // Shows a log; `file` are its octets, and `readAsAny()` reads them as those of any log.
+  open(log, file, readAsAny) {
     this.log = log;
     this.search.value = this.way.value = '';
     this.filter = { fact: 'messages', way: '', text: '' };
     this.table.root.classList.toggle('has-times', log.hasTimes);
     this.table.root.classList.toggle('has-notes', hasNotes(log));
     this.table.root.classList.toggle('has-rules', log.breaches.size > 0);
+    this.table.root.classList.toggle('has-doubts', log.damaged.size > 0 || log.summary.possible > 0);
     this.parts.forEach((part) => { part.hidden = false; });
     this.none.hidden = true;
     this.drawVerdict();
     this.drawFacts();
-    this.note.textContent = this.noteOf(log);
+    const isOther = log.form !== LOG_FORMS.auto && log.badLines > 0;
+    this.note.replaceChildren(this.noteOf(log), ...isOther ? [' ', element('button', { id: 'as-any', onclick: readAsAny }, 'Read it as any log')] : []);
     this.narrow({});
     if (log.verdict.kind === VERDICTS.none && log.summary.possible === 0) this.showNoMessage(file);
   }
@@ -178,7 +180,7 @@ export class MessagesView {
   // Whether the words, the octets or the rule of a message have what is searched.
   matches(place, words, wanted, asOctets) {
     const { log } = this;
-    return words.test(log.words(place).join('\n')) || noteOf(log, place).toLowerCase().includes(wanted)
+    return words.test(log.written(place).join('\n')) || noteOf(log, place).toLowerCase().includes(wanted)
       || asOctets !== null && hexText(log.octets(place)).includes(asOctets);
   }
 
@@ -187,7 +189,7 @@ export class MessagesView {
     const { log } = this, octets = log.octets(place);
     const digits = hexText(octets.subarray(0, SHOWN_OCTETS)) + (octets.length > SHOWN_OCTETS ? '…' : '');
     return { kinds: this.kindsOf(place), cells: [String(log.lines[place]), log.clocks[place], ARROWS[log.directions[place]],
-      log.words(place)[0], noteOf(log, place), digits] };
+      log.written(place)[0], noteOf(log, place), digits] };
   }
 
   kindsOf(place) {
@@ -204,7 +206,7 @@ export class MessagesView {
   choose(place, isOpened) {
     this.sheet.show(detailOf(this.log, place, this.textOf), isOpened);
     const note = noteOf(this.log, place);
-    say(this.log.words(place)[0] + (note ? ', ' + note : ''));
+    say(this.log.written(place)[0] + (note ? ', ' + note : ''));
   }
 
   // Shows a message of the log, whatever was filtered.

@@ -17,7 +17,7 @@ export function statusNotes(code, status) {
 }
 
 // Why a message is not judged, or a line gave none; empty if neither is so.
-export const doubtOf = (log, place) => log.isPossible[place] ? POSSIBLE : log.damaged.get(place) || '';
+export const doubtOf = (log, place) => log.isPossible[place] ? POSSIBLE : log.damaged.has(place) ? log.damaged.get(place).why : '';
 
 export function noteOf(log, place) {
   const reason = log.reason(place), notes = statusNotes(log.codes[place], log.status[place]);

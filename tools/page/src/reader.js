@@ -19,10 +19,10 @@ const UNSEEN = /\x1b\[[^A-Za-z]*[A-Za-z]?|[\0\ufeff]/g;
 const BYTE_ORDER_MARKS = { 0xfffe: 'utf-16le', 0xfeff: 'utf-16be' };
 
 // The form in which a file is read: the one that is asked for or, if that is `auto`, that of the project's own texts if it is named as
-// one, else that of any log.
+// one, else that of `any` log.
 export function formOf(name, asked) {
   const ending = /\.(frames|transcript)$/.exec(name);
-  return LOG_FORMS[asked === 'auto' && ending ? ending[1] : asked];
+  return LOG_FORMS[asked === 'auto' && ending ? ending[1] : asked === 'any' ? 'auto' : asked];
 }
 
 // The octets of a file in UTF-8.
@@ -57,7 +57,7 @@ class Found {
     const { line, kind, reason } = verdict;
     if (kind === LOG_KINDS.says || kind === LOG_KINDS.possible) this.addFrames(verdict);
     else if (this.form !== LOG_FORMS.auto && reason === LOG_REASONS.noMessage) this.addFaulty(line);
-    else if (kind === LOG_KINDS.damaged) this.messages.addBad(line, `damaged: ${REASONS[reason]}: ${this.textOf(line).slice(0, LONGEST_SHOWN)}`);
+    else if (kind === LOG_KINDS.damaged) this.messages.addBad(line, { why: `damaged: ${REASONS[reason]}`, text: this.textOf(line).slice(0, LONGEST_SHOWN) });
     else if (kind === LOG_KINDS.passedOver && this.form !== LOG_FORMS.auto) this.messages.addBad(line);
     else if (kind === LOG_KINDS.passedOver) this.passed[reason] += 1;
   }
@@ -71,7 +71,7 @@ class Found {
   addFrames({ line, kind, time, frames, places }) {
     const text = this.textOf(line), isPossible = kind === LOG_KINDS.possible, inTime = time < END_OF_TIME ? time : null;
     const side = sideOf(text, places.length > 0 ? places[0].start : 0, this.form);
-    const clock = clockOf([text, this.textOf(line - 1)], inTime);
+    const clock = inTime === null ? '' : clockOf([text, this.textOf(line - 1)], inTime);
     for (const octets of frames) {
       this.messages.add({ line, side, octets, isPossible, time: inTime, clock });
       if (isPossible) continue;

@@ -11,7 +11,7 @@ export const VERDICTS = { good: 'good', partly: 'partly', broken: 'broken', none
 export function verdictOf(log) {
   const { messages, broken, possible } = log.summary, readable = messages - log.badLines - possible;
   const judged = readable - log.excused - log.belowDamage - log.skipped;
-  const notJudged = sentencesOf(log);
+  const notJudged = sentencesOf(log, readable > 0);
   const said = { more: '', first: -1, notJudged };
   if (readable === 0) return { ...said, kind: VERDICTS.none, text: possible > 0 ? 'No message is sure, so none is judged.' : 'No message was found.' };
   if (broken > 0) {
@@ -31,8 +31,9 @@ export function verdictOf(log) {
 }
 
 // What was not judged, and why.
-function sentencesOf(log) {
+function sentencesOf(log, isJudged) {
   const { badLines, excused, belowDamage, skipped, withoutContent, hasDirections, end, summary: { possible } } = log, said = [];
+  const [first] = log.breaches.keys(), poll = log.codes.indexOf(POLL);
   if (badLines > 0) said.push(`${counted(badLines, 'line')} could not be read as a message and ${are(badLines)} not judged.`);
   if (possible > 0) {
     said.push(`${counted(possible, 'message')} ${are(possible)} possible and not judged: nothing in the log makes sure that the octets are a message.`);
@@ -52,12 +53,10 @@ function sentencesOf(log) {
     said.push(`${counted(withoutContent, 'answer')} below damage, up to the next poll, ${are(withoutContent)} not judged by content: `
       + 'what the entries are compared with is not sure there.');
   }
-  const [first] = log.breaches.keys();
-  if (first !== undefined && first < log.codes.indexOf(POLL)) {
-    said.push('The log begins in the middle of traffic: what breaks a rule above the first poll may be right.');
-  }
-  if (!hasDirections) said.push('The log does not say who sent a message: each is judged as sent by the end that its type belongs to.');
-  else if (end === ENDS.bus) said.push('On the bus a message may be logged that the other end did not receive, so less can be judged than at the CPU.');
+  if (first !== undefined && poll < 0) said.push('The log has no poll, so it is of the middle of traffic: what breaks a rule here may be right.');
+  else if (first < poll) said.push('The log begins in the middle of traffic: what breaks a rule above the first poll may be right.');
+  if (isJudged && !hasDirections) said.push('The log does not say who sent a message: each is judged as sent by the end that its type belongs to.');
+  else if (isJudged && end === ENDS.bus) said.push('On the bus a message may be logged that the other end did not receive, so less can be judged than at the CPU.');
   return said;
 }
 

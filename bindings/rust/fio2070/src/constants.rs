@@ -106,3 +106,5 @@ pub const LOG_SEVERAL_MESSAGES: u8 = 4;
 pub const LOG_MAY_BE_LONGER: u8 = 5;
 pub const LOG_TOO_LONG: u8 = 6;
 pub const LOG_BAD_LINE: u8 = 7;
+pub const LOG_EXCHANGED: u8 = 8;
+pub const LOG_TWO_MORE: u8 = 9;

@@ -1,0 +1,61 @@
+"""In which manners a log writes its frames. Its lines are alike but for their digits: what a manner shows is found once for all lines
+that have it, when it is asked for."""
+
+from collections import Counter
+
+from .doubts import Doubts
+from .events import text_of
+from .judge import direction_of
+from .sides import side_of
+
+# How many manners are kept apart.
+MOST = 1024
+# Digits as all lines have them that are alike. A zero stays apart from letters, since `0x` is a mark.
+_OF_NUMBERS = bytes.maketrans(b'123456789', b'000000000')
+_OF_OCTETS = bytes.maketrans(b'123456789abcdefABCDEF', b'000000000aaaaaaaaaaaa')
+
+
+class Manners:
+    """Notes how frames are written: which side the log says, and what stays doubtful."""
+
+    def __init__(self):
+        self._alike, self._doubts, self._balance = Counter(), Doubts(), 0
+
+    def add(self, raw, places, octets):
+        """Takes the line of a frame, where the frame is written, and its octets."""
+        is_row = len(places) > 1 and len(places) == len(octets)
+        if not places or not raw.isascii() or b'\x1b' in raw or b'\0' in raw:
+            self._note(text_of(raw), places, octets[:1], is_row)
+            return
+        _, begin, end = places[0]
+        self._alike[raw[:begin].translate(_OF_NUMBERS), raw[begin:end].translate(_OF_OCTETS), octets[:1], is_row] += 1
+        if len(self._alike) > MOST:
+            self._take()
+
+    def _take(self):
+        """Notes what was counted."""
+        for (head, written, code, is_row), count in self._alike.items():
+            text = (head + written).decode('ascii')
+            self._note(text, ((1, len(head), len(text)),), code, is_row, count)
+        self._alike.clear()
+
+    def _note(self, text, places, code, is_row, count=1):
+        self.add_side(side_of(text, places), direction_of(code), count)
+        self._doubts.add(text, places, code, is_row, count)
+
+    def add_side(self, said, due, count=1):
+        """Takes the side that a log says of frames, if it does, and the one that is due."""
+        if said:
+            self._balance += -count if said == due else count
+
+    @property
+    def doubts(self):
+        """What stays doubtful."""
+        self._take()
+        return self._doubts
+
+    @property
+    def balance(self):
+        """Of how many more frames the log says the other side than the one that is due."""
+        self._take()
+        return self._balance
