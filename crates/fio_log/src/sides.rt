@@ -1,6 +1,6 @@
 //! Who sent the octets of a line, as the line says.
+use crate::decisions::State;
 use crate::directions::{Direction, direction_of_word};
-use crate::entries::State;
 use crate::judge::Judge;
 
 /// Returns the direction that a line says of the octets at a place: by the sign of a transcript at its beginning, else by the
@@ -66,10 +66,10 @@ fn said_by(part: Part, word: &[u8]) -> Option<Direction> {
 }
 
 impl Judge {
-    /// Returns the direction that the line says which was told last, if octets of frames are written in it.
-    pub(crate) fn said(&self) -> Option<Direction> {
-        let entry = self.queue.get(self.queue.slot(0))?;
-        let index = match entry.state {
+    /// Returns the direction that the line of the entry in a slot says, if octets of a message are written in it.
+    pub(crate) fn said(&self, slot: usize) -> Option<Direction> {
+        let entry = self.entries.get(slot)?;
+        let index = match self.decider.queue.get(slot)?.state {
             State::Chain => return self.join.around.said,
             State::Both(index, _) | State::Taken(index) => index,
             _ => entry.possible()?,
