@@ -134,4 +134,4 @@ row_places-more from line notation rows index blank place above places inside he
     rw count (rw here at (sym is)) in
     more ∙ append_assoc above (row_places from notation (take index rows)) (place ∷ [])
     ∙ ap (λ ps. above ++ ps) (sym (rw (take_more rows index blank inside) (row_places-append from notation (take index rows) (get_or rows index blank)
-        ∙ ap (λ p. row_places from notation (take index rows) ++ p ∷ []) last)))
+    ∙ ap (λ p. row_places from notation (take index rows) ++ p ∷ []) last)))

@@ -310,7 +310,11 @@ impl Decider {
         let Some(entry) = entries.get(slot) else {
             return;
         };
-        if !self.queue.get(slot).is_some_and(|decision| decision.is_waiting()) {
+        if !self
+            .queue
+            .get(slot)
+            .is_some_and(|decision| decision.is_waiting())
+        {
             return;
         }
         let is_sure = match entry.kept.as_slice() {

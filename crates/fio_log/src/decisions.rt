@@ -68,7 +68,11 @@ impl Decision {
     /// Returns whether a run of the entry is sure, by itself or by other lines.
     pub(crate) fn is_sure(&self, entry: &Entry, index: usize) -> bool {
         self.sure.get(index).is_some_and(|is_sure| *is_sure)
-            || entry.kept.as_slice().get(index).is_some_and(|kept| kept.is_sure)
+            || entry
+                .kept
+                .as_slice()
+                .get(index)
+                .is_some_and(|kept| kept.is_sure)
     }
 
     /// Makes the runs of the entry sure that say a message.

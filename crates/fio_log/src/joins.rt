@@ -158,7 +158,10 @@ impl Join {
         let Some(saying) = self.lines.saying_with(row.octets.as_slice()) else {
             return Going::No;
         };
-        if saying == Saying::NoMessage || self.is_other(row, hangs, shapes) || !self.add(row, runs.time) {
+        if saying == Saying::NoMessage
+            || self.is_other(row, hangs, shapes)
+            || !self.add(row, runs.time)
+        {
             return Going::No;
         }
         self.is_begun = matches!(saying, Saying::Begins { .. });
@@ -215,7 +218,11 @@ impl Join {
         let Some(row) = last_run(runs) else {
             return Going::No;
         };
-        let most = if self.lines.chain.octets().len() > 2 { 2 } else { 1 };
+        let most = if self.lines.chain.octets().len() > 2 {
+            2
+        } else {
+            1
+        };
         if row.shape.mark != self.around.shape.mark || row.octets.len() > most {
             return Going::No;
         }

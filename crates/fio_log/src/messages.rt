@@ -38,9 +38,7 @@ impl Message {
         ensures { IfSome result (λ copy. copy.octets.items ≡ self.now.octets.items) }
     {
         let mut octets = ArrayVec::new();
-        octets
-            .try_extend_from_slice(self.octets.as_slice())
-            .ok()?;
+        octets.try_extend_from_slice(self.octets.as_slice()).ok()?;
         Some(Message { octets })
     }
 

@@ -130,7 +130,12 @@ impl Frames {
         }
         let mut line = entry.from;
         'rows: for row in entry.rows.as_slice() {
-            if line == u64::MAX || self.places.try_push(row.place(line, kept.notation)).is_err() {
+            if line == u64::MAX
+                || self
+                    .places
+                    .try_push(row.place(line, kept.notation))
+                    .is_err()
+            {
                 return false;
             }
             line += 1;
@@ -175,8 +180,7 @@ impl Judge {
         }
         let slot = self.decider.queue.slot(0);
         self.decider.find_damage(&self.entries, slot);
-        let (Some(entry), Some(decision)) =
-            (self.entries.get(slot), self.decider.queue.get(slot))
+        let (Some(entry), Some(decision)) = (self.entries.get(slot), self.decider.queue.get(slot))
         else {
             return Told::none();
         };

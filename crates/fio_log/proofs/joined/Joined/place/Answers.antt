@@ -11,4 +11,4 @@ returns c =
     let is : c.in_ok-row.row.now ≡ get_or rows c.args.index c.in_ok-row.row.now = rw c.as_slice.ensures.value at row.1 in
     c.place.ensures
     ∙ rw line (row_places-at c.args.self.now.from c.args.self.now.notation rows c.args.index c.in_ok-row.row.now
-        c.place.result inside is)
+    c.place.result inside is)

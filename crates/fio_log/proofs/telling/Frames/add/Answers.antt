@@ -15,8 +15,12 @@ returns-else-not-add_message c = λ log frames entry.
     let rows = c.args.entry.now.rows.items in
     let message = c.in-Some-message.message in
     let run = message-at log from rows kept message c.in-Some-message.is
-        (rw (sym is) at (entry c.args.index kept inside)) in
-    rw (c.add_message.ensures.more c.if-not-add_message.false, c.add_message.ensures.places,
-        c.add_places.ensures.more c.if-not-add_places.false, c.add_places.ensures.messages)
+    (rw (sym is) at (entry c.args.index kept inside)) in
+    rw (
+      c.add_message.ensures.more c.if-not-add_message.false,
+      c.add_message.ensures.places,
+      c.add_places.ensures.more c.if-not-add_places.false,
+      c.add_places.ensures.messages,
+    )
     (AreFramesAt-append log (map octets_in c.args.self.now.messages.items) (message.octets.items ∷ [])
     c.args.self.now.places.items (run_places from rows kept) frames run)
