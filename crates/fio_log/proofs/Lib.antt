@@ -5,3 +5,4 @@ pub mod ReadingLemmas
 pub mod OwnTextLemmas
 pub mod RunLemmas
 pub mod FrameLemmas
+pub mod OwnVerdictLemmas

@@ -1,9 +1,11 @@
 //! The reader of a log: octets to lines, and lines to verdicts.
-ghost use Rattle.std.specs.Prelude.{◌≡◌, ◌+◌, ◌≤◌, ◌<◌, ◌↔◌, true, false, IfSome, IsSome, MatchOption, [], get_or, length, slice_index_or, take};
+ghost use Rattle.std.specs.Prelude.{◌≡◌, ◌+◌, ◌≤◌, ◌<◌, ◌↔◌, true, false, IfSome, IsSome, MatchOption, Some, [], get_or, length, slice_index_or, take};
 ghost use Rattle.fio_log.specs.Lines.{finished, is_whole, no_line};
 ghost use Rattle.fio_log.specs.Sayings.{spells};
 ghost use Rattle.fio_log.specs.Frames.{AreFramesAt, AreFramesOf, IsJudgeOf, Log};
-ghost use Rattle.fio_log.specs.Telling.{HasNoMore, HasTaken, HasTold, IsLineOf, IsReaderOf, frames_of, places_of, read_after};
+ghost use Rattle.fio_log.specs.OwnVerdicts.{IsOwnVerdict, own_form_of};
+ghost use Rattle.fio_log.specs.Telling.{HasNoMore, HasTaken, HasTold, IsLineOf, IsReaderOf, frames_of, places_of, read_at_end};
+ghost use Rattle.fio_log.specs.declared.own_texts.OwnForm.{OwnForm};
 ghost use Rattle.fio_log.specs.declared.verdict.Form.TheVariants.{Auto};
 
 use crate::judge::{Judge, Line};
@@ -36,9 +38,11 @@ pub struct Reader {
 }
 
 impl Model for Reader {
-    ghost use Rattle.std.specs.Prelude.{◌≡◌, ◌≤◌, ◌<◌, [], true, if◌then◌else◌};
+    ghost use Rattle.std.specs.Prelude.{◌≡◌, ◌+◌, ◌≤◌, ◌<◌, [], Some, true, if◌then◌else◌};
     ghost use Rattle.fio_log.specs.Lines.{is_whole};
+    ghost use Rattle.fio_log.specs.OwnVerdicts.{IsToldByOrder, own_form_of};
     ghost use Rattle.fio_log.specs.Telling.{Telling};
+    ghost use Rattle.fio_log.specs.declared.own_texts.OwnForm.{OwnForm};
 
     ghost Value = { Telling };
 
@@ -57,7 +61,9 @@ impl Model for Reader {
     ghost invariant = { λ r. (r.told ≤ r.read)
         × (r.is_ready ≡ true → r.told < r.read)
         × (r.is_ended ≡ true → r.told < r.read → r.is_ready ≡ true)
-        × (r.is_held ≡ true → is_whole r.maker.ending ≡ true) };
+        × (r.is_held ≡ true → is_whole r.maker.ending ≡ true)
+        × ((own : OwnForm) → own_form_of r.form ≡ Some own → r.told < r.read
+        → (r.is_ready ≡ true) × (r.told + 1 ≡ r.read) × IsToldByOrder own r.maker r.own r.frames) };
 }
 
 impl Reader {
@@ -111,6 +117,7 @@ impl Reader {
             return 0;
         }
         self.judge_held();
+        self.is_held = false;
         let count = self.maker.take(octets);
         if self.maker.is_whole() {
             self.read_line();
@@ -126,16 +133,18 @@ impl Reader {
         ensures ended { self.new.is_ended ≡ true }
         ensures line { self.old.is_ended ≡ false → self.old.read < u64.MAX
             → (self.new.making ≡ finished self.old.making)
-            × (self.new.read ≡ read_after self.old.read self.new.making) }
+            × (self.new.read ≡ read_at_end self.old.read self.old.making) }
         ensures told { self.new.told ≡ self.old.told }
         ensures form { self.new.form ≡ self.old.form }
         ensures kept { (log : Log) → IsReaderOf log self.old → IsLineOf log self.new → IsReaderOf log self.new }
     {
         if !self.is_ended && self.read < u64::MAX {
             self.judge_held();
-            self.maker.finish();
-            if self.maker.is_whole() {
-                self.read_line();
+            if !self.maker.is_whole() {
+                self.maker.finish();
+                if self.maker.is_whole() {
+                    self.read_line();
+                }
             }
         }
         self.is_ended = true;
@@ -148,6 +157,7 @@ impl Reader {
         requires room { self.old.read < u64.MAX }
         requires open { self.old.is_ended ≡ false }
         requires whole { is_whole self.old.making.ending ≡ true }
+        requires told { (own : OwnForm) → own_form_of self.old.form ≡ Some own → self.old.told ≡ self.old.read }
         ensures line { self.new.making ≡ self.old.making }
         ensures read { self.new.read ≡ self.old.read + 1 }
         ensures told { self.new.told ≡ self.old.told }
@@ -164,7 +174,7 @@ impl Reader {
         };
         if let Some(form) = self.form.own() {
             self.own = self.frames.tell_own(form, line);
-            self.refresh();
+            self.is_ready = true;
             return;
         }
         if line.is_long {
@@ -232,6 +242,10 @@ impl Reader {
         ensures ready { self.old.is_ready ≡ true → IsSome result }
         ensures told { MatchOption result (HasNoMore self.old self.new) (λ verdict. HasTold self.old verdict self.new) }
         ensures all { self.old.is_ended ≡ true → result ≡ None → self.old.told ≡ self.old.read }
+        ensures own { (own : OwnForm) → own_form_of self.old.form ≡ Some own → IfSome result (λ verdict.
+            IsOwnVerdict own self.new.making.text verdict.kind verdict.reason (frames_of self.new)) }
+        ensures last { (own : OwnForm) → own_form_of self.old.form ≡ Some own → IfSome result (λ verdict.
+            (verdict.line ≡ self.new.read) × (is_whole self.new.making.ending ≡ true)) }
         ensures kept { (log : Log) → IsReaderOf log self.old → IsReaderOf log self.new }
         ensures written { (log : Log) → IsReaderOf log self.old → self.old.form ≡ Auto
             → AreFramesAt log (frames_of self.new) (places_of self.new) }
