@@ -4,7 +4,7 @@ use Rattle.std.specs.List.{All, concat, sum_by}
 use Rattle.fio_message.specs.Bits.{bit_of}
 use Rattle.fio_log.specs.Sayings.{spells}
 use Rattle.fio_log.specs.Lines.{Text, finished, lines_after, no_line, only}
-use Rattle.fio_log.specs.Telling.{Telling, read_after}
+use Rattle.fio_log.specs.Telling.{Telling, read_at_end}
 use Rattle.fio_log.specs.declared.directions.Direction.{Direction}
 use Rattle.fio_log.specs.declared.directions.Direction.TheVariants as directions
 use Rattle.fio_log.specs.declared.verdict.Kind.{Kind}
@@ -112,7 +112,7 @@ pub record HasEnded (before after : Telling) : Type 0 where
   pub told : after.told ≡ before.told
   pub line :
       before.is_ended ≡ false → before.read < 2 ^ 64 - 1
-      → (after.making ≡ finished before.making) × (after.read ≡ read_after before.read after.making)
+      → (after.making ≡ finished before.making) × (after.read ≡ read_at_end before.read before.making)
 
 -- A reader has taken octets: they made these lines whole, which are read, and the line that is made.
 pub record HasTakenAll (before : Telling) (octets : List ℕ) (after : Telling) : Type 0 where

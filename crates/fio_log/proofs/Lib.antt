@@ -7,3 +7,4 @@ pub mod RunLemmas
 pub mod FrameLemmas
 pub mod KeptLemmas
 pub mod TellingLemmas
+pub mod OwnVerdictLemmas

@@ -13,3 +13,4 @@ pub mod Frames
 pub mod Telling
 pub mod Chains
 pub mod OwnTexts
+pub mod OwnVerdicts

@@ -119,11 +119,11 @@ abbrev pub is_whole : Ending → Bool
 is_whole Open = false
 is_whole other = true
 
--- the last line of a text, if it is open and has octets
+-- the last line of a text: it ends here if it is open and has octets, and stays as it is if it is whole
 abbrev pub finished_by : Ending → List ℕ → Held → Making → Making
 finished_by Open [] Nothing making = no_line
 finished_by Open octets held making = ended making Feed
-finished_by other octets held making = no_line
+finished_by other octets held making = making
 
 -- what the end of a text makes of the line
 abbrev pub finished : Making → Making

@@ -3,7 +3,7 @@ use Rattle.std.specs.Prelude.{◌≡◌, ℕ, ◌+◌, ◌≤◌, Bool, true, fa
 use Rattle.std.specs.List.{All}
 use Rattle.fio_log.specs.Chains.{part_of}
 use Rattle.fio_log.specs.Frames.{AreFramesOf, IsJudgeOf, Log, octets_in, row_places}
-use Rattle.fio_log.specs.Lines.{Making, is_whole, lines_after, only, with_making}
+use Rattle.fio_log.specs.Lines.{Making, finished, is_whole, lines_after, only, with_making}
 use Rattle.fio_log.specs.Said.{IsSaidIn}
 use Rattle.fio_log.specs.declared.judge.Judge.{Judge}
 use Rattle.fio_log.specs.declared.places.Place.{Place}
@@ -56,6 +56,10 @@ pub record IsReaderOf (log : Log) (telling : Telling) : Type 0 where
 -- how many lines are read after a line, which is one more if it is whole
 abbrev pub read_after : ℕ → Making → ℕ
 read_after read making = if is_whole making.ending then read + 1 else read
+
+-- how many lines are read after the end of a log: one more if the line that is made is open and has octets
+abbrev pub read_at_end : ℕ → Making → ℕ
+read_at_end read making = if is_whole making.ending then read else read_after read (finished making)
 
 -- A reader has taken octets: they made the line that is made, they made at most one line whole, and that is read.
 pub record HasTaken (before : Telling) (octets : List ℕ) (after : Telling) : Type 0 where

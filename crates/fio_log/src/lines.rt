@@ -254,12 +254,14 @@ impl LineMaker {
         count
     }
 
-    /// Ends the last line of a text, if it is open and has octets; then it is whole.
+    /// Ends the last line of a text, if it is open and has octets; then it is whole. A line that is whole stays so.
     pub fn finish(&mut self)
         ensures { self.new ≡ finished self.old }
     {
-        let is_empty = self.text.octets.is_empty() && self.held == Held::Nothing;
-        if self.ending != Ending::Open || is_empty {
+        if self.ending != Ending::Open {
+            return;
+        }
+        if self.text.octets.is_empty() && self.held == Held::Nothing {
             self.restart();
         } else {
             self.end(Ending::Feed);

@@ -1,5 +1,5 @@
 //! Messages that a log says, and pairs of them.
-ghost use Rattle.std.specs.Prelude.{◌≡◌, true, IfSome};
+ghost use Rattle.std.specs.Prelude.{◌≡◌, false, true, IfNone, IfSome};
 ghost use Rattle.fio_log.specs.Sayings.{spells};
 
 use crate::sayings::spelled;
@@ -25,7 +25,8 @@ pub(crate) struct Message {
 impl Message {
     /// Returns the message that octets spell; `None` if they spell none.
     pub(crate) fn of(octets: &[u8]) -> Option<Message>
-        ensures { IfSome result (λ message. message.octets.items ≡ octets.now) }
+        ensures same { IfSome result (λ message. message.octets.items ≡ octets.now) }
+        ensures none { IfNone result (spells octets.now ≡ false) }
     {
         spelled(octets).ok()?;
         let mut kept = ArrayVec::new();

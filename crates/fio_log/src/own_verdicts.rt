@@ -1,7 +1,10 @@
 //! What is told of the lines of the program's own texts, by order.
-ghost use Rattle.std.specs.Prelude.{◌≡◌, None};
-ghost use Rattle.fio_log.specs.declared.verdict.Form.TheVariants.{Auto};
+ghost use Rattle.std.specs.Prelude.{◌≡◌, [], ◌∷◌, false, map, true};
+ghost use Rattle.fio_log.specs.Frames.{octets_in};
+ghost use Rattle.fio_log.specs.OwnVerdicts.{IsOwnVerdict, own_form_of};
+ghost use Rattle.fio_log.specs.Sayings.{spells};
 
+use crate::directions::Direction;
 use crate::judge::Line;
 use crate::messages::Message;
 use crate::own_texts::{OwnForm, OwnLine, read_own_line};
@@ -14,7 +17,7 @@ use fio_message::FRAME_OCTETS;
 impl Form {
     /// Returns the text whose lines are read by order.
     pub(crate) fn own(self) -> Option<OwnForm>
-        ensures { self ≡ Auto → result ≡ None }
+        ensures { result ≡ own_form_of self }
     {
         match self {
             Form::Auto => None,
@@ -24,35 +27,66 @@ impl Form {
     }
 }
 
-impl Frames {
-    /// Tells what a line of an own text is, and takes its frame.
-    pub(crate) fn tell_own(&mut self, form: OwnForm, line: Line) -> Told {
-        self.clear();
-        let mut room = [0; FRAME_OCTETS];
-        let (kind, reason) = match read_own_line(form, line.text, &mut room) {
-            OwnLine::Skipped => (Kind::Blank, Reason::None),
-            _ if line.is_long => (Kind::Damaged, Reason::TooLong),
-            OwnLine::Bad => (Kind::Damaged, Reason::BadLine),
-            OwnLine::Faulty { .. } => (Kind::Damaged, Reason::NoMessage),
-            OwnLine::Frame { count } => self.take_own(form, line, room.get(..count)),
-        };
+impl OwnForm {
+    /// Returns who sent the octets of a line, if the text says that.
+    fn said(self, line: &[u8]) -> Option<Direction> {
+        match self {
+            OwnForm::Frames => None,
+            OwnForm::Transcript => said_at(line, 0),
+        }
+    }
+}
+
+impl Told {
+    /// Returns what is told of a line without a time.
+    fn of(kind: Kind, reason: Reason, said: Option<Direction>) -> Told
+        ensures kind { result.kind ≡ kind }
+        ensures reason { result.reason ≡ reason }
+    {
         Told {
             kind,
             reason,
             time: None,
-            said: match form {
-                OwnForm::Frames => None,
-                OwnForm::Transcript => said_at(line.text, 0),
-            },
+            said,
+        }
+    }
+}
+
+impl Frames {
+    /// Tells what a line of an own text is, and takes its frame.
+    pub(crate) fn tell_own(&mut self, form: OwnForm, line: Line) -> Told
+        ensures own { IsOwnVerdict form (record { octets = line.entry.text.now; is_long = line.entry.is_long }) result.kind result.reason
+            (map octets_in self.new.messages.items) }
+        ensures apart { self.new.are_chain ≡ false }
+    {
+        self.messages.clear();
+        self.places.clear();
+        self.are_chain = false;
+        let said = form.said(line.text);
+        let mut room = [0; FRAME_OCTETS];
+        match read_own_line(form, line.text, &mut room) {
+            OwnLine::Skipped => Told::of(Kind::Blank, Reason::None, said),
+            _ if line.is_long => Told::of(Kind::Damaged, Reason::TooLong, said),
+            OwnLine::Bad => Told::of(Kind::Damaged, Reason::BadLine, said),
+            OwnLine::Faulty { .. } => Told::of(Kind::Damaged, Reason::NoMessage, said),
+            OwnLine::Frame { count } => {
+                self.take_own(form, line, &room[..count]);
+                Told::of(Kind::Frames, Reason::None, said)
+            }
         }
     }
 
-    /// Takes the frame of a line, and returns what the line is.
-    fn take_own(&mut self, form: OwnForm, line: Line, octets: Option<&[u8]>) -> (Kind, Reason) {
-        let Some(message) = octets.and_then(Message::of) else {
-            return (Kind::Damaged, Reason::NoMessage);
+    /// Takes the frame of a line.
+    fn take_own(&mut self, form: OwnForm, line: Line, octets: &[u8])
+        requires none { self.old.messages.items ≡ [] }
+        requires spelled { spells octets.now ≡ true }
+        ensures frame { map octets_in self.new.messages.items ≡ octets.now ∷ [] }
+        ensures apart { self.new.are_chain ≡ self.old.are_chain }
+    {
+        let Some(message) = Message::of(octets) else {
+            return;
         };
-        let _room = self.messages.try_push(message);
+        self.messages.push(message);
         let _fits = self.places.try_push(Place {
             line: line.number,
             start: match form {
@@ -62,6 +96,5 @@ impl Frames {
             end: line.text.len(),
             notation: Notation::Words,
         });
-        (Kind::Frames, Reason::None)
     }
 }

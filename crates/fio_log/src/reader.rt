@@ -1,11 +1,13 @@
 //! The reader of a log: octets to lines, and lines to verdicts.
-ghost use Rattle.std.specs.Prelude.{◌≡◌, ◌+◌, ◌≤◌, ◌<◌, ◌↔◌, true, false, IfSome, IsSome, MatchOption, [], get_or, length, slice_index_or, take};
+ghost use Rattle.std.specs.Prelude.{◌≡◌, ◌+◌, ◌≤◌, ◌<◌, ◌↔◌, true, false, IfSome, IsSome, MatchOption, Some, [], get_or, length, slice_index_or, take};
 ghost use Rattle.fio_log.specs.Lines.{finished, is_whole, no_line};
 ghost use Rattle.fio_log.specs.Said.{IsSaidIn};
 ghost use Rattle.fio_log.specs.Sayings.{spells};
 ghost use Rattle.std.specs.List.{All};
 ghost use Rattle.fio_log.specs.Frames.{AreFramesAt, AreFramesOf, IsJudgeOf, Log};
-ghost use Rattle.fio_log.specs.Telling.{HasNoMore, HasTaken, HasTold, IsLineOf, IsReaderOf, frames_of, places_of, read_after};
+ghost use Rattle.fio_log.specs.OwnVerdicts.{IsOwnVerdict, own_form_of};
+ghost use Rattle.fio_log.specs.Telling.{HasNoMore, HasTaken, HasTold, IsLineOf, IsReaderOf, frames_of, places_of, read_at_end};
+ghost use Rattle.fio_log.specs.declared.own_texts.OwnForm.{OwnForm};
 ghost use Rattle.fio_log.specs.declared.verdict.Form.TheVariants.{Auto};
 
 use crate::judge::{Judge, Line};
@@ -38,9 +40,11 @@ pub struct Reader {
 }
 
 impl Model for Reader {
-    ghost use Rattle.std.specs.Prelude.{◌≡◌, ◌≤◌, ◌<◌, true};
+    ghost use Rattle.std.specs.Prelude.{◌≡◌, ◌+◌, ◌≤◌, ◌<◌, Some, true};
     ghost use Rattle.fio_log.specs.Lines.{is_whole};
+    ghost use Rattle.fio_log.specs.OwnVerdicts.{IsToldByOrder, own_form_of};
     ghost use Rattle.fio_log.specs.Telling.{Telling};
+    ghost use Rattle.fio_log.specs.declared.own_texts.OwnForm.{OwnForm};
 
     ghost Value = { Telling };
 
@@ -60,7 +64,9 @@ impl Model for Reader {
     ghost invariant = { λ r. (r.told ≤ r.read)
         × (r.is_ready ≡ true → r.told < r.read)
         × (r.is_ended ≡ true → r.told < r.read → r.is_ready ≡ true)
-        × (r.is_held ≡ true → is_whole r.maker.ending ≡ true) };
+        × (r.is_held ≡ true → is_whole r.maker.ending ≡ true)
+        × ((own : OwnForm) → own_form_of r.form ≡ Some own → r.told < r.read
+        → (r.is_ready ≡ true) × (r.told + 1 ≡ r.read) × IsToldByOrder own r.maker r.own r.frames) };
 }
 
 impl Reader {
@@ -129,7 +135,7 @@ impl Reader {
         ensures ended { self.new.is_ended ≡ true }
         ensures line { self.old.is_ended ≡ false → self.old.read < u64.MAX
             → (self.new.making ≡ finished self.old.making)
-            × (self.new.read ≡ read_after self.old.read self.new.making) }
+            × (self.new.read ≡ read_at_end self.old.read self.old.making) }
         ensures told { self.new.told ≡ self.old.told }
         ensures form { self.new.form ≡ self.old.form }
         ensures kept { (log : Log) → IsReaderOf log self.old → IsLineOf log self.new → IsReaderOf log self.new }
@@ -144,7 +150,7 @@ impl Reader {
     fn finish_line(&mut self)
         ensures line { self.old.is_ended ≡ false → self.old.read < u64.MAX
             → (self.new.making ≡ finished self.old.making)
-            × (self.new.read ≡ read_after self.old.read self.new.making) }
+            × (self.new.read ≡ read_at_end self.old.read self.old.making) }
         ensures told { self.new.told ≡ self.old.told }
         ensures ended { self.new.is_ended ≡ self.old.is_ended }
         ensures form { self.new.form ≡ self.old.form }
@@ -154,6 +160,9 @@ impl Reader {
             return;
         }
         self.judge_held();
+        if self.maker.is_whole() {
+            return;
+        }
         self.maker.finish();
         if self.maker.is_whole() {
             self.read_line();
@@ -166,6 +175,7 @@ impl Reader {
         requires open { self.old.is_ended ≡ false }
         requires whole { is_whole self.old.making.ending ≡ true }
         requires none { self.old.is_held ≡ false }
+        requires told { (own : OwnForm) → own_form_of self.old.form ≡ Some own → self.old.told ≡ self.old.read }
         ensures line { self.new.making ≡ self.old.making }
         ensures read { self.new.read ≡ self.old.read + 1 }
         ensures told { self.new.told ≡ self.old.told }
@@ -182,7 +192,7 @@ impl Reader {
         };
         if let Some(form) = self.form.own() {
             self.own = self.frames.tell_own(form, line);
-            self.refresh();
+            self.is_ready = true;
             return;
         }
         read_runs(line, &mut self.runs);
@@ -246,6 +256,10 @@ impl Reader {
         ensures ready { self.old.is_ready ≡ true → IsSome result }
         ensures told { MatchOption result (HasNoMore self.old self.new) (λ verdict. HasTold self.old verdict self.new) }
         ensures all { self.old.is_ended ≡ true → result ≡ None → self.old.told ≡ self.old.read }
+        ensures own { (own : OwnForm) → own_form_of self.old.form ≡ Some own → IfSome result (λ verdict.
+            IsOwnVerdict own self.new.making.text verdict.kind verdict.reason (frames_of self.new)) }
+        ensures last { (own : OwnForm) → own_form_of self.old.form ≡ Some own → IfSome result (λ verdict.
+            (verdict.line ≡ self.new.read) × (is_whole self.new.making.ending ≡ true)) }
         ensures kept { (log : Log) → IsReaderOf log self.old → IsReaderOf log self.new }
         ensures written { (log : Log) → IsReaderOf log self.old → self.old.form ≡ Auto
             → AreFramesAt log (frames_of self.new) (places_of self.new) }
@@ -272,11 +286,16 @@ impl Reader {
 
     /// Tells what a line is, and takes its frames.
     fn tell_line(&mut self, line: u64) -> Told
+        requires { self.old.told < self.old.read }
         ensures line { self.new.making ≡ self.old.making }
         ensures read { self.new.read ≡ self.old.read }
         ensures told { self.new.told ≡ self.old.told }
         ensures ended { self.new.is_ended ≡ self.old.is_ended }
         ensures form { self.new.form ≡ self.old.form }
+        ensures own { (own : OwnForm) → own_form_of self.old.form ≡ Some own
+            → IsOwnVerdict own self.new.making.text result.kind result.reason (frames_of self.new) }
+        ensures last { (own : OwnForm) → own_form_of self.old.form ≡ Some own
+            → (self.new.told + 1 ≡ self.new.read) × (is_whole self.new.making.ending ≡ true) }
         ensures kept { (log : Log) → IsReaderOf log self.old → IsReaderOf log self.new }
     {
         if self.form == Form::Auto {

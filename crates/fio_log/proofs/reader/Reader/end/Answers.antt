@@ -1,3 +1,4 @@
+use Rattle.std.proofs.Common.{rules}
 use Rattle.fio_log.specs.Telling.{IsReaderOf}
 use Rattle.fio_log.proofs.reader.Reader.end.Goals as goal
 
@@ -8,3 +9,13 @@ returns-clause-kept c = λ log before line.
     c.finish_line.ensures.kept log before (rw (← c.self.view_is) here) in
     let is = rw (← c.self.view_is) at done in
     c.refresh.ensures.kept log (record { line = is.line; judge = is.judge; held = is.held; frames = is.frames })
+
+pub invariant_of-self : goal.invariant_of-self
+invariant_of-self c =
+    let kept = c.self.invariant in (
+      kept.0,
+      search rules,
+      search rules,
+      kept.3,
+      λ own is less. (search rules, (kept.4 own is less).1, (kept.4 own is less).2),
+    )

@@ -1,3 +1,4 @@
+use Rattle.std.proofs.Common.{refl, arith}
 use Rattle.fio_log.specs.Frames.{IsJudgeOf}
 use Rattle.fio_log.specs.Telling.{IsReaderOf}
 use Rattle.fio_log.proofs.reader.Reader.refresh.Goals as goal
@@ -30,3 +31,13 @@ returns-clause-kept c = λ log before.
         frames = is.frames;
       })
     ]
+
+pub invariant_of-self-then-ne : goal.invariant_of-self-then-ne
+invariant_of-self-then-ne c =
+    let kept = c.self.invariant in (
+      kept.0,
+      λ ready. omega (arith, kept.0, c.if-self.false),
+      λ ended less. refl,
+      kept.3,
+      λ own is less. (refl, (kept.4 own is less).1, (kept.4 own is less).2),
+    )

@@ -1,4 +1,5 @@
-use Rattle.std.proofs.Common.{◌≡◌, ◌∙◌}
+use Rattle.std.proofs.Common.{◌≡◌, ◌∙◌, Some, ap, arith, rules}
+use Rattle.fio_log.specs.OwnVerdicts.{own_form_of}
 use Rattle.fio_log.specs.Telling.{IsReaderOf}
 use Rattle.fio_log.specs.declared.verdict.Form.TheVariants.{Auto}
 use Rattle.fio_log.proofs.TellingLemmas.{frames-written}
@@ -21,3 +22,14 @@ returns-clause-written c = λ log before auto.
     c.tell_line-told.ensures.kept log (c.refresh.ensures.kept log before) in
     let form : c.tell_line-told.new.self.form ≡ Auto = c.tell_line-told.ensures.form ∙ c.refresh.ensures.form ∙ auto in
     rw (← c.self-3.view_is) at (frames-written log c.tell_line-told.new.self told form)
+
+pub invariant_of-self : goal.invariant_of-self
+invariant_of-self c = ?
+
+pub returns-clause-own : goal.returns-clause-own
+returns-clause-own c = λ own is.
+    rw (← c.self-3.view_is) at (c.tell_line-told.ensures.own own (ap own_form_of c.refresh.ensures.form ∙ is))
+
+pub returns-clause-last : goal.returns-clause-last
+returns-clause-last c = λ own is.
+    rw (← c.self-3.view_is) at (c.tell_line-told.ensures.last own (ap own_form_of c.refresh.ensures.form ∙ is))
