@@ -3,6 +3,10 @@ use Rattle.std.specs.Prelude.{◌≡◌, ℕ, ◌≤◌, true, List, length, sli
 use Rattle.fio_log.specs.Sayings.{spells}
 use Rattle.fio_log.specs.declared.chains.Part.{Part}
 
+-- the octets of a part
+abbrev pub part_of : List ℕ → Part → List ℕ
+part_of octets part = slice_range octets part.start part.end
+
 -- a part of octets spells a message
 pub record IsPart (octets : List ℕ) (part : Part) : Type 0 where
   pub spelled : spells (slice_range octets part.start part.end) ≡ true

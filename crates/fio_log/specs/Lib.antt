@@ -9,6 +9,7 @@ pub mod Checks
 pub mod Sayings
 pub mod Said
 pub mod Lines
+pub mod Frames
 pub mod Telling
 pub mod Chains
 pub mod OwnTexts

@@ -1,17 +1,56 @@
 -- What a reader has read of a log, and of which lines it has told.
-use Rattle.std.specs.Prelude.{◌≡◌, ℕ, ◌+◌, ◌≤◌, Bool, false, if◌then◌else◌, List, []}
+use Rattle.std.specs.Prelude.{◌≡◌, ℕ, ◌+◌, ◌≤◌, Bool, true, false, if◌then◌else◌, List, [], length, map}
+use Rattle.std.specs.List.{All}
+use Rattle.fio_log.specs.Chains.{part_of}
+use Rattle.fio_log.specs.Frames.{AreFramesOf, IsJudgeOf, Log, octets_in, row_places}
 use Rattle.fio_log.specs.Lines.{Making, is_whole, lines_after, only, with_making}
+use Rattle.fio_log.specs.Said.{IsSaidIn}
+use Rattle.fio_log.specs.declared.judge.Judge.{Judge}
+use Rattle.fio_log.specs.declared.places.Place.{Place}
+use Rattle.fio_log.specs.declared.said.Said.{Said}
+use Rattle.fio_log.specs.declared.telling.Frames.{Frames}
+use Rattle.fio_log.specs.declared.verdict.Form.{Form}
+use Rattle.fio_log.specs.declared.verdict.Form.TheVariants.{Auto}
 use Rattle.fio_log.specs.declared.verdict.Verdict.{Verdict}
 
--- A reader: the line that is made, how many lines are read, how many verdicts are told, whether the next one can be told,
--- how many frames the last one has, and whether the log has ended.
+-- A reader: how it reads, the line that is made, how many lines are read, how many verdicts are told, whether the next one
+-- can be told, and whether the log has ended; the frames of the last verdict, what is kept of the lines above, and the runs of
+-- the last line while it waits to be judged.
 pub record Telling : Type 0 where
+  pub form : Form
   pub making : Making
   pub read : ℕ
   pub told : ℕ
   pub is_ready : Bool
-  pub frames : ℕ
   pub is_ended : Bool
+  pub last : Frames
+  pub judge : Judge
+  pub held : List Said
+
+-- the frames of the last verdict
+abbrev pub frames_of : Telling → List (List ℕ)
+frames_of telling =
+    if telling.last.are_chain
+    then map (part_of telling.judge.join.lines.chain.octets.items) telling.judge.join.lines.chain.parts.items
+    else map octets_in telling.last.messages.items
+
+-- the places where they are written
+abbrev pub places_of : Telling → List Place
+places_of telling =
+    if telling.last.are_chain
+    then row_places telling.judge.join.lines.from telling.judge.join.lines.notation telling.judge.join.lines.rows.items
+    else telling.last.places.items
+
+-- The line that is made is that of a log, if it is whole: the last one that is read.
+abbrev pub IsLineOf : Log → Telling → Type 0
+IsLineOf log telling = is_whole telling.making.ending ≡ true → telling.making.text.octets ≡ log telling.read
+
+-- What a reader keeps of a log is written there.
+pub record IsReaderOf (log : Log) (telling : Telling) : Type 0 where
+  pub line : IsLineOf log telling
+  pub judge : IsJudgeOf log telling.judge
+  pub held : All (IsSaidIn (log telling.read)) telling.held
+  pub frames : telling.form ≡ Auto → AreFramesOf log telling.last
 
 -- how many lines are read after a line, which is one more if it is whole
 abbrev pub read_after : ℕ → Making → ℕ
@@ -22,6 +61,7 @@ pub record HasTaken (before : Telling) (octets : List ℕ) (after : Telling) : T
   pub lines : lines_after (only before.making) octets ≡ with_making [] after.making
   pub read : after.read ≡ read_after before.read after.making
   pub told : after.told ≡ before.told
+  pub form : after.form ≡ before.form
   pub is_ended : after.is_ended ≡ before.is_ended
 
 -- A reader has told the verdict of the next line.
@@ -29,7 +69,9 @@ pub record HasTold (before : Telling) (verdict : Verdict) (after : Telling) : Ty
   pub next : verdict.line ≡ before.told + 1
   pub told : after.told ≡ verdict.line
   pub within : after.told ≤ after.read
-  pub frames : after.frames ≡ verdict.frames
+  pub frames : length (frames_of after) ≡ verdict.frames
+  pub places : length (places_of after) ≡ verdict.places
+  pub form : after.form ≡ before.form
   pub making : after.making ≡ before.making
   pub read : after.read ≡ before.read
   pub is_ended : after.is_ended ≡ before.is_ended
@@ -37,6 +79,7 @@ pub record HasTold (before : Telling) (verdict : Verdict) (after : Telling) : Ty
 -- A reader has no verdict to tell: nothing that it tells of has changed.
 pub record HasNoMore (before after : Telling) : Type 0 where
   pub told : after.told ≡ before.told
+  pub form : after.form ≡ before.form
   pub making : after.making ≡ before.making
   pub read : after.read ≡ before.read
   pub is_ended : after.is_ended ≡ before.is_ended

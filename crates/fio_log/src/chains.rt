@@ -1,8 +1,8 @@
 //! Chains: messages of known length, or frames with flags and checks, one after the other in the octets of several lines.
-ghost use Rattle.std.specs.Prelude.{◌≡◌, ◌≤◌, ◌<◌, ◌↔◌, ◌+◌, [], ◌∷◌, ◌++◌, true, false, IfSome, IsSome, IsTrue, length, slice_range};
+ghost use Rattle.std.specs.Prelude.{◌≡◌, ◌≤◌, ◌<◌, ◌↔◌, ◌+◌, [], ◌∷◌, ◌++◌, true, false, IfSome, IsSome, IsTrue, length, get_or, map, slice_range, take};
 ghost use Rattle.std.specs.List.{All};
 ghost use Rattle.arrayvec.specs.ArrayVec.{array_vec_len};
-ghost use Rattle.fio_log.specs.Chains.{IsPart};
+ghost use Rattle.fio_log.specs.Chains.{IsPart, part_of};
 ghost use Rattle.fio_log.specs.Sayings.{spells};
 
 use crate::messages::has_open_length;
@@ -35,7 +35,9 @@ pub(crate) struct Chain {
 
 impl Chain {
     /// Returns a chain without octets.
-    pub(crate) fn new() -> Chain {
+    pub(crate) fn new() -> Chain
+        ensures { result.octets.items ≡ [] }
+    {
         Chain {
             octets: ArrayVec::new(),
             parts: ArrayVec::new(),
@@ -43,24 +45,33 @@ impl Chain {
     }
 
     /// Takes all octets out.
-    pub(crate) fn clear(&mut self) {
+    pub(crate) fn clear(&mut self)
+        ensures { self.new.octets.items ≡ [] }
+    {
         self.parts.clear();
         self.octets.clear();
     }
 
     /// Returns the octets.
-    pub(crate) fn octets(&self) -> &[u8] {
+    pub(crate) fn octets(&self) -> &[u8]
+        ensures { result.now ≡ self.now.octets.items }
+    {
         self.octets.as_slice()
     }
 
     /// Appends octets, of which the messages are not known yet. Returns whether there was room; if not, none is appended.
-    pub(crate) fn extend(&mut self, octets: &[u8]) -> bool {
+    pub(crate) fn extend(&mut self, octets: &[u8]) -> bool
+        ensures more { result ≡ true → self.new.octets.items ≡ self.old.octets.items ++ octets.now }
+        ensures same { result ≡ false → self.new.octets.items ≡ self.old.octets.items }
+    {
         self.parts.clear();
         self.octets.try_extend_from_slice(octets).is_ok()
     }
 
     /// Takes the octets out that come after the first ones.
-    pub(crate) fn truncate(&mut self, count: usize) {
+    pub(crate) fn truncate(&mut self, count: usize)
+        ensures { self.new.octets.items ≡ take count self.old.octets.items }
+    {
         self.parts.clear();
         self.octets.truncate(count);
     }
@@ -76,6 +87,7 @@ impl Chain {
     pub(crate) fn message(&self, index: usize) -> Option<&[u8]>
         ensures given { IsSome result ↔ (index < array_vec_len self.now.parts) }
         ensures spelled { IfSome result (λ octets. spells octets.now ≡ true) }
+        ensures part { IfSome result (λ octets. octets.now ≡ get_or (map (part_of self.now.octets.items) self.now.parts.items) index []) }
     {
         let parts = self.parts.as_slice();
         if index >= parts.len() {
@@ -100,7 +112,9 @@ impl Chain {
 
     /// Finds the messages of the octets, if they are a chain of them, and returns whether one is sure by itself. If they
     /// are none, no message is known.
-    pub(crate) fn split(&mut self) -> Option<bool> {
+    pub(crate) fn split(&mut self) -> Option<bool>
+        ensures { self.new.octets ≡ self.old.octets }
+    {
         self.parts.clear();
         let mut place = 0;
         let mut is_sure = false;

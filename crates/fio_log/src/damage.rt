@@ -1,6 +1,7 @@
 //! Lines that may have held a frame and gave none.
-use crate::entries::{Entry, State};
-use crate::judge::Judge;
+use crate::deciding::Decider;
+use crate::decisions::State;
+use crate::entries::{Entries, Entry};
 use crate::queue::ENTRIES;
 use crate::shapes::Shapes;
 use crate::styles::Styles;
@@ -60,14 +61,14 @@ impl Texts {
     }
 }
 
-impl Judge {
+impl Decider {
     /// Finds whether an entry that gives no frame may have held one: it says a message that is written as frames are, or
     /// may be what is left of the line of one after a cut. In a log that has frames no message is only possible.
-    pub(crate) fn find_damage(&mut self, slot: usize) {
-        let Some(entry) = self.queue.get(slot) else {
+    pub(crate) fn find_damage(&mut self, entries: &Entries, slot: usize) {
+        let (Some(entry), Some(decision)) = (entries.get(slot), self.queue.get(slot)) else {
             return;
         };
-        let State::Passed(kind, reason) = entry.state else {
+        let State::Passed(kind, reason) = decision.state else {
             return;
         };
         let is_open = matches!(kind, Kind::PassedOver | Kind::Possible);

@@ -1,10 +1,16 @@
 //! Decisions of the judge: which entries are frames, and which are passed over.
-use crate::entries::State;
-use crate::judge::Judge;
+use crate::damage::Texts;
+use crate::decisions::State;
+use crate::entries::{Entries, KEPT};
+use crate::kept::Seen;
 use crate::messages::Brief;
 use crate::pairs::Half;
-use crate::queue::{ENTRIES, WAITING};
+use crate::queue::{ENTRIES, Queue, WAITING};
+use crate::said::LINE_RUNS;
+use crate::shapes::Shapes;
+use crate::styles::Styles;
 use crate::verdict::{Kind, Reason};
+use arrayvec::ArrayVec;
 
 /// How many frames more are read before a message of unknown shape is given up.
 const LATER: u64 = 2;
@@ -12,32 +18,109 @@ const LATER: u64 = 2;
 /// How many frames a log has at least before one is given up.
 const YOUNG: u64 = 16;
 
-impl Judge {
+/// The runs of the nearest entry above that says a message.
+#[derive(Drop)]
+pub(crate) struct Above {
+    /// What pairs them.
+    pub halves: ArrayVec<Half, KEPT>,
+    /// Which of them is its frame, as far as that is known.
+    pub chosen: Option<usize>,
+    /// The slot of the entry, while it is kept.
+    pub slot: Option<usize>,
+}
+
+/// What is decided of the entries, and what is known of the log. What is read of the entries it does not change.
+#[derive(Drop)]
+pub(crate) struct Decider {
+    pub shapes: Shapes,
+    pub styles: Styles,
+    pub queue: Queue,
+    pub texts: Texts,
+    pub above: Above,
+    /// The runs of the line that is decided, or of the first one of those that are open.
+    pub seen: ArrayVec<Seen, LINE_RUNS>,
+    /// The slot of the entry whose lines may go on.
+    pub open: Option<usize>,
+    /// The slot of the entry whose frames are those of the chain.
+    pub chain: Option<usize>,
+    /// How many frames were taken.
+    pub count: u64,
+    /// Whether there was a line that is not a bare message.
+    pub has_others: bool,
+    /// Whether a shape is new since entries that wait were judged.
+    pub is_news: bool,
+}
+
+impl Decider {
+    /// Returns that nothing is decided or known.
+    pub(crate) fn new() -> Decider {
+        Decider {
+            shapes: Shapes::new(),
+            styles: Styles::new(),
+            queue: Queue::new(),
+            texts: Texts::new(),
+            above: Above {
+                halves: ArrayVec::new(),
+                chosen: None,
+                slot: None,
+            },
+            seen: ArrayVec::new(),
+            open: None,
+            chain: None,
+            count: 0,
+            has_others: false,
+            is_news: false,
+        }
+    }
+
+    /// Returns the slot of the next entry. What is known of the one that was there is kept as far as a pair needs it.
+    pub(crate) fn next_slot(&mut self) -> Option<usize> {
+        let slot = self.queue.next_slot()?;
+        if self.above.slot == Some(slot) {
+            self.above.chosen = self.queue.get(slot).and_then(|decision| decision.chosen());
+            self.above.slot = None;
+        }
+        Some(slot)
+    }
+
+    /// Forgets the frames of the chain, whose octets are no longer kept: its verdict was fetched, or is lost.
+    pub(crate) fn forget_chain(&mut self) {
+        let Some(slot) = self.chain else {
+            return;
+        };
+        self.chain = None;
+        if let Some(decision) = self.queue.get_mut(slot)
+            && decision.state == State::Chain
+        {
+            decision.state = State::Passed(Kind::PassedOver, Reason::TooLong);
+        }
+    }
+
     /// Sets what is decided of an entry.
     pub(crate) fn settle(&mut self, slot: usize, state: State) {
-        if let Some(entry) = self.queue.get_mut(slot) {
-            entry.state = state;
+        if let Some(decision) = self.queue.get_mut(slot) {
+            decision.state = state;
         }
     }
 
     /// Decides on an entry as far as its own runs, those of the entry above and known shapes do.
-    pub(crate) fn decide(&mut self, slot: usize) {
-        let Some(entry) = self.queue.get(slot) else {
+    pub(crate) fn decide(&mut self, entries: &Entries, slot: usize) {
+        let Some(entry) = entries.get(slot) else {
             return;
         };
         if entry.kept.is_empty() {
             self.has_others = true;
             self.tally_seen();
-            self.pass_over(slot);
+            self.pass_over(entries, slot);
             return;
         }
         self.has_others |= !entry.is_bare();
-        self.tally_kept(slot);
-        self.pair_with_above(slot);
-        self.judge(slot);
+        self.tally_kept(entries, slot);
+        self.pair_with_above(entries, slot);
+        self.judge(entries, slot);
         let waits = self.count.saturating_add(LATER).max(YOUNG);
-        if let Some(entry) = self.queue.get_mut(slot) {
-            entry.waits = waits;
+        if let Some(decision) = self.queue.get_mut(slot) {
+            decision.waits = waits;
         }
     }
 
@@ -56,8 +139,8 @@ impl Judge {
     }
 
     /// Counts a line that says a message, for each front of its runs that do.
-    fn tally_kept(&mut self, slot: usize) {
-        let Some(entry) = self.queue.get(slot) else {
+    fn tally_kept(&mut self, entries: &Entries, slot: usize) {
+        let Some(entry) = entries.get(slot) else {
             return;
         };
         let kept = entry.kept.as_slice();
@@ -73,20 +156,20 @@ impl Judge {
     }
 
     /// Makes an entry and the one above sure, if they say a command and its answer; then the entry is the one above.
-    fn pair_with_above(&mut self, slot: usize) {
-        let pair = self.pair_above(slot);
+    fn pair_with_above(&mut self, entries: &Entries, slot: usize) {
+        let pair = self.pair_above(entries, slot);
         let above = self.above.slot;
         if let Some((command, answer)) = pair {
-            self.make_sure(above, command);
-            self.make_sure(Some(slot), answer);
+            self.make_sure(entries, above, command);
+            self.make_sure(entries, Some(slot), answer);
             if let Some(above) = above {
-                self.judge(above);
+                self.judge(entries, above);
             }
         }
         self.above.halves.clear();
         self.above.chosen = None;
         self.above.slot = Some(slot);
-        if let Some(entry) = self.queue.get(slot) {
+        if let Some(entry) = entries.get(slot) {
             for kept in entry.kept.as_slice() {
                 let _room = self.above.halves.try_push(Half::of(kept));
             }
@@ -94,8 +177,8 @@ impl Judge {
     }
 
     /// Returns the command that the entry above says and its answer in an entry, if these are only one pair.
-    fn pair_above(&self, slot: usize) -> Option<(Brief, Brief)> {
-        let entry = self.queue.get(slot)?;
+    fn pair_above(&self, entries: &Entries, slot: usize) -> Option<(Brief, Brief)> {
+        let entry = entries.get(slot)?;
         let chosen = match self.above.slot {
             Some(above) => self.queue.get(above).and_then(|above| above.chosen()),
             None => self.above.chosen,
@@ -120,19 +203,20 @@ impl Judge {
     }
 
     /// Makes the runs of an entry sure that say a message.
-    fn make_sure(&mut self, slot: Option<usize>, brief: Brief) {
+    fn make_sure(&mut self, entries: &Entries, slot: Option<usize>, brief: Brief) {
         let Some(slot) = slot else {
             return;
         };
-        let Some(entry) = self.queue.get_mut(slot) else {
-            return;
-        };
-        entry.make_sure(brief);
+        if let Some(entry) = entries.get(slot)
+            && let Some(decision) = self.queue.get_mut(slot)
+        {
+            decision.make_sure(entry, brief);
+        }
     }
 
     /// Judges an entry that waits; if its shape is new then, all others that wait.
-    pub(crate) fn judge(&mut self, slot: usize) {
-        self.judge_one(slot);
+    pub(crate) fn judge(&mut self, entries: &Entries, slot: usize) {
+        self.judge_one(entries, slot);
         for _ in 0..ENTRIES {
             if !self.is_news {
                 return;
@@ -141,34 +225,38 @@ impl Judge {
             for position in 0..self.queue.len().min(ENTRIES) {
                 let other = self.queue.slot(position);
                 if self.open != Some(other) {
-                    self.judge_one(other);
+                    self.judge_one(entries, other);
                 }
             }
         }
     }
 
     /// Judges an entry that waits.
-    fn judge_one(&mut self, slot: usize) {
-        let Some(entry) = self.queue.get_mut(slot) else {
+    fn judge_one(&mut self, entries: &Entries, slot: usize) {
+        let Some(entry) = entries.get(slot) else {
             return;
         };
-        if !entry.is_waiting() {
+        let Some(decision) = self.queue.get_mut(slot) else {
+            return;
+        };
+        if !decision.is_waiting() {
             return;
         }
-        entry.judge(&self.shapes);
-        if entry.chosen().is_some() {
-            self.take(slot);
+        decision.judge(entry, &self.shapes);
+        if decision.chosen().is_some() {
+            self.take(entries, slot);
         }
     }
 
     /// Counts the frame of an entry, and learns the shapes of its sure runs that say it.
-    fn take(&mut self, slot: usize) {
+    fn take(&mut self, entries: &Entries, slot: usize) {
         self.count = self.count.saturating_add(1);
-        let Some(entry) = self.queue.get(slot) else {
+        let (Some(entry), Some(decision)) = (entries.get(slot), self.queue.get(slot)) else {
             return;
         };
-        for kept in entry.kept.as_slice() {
-            if kept.is_sure && kept.is_long && entry.is_of_frame(kept.brief) {
+        for (index, kept) in entry.kept.as_slice().iter().enumerate() {
+            let is_sure = decision.is_sure(entry, index);
+            if is_sure && kept.is_long && decision.is_of_frame(entry, kept.brief) {
                 self.styles.learn(kept.mark, kept.ways);
                 if self.shapes.learn(kept.whole, kept.ways) {
                     self.is_news = true;
@@ -182,8 +270,8 @@ impl Judge {
     }
 
     /// Passes an entry over.
-    fn pass_over(&mut self, slot: usize) {
-        let Some(entry) = self.queue.get(slot) else {
+    fn pass_over(&mut self, entries: &Entries, slot: usize) {
+        let Some(entry) = entries.get(slot) else {
             return;
         };
         let state = if entry.possible().is_some() {
@@ -218,11 +306,11 @@ impl Judge {
 
     /// Ends the wait of an entry. A line that is nothing but a message is a frame if each line of its shape so far said
     /// one; without a word for its direction, if each line of the log did.
-    pub(crate) fn give_up(&mut self, slot: usize) {
-        let Some(entry) = self.queue.get(slot) else {
+    pub(crate) fn give_up(&mut self, entries: &Entries, slot: usize) {
+        let Some(entry) = entries.get(slot) else {
             return;
         };
-        if !entry.is_waiting() {
+        if !self.queue.get(slot).is_some_and(|decision| decision.is_waiting()) {
             return;
         }
         let is_sure = match entry.kept.as_slice() {
@@ -230,14 +318,14 @@ impl Judge {
             _ => false,
         };
         if !is_sure {
-            self.pass_over(slot);
+            self.pass_over(entries, slot);
             return;
         }
-        if let Some(entry) = self.queue.get_mut(slot) {
-            entry.take_only();
+        if let Some(decision) = self.queue.get_mut(slot) {
+            decision.take_only();
         }
-        self.take(slot);
-        self.judge(slot);
+        self.take(entries, slot);
+        self.judge(entries, slot);
     }
 
     /// Returns whether each line so far with a front said a message, or each line of the log if nothing is before it.
@@ -250,31 +338,31 @@ impl Judge {
     }
 
     /// Ends the wait of all entries but the one that is open.
-    pub(crate) fn give_up_all(&mut self) {
+    pub(crate) fn give_up_all(&mut self, entries: &Entries) {
         for position in 0..self.queue.len().min(ENTRIES) {
             let slot = self.queue.slot(position);
             if self.open != Some(slot) {
-                self.give_up(slot);
+                self.give_up(entries, slot);
             }
         }
     }
 
     /// Ends the wait of those that have waited long enough.
-    pub(crate) fn give_up_old(&mut self) {
+    pub(crate) fn give_up_old(&mut self, entries: &Entries) {
         let count = self.queue.len().min(ENTRIES);
         for position in 0..count {
             let slot = self.queue.slot(position);
-            let Some(entry) = self.queue.get(slot) else {
+            let Some(decision) = self.queue.get(slot) else {
                 return;
             };
-            if !entry.is_waiting() {
+            if !decision.is_waiting() {
                 continue;
             }
-            let may_wait = self.count < entry.waits && count - position <= WAITING;
+            let may_wait = self.count < decision.waits && count - position <= WAITING;
             if self.open == Some(slot) || may_wait {
                 return;
             }
-            self.give_up(slot);
+            self.give_up(entries, slot);
         }
     }
 }

@@ -1,22 +1,20 @@
 //! Octets on several lines: a dump, the rows of a message, or rows of one octet.
-use crate::chains::{CHAIN_OCTETS, Chain};
+ghost use Rattle.std.specs.Prelude.{◌≡◌, ◌+◌, length};
+ghost use Rattle.std.specs.List.{All};
+ghost use Rattle.fio_log.specs.Frames.{AreJoined, Log};
+ghost use Rattle.fio_log.specs.Runs.{AreWords};
+ghost use Rattle.fio_log.specs.Said.{IsSaidIn};
+
+use crate::joined::Joined;
+use crate::judge::Line;
 use crate::kept::Around;
 use crate::octets::Octets;
 use crate::offsets::{OffsetRow, offset_row};
 use crate::openings::last_run;
+use crate::places::Notation;
 use crate::said::{LineRuns, Said};
-use crate::sayings::{Saying, read_saying};
+use crate::sayings::Saying;
 use crate::shapes::{Shapes, front_key};
-use arrayvec::ArrayVec;
-
-/// Where a row is written in its line.
-#[derive(Clone, Copy, Debug, Default, PartialEq, Eq)]
-pub(crate) struct Row {
-    /// The index of its first character.
-    pub start: u16,
-    /// How many characters it has.
-    pub length: u16,
-}
 
 /// Why lines are one run.
 #[derive(Clone, Copy, Debug, PartialEq, Eq)]
@@ -45,10 +43,8 @@ pub(crate) enum Going {
 pub(crate) struct Join {
     /// Why they are.
     pub joining: Joining,
-    /// Their octets.
-    pub chain: Chain,
-    /// Where each row is written, from the first line on.
-    pub rows: ArrayVec<Row, CHAIN_OCTETS>,
+    /// Their octets, and where they are written.
+    pub lines: Joined,
     /// What surrounds the first row.
     pub around: Around,
     /// How many octets the first row has.
@@ -67,11 +63,12 @@ pub(crate) struct Join {
 
 impl Join {
     /// Returns no lines.
-    pub(crate) fn new() -> Join {
+    pub(crate) fn new() -> Join
+        ensures { (log : Log) → AreJoined log result.lines }
+    {
         Join {
             joining: Joining::Rows,
-            chain: Chain::new(),
-            rows: ArrayVec::new(),
+            lines: Joined::new(),
             around: Around::default(),
             width: 0,
             is_bad: false,
@@ -83,9 +80,18 @@ impl Join {
     }
 
     /// Begins with the first row, and returns whether there was room for it.
-    pub(crate) fn begin(&mut self, joining: Joining, said: &Said, time: Option<u64>) -> bool {
+    pub(crate) fn begin(
+        &mut self,
+        joining: Joining,
+        line: u64,
+        said: &Said,
+        time: Option<u64>,
+    ) -> bool
+        ensures { (log : Log) → IsSaidIn (log line) said.now → AreJoined log self.new.lines }
+    {
         self.clear(joining, Around::of(said), said.octets.len());
         self.is_begun = matches!(said.saying, Saying::Begins { .. });
+        self.lines.begin(line, said.notation);
         self.add(said, time)
     }
 
@@ -93,34 +99,23 @@ impl Join {
     fn clear(&mut self, joining: Joining, around: Around, width: usize) {
         self.joining = joining;
         self.around = around;
-        self.chain.clear();
-        self.rows.clear();
         self.width = width;
         self.is_bad = false;
         self.is_same = false;
     }
 
-    /// Appends a row, and returns whether there was room for it.
-    fn add(&mut self, said: &Said, time: Option<u64>) -> bool {
-        self.chain.extend(said.octets.as_slice()) && self.add_place(said, time)
-    }
-
-    /// Appends where a row is written, and returns whether there was room for it.
-    fn add_place(&mut self, said: &Said, time: Option<u64>) -> bool {
+    /// Appends the row of the next line, and returns whether there was room for it.
+    fn add(&mut self, said: &Said, time: Option<u64>) -> bool
+        ensures { (log : Log) → AreJoined log self.old.lines
+            → IsSaidIn (log (self.old.lines.from + length self.old.lines.rows.items)) said.now
+            → AreJoined log self.new.lines }
+    {
         self.last = said.octets.len();
         self.time = time;
-        self.add_row(said.start, said.end)
-    }
-
-    /// Appends the characters of a row, and returns whether there was room for them.
-    fn add_row(&mut self, start: usize, end: usize) -> bool {
-        let Some(length) = end.checked_sub(start) else {
-            return false;
-        };
-        let (Ok(start), Ok(length)) = (u16::try_from(start), u16::try_from(length)) else {
-            return false;
-        };
-        self.rows.try_push(Row { start, length }).is_ok()
+        said.notation == self.lines.notation
+            && self
+                .lines
+                .push(said.octets.as_slice(), said.start, said.end)
     }
 
     /// Returns the key of the front of the lines: that of the first row, or for octet rows and dumps one of their own.
@@ -143,7 +138,11 @@ impl Join {
     }
 
     /// Reads the next line as a row of the message.
-    pub(crate) fn wrap(&mut self, runs: &LineRuns, is_indented: bool, shapes: &Shapes) -> Going {
+    pub(crate) fn wrap(&mut self, runs: &LineRuns, is_indented: bool, shapes: &Shapes) -> Going
+        ensures { (log : Log) → AreJoined log self.old.lines
+            → All (IsSaidIn (log (self.old.lines.from + length self.old.lines.rows.items))) runs.now.said.items
+            → AreJoined log self.new.lines }
+    {
         let Some(index) = self.next_row(runs) else {
             return Going::No;
         };
@@ -154,15 +153,11 @@ impl Join {
         if hangs && !is_indented {
             return Going::No;
         }
-        let count = self.chain.octets().len();
         let is_loose = !self.is_begun;
-        if !self.chain.extend(row.octets.as_slice()) {
+        let Some(saying) = self.lines.saying_with(row.octets.as_slice()) else {
             return Going::No;
-        }
-        let saying = read_saying(self.chain.octets());
-        let is_other = saying == Saying::NoMessage || self.is_other(row, hangs, shapes);
-        if is_other || !self.add_place(row, runs.time) {
-            self.chain.truncate(count);
+        };
+        if saying == Saying::NoMessage || self.is_other(row, hangs, shapes) || !self.add(row, runs.time) {
             return Going::No;
         }
         self.is_begun = matches!(saying, Saying::Begins { .. });
@@ -176,7 +171,9 @@ impl Join {
 
     /// Returns whether a row may be a message by itself, so that it is none of this one. If that is not known, all rows
     /// are to be passed over.
-    fn is_other(&mut self, row: &Said, hangs: bool, shapes: &Shapes) -> bool {
+    fn is_other(&mut self, row: &Said, hangs: bool, shapes: &Shapes) -> bool
+        ensures { self.new.lines ≡ self.old.lines }
+    {
         let is_loose = !self.is_begun;
         if hangs {
             return false;
@@ -209,11 +206,15 @@ impl Join {
     }
 
     /// Reads the next line as an octet row. `step` is the shortest time between two rows so far.
-    pub(crate) fn follow(&mut self, runs: &LineRuns, step: &mut Option<u64>) -> Going {
+    pub(crate) fn follow(&mut self, runs: &LineRuns, step: &mut Option<u64>) -> Going
+        ensures { (log : Log) → AreJoined log self.old.lines
+            → All (IsSaidIn (log (self.old.lines.from + length self.old.lines.rows.items))) runs.now.said.items
+            → AreJoined log self.new.lines }
+    {
         let Some(row) = last_run(runs) else {
             return Going::No;
         };
-        let most = if self.chain.octets().len() > 2 { 2 } else { 1 };
+        let most = if self.lines.chain.octets().len() > 2 { 2 } else { 1 };
         if row.shape.mark != self.around.shape.mark || row.octets.len() > most {
             return Going::No;
         }
@@ -231,9 +232,12 @@ impl Join {
     }
 
     /// Begins with the first row of a dump; `None` if a line is none. Returns whether it has octets.
-    pub(crate) fn begin_dump(&mut self, text: &[u8]) -> Option<bool> {
+    pub(crate) fn begin_dump(&mut self, line: Line) -> Option<bool>
+        ensures { (log : Log) → AreJoined log self.old.lines → line.entry.text.now ≡ log line.entry.number
+            → AreJoined log self.new.lines }
+    {
         let mut octets = Octets::new();
-        let row = offset_row(text, &mut octets)?;
+        let row = offset_row(line.text, &mut octets)?;
         if !row.offset.may_be(0) {
             return None;
         }
@@ -243,14 +247,19 @@ impl Join {
             ..Default::default()
         };
         self.clear(Joining::Dump, around, octets.len());
+        self.lines.begin(line.number, Notation::Words);
         Some(row.has_octets && self.add_dump_row(&octets, row))
     }
 
     /// Reads the next line as a row of the dump.
-    pub(crate) fn dump_line(&mut self, text: &[u8]) -> Going {
+    pub(crate) fn dump_line(&mut self, text: &[u8]) -> Going
+        ensures { (log : Log) → AreJoined log self.old.lines
+            → text.now ≡ log (self.old.lines.from + length self.old.lines.rows.items)
+            → AreJoined log self.new.lines }
+    {
         let mut octets = Octets::new();
         match offset_row(text, &mut octets) {
-            Some(row) if row.offset.may_be(self.chain.octets().len() as u64) => {
+            Some(row) if row.offset.may_be(self.lines.chain.octets().len() as u64) => {
                 if !row.has_octets {
                     Going::Over
                 } else if self.add_dump_row(&octets, row) {
@@ -264,8 +273,13 @@ impl Join {
     }
 
     /// Appends a row of a dump, and returns whether there was room for it.
-    fn add_dump_row(&mut self, octets: &Octets, row: OffsetRow) -> bool {
-        self.chain.extend(octets.as_slice()) && self.add_row(row.start, row.end)
+    fn add_dump_row(&mut self, octets: &Octets, row: OffsetRow) -> bool
+        ensures { (log : Log) → AreJoined log self.old.lines
+            → AreWords (log (self.old.lines.from + length self.old.lines.rows.items)) row.start row.end octets.now.items
+            → AreJoined log self.new.lines }
+    {
+        self.lines.notation == Notation::Words
+            && self.lines.push(octets.as_slice(), row.start, row.end)
     }
 }
 

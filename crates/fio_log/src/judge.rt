@@ -1,28 +1,18 @@
 //! The judge of a log's lines: which of their messages are frames.
-use crate::damage::Texts;
-use crate::entries::{KEPT, State};
+ghost use Rattle.std.specs.Prelude.{◌≡◌, ℕ, List, IfSome};
+ghost use Rattle.std.specs.List.{All};
+ghost use Rattle.fio_log.specs.Frames.{IsJudgeOf, Log};
+ghost use Rattle.fio_log.specs.Said.{IsSaidIn};
+
+use crate::deciding::Decider;
+use crate::decisions::State;
+use crate::entries::Entries;
 use crate::joins::{Going, Join, Joining};
 use crate::kept::{Kept, Seen};
 use crate::openings::{first_row, is_octet_row, last_run};
-use crate::pairs::Half;
-use crate::queue::Queue;
-use crate::said::{LINE_RUNS, LineRuns, Said};
+use crate::said::{LineRuns, Said};
 use crate::sayings::Saying;
-use crate::shapes::Shapes;
-use crate::styles::Styles;
 use crate::verdict::{Kind, Reason};
-use arrayvec::ArrayVec;
-
-/// The runs of the nearest entry above that says a message.
-#[derive(Drop)]
-pub(crate) struct Above {
-    /// What pairs them.
-    pub halves: ArrayVec<Half, KEPT>,
-    /// Which of them is its frame, as far as that is known.
-    pub chosen: Option<usize>,
-    /// The slot of the entry, while it is kept.
-    pub slot: Option<usize>,
-}
 
 /// A line that is read.
 #[derive(Clone, Copy)]
@@ -35,16 +25,7 @@ pub(crate) struct Line<'a> {
     pub is_long: bool,
 }
 
-impl<'a> Line<'a> {
-    /// Returns the characters whose runs are read: none of a line that is too long.
-    pub(crate) fn read_part(&self) -> &'a [u8] {
-        if self.is_long {
-            &self.text[..0]
-        } else {
-            self.text
-        }
-    }
-
+impl Line<'_> {
     /// Returns whether it has nothing but blanks.
     fn is_blank(&self) -> bool {
         !self.is_long && self.text.iter().all(|octet| octet.is_ascii_whitespace())
@@ -59,24 +40,12 @@ impl<'a> Line<'a> {
 /// The judge of a log's lines.
 #[derive(Drop)]
 pub(crate) struct Judge {
-    pub shapes: Shapes,
-    pub styles: Styles,
-    pub queue: Queue,
-    pub texts: Texts,
+    /// What is read of the lines.
+    pub entries: Entries,
+    /// The lines that are open, or else the last ones that were joined.
     pub join: Join,
-    pub above: Above,
-    /// The runs of the line that is decided, or of the first one of those that are open.
-    pub seen: ArrayVec<Seen, LINE_RUNS>,
-    /// The slot of the entry whose lines may go on.
-    pub open: Option<usize>,
-    /// The slot of the entry whose frames are those of the chain.
-    pub chain: Option<usize>,
-    /// How many frames were taken.
-    pub count: u64,
-    /// Whether there was a line that is not a bare message.
-    pub has_others: bool,
-    /// Whether a shape is new since entries that wait were judged.
-    pub is_news: bool,
+    /// What is decided of them.
+    pub decider: Decider,
     /// The shortest time between two octet rows.
     step: Option<u64>,
     /// The time of the line above, if it has no octets.
@@ -85,146 +54,153 @@ pub(crate) struct Judge {
 
 impl Judge {
     /// Returns a judge who knows nothing.
-    pub(crate) fn new() -> Judge {
+    pub(crate) fn new() -> Judge
+        ensures { (log : Log) → IsJudgeOf log result }
+    {
         Judge {
-            shapes: Shapes::new(),
-            styles: Styles::new(),
-            queue: Queue::new(),
-            texts: Texts::new(),
+            entries: Entries::new(),
             join: Join::new(),
-            above: Above {
-                halves: ArrayVec::new(),
-                chosen: None,
-                slot: None,
-            },
-            seen: ArrayVec::new(),
-            open: None,
-            chain: None,
-            count: 0,
-            has_others: false,
-            is_news: false,
+            decider: Decider::new(),
             step: None,
             heading: None,
         }
     }
 
     /// Reads a line as one more of those that are open, and returns whether it is. If not, they are closed.
-    pub(crate) fn goes_on(&mut self, line: Line, runs: &LineRuns) -> bool {
-        let Some(slot) = self.open else {
+    pub(crate) fn goes_on(&mut self, line: Line, runs: &LineRuns) -> bool
+        ensures { (log : Log) → IsJudgeOf log self.old → line.entry.text.now ≡ log line.entry.number
+            → All (IsSaidIn (log line.entry.number)) runs.now.said.items → IsJudgeOf log self.new }
+    {
+        let Some(slot) = self.decider.open else {
             return false;
         };
-        let going = match self.join.joining {
-            Joining::Rows => self.join.wrap(runs, line.is_indented(), &self.shapes),
-            Joining::Octets => self.join.follow(runs, &mut self.step),
-            Joining::Dump => self.join.dump_line(line.text),
-        };
-        if going != Going::No
-            && let Some(entry) = self.queue.get_mut(slot)
-        {
-            entry.until = line.number;
+        let going = self.join_line(line, runs);
+        if going == Going::No {
+            self.close();
+            return false;
         }
-        if going != Going::On {
+        self.decider.queue.reach(slot, line.number);
+        if going == Going::Over {
             self.close();
         }
-        going != Going::No
+        true
+    }
+
+    /// Reads a line as one more of those that are open, if it is the next one.
+    fn join_line(&mut self, line: Line, runs: &LineRuns) -> Going
+        ensures { (log : Log) → IsJudgeOf log self.old → line.entry.text.now ≡ log line.entry.number
+            → All (IsSaidIn (log line.entry.number)) runs.now.said.items → IsJudgeOf log self.new }
+    {
+        if self.join.lines.next_line() != Some(line.number) {
+            return Going::No;
+        }
+        match self.join.joining {
+            Joining::Rows => self
+                .join
+                .wrap(runs, line.is_indented(), &self.decider.shapes),
+            Joining::Octets => self.join.follow(runs, &mut self.step),
+            Joining::Dump => self.join.dump_line(line.text),
+        }
     }
 
     /// Reads a line that does not go on with those above it.
-    pub(crate) fn begin(&mut self, line: Line, runs: &LineRuns) {
-        let Some(slot) = self.next_slot() else {
+    pub(crate) fn begin(&mut self, line: Line, runs: &LineRuns)
+        ensures { (log : Log) → IsJudgeOf log self.old → line.entry.text.now ≡ log line.entry.number
+            → All (IsSaidIn (log line.entry.number)) runs.now.said.items → IsJudgeOf log self.new }
+    {
+        let Some(slot) = self.decider.next_slot() else {
             return;
         };
         if line.is_blank() {
             self.put(slot, line, None);
-            self.settle(slot, State::Passed(Kind::Blank, Reason::None));
+            self.decider
+                .settle(slot, State::Passed(Kind::Blank, Reason::None));
             return;
         }
         let heading = self.heading;
         self.heading = if has_octets(runs) { None } else { runs.time };
         self.put(slot, line, runs.time.or(heading));
-        self.keep_runs(slot, runs);
+        self.keep_runs(slot, line.number, runs);
         if line.is_long {
-            self.settle(slot, State::Passed(Kind::PassedOver, Reason::TooLong));
+            self.decider
+                .settle(slot, State::Passed(Kind::PassedOver, Reason::TooLong));
         } else if self.opens(line, runs) {
-            self.open = Some(slot);
+            self.decider.open = Some(slot);
         } else {
-            self.decide(slot);
+            self.decider.decide(&self.entries, slot);
         }
     }
 
     /// Ends the log: what is open is closed, and what waits is given up.
-    pub(crate) fn finish(&mut self) {
+    pub(crate) fn finish(&mut self)
+        ensures { (log : Log) → IsJudgeOf log self.old → IsJudgeOf log self.new }
+    {
         self.close();
-        self.give_up_all();
+        self.decider.give_up_all(&self.entries);
     }
 
-    /// Returns the slot of the next entry. What is known of the one that was there is kept as far as a pair needs it.
-    fn next_slot(&mut self) -> Option<usize> {
-        let slot = self.queue.next_slot()?;
-        if self.above.slot == Some(slot) {
-            self.above.chosen = self.queue.get(slot).and_then(|entry| entry.chosen());
-            self.above.slot = None;
-        }
-        Some(slot)
+    /// Gives up what has waited long enough.
+    pub(crate) fn give_up_old(&mut self)
+        ensures { (log : Log) → IsJudgeOf log self.old → IsJudgeOf log self.new }
+    {
+        self.decider.give_up_old(&self.entries);
     }
 
     /// Puts the entry of a line in the next slot.
-    fn put(&mut self, slot: usize, line: Line, time: Option<u64>) {
-        if let Some(entry) = self.queue.get_mut(slot) {
-            entry.begin(line.number, time);
-        }
-        self.texts.set(slot, line.text);
-        self.queue.push();
+    fn put(&mut self, slot: usize, line: Line, time: Option<u64>)
+        ensures { (log : Log) → IsJudgeOf log self.old → IsJudgeOf log self.new }
+    {
+        self.entries.begin(slot, line.number, time);
+        self.decider.texts.set(slot, line.text);
+        self.decider.queue.push(slot, line.number);
     }
 
     /// Keeps the runs of a line in its entry.
-    fn keep_runs(&mut self, slot: usize, runs: &LineRuns) {
-        self.seen.clear();
-        let Some(entry) = self.queue.get_mut(slot) else {
-            return;
-        };
+    fn keep_runs(&mut self, slot: usize, line: u64, runs: &LineRuns)
+        ensures { (log : Log) → IsJudgeOf log self.old → All (IsSaidIn (log line)) runs.now.said.items
+            → IsJudgeOf log self.new }
+    {
+        self.decider.seen.clear();
         for said in runs.said.as_slice() {
-            let _room = self.seen.try_push(Seen::of(said));
+            let _room = self.decider.seen.try_push(Seen::of(said));
             if !is_piece(said, runs)
                 && let Some(kept) = Kept::of_run(said)
                 && (kept.is_sure || !runs.is_over)
             {
-                entry.keep(kept);
+                self.entries.keep(slot, line, kept);
             }
         }
     }
 
     /// Returns whether a line may go on in the next one, and begins with it.
-    fn opens(&mut self, line: Line, runs: &LineRuns) -> bool {
-        if let Some(is_open) = self.join.begin_dump(line.text) {
-            self.forget_chain();
+    fn opens(&mut self, line: Line, runs: &LineRuns) -> bool
+        ensures { (log : Log) → IsJudgeOf log self.old → line.entry.text.now ≡ log line.entry.number
+            → All (IsSaidIn (log line.entry.number)) runs.now.said.items → IsJudgeOf log self.new }
+    {
+        if let Some(is_open) = self.join.begin_dump(line) {
+            self.decider.forget_chain();
             return is_open;
         }
-        if let Some(row) = first_row(runs) {
-            self.forget_chain();
-            return self.join.begin(Joining::Rows, row, runs.time);
-        }
-        match last_run(runs) {
-            Some(row) if is_octet_row(row, runs, &self.shapes) => {
-                self.forget_chain();
-                self.join.begin(Joining::Octets, row, runs.time)
-            }
-            _ => false,
-        }
-    }
-}
-
-impl Judge {
-    /// Forgets the frames of the chain, whose octets are no longer kept: its verdict was fetched, or is lost.
-    fn forget_chain(&mut self) {
-        let Some(slot) = self.chain else {
-            return;
+        let Some((joining, row)) = self.first_of_several(runs) else {
+            return false;
         };
-        self.chain = None;
-        if let Some(entry) = self.queue.get_mut(slot)
-            && entry.state == State::Chain
-        {
-            entry.state = State::Passed(Kind::PassedOver, Reason::TooLong);
+        self.decider.forget_chain();
+        self.join.begin(joining, line.number, row, runs.time)
+    }
+
+    /// Returns the run of a line that may go on in the next one, and why.
+    fn first_of_several<'a>(&self, runs: &'a LineRuns) -> Option<(Joining, &'a Said)>
+        ensures { (line : List ℕ) → All (IsSaidIn line) runs.now.said.items
+            → IfSome result (λ found. IsSaidIn line found.1.now) }
+    {
+        if let Some(row) = first_row(runs) {
+            return Some((Joining::Rows, row));
+        }
+        let row = last_run(runs)?;
+        if is_octet_row(row, runs, &self.decider.shapes) {
+            Some((Joining::Octets, row))
+        } else {
+            None
         }
     }
 }

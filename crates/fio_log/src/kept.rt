@@ -1,4 +1,8 @@
 //! Runs of octets, as far as the judge needs them.
+ghost use Rattle.std.specs.Prelude.{◌≡◌, ℕ, [], IfSome};
+ghost use Rattle.fio_log.specs.Frames.{IsMessageOf, IsRunOf, Log};
+ghost use Rattle.fio_log.specs.Said.{IsSaidIn};
+
 use crate::directions::Direction;
 use crate::messages::{Brief, Message, has_open_length};
 use crate::places::Notation;
@@ -23,7 +27,9 @@ pub(crate) struct Around {
 
 impl Around {
     /// Returns what surrounds a run.
-    pub(crate) fn of(said: &Said) -> Around {
+    pub(crate) fn of(said: &Said) -> Around
+        ensures { result.notation ≡ said.now.notation }
+    {
         Around {
             shape: said.shape,
             letters: said.letters,
@@ -57,7 +63,7 @@ impl Around {
 /// A run that says a message.
 #[derive(Debug, Default, Drop)]
 pub(crate) struct Kept {
-    /// The message, until it is told.
+    /// The message.
     pub message: Option<Message>,
     /// What pairs it.
     pub brief: Brief,
@@ -75,7 +81,7 @@ pub(crate) struct Kept {
     pub front: u64,
     /// The ways of writing that it can be of.
     pub ways: Ways,
-    /// Whether it is sure.
+    /// Whether it is sure by itself.
     pub is_sure: bool,
     /// Whether the run has two octets or more.
     pub is_long: bool,
@@ -87,7 +93,9 @@ pub(crate) struct Kept {
 
 impl Kept {
     /// Returns a run of a line if it says a message.
-    pub(crate) fn of_run(said: &Said) -> Option<Kept> {
+    pub(crate) fn of_run(said: &Said) -> Option<Kept>
+        ensures { (log : Log) (line : ℕ) → IsSaidIn (log line) said.now → IfSome result (IsRunOf log line []) }
+    {
         let kept = Kept::of(&Around::of(said), said.octets.as_slice(), said.saying)?;
         Some(Kept {
             start: said.start,
@@ -97,7 +105,10 @@ impl Kept {
     }
 
     /// Returns the run if its octets say a message.
-    pub(crate) fn of(around: &Around, octets: &[u8], saying: Saying) -> Option<Kept> {
+    pub(crate) fn of(around: &Around, octets: &[u8], saying: Saying) -> Option<Kept>
+        ensures notation { IfSome result (λ kept. kept.notation ≡ around.now.notation) }
+        ensures message { IfSome result (IsMessageOf octets.now) }
+    {
         let Saying::Says { from, to, is_sure } = saying else {
             return None;
         };
@@ -136,9 +147,9 @@ impl Kept {
         }
     }
 
-    /// Returns whether it is sure, or known.
-    pub(crate) fn is_right(&self, shapes: &Shapes) -> bool {
-        self.is_sure && !self.has_lost_a_digit(shapes) || self.is_known(shapes)
+    /// Returns whether it is known or, if it is sure, not without a digit.
+    pub(crate) fn is_right(&self, is_sure: bool, shapes: &Shapes) -> bool {
+        is_sure && !self.has_lost_a_digit(shapes) || self.is_known(shapes)
     }
 }
 

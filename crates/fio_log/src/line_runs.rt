@@ -32,8 +32,7 @@ pub(crate) fn read_line(line: &[u8], runs: &mut LineRuns)
     ensures { All (IsSaidIn line.now) runs.new.said.items }
 {
     let time = time_in(line);
-    runs.said.clear();
-    runs.is_over = false;
+    runs.clear();
     runs.time = time.map(|time| time.microseconds);
     let (start, end) = match time {
         Some(time) => (time.start, time.end),

@@ -33,6 +33,17 @@ impl Message {
         Some(Message { octets: kept })
     }
 
+    /// Returns a copy.
+    pub(crate) fn copy(&self) -> Option<Message>
+        ensures { IfSome result (λ copy. copy.octets.items ≡ self.now.octets.items) }
+    {
+        let mut octets = ArrayVec::new();
+        octets
+            .try_extend_from_slice(self.octets.as_slice())
+            .ok()?;
+        Some(Message { octets })
+    }
+
     /// Returns the octets.
     pub(crate) fn octets(&self) -> &[u8]
         ensures same { result.now ≡ self.now.octets.items }

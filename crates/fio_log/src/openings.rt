@@ -1,4 +1,8 @@
 //! Which lines may go on in the next one.
+ghost use Rattle.std.specs.Prelude.{ℕ, List, IfSome};
+ghost use Rattle.std.specs.List.{All};
+ghost use Rattle.fio_log.specs.Said.{IsSaidIn};
+
 use crate::messages::has_open_length;
 use crate::said::{LineRuns, Said};
 use crate::sayings::Saying;
@@ -9,7 +13,9 @@ const ROW_OCTETS: usize = 8;
 
 /// Returns the run that may go on in the next line: it is the last of its line, has at least eight octets, and begins a
 /// message or says one of open length. If runs of different octets may, or a run is sure by itself, none does.
-pub(crate) fn first_row(runs: &LineRuns) -> Option<&Said> {
+pub(crate) fn first_row(runs: &LineRuns) -> Option<&Said>
+    ensures { (line : List ℕ) → All (IsSaidIn line) runs.now.said.items → IfSome result (λ row. IsSaidIn line row.now) }
+{
     let mut found: Option<&Said> = None;
     for said in runs.said.as_slice() {
         if matches!(said.saying, Saying::Says { is_sure: true, .. }) {
@@ -55,7 +61,9 @@ fn says_more(said: &Said) -> bool {
 }
 
 /// Returns the last run of a line, the longest that ends there.
-pub(crate) fn last_run(runs: &LineRuns) -> Option<&Said> {
+pub(crate) fn last_run(runs: &LineRuns) -> Option<&Said>
+    ensures { (line : List ℕ) → All (IsSaidIn line) runs.now.said.items → IfSome result (λ row. IsSaidIn line row.now) }
+{
     let mut index = 0;
     let said = runs.said.as_slice();
     for (other, run) in said.iter().enumerate() {

@@ -1,4 +1,7 @@
 //! What is told of the lines of the program's own texts, by order.
+ghost use Rattle.std.specs.Prelude.{◌≡◌, None};
+ghost use Rattle.fio_log.specs.declared.verdict.Form.TheVariants.{Auto};
+
 use crate::judge::Line;
 use crate::messages::Message;
 use crate::own_texts::{OwnForm, OwnLine, read_own_line};
@@ -9,7 +12,9 @@ use fio_message::FRAME_OCTETS;
 
 impl Form {
     /// Returns the text whose lines are read by order.
-    pub(crate) fn own(self) -> Option<OwnForm> {
+    pub(crate) fn own(self) -> Option<OwnForm>
+        ensures { self ≡ Auto → result ≡ None }
+    {
         match self {
             Form::Auto => None,
             Form::Frames => Some(OwnForm::Frames),
@@ -33,7 +38,6 @@ impl Frames {
         Told {
             kind,
             reason,
-            places: self.messages.len(),
             time: None,
         }
     }
@@ -44,7 +48,7 @@ impl Frames {
             return (Kind::Damaged, Reason::NoMessage);
         };
         let _room = self.messages.try_push(message);
-        self.own_place = Some(Place {
+        let _fits = self.places.try_push(Place {
             line: line.number,
             start: match form {
                 OwnForm::Frames => 0,

@@ -1,7 +1,7 @@
-//! The entries that wait for their verdict, oldest first.
+//! The decisions on the entries that wait for their verdict, oldest first.
 ghost use Rattle.std.specs.Prelude.{◌<◌, ◌≤◌};
 
-use crate::entries::Entry;
+use crate::decisions::Decision;
 use arrayvec::ArrayVec;
 
 /// The most entries that wait.
@@ -10,10 +10,10 @@ pub(crate) const WAITING: usize = 64;
 /// The most entries that are kept: those that wait, the one that was told last, and the one that is open.
 pub(crate) const ENTRIES: usize = WAITING + 2;
 
-/// A ring of entries.
+/// A ring of decisions, each in the slot of its entry.
 #[derive(Drop)]
 pub(crate) struct Queue {
-    entries: ArrayVec<Entry, ENTRIES>,
+    decisions: ArrayVec<Decision, ENTRIES>,
     first: usize,
     count: usize,
 }
@@ -22,7 +22,7 @@ impl Queue {
     /// Returns a ring without entries.
     pub(crate) fn new() -> Queue {
         Queue {
-            entries: ArrayVec::from_array_in((), Default::default()),
+            decisions: ArrayVec::from_array_in((), Default::default()),
             first: 0,
             count: 0,
         }
@@ -44,14 +44,14 @@ impl Queue {
         self.first.wrapping_add(position) % ENTRIES
     }
 
-    /// Returns the entry in a slot.
-    pub(crate) fn get(&self, slot: usize) -> Option<&Entry> {
-        self.entries.as_slice().get(slot)
+    /// Returns the decision on the entry in a slot.
+    pub(crate) fn get(&self, slot: usize) -> Option<&Decision> {
+        self.decisions.as_slice().get(slot)
     }
 
-    /// Returns the entry in a slot, for writing.
-    pub(crate) fn get_mut(&mut self, slot: usize) -> Option<&mut Entry> {
-        self.entries.get_mut(slot)
+    /// Returns the decision on the entry in a slot, for writing.
+    pub(crate) fn get_mut(&mut self, slot: usize) -> Option<&mut Decision> {
+        self.decisions.get_mut(slot)
     }
 
     /// Returns the slot of the entry that a next line would have; `None` if there is no room.
@@ -59,16 +59,26 @@ impl Queue {
         (self.count < ENTRIES).then_some(self.slot(self.count))
     }
 
-    /// Appends the entry in the next slot.
-    pub(crate) fn push(&mut self) {
+    /// Appends the entry of a line in the next slot, of which nothing is decided.
+    pub(crate) fn push(&mut self, slot: usize, line: u64) {
+        if let Some(decision) = self.decisions.get_mut(slot) {
+            *decision = Decision::waiting(line);
+        }
         self.count = self.count.saturating_add(1);
+    }
+
+    /// Sets the last line of the entry in a slot.
+    pub(crate) fn reach(&mut self, slot: usize, line: u64) {
+        if let Some(decision) = self.decisions.get_mut(slot) {
+            decision.until = line;
+        }
     }
 
     /// Takes the entries out whose lines all come before a line.
     pub(crate) fn remove_before(&mut self, line: u64) {
         'entries: while self.count > 0 {
             match self.get(self.first) {
-                Some(entry) if entry.until >= line => return,
+                Some(decision) if decision.until >= line => return,
                 _ => {}
             }
             self.first = self.slot(1);

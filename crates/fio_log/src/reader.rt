@@ -1,8 +1,12 @@
 //! The reader of a log: octets to lines, and lines to verdicts.
-ghost use Rattle.std.specs.Prelude.{◌≡◌, ◌+◌, ◌≤◌, ◌<◌, ◌↔◌, true, false, IfSome, IsSome, IsTrue, MatchOption, length, take};
-ghost use Rattle.fio_log.specs.Lines.{finished, no_line};
+ghost use Rattle.std.specs.Prelude.{◌≡◌, ◌+◌, ◌≤◌, ◌<◌, ◌↔◌, true, false, IfSome, IsSome, MatchOption, [], get_or, length, slice_index_or, take};
+ghost use Rattle.fio_log.specs.Lines.{finished, is_whole, no_line};
+ghost use Rattle.fio_log.specs.Said.{IsSaidIn};
 ghost use Rattle.fio_log.specs.Sayings.{spells};
-ghost use Rattle.fio_log.specs.Telling.{HasNoMore, HasTaken, HasTold, read_after};
+ghost use Rattle.std.specs.List.{All};
+ghost use Rattle.fio_log.specs.Frames.{AreFramesAt, AreFramesOf, IsJudgeOf, Log};
+ghost use Rattle.fio_log.specs.Telling.{HasNoMore, HasTaken, HasTold, IsLineOf, IsReaderOf, frames_of, places_of, read_after};
+ghost use Rattle.fio_log.specs.declared.verdict.Form.TheVariants.{Auto};
 
 use crate::judge::{Judge, Line};
 use crate::line_runs::read_line;
@@ -34,24 +38,28 @@ pub struct Reader {
 }
 
 impl Model for Reader {
-    ghost use Rattle.std.specs.Prelude.{◌≡◌, ◌≤◌, ◌<◌, true, if◌then◌else◌};
-    ghost use Rattle.arrayvec.specs.ArrayVec.{array_vec_len};
+    ghost use Rattle.std.specs.Prelude.{◌≡◌, ◌≤◌, ◌<◌, [], true, if◌then◌else◌};
+    ghost use Rattle.fio_log.specs.Lines.{is_whole};
     ghost use Rattle.fio_log.specs.Telling.{Telling};
 
     ghost Value = { Telling };
 
     ghost view = { λ r. record {
+      form = r.form;
       making = r.maker;
       read = r.read;
       told = r.told;
       is_ready = r.is_ready;
-      frames = if r.frames.are_chain then array_vec_len r.judge.join.chain.parts else array_vec_len r.frames.messages;
       is_ended = r.is_ended;
+      last = r.frames;
+      judge = r.judge;
+      held = if r.is_held then r.runs.said.items else [];
     } };
 
     ghost invariant = { λ r. (r.told ≤ r.read)
         × (r.is_ready ≡ true → r.told < r.read)
-        × (r.is_ended ≡ true → r.told < r.read → r.is_ready ≡ true) };
+        × (r.is_ended ≡ true → r.told < r.read → r.is_ready ≡ true)
+        × (r.is_held ≡ true → is_whole r.maker.ending ≡ true) };
 }
 
 impl Reader {
@@ -61,6 +69,8 @@ impl Reader {
         ensures none_read { result.read ≡ 0 }
         ensures none_told { result.told ≡ 0 }
         ensures open { result.is_ended ≡ false }
+        ensures form { result.form ≡ form }
+        ensures kept { (log : Log) → IsReaderOf log result }
     {
         Reader {
             maker: LineMaker::new(),
@@ -83,6 +93,8 @@ impl Reader {
         ensures none_read { self.new.read ≡ 0 }
         ensures none_told { self.new.told ≡ 0 }
         ensures open { self.new.is_ended ≡ false }
+        ensures form { self.new.form ≡ form }
+        ensures kept { (log : Log) → IsReaderOf log self.new }
     {
         *self = Reader::new(form);
     }
@@ -95,6 +107,7 @@ impl Reader {
         ensures none { result ≡ 0 → self.new ≡ self.old }
         ensures forward { self.old.is_ready ≡ false → self.old.is_ended ≡ false → self.old.read < u64.MAX
             → 0 < length octets.now → 0 < result }
+        ensures kept { (log : Log) → IsReaderOf log self.old → IsLineOf log self.new → IsReaderOf log self.new }
     {
         if self.is_ready || self.is_ended || self.read == u64::MAX || octets.is_empty() {
             return 0;
@@ -117,6 +130,8 @@ impl Reader {
             → (self.new.making ≡ finished self.old.making)
             × (self.new.read ≡ read_after self.old.read self.new.making) }
         ensures told { self.new.told ≡ self.old.told }
+        ensures form { self.new.form ≡ self.old.form }
+        ensures kept { (log : Log) → IsReaderOf log self.old → IsLineOf log self.new → IsReaderOf log self.new }
     {
         if !self.is_ended && self.read < u64::MAX {
             self.judge_held();
@@ -134,10 +149,15 @@ impl Reader {
     fn read_line(&mut self)
         requires room { self.old.read < u64.MAX }
         requires open { self.old.is_ended ≡ false }
+        requires whole { is_whole self.old.making.ending ≡ true }
+        requires none { self.old.held ≡ [] }
         ensures line { self.new.making ≡ self.old.making }
         ensures read { self.new.read ≡ self.old.read + 1 }
         ensures told { self.new.told ≡ self.old.told }
         ensures ended { self.new.is_ended ≡ self.old.is_ended }
+        ensures form { self.new.form ≡ self.old.form }
+        ensures kept { (log : Log) → IsJudgeOf log self.old.judge → (self.old.form ≡ Auto → AreFramesOf log self.old.last)
+            → IsLineOf log self.new → IsReaderOf log self.new }
     {
         self.read += 1;
         let line = Line {
@@ -150,7 +170,7 @@ impl Reader {
             self.refresh();
             return;
         }
-        read_line(line.read_part(), &mut self.runs);
+        read_runs(line, &mut self.runs);
         self.is_held = !self.judge.goes_on(line, &self.runs);
         self.refresh();
     }
@@ -161,6 +181,9 @@ impl Reader {
         ensures read { self.new.read ≡ self.old.read }
         ensures told { self.new.told ≡ self.old.told }
         ensures ended { self.new.is_ended ≡ self.old.is_ended }
+        ensures form { self.new.form ≡ self.old.form }
+        ensures none { self.new.held ≡ [] }
+        ensures kept { (log : Log) → IsReaderOf log self.old → IsReaderOf log self.new }
     {
         if self.is_held {
             self.is_held = false;
@@ -180,6 +203,8 @@ impl Reader {
         ensures read { self.new.read ≡ self.old.read }
         ensures told { self.new.told ≡ self.old.told }
         ensures ended { self.new.is_ended ≡ self.old.is_ended }
+        ensures form { self.new.form ≡ self.old.form }
+        ensures kept { (log : Log) → IsReaderOf log self.old → IsReaderOf log self.new }
     {
         if self.told == self.read {
             self.is_ready = false;
@@ -206,6 +231,9 @@ impl Reader {
         ensures ready { self.old.is_ready ≡ true → IsSome result }
         ensures told { MatchOption result (HasNoMore self.old self.new) (λ verdict. HasTold self.old verdict self.new) }
         ensures all { self.old.is_ended ≡ true → result ≡ None → self.old.told ≡ self.old.read }
+        ensures kept { (log : Log) → IsReaderOf log self.old → IsReaderOf log self.new }
+        ensures written { (log : Log) → IsReaderOf log self.old → self.old.form ≡ Auto
+            → AreFramesAt log (frames_of self.new) (places_of self.new) }
     {
         let was_ready = self.is_ready;
         self.refresh();
@@ -213,11 +241,7 @@ impl Reader {
             return None;
         }
         self.told += 1;
-        let told = if self.form == Form::Auto {
-            self.judge.tell(self.told, &mut self.frames)
-        } else {
-            self.own
-        };
+        let told = self.tell_line();
         self.is_ready = self.told < self.read
             && (self.is_ended || self.form != Form::Auto || self.judge.is_decided(self.told + 1));
         Some(Verdict {
@@ -225,29 +249,58 @@ impl Reader {
             kind: told.kind,
             reason: told.reason,
             frames: self.frame_count(),
-            places: told.places,
+            places: self.place_count(),
             time: told.time,
         })
     }
 
+    /// Tells the line whose turn it is, and takes its frames.
+    fn tell_line(&mut self) -> Told
+        ensures line { self.new.making ≡ self.old.making }
+        ensures read { self.new.read ≡ self.old.read }
+        ensures told { self.new.told ≡ self.old.told }
+        ensures ended { self.new.is_ended ≡ self.old.is_ended }
+        ensures form { self.new.form ≡ self.old.form }
+        ensures kept { (log : Log) → IsReaderOf log self.old → IsReaderOf log self.new }
+    {
+        if self.form == Form::Auto {
+            self.judge.tell(self.told, &mut self.frames)
+        } else {
+            self.own
+        }
+    }
+
     /// Returns how many frames the last verdict has.
     fn frame_count(&self) -> usize
-        ensures { result ≡ self.now.frames }
+        ensures { result ≡ length (frames_of self.now) }
     {
         if self.frames.are_chain {
-            self.judge.join.chain.len()
+            self.judge.join.lines.chain.len()
         } else {
             self.frames.messages.len()
         }
     }
 
-    /// Returns a frame of the last verdict, until the next call that changes the reader.
-    pub fn frame(&self, index: usize) -> Option<&[u8]>
-        ensures given { IsSome result ↔ (index < self.now.frames) }
-        ensures spelled { IfSome result (λ octets. spells octets.now ≡ true) }
+    /// Returns how many places the last verdict has.
+    #[tactic(auto, using(crate::proofs::FrameLemmas::length_row_places))]
+    fn place_count(&self) -> usize
+        ensures { result ≡ length (places_of self.now) }
     {
         if self.frames.are_chain {
-            return self.judge.join.chain.message(index);
+            self.judge.join.lines.rows.len()
+        } else {
+            self.frames.places.len()
+        }
+    }
+
+    /// Returns a frame of the last verdict, until the next call that changes the reader.
+    pub fn frame(&self, index: usize) -> Option<&[u8]>
+        ensures given { IsSome result ↔ (index < length (frames_of self.now)) }
+        ensures spelled { IfSome result (λ octets. spells octets.now ≡ true) }
+        ensures same { IfSome result (λ octets. octets.now ≡ get_or (frames_of self.now) index []) }
+    {
+        if self.frames.are_chain {
+            return self.judge.join.lines.chain.message(index);
         }
         let messages = self.frames.messages.as_slice();
         if index < messages.len() {
@@ -258,10 +311,24 @@ impl Reader {
     }
 
     /// Returns a place where octets of the last verdict's frames are written.
-    pub fn place(&self, index: usize) -> Option<Place> {
-        if self.form != Form::Auto {
-            return self.frames.own_place.filter(|_| index == 0);
+    pub fn place(&self, index: usize) -> Option<Place>
+        ensures { IfSome result (λ place. place ≡ slice_index_or (places_of self.now) index place) }
+    {
+        if self.frames.are_chain {
+            self.judge.join.lines.place(index)
+        } else {
+            self.frames.places.as_slice().get(index).copied()
         }
-        self.judge.place(index)
+    }
+}
+
+/// Finds the runs of a line; of one that is too long none.
+fn read_runs(line: Line, runs: &mut LineRuns)
+    ensures { All (IsSaidIn line.entry.text.now) runs.new.said.items }
+{
+    if line.is_long {
+        runs.clear();
+    } else {
+        read_line(line.text, runs);
     }
 }

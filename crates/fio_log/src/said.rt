@@ -1,4 +1,6 @@
 //! What one line of a log says: its runs of octets, what they say, and what judging needs of what surrounds them.
+ghost use Rattle.std.specs.Prelude.{◌≡◌, []};
+
 use crate::directions::Direction;
 use crate::octets::Octets;
 use crate::places::Notation;
@@ -103,5 +105,14 @@ impl LineRuns {
             is_over: false,
             time: None,
         }
+    }
+
+    /// Takes all runs out.
+    pub(crate) fn clear(&mut self)
+        ensures { self.new.said.items ≡ [] }
+    {
+        self.said.clear();
+        self.is_over = false;
+        self.time = None;
     }
 }

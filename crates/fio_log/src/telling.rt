@@ -1,6 +1,11 @@
 //! What is told of a line, and its frames and their places.
-use crate::entries::{Entry, State};
+ghost use Rattle.std.specs.Prelude.{◌≡◌, [], ◌∷◌, ◌++◌, map, true};
+ghost use Rattle.fio_log.specs.Frames.{AreFramesOf, IsEntryOf, IsJudgeOf, Log, octets_in, run_places};
+
+use crate::decisions::{Decision, State};
+use crate::entries::{Entry, KEPT_ROWS};
 use crate::judge::Judge;
+use crate::kept::Kept;
 use crate::messages::Message;
 use crate::places::Place;
 use crate::verdict::{Kind, Reason};
@@ -13,8 +18,6 @@ pub(crate) struct Told {
     pub kind: Kind,
     /// Why it gave no frame.
     pub reason: Reason,
-    /// How many places of octets it has.
-    pub places: usize,
     /// Its time.
     pub time: Option<u64>,
 }
@@ -25,7 +28,6 @@ impl Told {
         Told {
             kind: Kind::PassedOver,
             reason: Reason::NoOctets,
-            places: 0,
             time: None,
         }
     }
@@ -34,37 +36,43 @@ impl Told {
 /// The most messages of a line that is not the first of a chain.
 pub(crate) const LINE_FRAMES: usize = 2;
 
-/// The messages of the verdict that was told last.
+/// The frames of the verdict that was told last.
 #[derive(Drop)]
 pub(crate) struct Frames {
     /// Its messages, if they are no chain.
     pub messages: ArrayVec<Message, LINE_FRAMES>,
-    /// Whether they are those of the judge's chain.
+    /// The places where they are written.
+    pub places: ArrayVec<Place, KEPT_ROWS>,
+    /// Whether they are those of the chain of the lines that were joined last.
     pub are_chain: bool,
-    /// Where its frame is written, if its line is read by order.
-    pub own_place: Option<Place>,
 }
 
 impl Frames {
     /// Returns none.
-    pub(crate) fn new() -> Frames {
+    pub(crate) fn new() -> Frames
+        ensures { (log : Log) → AreFramesOf log result }
+    {
         Frames {
             messages: ArrayVec::new(),
+            places: ArrayVec::new(),
             are_chain: false,
-            own_place: None,
         }
     }
 
     /// Takes all out.
-    pub(crate) fn clear(&mut self) {
+    pub(crate) fn clear(&mut self)
+        ensures { (log : Log) → AreFramesOf log self.new }
+    {
         self.messages.clear();
+        self.places.clear();
         self.are_chain = false;
-        self.own_place = None;
     }
 
     /// Takes the messages of an entry.
-    fn fill(&mut self, entry: &mut Entry) {
-        match entry.state {
+    fn fill(&mut self, entry: &Entry, state: State)
+        ensures { (log : Log) → AreFramesOf log self.old → IsEntryOf log entry.now → AreFramesOf log self.new }
+    {
+        match state {
             State::Taken(index) => self.add(entry, index),
             State::Both(command, answer) => {
                 self.add(entry, command);
@@ -80,100 +88,102 @@ impl Frames {
         }
     }
 
-    /// Takes the message of a run.
-    fn add(&mut self, entry: &mut Entry, index: usize) {
-        if let Some(kept) = entry.kept.get_mut(index)
-            && let Some(message) = kept.message.take()
-        {
-            let _room = self.messages.try_push(message);
+    /// Takes the message of a run of an entry, and its places. If there is no room, there are no frames.
+    fn add(&mut self, entry: &Entry, index: usize)
+        ensures { (log : Log) → AreFramesOf log self.old → IsEntryOf log entry.now → AreFramesOf log self.new }
+    {
+        let Some(kept) = entry.kept.as_slice().get(index) else {
+            return;
+        };
+        let Some(message) = &kept.message else {
+            return;
+        };
+        if !self.add_places(entry, kept) || !self.add_message(message) {
+            self.clear();
         }
+    }
+
+    /// Appends a message, and returns whether there was room.
+    fn add_message(&mut self, message: &Message) -> bool
+        ensures places { self.new.places ≡ self.old.places }
+        ensures more { result ≡ true → map octets_in self.new.messages.items
+            ≡ map octets_in self.old.messages.items ++ message.now.octets.items ∷ [] }
+    {
+        match message.copy() {
+            Some(copy) => self.messages.try_push(copy).is_ok(),
+            None => false,
+        }
+    }
+
+    /// Appends the places of a run of an entry, and returns whether there was room.
+    fn add_places(&mut self, entry: &Entry, kept: &Kept) -> bool
+        ensures messages { self.new.messages ≡ self.old.messages }
+        ensures more { result ≡ true → self.new.places.items
+            ≡ self.old.places.items ++ run_places entry.now.from entry.now.rows.items kept.now }
+    {
+        if entry.rows.is_empty() {
+            return self.places.try_push(entry.place_of(kept)).is_ok();
+        }
+        let mut line = entry.from;
+        'rows: for row in entry.rows.as_slice() {
+            if line == u64::MAX || self.places.try_push(row.place(line, kept.notation)).is_err() {
+                return false;
+            }
+            line += 1;
+        }
+        true
     }
 }
 
 impl Judge {
     /// Returns whether it is decided what a line is.
     pub(crate) fn is_decided(&self, line: u64) -> bool {
-        match self.entry_of(line) {
-            Some(entry) => !entry.is_waiting(),
+        match self.decision_on(line) {
+            Some(decision) => !decision.is_waiting(),
             None => false,
         }
     }
 
-    /// Returns the entry of a line, which is the first or the second one.
-    fn entry_of(&self, line: u64) -> Option<&Entry> {
-        let first = self.queue.get(self.queue.slot(0))?;
-        if self.queue.len() == 0 {
+    /// Returns the decision on the entry of a line, which is the first or the second one.
+    fn decision_on(&self, line: u64) -> Option<&Decision> {
+        let queue = &self.decider.queue;
+        let first = queue.get(queue.slot(0))?;
+        if queue.len() == 0 {
             None
         } else if first.until >= line {
             Some(first)
-        } else if self.queue.len() > 1 {
-            self.queue.get(self.queue.slot(1))
+        } else if queue.len() > 1 {
+            queue.get(queue.slot(1))
         } else {
             None
         }
     }
 
     /// Tells what a line is, and takes its messages. The entries before it are given up.
-    pub(crate) fn tell(&mut self, line: u64, frames: &mut Frames) -> Told {
+    pub(crate) fn tell(&mut self, line: u64, frames: &mut Frames) -> Told
+        ensures judge { (log : Log) → IsJudgeOf log self.old → IsJudgeOf log self.new }
+        ensures frames { (log : Log) → IsJudgeOf log self.old → AreFramesOf log frames.new }
+    {
         frames.clear();
-        self.queue.remove_before(line);
-        let slot = self.queue.slot(0);
-        let chain = self.join.rows.len();
-        let none = Told::none();
-        if self.queue.len() == 0 {
-            return none;
+        self.decider.queue.remove_before(line);
+        if self.decider.queue.len() == 0 {
+            return Told::none();
         }
-        self.find_damage(slot);
-        let Some(entry) = self.queue.get_mut(slot) else {
-            return none;
+        let slot = self.decider.queue.slot(0);
+        self.decider.find_damage(&self.entries, slot);
+        let (Some(entry), Some(decision)) =
+            (self.entries.get(slot), self.decider.queue.get(slot))
+        else {
+            return Told::none();
         };
-        let (kind, reason) = entry.verdict(line);
-        let mut places = 0;
-        if kind == Kind::Frames || kind == Kind::Possible && line == entry.from {
-            frames.fill(entry);
-            places = if frames.are_chain {
-                chain
-            } else if entry.rows.is_empty() {
-                frames.messages.len()
-            } else {
-                entry.rows.len()
-            };
+        let (kind, reason) = decision.verdict(entry.from, line);
+        if kind == Kind::Frames || kind == Kind::Possible {
+            frames.fill(entry, decision.state);
         }
         Told {
             kind,
             reason,
-            places,
             time: entry.time,
         }
-    }
-
-    /// Returns a place of the octets of the line that was told last.
-    pub(crate) fn place(&self, index: usize) -> Option<Place> {
-        let entry = self.queue.get(self.queue.slot(0))?;
-        let (rows, notation) = match (&entry.state, entry.kept.as_slice()) {
-            (State::Chain, _) => (self.join.rows.as_slice(), self.join.around.notation),
-            (_, [kept, ..]) => (entry.rows.as_slice(), kept.notation),
-            _ => return None,
-        };
-        if let Some(row) = rows.get(index) {
-            return Some(Place {
-                line: entry.from.saturating_add(index as u64),
-                start: usize::from(row.start),
-                end: usize::from(row.start) + usize::from(row.length),
-                notation,
-            });
-        }
-        let run = match entry.state {
-            State::Both(_, answer) if index == 1 => answer,
-            State::Both(index, _) | State::Taken(index) => index,
-            _ => entry.possible().unwrap_or(0),
-        };
-        let kept = entry.kept.as_slice().get(run)?;
-        Some(Place {
-            line: entry.from,
-            start: kept.start,
-            end: kept.end,
-            notation: kept.notation,
-        })
     }
 }

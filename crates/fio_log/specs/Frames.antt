@@ -1,0 +1,93 @@
+-- Frames of a log, and the places where they are written.
+use Rattle.std.specs.Prelude.{◌≡◌, ℕ, ◌+◌, ◌≤◌, List, [], ◌∷◌, ◌++◌, length, map, slice_range, IfSome}
+use Rattle.std.specs.List.{All}
+use Rattle.fio_log.specs.Said.{IsSaidIn, IsWrittenAt}
+use Rattle.fio_log.specs.declared.joined.Joined.{Joined}
+use Rattle.fio_log.specs.declared.joined.Row.{Row}
+use Rattle.fio_log.specs.declared.entries.Entries.{Entries}
+use Rattle.fio_log.specs.declared.entries.Entry.{Entry}
+use Rattle.fio_log.specs.declared.judge.Judge.{Judge}
+use Rattle.fio_log.specs.declared.kept.Kept.{Kept}
+use Rattle.fio_log.specs.declared.messages.Message.{Message}
+use Rattle.fio_log.specs.declared.places.Notation.{Notation}
+use Rattle.fio_log.specs.declared.places.Place.{Place}
+use Rattle.fio_log.specs.declared.telling.Frames.{Frames}
+
+-- the lines of a log, by their numbers from 1
+abbrev pub Log : Type 0
+Log = ℕ → List ℕ
+
+-- octets are written at several places of a log, one after the other
+abbrev pub AreAt : Log → List ℕ → List Place → Type 0
+AreAt log octets [] = octets ≡ []
+AreAt log octets (place ∷ places) =
+    (first : List ℕ) × (rest : List ℕ) × (octets ≡ first ++ rest)
+    × IsWrittenAt (log place.line) place.notation place.start place.end first × AreAt log rest places
+
+-- octets are a part of others
+pub record IsWithin (octets part : List ℕ) : Type 0 where
+  pub start : ℕ
+  pub end : ℕ
+  pub order : start ≤ end
+  pub within : end ≤ length octets
+  pub same : part ≡ slice_range octets start end
+
+-- Frames are written at places of a log: each is a part of the octets that are written there, taken together.
+pub record AreFramesAt (log : Log) (frames : List (List ℕ)) (places : List Place) : Type 0 where
+  pub octets : List ℕ
+  pub written : AreAt log octets places
+  pub parts : All (IsWithin octets) frames
+
+-- the place of a row in a line
+abbrev pub row_place : ℕ → Notation → Row → Place
+row_place line notation row =
+    record { line = line; start = row.start; end = row.start + row.length; notation = notation }
+
+-- the places of rows, each in the line after that of the row above
+abbrev pub row_places : ℕ → Notation → List Row → List Place
+row_places line notation [] = []
+row_places line notation (row ∷ rows) = row_place line notation row ∷ row_places (line + 1) notation rows
+
+-- joined lines: their octets are written in their rows
+abbrev pub AreJoined : Log → Joined → Type 0
+AreJoined log joined = AreAt log joined.chain.octets.items (row_places joined.from joined.notation joined.rows.items)
+
+-- the place of a run in a line
+abbrev pub line_place : ℕ → Kept → Place
+line_place line kept =
+    record { line = line; start = kept.start; end = kept.end; notation = kept.notation }
+
+-- the places of a run: in the first line of its entry or, if that has several, in their rows
+abbrev pub run_places : ℕ → List Row → Kept → List Place
+run_places from [] kept = line_place from kept ∷ []
+run_places from (row ∷ rows) kept = row_places from kept.notation (row ∷ rows)
+
+-- the message of a run is a part of octets
+abbrev pub IsMessageOf : List ℕ → Kept → Type 0
+IsMessageOf octets kept = IfSome kept.message (λ message. IsWithin octets message.octets.items)
+
+-- the message of a run is written at the places of the run
+abbrev pub IsRunOf : Log → ℕ → List Row → Kept → Type 0
+IsRunOf log from rows kept =
+    IfSome kept.message (λ message. AreFramesAt log (message.octets.items ∷ []) (run_places from rows kept))
+
+-- the messages of an entry are written where its runs are
+abbrev pub IsEntryOf : Log → Entry → Type 0
+IsEntryOf log entry = All (IsRunOf log entry.from entry.rows.items) entry.kept.items
+
+-- and those of all entries
+abbrev pub AreEntriesOf : Log → Entries → Type 0
+AreEntriesOf log entries = All (IsEntryOf log) entries.all.items
+
+-- What a judge keeps of a log is written there.
+pub record IsJudgeOf (log : Log) (judge : Judge) : Type 0 where
+  pub entries : AreEntriesOf log judge.entries
+  pub joined : AreJoined log judge.join.lines
+
+-- the octets of a message
+abbrev pub octets_in : Message → List ℕ
+octets_in message = message.octets.items
+
+-- the messages of a verdict that are no chain are written at its places
+abbrev pub AreFramesOf : Log → Frames → Type 0
+AreFramesOf log frames = AreFramesAt log (map octets_in frames.messages.items) frames.places.items

@@ -1,0 +1,160 @@
+//! Decisions: what is decided of each entry.
+use crate::entries::{Entry, KEPT};
+use crate::messages::Brief;
+use crate::shapes::Shapes;
+use crate::verdict::{Kind, Reason};
+
+/// What is decided of an entry.
+#[derive(Clone, Copy, Debug, PartialEq, Eq)]
+pub(crate) enum State {
+    /// Nothing: more octets decide on it.
+    Waiting,
+    /// A kept run is its message.
+    Taken(usize),
+    /// A command and its answer are, in this order.
+    Both(usize, usize),
+    /// The frames of a chain are its messages.
+    Chain,
+    /// It gives no frame.
+    Passed(Kind, Reason),
+}
+
+/// What is decided of an entry, and what that rests on.
+#[derive(Clone, Copy, Debug)]
+pub(crate) struct Decision {
+    /// The last line of the entry.
+    pub until: u64,
+    /// What is decided.
+    pub state: State,
+    /// Up to how many frames it waits.
+    pub waits: u64,
+    /// Which of its runs other lines make sure.
+    sure: [bool; KEPT],
+}
+
+impl Default for Decision {
+    fn default() -> Decision {
+        Decision::waiting(0)
+    }
+}
+
+/// What the runs of an entry say together.
+#[derive(Clone, Copy, Debug, PartialEq, Eq)]
+enum Only {
+    /// None of them is right.
+    None,
+    /// All that are right say one message, the run with this index first.
+    One(usize),
+    /// They say several.
+    Several,
+}
+
+impl Decision {
+    /// Returns that nothing is decided yet of an entry of one line.
+    pub(crate) fn waiting(line: u64) -> Decision {
+        Decision {
+            until: line,
+            state: State::Waiting,
+            waits: 0,
+            sure: [false; KEPT],
+        }
+    }
+
+    /// Returns whether more octets decide on it.
+    pub(crate) fn is_waiting(&self) -> bool {
+        self.state == State::Waiting
+    }
+
+    /// Returns whether a run of the entry is sure, by itself or by other lines.
+    pub(crate) fn is_sure(&self, entry: &Entry, index: usize) -> bool {
+        self.sure.get(index).is_some_and(|is_sure| *is_sure)
+            || entry.kept.as_slice().get(index).is_some_and(|kept| kept.is_sure)
+    }
+
+    /// Makes the runs of the entry sure that say a message.
+    pub(crate) fn make_sure(&mut self, entry: &Entry, brief: Brief) {
+        for (index, kept) in entry.kept.as_slice().iter().enumerate() {
+            if index < KEPT && kept.brief == brief {
+                self.sure[index] = true;
+            }
+        }
+    }
+
+    /// Takes the first run, and makes it sure.
+    pub(crate) fn take_only(&mut self) {
+        self.state = State::Taken(0);
+        self.sure[0] = true;
+    }
+
+    /// Returns whether a message is one of the frames of the entry.
+    pub(crate) fn is_of_frame(&self, entry: &Entry, brief: Brief) -> bool {
+        let (first, second) = match self.state {
+            State::Taken(index) => (index, index),
+            State::Both(command, answer) => (command, answer),
+            _ => return false,
+        };
+        let kept = entry.kept.as_slice();
+        kept.get(first).is_some_and(|kept| kept.brief == brief)
+            || kept.get(second).is_some_and(|kept| kept.brief == brief)
+    }
+
+    /// Returns the message that the runs of the entry say which are right, or among these are known.
+    fn only(&self, entry: &Entry, shapes: &Shapes, are_known: bool) -> Only {
+        let mut only = Only::None;
+        let mut brief = Brief::default();
+        for (index, kept) in entry.kept.as_slice().iter().enumerate() {
+            let is_right = if are_known {
+                kept.is_known(shapes)
+            } else {
+                kept.is_right(self.is_sure(entry, index), shapes)
+            };
+            if !is_right {
+                continue;
+            }
+            if only == Only::None {
+                only = Only::One(index);
+                brief = kept.brief;
+            } else if brief != kept.brief {
+                return Only::Several;
+            }
+        }
+        only
+    }
+
+    /// Takes the one message that the runs of the entry say surely, or in a shape that is known; or a command and its answer.
+    pub(crate) fn judge(&mut self, entry: &Entry, shapes: &Shapes) {
+        if let Some((command, answer)) = entry.only_pair() {
+            self.state = State::Both(command, answer);
+            return;
+        }
+        match self.only(entry, shapes, false) {
+            Only::None => {}
+            Only::One(index) => self.state = State::Taken(index),
+            Only::Several => {
+                self.state = match self.only(entry, shapes, true) {
+                    Only::One(index) => State::Taken(index),
+                    _ => State::Passed(Kind::PassedOver, Reason::SeveralMessages),
+                };
+            }
+        }
+    }
+
+    /// Returns the run that pairs with messages of lines below, if one of its runs is taken: the answer of a pair.
+    pub(crate) fn chosen(&self) -> Option<usize> {
+        match self.state {
+            State::Taken(index) | State::Both(_, index) => Some(index),
+            _ => None,
+        }
+    }
+
+    /// Returns what a line of the entry is, whose first line is `from`, and why it gave no frame.
+    pub(crate) fn verdict(&self, from: u64, line: u64) -> (Kind, Reason) {
+        match self.state {
+            State::Passed(Kind::Possible, _) if line > from => (Kind::Part, Reason::None),
+            State::Passed(kind, reason) => (kind, reason),
+            State::Waiting => (Kind::PassedOver, Reason::ShortMessage),
+            _ if line == from => (Kind::Frames, Reason::None),
+            _ => (Kind::Part, Reason::None),
+        }
+    }
+}
