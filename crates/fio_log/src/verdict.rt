@@ -1,7 +1,7 @@
 //! What a reader says of the lines of a log.
 
-/// How lines are read. By order each line is one of `show` or `check`, without what is no character of a line; other than
-/// there a line also ends at CR.
+/// How lines are read. By order each line is read as `show` or `check` reads it, with two differences: colour sequences,
+/// NUL and byte order marks are taken out, and a line also ends at CR.
 #[derive(Clone, Copy, Debug, PartialEq, Eq)]
 pub enum Form {
     /// By the definition: what octets of a line say, and what makes that sure.
