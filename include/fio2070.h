@@ -714,6 +714,13 @@ enum fio2070_log_reason {
     FIO2070_LOG_TWO_MORE = 9          /**< its octets spell a message with a count but for two at one end */
 };
 
+/** Who sent the octets of a line, as the line says: by its last word or arrow before them that says it. */
+enum fio2070_log_side {
+    FIO2070_LOG_NO_SIDE = 0,    /**< it does not say it */
+    FIO2070_LOG_FROM_CPU = 1,   /**< the CPU */
+    FIO2070_LOG_FROM_MODULE = 2 /**< the module */
+};
+
 /** What the reader says of a line of a log. */
 struct fio2070_log_verdict {
     /** The number of the line, from 1. */
@@ -731,8 +738,11 @@ struct fio2070_log_verdict {
     uint8_t reason;
     /** 1 if there is a time, else 0. */
     uint8_t has_time;
+    /** Who sent the octets of the frames, as the line says: one of `FIO2070_LOG_NO_SIDE` and those after
+     *  it. */
+    uint8_t said;
     /** 0 in each octet that the library writes. */
-    uint8_t reserved[5];
+    uint8_t reserved[4];
 };
 
 /** Where octets are written in a log. Colour sequences, NUL and byte order marks are no characters of a line. */
@@ -1131,7 +1141,8 @@ FIO2070_SAME(log_verdict, sizeof(struct fio2070_log_verdict) == 32 &&
              offsetof(struct fio2070_log_verdict, kind) == 24 &&
              offsetof(struct fio2070_log_verdict, reason) == 25 &&
              offsetof(struct fio2070_log_verdict, has_time) == 26 &&
-             offsetof(struct fio2070_log_verdict, reserved) == 27);
+             offsetof(struct fio2070_log_verdict, said) == 27 &&
+             offsetof(struct fio2070_log_verdict, reserved) == 28);
 
 FIO2070_SAME(log_place, sizeof(struct fio2070_log_place) == 16 &&
              offsetof(struct fio2070_log_place, start) == 8 &&

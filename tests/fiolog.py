@@ -139,6 +139,27 @@ def check_lines(check):
         check.equal('a pair, %s of whose lines say messages' % name, expected, [octets.hex() for octets in Read(above + pair).octets])
 
 
+# What is written before the octets of a line, and the side that it says of them.
+SIDES = {
+    'TX': '>', 'rx:': '<', 'Sent ': '>', 'recv(3, ': '<', 'TX then RX': '<', 'in 5 ms': '<', 'CPU -> FIO:': '<', 'CPU ->': '>', 'FIO <-': '<',
+    '-->': '>', '=>': '>', '<<': '<', '<->': '', '>=': '', '> ': '>', '< TX': '<', '>TX RX': '<', '\u2192': '>', '\u2190\u2192': '>',
+    '\u00e9\u2190': '<', 'tx_data': '>', 'tx1': '>', 'text': '', 'incoming': '<', 'wrote': '>', '': '', '07:15:02.100': '', 'TX ' + 'x ' * 300: '>',
+}
+
+
+def check_sides(check):
+    """A line says who sent its octets by what is before them, whatever is after them; a transcript by order by its first sign."""
+    for words, side in SIDES.items():
+        check.equal('the side of %r' % words, [side], [one.said for one in Read('%s b605000000000001 TX\n' % words).verdicts])
+    dump = 'RX 2026\n0000 b6 05 00 00\n0004 00 00 00 01\n'
+    check.equal('the side of a dump', ['', '', ''], [one.said for one in Read(dump).verdicts])
+    check.equal('the side of lines without frames', ['', ''], [one.said for one in Read('TX 9600 baud\n> 36 05 06\n').verdicts])
+    check.equal('the side of a command and its answer', ['>'], [one.said for one in Read('TX 3605 RX b605000000000001\n').verdicts])
+    for form, sides in (('transcript', ['>', '<']), ('frames', [''])):
+        text = '> 3605\n< b300\n' if form == 'transcript' else '3605\n'
+        check.equal('the sides of %s' % form, sides, [one.said for one in Read(text, form).verdicts])
+
+
 def check_reasons(check):
     """Each text of the table has no frame, and its lines have these reasons; in a line like those of frames it is damaged."""
     for name, (text, expected) in REASONS.items():
@@ -234,7 +255,8 @@ def check_other_text(check):
 def agreed(one, other):
     """What of a verdict is the same in the library and in the model, whose verdicts on a line these are."""
     remark = one.reason if one.reason in REMARKS and one.kind == other.kind else ''
-    return one.line, one.kind if one.kind in FOUND else 'none', one.frames if one.kind == 'frames' else (), remark
+    found = (one.frames, one.said) if one.kind == 'frames' else ()
+    return one.line, one.kind if one.kind in FOUND else 'none', found, remark
 
 
 def check_model(check):
@@ -261,7 +283,7 @@ def check_model(check):
 def main():
     check = Check()
     use_library(check, 'all of fiolog')
-    for part in (check_forms, check_lines, check_reasons, check_strangers, check_other_text, check_model):
+    for part in (check_forms, check_lines, check_sides, check_reasons, check_strangers, check_other_text, check_model):
         part(check)
     seeds = 2 if check.whole('damage, seed 1') else 1
     for place, name in enumerate(LOGGERS):

@@ -43,9 +43,9 @@ class Logs(unittest.TestCase):
     def test_verdicts(self):
         reader = fio2070.LogReader()
         self.assertEqual(reader.read(LOG) + reader.end(), [
-            (1, 'frames', '', (BLOCK,), ((1, 16, 48),), 26102 * 10**6),
-            (2, 'passed over', 'no octets', (), (), None),
-            (3, 'blank', '', (), (), None)])
+            (1, 'frames', '', (BLOCK,), ((1, 16, 48),), 26102 * 10**6, '<'),
+            (2, 'passed over', 'no octets', (), (), None, ''),
+            (3, 'blank', '', (), (), None, '')])
 
     def test_pieces(self):
         text = LOG * 3 + b'the last line has no end'
@@ -71,36 +71,36 @@ class Logs(unittest.TestCase):
         # As `show` reads them: a frame a line.
         text = (b'# frames\n3605\nB605018c03e700000003e8\n\n30\nzz\n36 05\n36051\n> 3605\n'
                 + b'3b' * 773 + b'\n' + b'3b' * 774 + b'\n34')
-        bad = 'damaged', 'bad line', (), (), None
+        bad = 'damaged', 'bad line', (), (), None, ''
         for size in (1, 7, len(text)):
             verdicts, reader = [], fio2070.LogReader('frames')
             for at in range(0, len(text), size):
                 verdicts += reader.read(text[at:at + size])
             self.assertEqual(verdicts + reader.end(), [
-                (1, 'blank', '', (), (), None),
-                (2, 'frames', '', (b'\x36\5',), ((2, 0, 4),), None),
-                (3, 'frames', '', (BLOCK,), ((3, 0, 22),), None),
-                (4, 'blank', '', (), (), None),
-                (5, 'damaged', 'no message', (), (), None),
+                (1, 'blank', '', (), (), None, ''),
+                (2, 'frames', '', (b'\x36\5',), ((2, 0, 4),), None, ''),
+                (3, 'frames', '', (BLOCK,), ((3, 0, 22),), None, ''),
+                (4, 'blank', '', (), (), None, ''),
+                (5, 'damaged', 'no message', (), (), None, ''),
                 *((line, *bad) for line in range(6, 10)),
-                (10, 'frames', '', (b';' * 773,), ((10, 0, 1546),), None),
-                (11, 'damaged', 'no message', (), (), None),
-                (12, 'frames', '', (b'\x34',), ((12, 0, 2),), None)])
+                (10, 'frames', '', (b';' * 773,), ((10, 0, 1546),), None, ''),
+                (11, 'damaged', 'no message', (), (), None, ''),
+                (12, 'frames', '', (b'\x34',), ((12, 0, 2),), None, '')])
 
     def test_transcript_by_order(self):
         # As `check` reads it: the CPU sends commands and hears answers.
         text = b'> 3605\n< b605018c03e700000003e8\n# 3605\n> 33\n< 3605\n> ba01\n3605\n>3605\n'
         self.assertEqual(fio2070.LogReader('transcript').read(text), [
-            (1, 'frames', '', (b'\x36\5',), ((1, 2, 6),), None),
-            (2, 'frames', '', (BLOCK,), ((2, 2, 24),), None),
-            (3, 'blank', '', (), (), None),
-            *((line, 'damaged', 'no message', (), (), None) for line in (4, 5, 6)),
-            *((line, 'damaged', 'bad line', (), (), None) for line in (7, 8))])
+            (1, 'frames', '', (b'\x36\5',), ((1, 2, 6),), None, '>'),
+            (2, 'frames', '', (BLOCK,), ((2, 2, 24),), None, '<'),
+            (3, 'blank', '', (), (), None, ''),
+            *((line, 'damaged', 'no message', (), (), None, said) for line, said in ((4, '>'), (5, '<'), (6, '>'))),
+            *((line, 'damaged', 'bad line', (), (), None, '') for line in (7, 8))])
 
     def test_long_line_by_order(self):
         for first, verdict in ((b'#', ('blank', '')), (b'3', ('damaged', 'too long'))):
             reader = fio2070.LogReader('frames')
-            self.assertEqual(reader.read(first * 70000 + b'\n'), [(1, *verdict, (), (), None)])
+            self.assertEqual(reader.read(first * 70000 + b'\n'), [(1, *verdict, (), (), None, '')])
 
 
 class Rules(unittest.TestCase):

@@ -21,6 +21,7 @@ class Verdict(NamedTuple):
     frames: Tuple[bytes, ...] = ()
     places: Tuple[Tuple[int, int, int], ...] = ()
     time: Optional[int] = None
+    said: str = ''
 
 
 # 1. Lines ---------------------------------------------------------------------------------------------------------------
@@ -87,7 +88,9 @@ def rest_of(text, octets):
     return text.strip(' \t,;\\')
 
 
-SENT, HEARD = {'tx', 'sent', 'out', 'write', 'cpu', '>'}, {'rx', 'received', 'in', 'read', 'fio', '<'}
+SENT = {'tx', 'sent', 'send', 'out', 'write', 'wrote', 'cpu', 'outgoing', '>'}
+HEARD = {'rx', 'received', 'recv', 'in', 'read', 'fio', 'incoming', '<'}
+SAYING = re.compile('[a-z]+|[<>=-]+|[\u2190\u2192]', re.ASCII)
 
 
 def direction_of(shape):
@@ -96,6 +99,19 @@ def direction_of(shape):
                     for char in shape).split()
     letters = {word for word in words if word != '0'}
     return '' if len(letters) != 1 or words[-1] == '0' else '>' if letters <= SENT else '<' if letters <= HEARD else ''
+
+
+def said_in(text, start):
+    """The side that a text says of the octets from a place on: as a transcript does, or by the last word that says one."""
+    if text[:2] in ('> ', '< '):
+        return text[0]
+    said = ''
+    for word in SAYING.findall(''.join(char.lower() if char.isascii() else char for char in text[:start])):
+        if word in SENT or word == '\u2192' or word[-1] == '>' and '<' not in word:
+            said = '>'
+        elif word in HEARD or word == '\u2190' or word[0] == '<' and '>' not in word:
+            said = '<'
+    return said
 
 
 class Said:
@@ -131,7 +147,7 @@ class Entry:
     def __init__(self, line, said, join=None, heading=None):
         self.numbers, self.said, self.fits, self.join = [line.number], said, [one for one in said if one.frames], join
         self.time, self.kind, self.reason, self.frames, self.until, self.places = line.time, None, '', [], None, []
-        self.text = line.masked
+        self.text, self.whole = line.masked, line.text
         self.time = heading if self.time is None else self.time
         self.chosen = None
 
@@ -423,7 +439,8 @@ class Reader:
                 entry.reason = NO_MESSAGE if entry.reason in REMARKS else entry.reason
             time = None if entry.time is None else round(entry.time * 1_000_000)
             first, *others = entry.numbers
-            done.append(Verdict(first, entry.kind, entry.reason, tuple(entry.frames), tuple(entry.places), time))
+            said = said_in(entry.whole, entry.places[0][1]) if entry.places else ''
+            done.append(Verdict(first, entry.kind, entry.reason, tuple(entry.frames), tuple(entry.places), time, said))
             kind = 'part' if entry.frames else entry.kind
             done += [Verdict(number, kind, entry.reason, time=time) for number in others]
         return done
@@ -490,6 +507,7 @@ class LogReader:
             return self.reader.feed(self.number, octets.decode('utf-8', 'replace'))
         found = OWN[self.form].fullmatch(octets)
         if found:
-            return [Verdict(self.number, 'frames', '', (bytes.fromhex(found[1].decode()),), ((self.number, *found.span(1)),))]
+            said = octets[:1].decode() if self.form == 'transcript' else ''
+            return [Verdict(self.number, 'frames', '', (bytes.fromhex(found[1].decode()),), ((self.number, *found.span(1)),), said=said)]
         is_blank = not octets or octets.startswith(b'#')
         return [Verdict(self.number, 'blank' if is_blank else 'passed over', '' if is_blank else BAD_LINE)]

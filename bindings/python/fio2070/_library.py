@@ -101,7 +101,7 @@ class CContentChecker(ctypes.Structure):
 
 class CLogVerdict(ctypes.Structure):
     _fields_ = [('line', c_uint64), ('time', c_uint64), ('frames', c_uint32), ('places', c_uint32), ('kind', c_uint8),
-                ('reason', c_uint8), ('has_time', c_uint8), ('reserved', c_uint8 * 5)]
+                ('reason', c_uint8), ('has_time', c_uint8), ('said', c_uint8), ('reserved', c_uint8 * 4)]
 
 
 class CLogPlace(ctypes.Structure):

@@ -110,3 +110,8 @@ LOG_TOO_LONG = 6
 LOG_BAD_LINE = 7
 LOG_EXCHANGED = 8
 LOG_TWO_MORE = 9
+
+# Who sent the octets of a line of a log, as it says.
+LOG_NO_SIDE = 0
+LOG_FROM_CPU = 1
+LOG_FROM_MODULE = 2

@@ -12,8 +12,9 @@ _FORMS = {'auto': constants.LOG_AUTO, 'frames': constants.LOG_FRAMES, 'transcrip
 _KINDS = ('blank', 'frames', 'part', 'possible', 'damaged', 'passed over')
 _REASONS = ('', 'no octets', 'no message', 'short message', 'several messages', 'may be longer', 'too long',
             'bad line', 'exchanged', 'two more')
+_SIDES = ('', '>', '<')
 # The numbers of struct fio2070_log_verdict and struct fio2070_log_place, in the processor's order of octets.
-_VERDICT, _PLACE = struct.Struct('=QQIIBBB5x'), struct.Struct('=QII')
+_VERDICT, _PLACE = struct.Struct('=QQIIBBBB4x'), struct.Struct('=QII')
 
 
 class Verdict(NamedTuple):
@@ -25,13 +26,15 @@ class Verdict(NamedTuple):
     longer', 'too long', 'exchanged' (a message that has a count, if the octets of each pair are exchanged), 'two more' (one but
     for two octets at one end), and by order 'bad line'; else it is empty. The octets of `frames` are written at `places`, in
     their order: each is the number of a line, and where it begins and ends there, in characters, after colours, NUL and marks
-    are taken out. `time` is in microseconds since 1970, or since midnight or a start; None if the log has none there."""
+    are taken out. `time` is in microseconds since 1970, or since midnight or a start; None if the log has none there. `said` is
+    '>' if the line says that the CPU sent these octets, '<' if the module, else empty."""
     line: int
     kind: str
     reason: str
     frames: Tuple[bytes, ...]
     places: Tuple[Tuple[int, int, int], ...]
     time: Optional[int]
+    said: str
 
 
 class LogReader:
@@ -74,9 +77,9 @@ class LogReader:
         octets, ends = bytes(self._octets[:batch.octet_count]), list(itertools.accumulate(batch.lengths[:batch.frame_count]))
         frames = tuple(octets[begin:end] for begin, end in zip([0, *ends], ends))
         places = tuple(cast(Iterator[Tuple[int, int, int]], _PLACE.iter_unpack(self._places[:_PLACE.size * batch.place_count])))
-        for line, time, frame_count, place_count, kind, reason, has_time in _VERDICT.iter_unpack(
+        for line, time, frame_count, place_count, kind, reason, has_time, said in _VERDICT.iter_unpack(
                 self._verdicts[:_VERDICT.size * batch.verdict_count]):
             verdicts.append(Verdict(line, _KINDS[kind], _REASONS[reason], frames[frame:frame + frame_count],
-                                    places[place:place + place_count], time if has_time else None))
+                                    places[place:place + place_count], time if has_time else None, _SIDES[said]))
             frame, place = frame + frame_count, place + place_count
         return verdicts

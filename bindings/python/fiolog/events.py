@@ -3,8 +3,6 @@
 import re
 from typing import NamedTuple, Optional, Tuple
 
-from .sides import side_of
-
 FRAME, BAD, POSSIBLE, DOUBTFUL, DAMAGED, PASSED, PART, BLANK = (
     'frame', 'bad', 'possible', 'doubtful', 'damaged', 'passed', 'part', 'blank')
 # Where judges lose their place; and what they are given.
@@ -26,7 +24,7 @@ class Line(NamedTuple):
     order or by their carrier, and spell none; POSSIBLE for a message that nothing makes sure, DOUBTFUL for one below frames; DAMAGED
     for a line that may have held a frame, or frames that were lost on their way here; PART for a further line of the frame above;
     BLANK; PASSED for any other. `time` is in seconds, `direction` is `>` or `<`, `note` is the reason, `places` are those of the
-    octets; `side` is what the log says of the direction, if it is known without the text."""
+    octets; `said` is what the log says of the direction, if it does."""
     number: int
     kind: str
     raw: bytes = b''
@@ -35,14 +33,9 @@ class Line(NamedTuple):
     direction: str = ''
     note: str = ''
     places: Tuple = ()
-    side: Optional[str] = None
+    said: str = ''
 
     @property
     def text(self):
         """The line as text."""
         return text_of(self.raw)
-
-    @property
-    def said(self):
-        """The side that the log says, or nothing."""
-        return side_of(self.text, self.places) if self.side is None else self.side

@@ -1,5 +1,5 @@
-"""What is said of the lines of a log: why one gives no frame, by the reasons of `fio2070.Verdict`; of which frames damage is not
-seen; and by which words a log says who sent a frame. Written by tools/generate-messages."""
+"""What is said of the lines of a log: why one gives no frame, by the reasons of `fio2070.Verdict`; and of which frames damage
+is not seen. Written by tools/generate-messages."""
 
 REASONS = {
     'no octets': 'no octets',
@@ -18,5 +18,3 @@ DOUBTS = {
     'numbers': '{count} frames have octets as numbers without zeros before them: a digit that is lost is not seen',
     'loose': '{count} frames are of types that have any length: a cut in one of them is not seen',
 }
-SENT = {'tx', 'sent', 'send', 'out', 'write', 'wrote', 'cpu', 'outgoing', '>', '->', '-->', '>>', '=>', '\u2192'}
-HEARD = {'rx', 'received', 'recv', 'in', 'read', 'fio', 'incoming', '<', '<-', '<--', '<<', '<=', '\u2190'}

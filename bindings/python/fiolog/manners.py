@@ -6,7 +6,6 @@ from collections import Counter
 from .doubts import Doubts
 from .events import text_of
 from .judge import direction_of
-from .sides import side_of
 
 # How many manners are kept apart.
 MOST = 1024
@@ -19,13 +18,16 @@ class Manners:
     """Notes how frames are written: which side the log says, and what stays doubtful."""
 
     def __init__(self):
-        self._alike, self._doubts, self._balance = Counter(), Doubts(), 0
+        self._alike, self._doubts = Counter(), Doubts()
+        # Of how many more frames the log says the other side than the one that is due.
+        self.balance = 0
 
-    def add(self, raw, places, octets):
-        """Takes the line of a frame, where the frame is written, and its octets."""
+    def add(self, raw, places, octets, said):
+        """Takes the line of a frame, where the frame is written, its octets, and the side that the log says."""
+        self.add_side(said, direction_of(octets))
         is_row = len(places) > 1 and len(places) == len(octets)
         if not places or not raw.isascii() or b'\x1b' in raw or b'\0' in raw:
-            self._note(text_of(raw), places, octets[:1], is_row)
+            self._doubts.add(text_of(raw), places, octets[:1], is_row, 1)
             return
         _, begin, end = places[0]
         self._alike[raw[:begin].translate(_OF_NUMBERS), raw[begin:end].translate(_OF_OCTETS), octets[:1], is_row] += 1
@@ -36,26 +38,16 @@ class Manners:
         """Notes what was counted."""
         for (head, written, code, is_row), count in self._alike.items():
             text = (head + written).decode('ascii')
-            self._note(text, ((1, len(head), len(text)),), code, is_row, count)
+            self._doubts.add(text, ((1, len(head), len(text)),), code, is_row, count)
         self._alike.clear()
 
-    def _note(self, text, places, code, is_row, count=1):
-        self.add_side(side_of(text, places), direction_of(code), count)
-        self._doubts.add(text, places, code, is_row, count)
-
-    def add_side(self, said, due, count=1):
-        """Takes the side that a log says of frames, if it does, and the one that is due."""
+    def add_side(self, said, due):
+        """Takes the side that a log says of a frame, if it does, and the one that is due."""
         if said:
-            self._balance += -count if said == due else count
+            self.balance += -1 if said == due else 1
 
     @property
     def doubts(self):
         """What stays doubtful."""
         self._take()
         return self._doubts
-
-    @property
-    def balance(self):
-        """Of how many more frames the log says the other side than the one that is due."""
-        self._take()
-        return self._balance

@@ -12,7 +12,6 @@ from .judge import direction_of
 from .log_words import REASONS
 from .manners import Manners
 from .rules import WRONG_CHECK
-from .sides import side_in, side_of
 
 FORMS = 'auto', 'frames', 'transcript'
 CHECKED, UNCHECKED = 'checked', 'unchecked'
@@ -22,7 +21,7 @@ KINDS = {'blank': BLANK, 'part': PART, 'possible': POSSIBLE, 'damaged': DAMAGED,
 _DIGITS = r'(?<![0-9A-Za-z])(?P<octets>(?:(?:0x)?[0-9A-Fa-f]{2}[ ,:;|-]*)+)\s*$'
 _OWN_LINES = re.compile(rb'[^\n]*\n|[^\n]+')
 _NO_DIGIT = re.compile(r'0[xX]|\\x|[^0-9A-Fa-f]')
-# A frame that the library takes in any log: it serves to read the time before it.
+# A frame that the library takes in any log: it serves to read the time and the side before it.
 _SURE = ' b600000000000001\n'
 
 
@@ -71,7 +70,7 @@ class Reader:
         self.pattern = re.compile(pattern or _DIGITS) if pattern or framing else None
         self.form, self.framing = 'frames' if self.pattern else form, framing
         self.library, self.texts, self.manners = fio2070.LogReader(self.form), Texts(self.form != 'auto' and not self.pattern), Manners()
-        self.clock, self.given = fio2070.LogReader(), {}     # reads times of lines by order; what these lines are
+        self.words, self.given = fio2070.LogReader(), {}     # reads times and sides of lines by order; what these lines are
         self.kinds, self.reasons = Counter(), Counter()
 
     def feed(self, octets):
@@ -107,14 +106,15 @@ class Reader:
             return [line] if self.form == 'auto' else self._by_form(line, verdict)
         if kind == FRAME:
             for octets in verdict.frames:
-                self.manners.add(raw, verdict.places, octets)
-        return [Line(verdict.line, kind, raw, octets, time, direction_of(octets), '', verdict.places) for octets in verdict.frames]
+                self.manners.add(raw, verdict.places, octets, verdict.said)
+        return [Line(verdict.line, kind, raw, octets, time, direction_of(octets), '', verdict.places, verdict.said)
+                for octets in verdict.frames]
 
     # By order
 
     def _by_form(self, line, verdict):
         """The events of a line that is read as the caller says."""
-        frames, said = verdict.frames, {'side': side_of(line.text, verdict.places, self.form)}
+        frames, said = verdict.frames, {'said': verdict.said}
         if verdict.reason == 'no message':
             line, frames = line._replace(kind=FRAME), (self._faulty(line),)
         line = line._replace(**self.given.pop(line.number, {}) if self.pattern else said)
@@ -156,12 +156,20 @@ class Reader:
             self.given[number] = {'kind': DAMAGED if note else BLANK, 'note': note}
             return b'\n'
         parts = found.groupdict()
-        self.given[number] = {'octets': octets, 'time': self._time(parts.get('time') or ''), 'side': side_in(parts.get('dir') or '')}
+        self.given[number] = {'octets': octets, 'time': self._time(parts.get('time') or ''), 'said': self._side(parts.get('dir') or '')}
         return octets.hex().encode() + b'\n'
 
     def _time(self, text):
         """The time that a text is."""
-        if not text:
-            return None
-        verdicts = self.clock.read((text + _SURE).encode('utf-8', 'replace'))
-        return verdicts[-1].time / 1_000_000 if verdicts and verdicts[-1].time is not None else None
+        verdict = self._before(text) if text else None
+        return verdict.time / 1_000_000 if verdict and verdict.time is not None else None
+
+    def _side(self, text):
+        """The side that a text says."""
+        verdict = self._before(text) if text else None
+        return verdict.said if verdict else ''
+
+    def _before(self, text):
+        """The verdict on a frame with this text before it."""
+        verdicts = self.words.read((text + _SURE).encode('utf-8', 'replace'))
+        return verdicts[-1] if verdicts else None

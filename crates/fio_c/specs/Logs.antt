@@ -1,10 +1,12 @@
 -- What the reader of logs says of lines, as C sees it.
-use Rattle.std.specs.Prelude.{◌≡◌, ℕ, ◌+◌, ◌≤◌, ◌<◌, ◌-◌, ◌^◌, true, false, List, [], ◌∷◌, ◌++◌, length, map, take, unwrap_or, is_some}
+use Rattle.std.specs.Prelude.{◌≡◌, ℕ, ◌+◌, ◌≤◌, ◌<◌, ◌-◌, ◌^◌, true, false, List, [], ◌∷◌, ◌++◌, length, map, take, Option, Some, None, unwrap_or, is_some}
 use Rattle.std.specs.List.{All, concat, sum_by}
 use Rattle.fio_message.specs.Bits.{bit_of}
 use Rattle.fio_log.specs.Sayings.{spells}
 use Rattle.fio_log.specs.Lines.{Text, finished, lines_after, no_line, only}
 use Rattle.fio_log.specs.Telling.{Telling, read_after}
+use Rattle.fio_log.specs.declared.directions.Direction.{Direction}
+use Rattle.fio_log.specs.declared.directions.Direction.TheVariants as directions
 use Rattle.fio_log.specs.declared.verdict.Kind.{Kind}
 use Rattle.fio_log.specs.declared.verdict.Kind.TheVariants as kinds
 use Rattle.fio_log.specs.declared.verdict.Reason.{Reason}
@@ -36,6 +38,12 @@ reason_number reasons.BadLine = 7
 reason_number reasons.Exchanged = 8
 reason_number reasons.TwoMore = 9
 
+-- the number of who sent octets
+abbrev pub side_number : Option Direction → ℕ
+side_number None = 0
+side_number (Some directions.Command) = 1
+side_number (Some directions.Answer) = 2
+
 -- a verdict as C sees it, with so many frames and places
 abbrev pub flat_verdict : Verdict → ℕ → ℕ → LogVerdict
 flat_verdict verdict frames places = record {
@@ -46,7 +54,8 @@ flat_verdict verdict frames places = record {
   kind = kind_number verdict.kind;
   reason = reason_number verdict.reason;
   has_time = bit_of (is_some verdict.time);
-  reserved = 0 ∷ 0 ∷ 0 ∷ 0 ∷ 0 ∷ [];
+  said = side_number verdict.said;
+  reserved = 0 ∷ 0 ∷ 0 ∷ 0 ∷ [];
 }
 
 -- what a batch says: verdicts, and the frames and places of all of them, in order

@@ -37,8 +37,10 @@ pub struct LogVerdict {
     pub reason: u8,
     /// 1 if there is a time, else 0.
     pub has_time: u8,
+    /// Who sent the octets of the frames, as the line says: one of `FIO2070_LOG_NO_SIDE` and those after it.
+    pub said: u8,
     /// 0 in each octet that the library writes.
-    pub reserved: [u8; 5],
+    pub reserved: [u8; 4],
 }
 
 /// Where octets are written in a log. Colour sequences, NUL and byte order marks are no characters of a line.

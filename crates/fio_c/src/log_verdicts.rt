@@ -1,10 +1,10 @@
 //! Verdicts of the reader of logs, put into a batch.
 ghost use Rattle.std.specs.Prelude.{◌≡◌, ◌+◌, ◌<◌, ℕ};
 ghost use Rattle.fio_c.specs.declared.log_batch.TheConstants.{LOG_VERDICTS};
-ghost use Rattle.fio_c.specs.Logs.{Content, HasFramesMore, HasPlacesMore, HasVerdicts, Holds, flat_verdict, kind_number, reason_number};
+ghost use Rattle.fio_c.specs.Logs.{Content, HasFramesMore, HasPlacesMore, HasVerdicts, Holds, flat_verdict, kind_number, reason_number, side_number};
 
 use crate::log_batch::{LOG_FRAMES, LOG_PLACES, LOG_VERDICTS, LogBatch, LogPlace, LogVerdict};
-use fio_log::{Kind, Place, Reader, Reason, Verdict};
+use fio_log::{Direction, Kind, Place, Reader, Reason, Verdict};
 
 /// Puts the verdicts that are due into a batch, until it has no room for another one.
 pub(crate) fn fill(reader: &mut Reader, batch: &mut LogBatch)
@@ -83,7 +83,8 @@ fn told_from(verdict: &Verdict, frames: u32, places: u32) -> LogVerdict
         kind: kind_number(verdict.kind),
         reason: reason_number(verdict.reason),
         has_time: u8::from(verdict.time.is_some()),
-        reserved: [0; 5],
+        said: side_number(verdict.said),
+        reserved: [0; 4],
     }
 }
 
@@ -116,6 +117,17 @@ fn reason_number(reason: Reason) -> u8
         Reason::BadLine => 7,
         Reason::Exchanged => 8,
         Reason::TwoMore => 9,
+    }
+}
+
+/// Returns the number of who sent octets.
+fn side_number(said: Option<Direction>) -> u8
+    ensures { result ≡ side_number said }
+{
+    match said {
+        None => 0,
+        Some(Direction::Command) => 1,
+        Some(Direction::Answer) => 2,
     }
 }
 

@@ -4,3 +4,6 @@ pub mod SayingLemmas
 pub mod ReadingLemmas
 pub mod OwnTextLemmas
 pub mod RunLemmas
+pub mod FrameLemmas
+pub mod KeptLemmas
+pub mod TellingLemmas

@@ -4,33 +4,38 @@ use crate::surroundings::Gap;
 
 /// Who sends, by the words of a log.
 #[derive(Clone, Copy, Debug, PartialEq, Eq)]
-pub(crate) enum Direction {
-    /// The controller.
+pub enum Direction {
+    /// The CPU.
     Command,
     /// The module.
     Answer,
 }
 
 /// The words for a direction, in small letters: the first half is of commands. The arrows are U+2192 and U+2190.
-static WORDS: [&[u8]; 14] = [
+static WORDS: [&[u8]; 19] = [
     b"tx",
     b"sent",
+    b"send",
     b"out",
     b"write",
+    b"wrote",
     b"cpu",
+    b"outgoing",
     b">",
     b"\xe2\x86\x92",
     b"rx",
     b"received",
+    b"recv",
     b"in",
     b"read",
     b"fio",
+    b"incoming",
     b"<",
     b"\xe2\x86\x90",
 ];
 
 /// How many of the words are of commands.
-const COMMANDS: usize = 7;
+const COMMANDS: usize = 10;
 
 /// The words of a text, as far as it was read.
 #[derive(Clone, Copy)]
@@ -63,15 +68,27 @@ impl Words {
         let index = self.index?;
         if self.has_others || self.is_number {
             None
-        } else if index < COMMANDS {
-            Some(Direction::Command)
         } else {
-            Some(Direction::Answer)
+            Some(direction_at(index))
         }
     }
 }
 
-/// Returns the direction that a text says, if it has one word for it, perhaps several times, no other word
+/// Returns the direction of the word with an index.
+fn direction_at(index: usize) -> Direction {
+    if index < COMMANDS {
+        Direction::Command
+    } else {
+        Direction::Answer
+    }
+}
+
+/// Returns the direction that a word says.
+pub(crate) fn direction_of_word(word: &[u8]) -> Option<Direction> {
+    Some(direction_at(index_of(word)?))
+}
+
+/// Returns the direction that the words of a text say, if it has one word for it, perhaps several times, no other word
 /// but numbers, and no number after it. The gap is a time.
 pub(crate) fn direction_of(text: &[u8], gap: Gap) -> Option<Direction> {
     let mut words = Words {

@@ -1,4 +1,4 @@
-//! What the judge keeps of runs of octets.
+//! Runs of octets, as far as the judge needs them.
 ghost use Rattle.std.specs.Prelude.{◌≡◌, ℕ, [], IfSome};
 ghost use Rattle.fio_log.specs.Frames.{IsMessageOf, IsRunOf, Log};
 ghost use Rattle.fio_log.specs.Said.{IsSaidIn};
@@ -21,6 +21,7 @@ pub(crate) struct Around {
     pub ways: Ways,
     pub notation: Notation,
     pub direction: Option<Direction>,
+    pub said: Option<Direction>,
     pub has_before: bool,
     pub has_tail: bool,
 }
@@ -36,6 +37,7 @@ impl Around {
             ways: said.ways,
             notation: said.notation,
             direction: said.direction,
+            said: said.said,
             has_before: said.has_before,
             has_tail: said.has_tail,
         }
@@ -89,6 +91,8 @@ pub(crate) struct Kept {
     pub is_bare: bool,
     /// Whether there is more than blanks before it.
     pub has_before: bool,
+    /// Who sent it, as its line says.
+    pub said: Option<Direction>,
 }
 
 impl Kept {
@@ -127,6 +131,7 @@ impl Kept {
             is_long: octets.len() > 1,
             is_bare: around.is_bare(octets),
             has_before: around.has_before,
+            said: around.said,
         })
     }
 
@@ -147,13 +152,13 @@ impl Kept {
         }
     }
 
-    /// Returns whether it is known or, if it is sure, lacks no digit.
+    /// Returns whether it is known or, if it is sure, not without a digit.
     pub(crate) fn is_right(&self, is_sure: bool, shapes: &Shapes) -> bool {
         is_sure && !self.has_lost_a_digit(shapes) || self.is_known(shapes)
     }
 }
 
-/// What counting needs of a run of a line.
+/// A run of a line, as far as counting needs it.
 #[derive(Clone, Copy, Debug, Default)]
 pub(crate) struct Seen {
     /// The key of its whole shape.

@@ -13,10 +13,11 @@ use crate::octets::Octets;
 use crate::places::Notation;
 use crate::said::{LINE_SINGLES, LITERAL_MARK, LineRuns, Said, Shape};
 use crate::sayings::{Saying, read_saying};
+use crate::sides::said_at;
 use crate::surroundings::{Before, Gap, read_after};
 use std::mem;
 
-/// What is known during the search for the runs of a line.
+/// What is known while the runs of a line are looked for.
 #[derive(Drop)]
 struct Finder {
     /// The time of the line.
@@ -172,6 +173,7 @@ fn keep_run(
         ways: found.ways,
         notation: found.notation,
         direction: direction_of(text, finder.gap),
+        said: said_at(line, found.start),
         has_before: mask.has_text(),
         has_tail: after.has_tail,
         is_last: after.is_last,

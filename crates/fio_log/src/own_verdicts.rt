@@ -1,4 +1,4 @@
-//! Verdicts of lines that are read by order as those of the program's own texts.
+//! What is told of the lines of the program's own texts, by order.
 ghost use Rattle.std.specs.Prelude.{◌≡◌, None};
 ghost use Rattle.fio_log.specs.declared.verdict.Form.TheVariants.{Auto};
 
@@ -6,6 +6,7 @@ use crate::judge::Line;
 use crate::messages::Message;
 use crate::own_texts::{OwnForm, OwnLine, read_own_line};
 use crate::places::{Notation, Place};
+use crate::sides::said_at;
 use crate::telling::{Frames, Told};
 use crate::verdict::{Form, Kind, Reason};
 use fio_message::FRAME_OCTETS;
@@ -24,7 +25,7 @@ impl Form {
 }
 
 impl Frames {
-    /// Returns the verdict of a line of an own text, and takes its frame.
+    /// Tells what a line of an own text is, and takes its frame.
     pub(crate) fn tell_own(&mut self, form: OwnForm, line: Line) -> Told {
         self.clear();
         let mut room = [0; FRAME_OCTETS];
@@ -39,6 +40,10 @@ impl Frames {
             kind,
             reason,
             time: None,
+            said: match form {
+                OwnForm::Frames => None,
+                OwnForm::Transcript => said_at(line.text, 0),
+            },
         }
     }
 

@@ -17,9 +17,9 @@ use crate::telling::{Frames, Told};
 use crate::verdict::{Form, Verdict};
 use std::marker::Model;
 
-/// A reader of a log. It takes the octets of the log, and returns a verdict of each line, in order.
+/// A reader of a log. It takes the octets of the log, and tells a verdict of each line, in order.
 ///
-/// Call `verdict` until it returns `None`, then feed the next octets.
+/// Verdicts are fetched with `verdict` until there is none, then the next octets are fed.
 #[derive(Drop)]
 pub struct Reader {
     maker: LineMaker,
@@ -27,7 +27,7 @@ pub struct Reader {
     judge: Judge,
     frames: Frames,
     form: Form,
-    /// The verdict of the last line, if it is read by order.
+    /// What is told of the last line, if it is read by order.
     own: Told,
     read: u64,
     told: u64,
@@ -38,7 +38,7 @@ pub struct Reader {
 }
 
 impl Model for Reader {
-    ghost use Rattle.std.specs.Prelude.{◌≡◌, ◌≤◌, ◌<◌, [], true, if◌then◌else◌};
+    ghost use Rattle.std.specs.Prelude.{◌≡◌, ◌≤◌, ◌<◌, true};
     ghost use Rattle.fio_log.specs.Lines.{is_whole};
     ghost use Rattle.fio_log.specs.Telling.{Telling};
 
@@ -53,7 +53,8 @@ impl Model for Reader {
       is_ended = r.is_ended;
       last = r.frames;
       judge = r.judge;
-      held = if r.is_held then r.runs.said.items else [];
+      is_held = r.is_held;
+      runs = r.runs.said.items;
     } };
 
     ghost invariant = { λ r. (r.told ≤ r.read)
@@ -87,7 +88,7 @@ impl Reader {
         }
     }
 
-    /// Starts again with another log.
+    /// Begins anew with another log.
     pub fn start(&mut self, form: Form)
         ensures line { self.new.making ≡ no_line }
         ensures none_read { self.new.read ≡ 0 }
@@ -99,8 +100,8 @@ impl Reader {
         *self = Reader::new(form);
     }
 
-    /// Takes octets of the log until they end a line or there are no more, and returns how many it has taken. It takes none
-    /// while a verdict can be fetched, after the end, or after 2^64 - 1 lines.
+    /// Takes octets of the log until they end a line or there are no more, and returns how many it has taken. While a
+    /// verdict can be fetched, after the end, and after 2^64 - 1 lines it takes none.
     pub fn feed(&mut self, octets: &[u8]) -> usize
         ensures within { result ≤ length octets.now }
         ensures taken { 0 < result → HasTaken self.old (take result octets.now) self.new }
@@ -133,16 +134,30 @@ impl Reader {
         ensures form { self.new.form ≡ self.old.form }
         ensures kept { (log : Log) → IsReaderOf log self.old → IsLineOf log self.new → IsReaderOf log self.new }
     {
-        if !self.is_ended && self.read < u64::MAX {
-            self.judge_held();
-            self.maker.finish();
-            if self.maker.is_whole() {
-                self.read_line();
-            }
-        }
+        self.finish_line();
         self.is_ended = true;
         self.is_ready = self.told < self.read;
         self.refresh();
+    }
+
+    /// Ends the line that is made, and reads it if it has octets, unless the log has ended.
+    fn finish_line(&mut self)
+        ensures line { self.old.is_ended ≡ false → self.old.read < u64.MAX
+            → (self.new.making ≡ finished self.old.making)
+            × (self.new.read ≡ read_after self.old.read self.new.making) }
+        ensures told { self.new.told ≡ self.old.told }
+        ensures ended { self.new.is_ended ≡ self.old.is_ended }
+        ensures form { self.new.form ≡ self.old.form }
+        ensures kept { (log : Log) → IsReaderOf log self.old → IsLineOf log self.new → IsReaderOf log self.new }
+    {
+        if self.is_ended || self.read == u64::MAX {
+            return;
+        }
+        self.judge_held();
+        self.maker.finish();
+        if self.maker.is_whole() {
+            self.read_line();
+        }
     }
 
     /// Reads the line that is whole.
@@ -150,7 +165,7 @@ impl Reader {
         requires room { self.old.read < u64.MAX }
         requires open { self.old.is_ended ≡ false }
         requires whole { is_whole self.old.making.ending ≡ true }
-        requires none { self.old.held ≡ [] }
+        requires none { self.old.is_held ≡ false }
         ensures line { self.new.making ≡ self.old.making }
         ensures read { self.new.read ≡ self.old.read + 1 }
         ensures told { self.new.told ≡ self.old.told }
@@ -182,7 +197,7 @@ impl Reader {
         ensures told { self.new.told ≡ self.old.told }
         ensures ended { self.new.is_ended ≡ self.old.is_ended }
         ensures form { self.new.form ≡ self.old.form }
-        ensures none { self.new.held ≡ [] }
+        ensures none { self.new.is_held ≡ false }
         ensures kept { (log : Log) → IsReaderOf log self.old → IsReaderOf log self.new }
     {
         if self.is_held {
@@ -240,8 +255,8 @@ impl Reader {
         if !was_ready && !self.is_ready {
             return None;
         }
+        let told = self.tell_line(self.told + 1);
         self.told += 1;
-        let told = self.tell_line();
         self.is_ready = self.told < self.read
             && (self.is_ended || self.form != Form::Auto || self.judge.is_decided(self.told + 1));
         Some(Verdict {
@@ -251,11 +266,12 @@ impl Reader {
             frames: self.frame_count(),
             places: self.place_count(),
             time: told.time,
+            said: told.said,
         })
     }
 
-    /// Returns the verdict of the next line, and takes its frames.
-    fn tell_line(&mut self) -> Told
+    /// Tells what a line is, and takes its frames.
+    fn tell_line(&mut self, line: u64) -> Told
         ensures line { self.new.making ≡ self.old.making }
         ensures read { self.new.read ≡ self.old.read }
         ensures told { self.new.told ≡ self.old.told }
@@ -264,7 +280,7 @@ impl Reader {
         ensures kept { (log : Log) → IsReaderOf log self.old → IsReaderOf log self.new }
     {
         if self.form == Form::Auto {
-            self.judge.tell(self.told, &mut self.frames)
+            self.judge.tell(line, &mut self.frames)
         } else {
             self.own
         }
@@ -322,7 +338,7 @@ impl Reader {
     }
 }
 
-/// Finds the runs of a line; none in a line that is too long.
+/// Finds the runs of a line; of one that is too long none.
 fn read_runs(line: Line, runs: &mut LineRuns)
     ensures { All (IsSaidIn line.entry.text.now) runs.new.said.items }
 {

@@ -21,7 +21,7 @@ pub(crate) const LINE_SINGLES: usize = 4;
 pub(crate) struct Shape {
     /// The sum of the line before it.
     pub before: u64,
-    /// The index of its mark in `MARKS`; or `LITERAL_MARK` or `NUMBERS_MARK`, which are no index there.
+    /// The index of its mark in `MARKS`; above them `LITERAL_MARK` and `NUMBERS_MARK`.
     pub mark: u8,
     /// The sum of the line after it, without a column of its characters and without separators.
     pub after: u64,
@@ -54,6 +54,8 @@ pub(crate) struct Said {
     pub notation: Notation,
     /// The direction of the words before it, if there are no words of another meaning.
     pub direction: Option<Direction>,
+    /// The direction of the last word before it that says one, or of the sign at the line's beginning.
+    pub said: Option<Direction>,
     /// Whether there is more than blanks before it.
     pub has_before: bool,
     /// Whether there is more than separators after it.
@@ -78,6 +80,7 @@ impl Default for Said {
             ways: Ways::default(),
             notation: Notation::Words,
             direction: None,
+            said: None,
             has_before: false,
             has_tail: false,
             is_last: false,

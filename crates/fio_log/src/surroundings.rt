@@ -28,7 +28,7 @@ pub(crate) struct Before {
 }
 
 impl Before {
-    /// Returns the state before anything is read.
+    /// Returns that nothing is read.
     pub(crate) fn new() -> Before {
         Before {
             mask: Mask::new(),
@@ -62,7 +62,7 @@ pub(crate) struct After {
     pub is_last: bool,
 }
 
-/// Returns what is after a run. `text` is the line from the end of the run.
+/// Returns what is after a run: `text` is the line from its end.
 pub(crate) fn read_after(text: &[u8], octets: &[u8]) -> After {
     let rest = if is_column(text, octets) {
         &text[..0]

@@ -1,8 +1,9 @@
-//! The verdict of a line, with its frames and their places.
+//! What is told of a line, and its frames and their places.
 ghost use Rattle.std.specs.Prelude.{◌≡◌, [], ◌∷◌, ◌++◌, map, true};
 ghost use Rattle.fio_log.specs.Frames.{AreFramesOf, IsEntryOf, IsJudgeOf, Log, octets_in, run_places};
 
 use crate::decisions::{Decision, State};
+use crate::directions::Direction;
 use crate::entries::{Entry, KEPT_ROWS};
 use crate::judge::Judge;
 use crate::kept::Kept;
@@ -11,7 +12,7 @@ use crate::places::Place;
 use crate::verdict::{Kind, Reason};
 use arrayvec::ArrayVec;
 
-/// What a verdict says of a line.
+/// What is told of a line.
 #[derive(Clone, Copy, Debug)]
 pub(crate) struct Told {
     /// What it is.
@@ -20,15 +21,18 @@ pub(crate) struct Told {
     pub reason: Reason,
     /// Its time.
     pub time: Option<u64>,
+    /// Who sent its octets, as it says.
+    pub said: Option<Direction>,
 }
 
 impl Told {
-    /// Returns what a verdict says of a line without octets.
+    /// Returns what is told of a line without octets.
     pub(crate) fn none() -> Told {
         Told {
             kind: Kind::PassedOver,
             reason: Reason::NoOctets,
             time: None,
+            said: None,
         }
     }
 }
@@ -36,7 +40,7 @@ impl Told {
 /// The most messages of a line that is not the first of a chain.
 pub(crate) const LINE_FRAMES: usize = 2;
 
-/// The frames of the last verdict.
+/// The frames of the verdict that was told last.
 #[derive(Drop)]
 pub(crate) struct Frames {
     /// Its messages, if they are no chain.
@@ -48,7 +52,7 @@ pub(crate) struct Frames {
 }
 
 impl Frames {
-    /// Returns no frames.
+    /// Returns none.
     pub(crate) fn new() -> Frames
         ensures { (log : Log) → AreFramesOf log result }
     {
@@ -59,7 +63,7 @@ impl Frames {
         }
     }
 
-    /// Removes all frames.
+    /// Takes all out.
     pub(crate) fn clear(&mut self)
         ensures { (log : Log) → AreFramesOf log self.new }
     {
@@ -88,7 +92,7 @@ impl Frames {
         }
     }
 
-    /// Takes the message of a run of an entry, and its places. If there is no room, no frame is kept.
+    /// Takes the message of a run of an entry, and its places. If there is no room, there are no frames.
     fn add(&mut self, entry: &Entry, index: usize)
         ensures { (log : Log) → AreFramesOf log self.old → IsEntryOf log entry.now → AreFramesOf log self.new }
     {
@@ -144,7 +148,7 @@ impl Judge {
         }
     }
 
-    /// Returns the decision on the entry of a line, which is the first or the second in the queue.
+    /// Returns the decision on the entry of a line, which is the first or the second one.
     fn decision_on(&self, line: u64) -> Option<&Decision> {
         let queue = &self.decider.queue;
         let first = queue.get(queue.slot(0))?;
@@ -159,7 +163,7 @@ impl Judge {
         }
     }
 
-    /// Returns what a line is, and takes its messages. Removes the entries before it.
+    /// Tells what a line is, and takes its messages. The entries before it are given up.
     pub(crate) fn tell(&mut self, line: u64, frames: &mut Frames) -> Told
         ensures judge { (log : Log) → IsJudgeOf log self.old → IsJudgeOf log self.new }
         ensures frames { (log : Log) → IsJudgeOf log self.old → AreFramesOf log frames.new }
@@ -177,13 +181,16 @@ impl Judge {
             return Told::none();
         };
         let (kind, reason) = decision.verdict(entry.from, line);
+        let mut said = None;
         if kind == Kind::Frames || kind == Kind::Possible {
             frames.fill(entry, decision.state);
+            said = self.said(slot);
         }
         Told {
             kind,
             reason,
             time: entry.time,
+            said,
         }
     }
 }

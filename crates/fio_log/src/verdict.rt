@@ -1,7 +1,8 @@
 //! What a reader says of the lines of a log.
+use crate::directions::Direction;
 
-/// How lines are read. By order each line is read as `show` or `check` reads it, with two differences: colour sequences,
-/// NUL and byte order marks are taken out, and a line also ends at CR.
+/// How lines are read. By order each line is one of `show` or `check`, without what is no character of a line; other than
+/// there a line also ends at CR.
 #[derive(Clone, Copy, Debug, PartialEq, Eq)]
 pub enum Form {
     /// By the definition: what octets of a line say, and what makes that sure.
@@ -69,4 +70,7 @@ pub struct Verdict {
     pub places: usize,
     /// Its time, in microseconds since 1970, or since midnight or a start if it has no date.
     pub time: Option<u64>,
+    /// Who sent the octets of its frames, as the words before them say; `None` if they do not. A transcript that is read by
+    /// order says it in each line.
+    pub said: Option<Direction>,
 }

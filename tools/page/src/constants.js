@@ -11,6 +11,7 @@ export const LONGEST_TEXT = 62;
 export const LOG_FORMS = { auto: 0, frames: 1, transcript: 2 };
 export const LOG_KINDS = { blank: 0, says: 1, part: 2, possible: 3, damaged: 4, passedOver: 5 };
 export const LOG_REASONS = { noReason: 0, noOctets: 1, noMessage: 2, shortMessage: 3, severalMessages: 4, mayBeLonger: 5, tooLong: 6, badLine: 7, exchanged: 8, twoMore: 9 };
+export const LOG_SIDES = { noSide: 0, fromCpu: 1, fromModule: 2 };
 export const RULES = ['', 'readable', 'pair', 'number', 'advance', 'same', 'sequence', 'limits', 'rest', 'refusal'];
 export const CONTENT_RULES = ['', 'order', 'fresh', 'alternate', 'apart', 'ignored', 'state', 'clock', 'done', 'accepted', 'cleared', 'watchdog'];
 export const RULE_BREACHES = [

@@ -39,7 +39,7 @@ export const AT = {
   contentBreach: { rule: 0, input: 1, items: 2 },
   fault: { kind: 0, code: 1, needed: 2, got: 8 },
   configured: { kind: 0, place: 8 },
-  logVerdict: { line: 0, time: 8, frames: 16, places: 20, kind: 24, reason: 25, has_time: 26 },
+  logVerdict: { line: 0, time: 8, frames: 16, places: 20, kind: 24, reason: 25, has_time: 26, said: 27 },
   logPlace: { line: 0, start: 8, end: 12 },
   logBatch: { verdict_count: 0, frame_count: 4, octet_count: 8, place_count: 12, verdicts: 16, places: 131088, lengths: 458768, octets: 499728 },
   limits: { waiting: 0, per_block: 2 },

@@ -48,7 +48,7 @@ export class LogReader {
     for (let index = 0, at = this.batch + logBatch.verdicts; index < count; index++, at += SIZE.logVerdict) {
       found.push({
         line: Number(data.getBigUint64(at + logVerdict.line, true)), kind: data.getUint8(at + logVerdict.kind),
-        reason: data.getUint8(at + logVerdict.reason),
+        reason: data.getUint8(at + logVerdict.reason), said: data.getUint8(at + logVerdict.said),
         // In seconds.
         time: data.getUint8(at + logVerdict.has_time) === 1 ? Number(data.getBigUint64(at + logVerdict.time, true)) / 1e6 : null,
         frames: this.frames(above, data.getUint32(at + logVerdict.frames, true)),

@@ -1,5 +1,5 @@
-// What is said of the lines of a log: why one gives no frame, by the number of the reason; of which frames damage is not
-// seen; and by which words a log says who sent a frame. Written by tools/generate-messages.
+// What is said of the lines of a log: why one gives no frame, by the number of the reason; and of which frames damage is
+// not seen. Written by tools/generate-messages.
 
 export const REASONS = [
   '',
@@ -19,5 +19,3 @@ export const DOUBTS = {
   numbers: '{count} frames have octets as numbers without zeros before them: a digit that is lost is not seen',
   loose: '{count} frames are of types that have any length: a cut in one of them is not seen',
 };
-export const SENT_WORDS = new Set(['tx', 'sent', 'send', 'out', 'write', 'wrote', 'cpu', 'outgoing', '>', '->', '-->', '>>', '=>', '→']);
-export const HEARD_WORDS = new Set(['rx', 'received', 'recv', 'in', 'read', 'fio', 'incoming', '<', '<-', '<--', '<<', '<=', '←']);

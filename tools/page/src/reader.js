@@ -2,13 +2,12 @@
 // say.
 
 import { clockOf } from './clocks.js';
-import { LOG_FORMS, LOG_KINDS, LOG_REASONS } from './constants.js';
+import { LOG_FORMS, LOG_KINDS, LOG_REASONS, LOG_SIDES } from './constants.js';
 import { Doubts } from './doubts.js';
 import { fromHex } from './hex.js';
 import { FIRST_ANSWER } from './library.js';
 import { REASONS } from './log_words.js';
 import { DIRECTION, MessageList } from './messagelist.js';
-import { isOwnSide, sideOf } from './sides.js';
 
 // The year 10000, which no time of a log has.
 const END_OF_TIME = 253_402_300_800;
@@ -17,6 +16,8 @@ const LONGEST_SHOWN = 100;
 // What is no character of a line.
 const UNSEEN = /\x1b\[[^A-Za-z]*[A-Za-z]?|[\0\ufeff]/g;
 const BYTE_ORDER_MARKS = { 0xfffe: 'utf-16le', 0xfeff: 'utf-16be' };
+// The direction that a line says, by the number of the side that sent.
+const DIRECTIONS = { [LOG_SIDES.noSide]: DIRECTION.none, [LOG_SIDES.fromCpu]: DIRECTION.sent, [LOG_SIDES.fromModule]: DIRECTION.heard };
 
 // The form in which a file is read: the one that is asked for or, if that is `auto`, that of the project's own texts if it is named as
 // one, else that of `any` log.
@@ -56,22 +57,21 @@ class Found {
   add(verdict) {
     const { line, kind, reason } = verdict;
     if (kind === LOG_KINDS.says || kind === LOG_KINDS.possible) this.addFrames(verdict);
-    else if (this.form !== LOG_FORMS.auto && reason === LOG_REASONS.noMessage) this.addFaulty(line);
+    else if (this.form !== LOG_FORMS.auto && reason === LOG_REASONS.noMessage) this.addFaulty(verdict);
     else if (kind === LOG_KINDS.damaged) this.messages.addBad(line, { why: `damaged: ${REASONS[reason]}`, text: this.textOf(line).slice(0, LONGEST_SHOWN) });
     else if (kind === LOG_KINDS.passedOver && this.form !== LOG_FORMS.auto) this.messages.addBad(line);
     else if (kind === LOG_KINDS.passedOver) this.passed[reason] += 1;
   }
 
   // A line that is a frame by order, and spells no message.
-  addFaulty(line) {
+  addFaulty({ line, said }) {
     const digits = this.textOf(line).slice(this.form === LOG_FORMS.transcript ? 2 : 0).replace(/\s/g, '');
-    this.addFrames({ line, kind: LOG_KINDS.says, time: null, frames: [fromHex(digits)], places: [] });
+    this.addFrames({ line, kind: LOG_KINDS.says, said, time: null, frames: [fromHex(digits)], places: [] });
   }
 
-  addFrames({ line, kind, time, frames, places }) {
+  addFrames({ line, kind, said, time, frames, places }) {
     const text = this.textOf(line), isPossible = kind === LOG_KINDS.possible, inTime = time < END_OF_TIME ? time : null;
-    const side = sideOf(text, places.length > 0 ? places[0].start : 0, this.form);
-    const clock = inTime === null ? '' : clockOf([text, this.textOf(line - 1)], inTime);
+    const side = DIRECTIONS[said], clock = inTime === null ? '' : clockOf([text, this.textOf(line - 1)], inTime);
     for (const octets of frames) {
       this.messages.add({ line, side, octets, isPossible, time: inTime, clock });
       if (isPossible) continue;
@@ -84,6 +84,6 @@ class Found {
     if (side === DIRECTION.none) return;
     if (side === (code < FIRST_ANSWER ? DIRECTION.sent : DIRECTION.heard)) this.agreeing += 1;
     else this.reversed += 1;
-    this.own += isOwnSide(text) ? 1 : 0;
+    this.own += text.startsWith('> ') || text.startsWith('< ') ? 1 : 0;
   }
 }

@@ -108,3 +108,8 @@ pub const LOG_TOO_LONG: u8 = 6;
 pub const LOG_BAD_LINE: u8 = 7;
 pub const LOG_EXCHANGED: u8 = 8;
 pub const LOG_TWO_MORE: u8 = 9;
+
+// Who sent the octets of a line of a log, as it says.
+pub const LOG_NO_SIDE: u8 = 0;
+pub const LOG_FROM_CPU: u8 = 1;
+pub const LOG_FROM_MODULE: u8 = 2;

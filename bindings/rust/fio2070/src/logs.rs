@@ -48,7 +48,8 @@ impl LogBatch {
             kind: 0,
             reason: 0,
             has_time: 0,
-            reserved: [0; 5],
+            said: 0,
+            reserved: [0; 4],
         };
         const NO_PLACE: LogPlace = LogPlace {
             line: 0,
@@ -86,6 +87,7 @@ impl LogBatch {
                     kind: verdict.kind,
                     reason: verdict.reason,
                     time: Some(verdict.time).filter(|_| verdict.has_time != 0),
+                    said: verdict.said,
                     frames: Frames {
                         lengths: counts,
                         octets: said,
@@ -107,6 +109,8 @@ pub struct Verdict<'a> {
     pub reason: u8,
     /// The time in microseconds since 1970, or since midnight or a start.
     pub time: Option<u64>,
+    /// Who sent its octets, as the line says: one of `constants::LOG_NO_SIDE` and those after it.
+    pub said: u8,
     /// Its frames, each of which spells a message.
     pub frames: Frames<'a>,
     /// Where the octets of the frames are written.

@@ -183,7 +183,8 @@ pub struct LogVerdict {
     pub kind: u8,
     pub reason: u8,
     pub has_time: u8,
-    pub reserved: [u8; 5],
+    pub said: u8,
+    pub reserved: [u8; 4],
 }
 
 /// Where octets are written in a log: a line, and the indexes of its characters.
