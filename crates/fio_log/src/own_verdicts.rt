@@ -1,4 +1,4 @@
-//! What is told of the lines of the program's own texts, by order.
+//! Verdicts of lines that are read by order as those of the program's own texts.
 ghost use Rattle.std.specs.Prelude.{◌≡◌, None};
 ghost use Rattle.fio_log.specs.declared.verdict.Form.TheVariants.{Auto};
 
@@ -25,7 +25,7 @@ impl Form {
 }
 
 impl Frames {
-    /// Tells what a line of an own text is, and takes its frame.
+    /// Returns the verdict of a line of an own text, and takes its frame.
     pub(crate) fn tell_own(&mut self, form: OwnForm, line: Line) -> Told {
         self.clear();
         let mut room = [0; FRAME_OCTETS];
