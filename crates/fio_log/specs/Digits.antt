@@ -1,7 +1,7 @@
 -- Characters of words, and the octets that hexadecimal digits spell.
 use Rattle.std.specs.Prelude.{ℕ, ◌+◌, ◌-◌, ◌*◌, ◌&&◌, ◌||◌, ◌==◌, Bool, nat_le, if◌then◌else◌, List, [], ◌∷◌, Option, Some, None, option_map, option_and_then}
 
--- whether a character is one from a first to a last
+-- whether a character is between a first and a last one, both included
 abbrev pub is_between : ℕ → ℕ → ℕ → Bool
 is_between low high character = nat_le low character && nat_le character high
 

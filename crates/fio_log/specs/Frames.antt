@@ -17,7 +17,7 @@ use Rattle.fio_log.specs.declared.telling.Frames.{Frames}
 abbrev pub Log : Type 0
 Log = ℕ → List ℕ
 
--- octets are written at several places of a log, one after the other
+-- octets are written at several places of a log, taken one after the other
 abbrev pub AreAt : Log → List ℕ → List Place → Type 0
 AreAt log octets [] = octets ≡ []
 AreAt log octets (place ∷ places) =
@@ -75,11 +75,11 @@ IsRunOf log from rows kept =
 abbrev pub IsEntryOf : Log → Entry → Type 0
 IsEntryOf log entry = All (IsRunOf log entry.from entry.rows.items) entry.kept.items
 
--- and those of all entries
+-- the messages of all entries are written where their runs are
 abbrev pub AreEntriesOf : Log → Entries → Type 0
 AreEntriesOf log entries = All (IsEntryOf log) entries.all.items
 
--- What a judge keeps of a log is written there.
+-- What a judge keeps of a log is written in the log.
 pub record IsJudgeOf (log : Log) (judge : Judge) : Type 0 where
   pub entries : AreEntriesOf log judge.entries
   pub joined : AreJoined log judge.join.lines

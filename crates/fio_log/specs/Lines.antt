@@ -36,7 +36,7 @@ held_octets NoBreak = 194 ∷ []
 held_octets Mark = 239 ∷ []
 held_octets SecondMark = 239 ∷ 187 ∷ []
 
--- whether an octet goes on what is held; `[` is 91
+-- whether an octet continues what is held; `[` is 91
 abbrev pub goes_on_held : Held → ℕ → Bool
 goes_on_held Nothing octet = false
 goes_on_held Escape octet = octet == 91
@@ -45,7 +45,7 @@ goes_on_held NoBreak octet = octet == 160
 goes_on_held Mark octet = octet == 187
 goes_on_held SecondMark octet = octet == 191
 
--- what is held then: a colour sequence ends with a letter
+-- what is held after that octet: a colour sequence ends with a letter
 abbrev pub held_next : Held → ℕ → Held
 held_next Nothing octet = Nothing
 held_next Escape octet = Colour
@@ -54,7 +54,7 @@ held_next NoBreak octet = Nothing
 held_next Mark octet = SecondMark
 held_next SecondMark octet = Nothing
 
--- what stands in the line for what is held, where an octet goes it on: a blank for a no-break space
+-- what the line gets in place of what is held, if an octet continues it: a blank for a no-break space
 abbrev pub held_text : Held → List ℕ
 held_text NoBreak = 32 ∷ []
 held_text other = []
@@ -68,13 +68,13 @@ held_first octet =
 abbrev pub own_text : ℕ → List ℕ
 own_text octet = if octet == 0 || octet == 27 || octet == 194 || octet == 239 then [] else octet ∷ []
 
--- A line that is made: its text, what is held of it, and its ending, as soon as it is whole.
+-- A line that is being made: its text, the octets that are held, and its ending.
 pub record Making : Type 0 where
   pub text : Text
   pub held : Held
   pub ending : Ending
 
--- a line that is not begun
+-- a line that has not begun
 abbrev pub no_line : Making
 no_line = record { text = no_text; held = Nothing; ending = Open }
 
@@ -104,7 +104,7 @@ with_line_octet making octet =
     if octet == 10 then ended making Feed
     else (if octet == 13 then ended making Return else with_character making octet)
 
--- An octet more: behind a whole line the next one begins, and LF directly behind CR is part of its ending.
+-- One octet more: after a whole line the next one begins, and LF directly after CR is part of the ending.
 abbrev pub with_octet_after : Ending → Making → ℕ → Making
 with_octet_after Open making octet = with_line_octet making octet
 with_octet_after Feed making octet = with_line_octet no_line octet
@@ -125,16 +125,16 @@ finished_by Open [] Nothing making = no_line
 finished_by Open octets held making = ended making Feed
 finished_by other octets held making = making
 
--- what the end of a text makes of the line
+-- the line after the end of the text
 abbrev pub finished : Making → Making
 finished making = finished_by making.ending making.text.octets making.held making
 
--- The lines that are whole, and the one that is made.
+-- The lines that are whole, and the one that is being made.
 pub record Lines : Type 0 where
   pub whole : List Text
   pub making : Making
 
--- lines with what an octet has made of the last one
+-- lines with a new last one: if it is whole, it joins the whole ones
 abbrev pub with_making : List Text → Making → Lines
 with_making whole making = record {
   whole = if is_whole making.ending then whole ++ making.text ∷ [] else whole;
@@ -149,10 +149,10 @@ with_octet_of lines octet = with_making lines.whole (with_octet lines.making oct
 abbrev pub lines_after : Lines → List ℕ → Lines
 lines_after lines octets = fold with_octet_of lines octets
 
--- no line that is whole, and one that is made
+-- no whole line, and one that is being made
 abbrev pub only : Making → Lines
 only making = record { whole = []; making = making }
 
--- The lines do not depend on where the octets are cut.
+-- The lines do not depend on where the octets are cut into pieces.
 abbrev pub IsCutAnywhere : Lines → List ℕ → List ℕ → Type 0
 IsCutAnywhere lines octets more = lines_after lines (octets ++ more) ≡ lines_after (lines_after lines octets) more

@@ -10,7 +10,7 @@ octal_digit character = if is_between 48 55 character then Some (character - 48)
 abbrev pub with_octal : ℕ → ℕ → Option ℕ
 with_octal number character = option_and_then (λ digit. Some (8 * number + digit)) (octal_digit character)
 
--- The octet that one character behind a backslash spells: an octal digit, or one of `n r t \ " ' a b f v /`.
+-- The octet that one character after a backslash spells: an octal digit, or one of `n r t \ " ' a b f v /`.
 abbrev pub escape_of : ℕ → Option ℕ
 escape_of character =
     if is_between 48 55 character then Some (character - 48)
@@ -24,7 +24,7 @@ escape_of character =
     else if character == 92 || character == 34 || character == 39 || character == 47 then Some character
     else None
 
--- The octet that a character spells: itself within ASCII, or behind a backslash one to three octal digits, `x` and two
+-- The octet that a character spells: itself within ASCII, or after a backslash one to three octal digits, `x` and two
 -- digits, `u00` and two digits, or another escape. A backslash is 92.
 abbrev pub character_of : List ℕ → Option ℕ
 character_of (itself ∷ []) = if itself == 92 || nat_le 128 itself then None else Some itself
@@ -41,7 +41,7 @@ character_of (backslash ∷ u ∷ a ∷ b ∷ high ∷ low ∷ []) =
     if backslash == 92 && u == 117 && a == 48 && b == 48 then octet_of (high ∷ low ∷ []) else None
 character_of other = None
 
--- between two characters of a literal stands nothing
+-- nothing is between two characters of a literal
 abbrev pub is_empty : List ℕ → Bool
 is_empty [] = true
 is_empty other = false

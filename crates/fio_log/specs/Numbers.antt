@@ -28,14 +28,14 @@ number_of text =
     (decimal_of (drop 1 text))
     else option_and_then (λ number. if nat_le number 255 then Some number else None) (decimal_of text)
 
--- What stands before a number: a bracket that opens, a comma, a blank or both. `(` is 40, `,` is 44, `<` is 60, `[` is 91,
+-- What is before a number: a bracket that opens, a comma, a blank or both. `(` is 40, `,` is 44, `<` is 60, `[` is 91,
 -- `{` is 123.
 abbrev pub is_break : List ℕ → Bool
 is_break (sign ∷ []) = sign == 32 || sign == 40 || sign == 44 || sign == 91 || sign == 123
 is_break (sign ∷ other ∷ []) = sign == 44 && other == 32 || sign == 60 && other == 60
 is_break other = false
 
--- What stands behind the last number: a bracket that closes. `)` is 41, `>` is 62, `]` is 93, `}` is 125.
+-- What is after the last number: a bracket that closes. `)` is 41, `>` is 62, `]` is 93, `}` is 125.
 abbrev pub is_closing : List ℕ → Bool
 is_closing (sign ∷ []) = sign == 41 || sign == 93 || sign == 125
 is_closing (sign ∷ other ∷ []) = sign == 62 && other == 62

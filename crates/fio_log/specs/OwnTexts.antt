@@ -12,7 +12,7 @@ use Rattle.fio_log.specs.declared.own_texts.OwnForm.TheVariants.{Frames, Transcr
 use Rattle.fio_log.specs.declared.own_texts.OwnLine.{OwnLine}
 use Rattle.fio_log.specs.declared.own_texts.OwnLine.TheVariants.{Skipped, Bad, Faulty, Frame}
 
--- the octets of a word, behind whether the CPU sent them, if the text says that
+-- whether the CPU sent a word, if the text says that, and the octets of the word
 abbrev pub frame_with : Option Bool → List ℕ → Option (Option Bool × List ℕ)
 frame_with from_cpu word = option_map (λ octets. (from_cpu, octets)) (octets_in word)
 
@@ -28,21 +28,21 @@ abbrev pub spells_from : Option Bool → List ℕ → Bool
 spells_from None octets = spells octets
 spells_from (Some from_cpu) octets = if from_cpu then is_some (command_in octets) else is_some (answer_in octets)
 
--- A line is a frame of so many octets, which are at the front of room for the longest if they fit in it.
+-- A line is a frame with `count` octets, which are at the front of the room if they fit in it.
 pub record IsReadFrame (form : OwnForm) (line : List ℕ) (from_cpu : Option Bool) (count : ℕ) (room : List ℕ) : Type 0 where
   pub octets : List ℕ
   pub frame : own_frame form line ≡ Some (from_cpu, octets)
   pub counted : count ≡ length octets
   pub read : count ≤ FRAME_OCTETS → octets ≡ take count room
 
--- A line is a frame of so many octets, which spells a message or none.
+-- A line is a frame with `count` octets, which spells a message if `spells` is true, else none.
 pub record IsOwnFrame (form : OwnForm) (line room : List ℕ) (count : ℕ) (spells : Bool) : Type 0 where
   pub said : is_skipped line ≡ false
   pub from_cpu : Option Bool
   pub read : IsReadFrame form line from_cpu count room
   pub spelled : spells_from from_cpu read.octets ≡ spells
 
--- What a line is, and what room for the longest frame has of it.
+-- What a line is, and what the room for the longest frame contains of it.
 abbrev pub IsOwnLine : OwnForm → List ℕ → List ℕ → OwnLine → Type 0
 IsOwnLine form line room Skipped = is_skipped line ≡ true
 IsOwnLine form line room Bad = (is_skipped line ≡ false) × (own_frame form line ≡ None)

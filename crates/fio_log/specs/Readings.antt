@@ -7,18 +7,18 @@ pub record Reading : Type 0 where
   pub octets : List ℕ
   pub waiting : Option ℕ
 
--- nothing is read
+-- the reading of no text
 abbrev pub no_reading : Reading
 no_reading = record { octets = []; waiting = None }
 
--- The octet that a character makes whole: of the digit that waits and its own, or of the digit that waits alone. What
+-- The octet that a character completes: of the digit that waits and its own, or of the digit that waits alone. What
 -- waits before an `x`, 120 or 88, is the 0 of a mark.
 abbrev pub made_whole : Option ℕ → Option ℕ → ℕ → Option ℕ
 made_whole None digit character = None
 made_whole (Some high) (Some low) character = Some (16 * high + low)
 made_whole (Some alone) None character = if character == 120 || character == 88 then None else Some alone
 
--- the digit that waits then
+-- the digit that waits after a character
 abbrev pub waits_then : Option ℕ → Option ℕ → Option ℕ
 waits_then None digit = digit
 waits_then (Some high) digit = None

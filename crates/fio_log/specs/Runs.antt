@@ -8,7 +8,7 @@ use Rattle.fio_log.specs.Written.{IsWritten}
 use Rattle.fio_log.specs.declared.marks.Word.{Word}
 use Rattle.fio_log.specs.declared.runs.Run.{Run}
 
--- a word has digits, and stands in a line at or behind a place
+-- a word has digits, and is in a line at a place or after it
 pub record IsBehind (line : List ℕ) (place : ℕ) (word : Word) : Type 0 where
   pub above : place ≤ word.place
   pub opened : word.place ≤ word.start
@@ -23,25 +23,25 @@ pub record AreWords (line : List ℕ) (start end : ℕ) (octets : List ℕ) : Ty
   pub within : end ≤ length line
   pub all : octets ≡ take RUN_OCTETS (octets_of (slice_range line start end))
 
--- A run stands in a line at or behind a place. Where the next one may begin is behind the place where it begins.
+-- A run is in a line at a place or after it. The next run may begin only after the place where this one begins.
 pub record IsSpan (line : List ℕ) (from : ℕ) (run : Run) : Type 0 where
   pub above : from ≤ run.start
   pub forward : run.start < run.next
   pub order : run.next ≤ run.end
   pub within : run.end ≤ length line
 
--- A run stands in a line at or behind a place, and its octets are those that are written there.
+-- A run is in a line at a place or after it, and its octets are those that are written there.
 pub record IsRun (line : List ℕ) (from : ℕ) (kept : List ℕ) (run : Run) : Type 0 where
   pub span : IsSpan line from run
   pub words : AreWords line run.start run.end kept
 
--- A string literal is in a line from a place to an end, and its octets are all its characters, between its quotes.
+-- A string literal is in a line from a place to an end, and its octets are all the characters between its quotes.
 pub record IsLiteral (line : List ℕ) (place : ℕ) (octets : List ℕ) (end : ℕ) : Type 0 where
   pub forward : place < end
   pub within : end ≤ length line
   pub written : IsWritten character_of is_empty line (place + 1) octets (end - 1)
 
--- Numbers in brackets stand in a line from a place to an end, and their octets are all of them, up to the last one's end.
+-- Numbers in brackets are in a line from a place to an end, and the octets are all the numbers, up to the last one's end.
 pub record IsNumbers (line : List ℕ) (place : ℕ) (octets : List ℕ) (end : ℕ) : Type 0 where
   pub last : ℕ
   pub within : end ≤ length line

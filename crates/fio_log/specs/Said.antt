@@ -12,7 +12,7 @@ IsWrittenAt line Words start end octets = AreWords line start end octets
 IsWrittenAt line Numbers start end octets = IsNumbers line start octets end
 IsWrittenAt line Literal start end octets = IsLiteral line start octets end
 
--- A run is in a line: its octets are written there, and they say what it says. So it says a message only if its octets
+-- A run is in a line: its octets are written there, and they say what the run says. So it says a message only if its octets
 -- spell one.
 pub record IsSaidIn (line : List ℕ) (said : Said) : Type 0 where
   pub written : IsWrittenAt line said.notation said.start said.end said.octets.items

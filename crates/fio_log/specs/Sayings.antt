@@ -13,7 +13,7 @@ use Rattle.fio_log.specs.declared.sayings.Saying.{Saying}
 use Rattle.fio_log.specs.declared.sayings.Saying.TheVariants.{NoMessage, Begins, Says}
 use Rattle.fio_log.specs.declared.sayings.TheConstants.{FLAG}
 
--- whether octets are an answer by their first one
+-- whether octets are an answer, by their first octet
 abbrev pub is_answer : List ℕ → Bool
 is_answer octets = nat_lt 127 (slice_index octets 0)
 
@@ -21,7 +21,7 @@ is_answer octets = nat_lt 127 (slice_index octets 0)
 abbrev pub spells : List ℕ → Bool
 spells octets = if is_answer octets then is_some (answer_in octets) else is_some (command_in octets)
 
--- how many octets a message has that begins so, by its type and count
+-- how many octets a message has that begins with these, by its type and count
 abbrev pub length_of : List ℕ → Option ℕ
 length_of octets = if is_answer octets then answer_length octets else command_length octets
 
@@ -54,11 +54,11 @@ frame_end octets start (suc end) =
 abbrev pub flags_before : List ℕ → ℕ
 flags_before octets = prefix_len (λ octet. octet == FLAG) octets
 
--- where the frame ends that octets are, with flags before it and behind it or none
+-- where the frame ends that octets are, with or without flags before it and after it
 abbrev pub framed : List ℕ → Option ℕ
 framed octets = frame_end octets (flags_before octets) (length octets)
 
--- Octets say the message that they spell from a place to another: in a frame that is what stands between header and
+-- Octets say the message that they spell from a place to another: in a frame that is what is between header and
 -- check, and sure; else it is all of them, and sure if it is counted.
 pub record IsSaid (octets : List ℕ) (from to : ℕ) (is_sure : Bool) : Type 0 where
   pub spelled : spells (slice_range octets from to) ≡ true
@@ -73,7 +73,7 @@ pub record SaysNone (octets : List ℕ) : Type 0 where
   pub framed : framed octets ≡ None
   pub spelled : spells octets ≡ false
 
--- What octets say. They begin a message if those of its type and count are more, or a frame if they begin with a flag.
+-- What octets say. They begin a message if its type and count need more octets, or a frame if they begin with a flag.
 abbrev pub IsSaying : List ℕ → Saying → Type 0
 IsSaying octets NoMessage =
     SaysNone octets

@@ -1,4 +1,4 @@
--- What a reader has read of a log, and of which lines it has told.
+-- What a reader has read of a log, and of which lines it has returned the verdict.
 use Rattle.std.specs.Prelude.{◌≡◌, ℕ, ◌+◌, ◌≤◌, Bool, true, false, if◌then◌else◌, List, [], length, map}
 use Rattle.std.specs.List.{All}
 use Rattle.fio_log.specs.Chains.{part_of}
@@ -13,9 +13,9 @@ use Rattle.fio_log.specs.declared.verdict.Form.{Form}
 use Rattle.fio_log.specs.declared.verdict.Form.TheVariants.{Auto}
 use Rattle.fio_log.specs.declared.verdict.Verdict.{Verdict}
 
--- A reader: how it reads, the line that is made, how many lines are read, how many verdicts are told, whether the next one
--- can be told, and whether the log has ended; the frames of the last verdict, what is kept of the lines above, whether the last
--- line waits to be judged, and its runs.
+-- A reader: how it reads, the line that is being made, how many lines are read, how many verdicts are returned, whether the
+-- next one can be returned, and whether the log has ended; the frames of the last verdict, what is kept of the lines above,
+-- whether the last line waits to be judged, and its runs.
 pub record Telling : Type 0 where
   pub form : Form
   pub making : Making
@@ -42,18 +42,18 @@ places_of telling =
     then row_places telling.judge.join.lines.from telling.judge.join.lines.notation telling.judge.join.lines.rows.items
     else telling.last.places.items
 
--- The line that is made is that of a log, if it is whole: the last one that is read.
+-- If the line that is being made is whole, it is the last line of the log that is read.
 abbrev pub IsLineOf : Log → Telling → Type 0
 IsLineOf log telling = is_whole telling.making.ending ≡ true → telling.making.text.octets ≡ log telling.read
 
--- What a reader keeps of a log is written there.
+-- What a reader keeps of a log is written in the log.
 pub record IsReaderOf (log : Log) (telling : Telling) : Type 0 where
   pub line : IsLineOf log telling
   pub judge : IsJudgeOf log telling.judge
   pub held : telling.is_held ≡ true → All (IsSaidIn (log telling.read)) telling.runs
   pub frames : telling.form ≡ Auto → AreFramesOf log telling.last
 
--- how many lines are read after a line, which is one more if it is whole
+-- how many lines are read: one more if the line is whole
 abbrev pub read_after : ℕ → Making → ℕ
 read_after read making = if is_whole making.ending then read + 1 else read
 
@@ -61,7 +61,7 @@ read_after read making = if is_whole making.ending then read + 1 else read
 abbrev pub read_at_end : ℕ → Making → ℕ
 read_at_end read making = if is_whole making.ending then read else read_after read (finished making)
 
--- A reader has taken octets: they made the line that is made, they made at most one line whole, and that is read.
+-- A reader has taken octets: they went into the line that is being made, and completed at most one line, which is read.
 pub record HasTaken (before : Telling) (octets : List ℕ) (after : Telling) : Type 0 where
   pub lines : lines_after (only before.making) octets ≡ with_making [] after.making
   pub read : after.read ≡ read_after before.read after.making
@@ -69,7 +69,7 @@ pub record HasTaken (before : Telling) (octets : List ℕ) (after : Telling) : T
   pub form : after.form ≡ before.form
   pub is_ended : after.is_ended ≡ before.is_ended
 
--- A reader has told the verdict of the next line.
+-- A reader has returned the verdict of the next line.
 pub record HasTold (before : Telling) (verdict : Verdict) (after : Telling) : Type 0 where
   pub next : verdict.line ≡ before.told + 1
   pub told : after.told ≡ verdict.line
@@ -81,7 +81,7 @@ pub record HasTold (before : Telling) (verdict : Verdict) (after : Telling) : Ty
   pub read : after.read ≡ before.read
   pub is_ended : after.is_ended ≡ before.is_ended
 
--- A reader has no verdict to tell: nothing that it tells of has changed.
+-- A reader has no verdict to return: nothing that its verdicts report has changed.
 pub record HasNoMore (before after : Telling) : Type 0 where
   pub told : after.told ≡ before.told
   pub form : after.form ≡ before.form

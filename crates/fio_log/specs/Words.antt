@@ -1,9 +1,9 @@
--- Words of hexadecimal digits and what stands around them.
+-- Words of hexadecimal digits and what is around them.
 use Rattle.std.specs.Prelude.{◌≡◌, ℕ, ◌+◌, ◌<◌, ◌≤◌, ◌==◌, ◌&&◌, ◌||◌, Bool, true, false, List, slice_range, slice_index, is_some, length}
 use Rattle.fio_log.specs.Digits.{digit_of, is_between, is_letter}
 use Rattle.fio_log.specs.declared.marks.Word.{Word}
 
--- a text stands in a line from a place to an end
+-- a text is in a line from a place to an end
 pub record StandsAt (line text : List ℕ) (place end : ℕ) : Type 0 where
   pub same : slice_range line place end ≡ text
   pub order : place ≤ end
@@ -13,14 +13,14 @@ pub record StandsAt (line text : List ℕ) (place end : ℕ) : Type 0 where
 abbrev pub AreDigits : List ℕ → ℕ → ℕ → Type 0
 AreDigits line place end = (k : ℕ) → place ≤ k → k < end → is_some (digit_of (slice_index line k)) ≡ true
 
--- Whether what stands at a place of a line goes on a word that ends there: a letter or digit, or a decimal point and a
--- digit. Behind the line stands nothing.
+-- Whether the characters at a place of a line continue a word that ends there: a letter or digit, or a decimal point and a
+-- digit. After the end of the line there is nothing.
 abbrev pub goes_on : List ℕ → ℕ → Bool
 goes_on line place =
     is_letter (slice_index line place)
     || (slice_index line place == 46 && is_between 48 57 (slice_index line (place + 1)))
 
--- A word stands in a line at a place: a mark, digits, the mark's end, and nothing that goes it on.
+-- A word is in a line at a place: a mark, digits, the mark's end, and nothing that continues it.
 pub record IsWord (line opening closing : List ℕ) (place : ℕ) (word : Word) : Type 0 where
   pub here : word.place ≡ place
   pub opened : StandsAt line opening place word.start

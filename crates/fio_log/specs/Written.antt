@@ -2,7 +2,7 @@
 use Rattle.std.specs.Prelude.{◌≡◌, ℕ, ◌≤◌, Bool, true, List, [], ◌∷◌, Option, Some, slice_range}
 
 -- Octets are written in a line from a place to another, in their order: each is what the characters from its own place
--- to its own end spell, and what stands before them, from the end of the octet above, is a break. So none is invented,
+-- to its own end spell, and what is before them, from the end of the octet above, is a break. So none is invented,
 -- and none is left out.
 abbrev pub IsWritten : (List ℕ → Option ℕ) → (List ℕ → Bool) → List ℕ → ℕ → List ℕ → ℕ → Type 0
 IsWritten spelled is_break line from [] to = from ≡ to

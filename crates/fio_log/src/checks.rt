@@ -5,7 +5,7 @@ ghost use Rattle.fio_log.specs.Checks.{divided, frame_check_of, with_octet};
 /// The polynomial x^16 + x^12 + x^5 + 1, its lowest power in the highest bit.
 const POLYNOMIAL: u16 = 0x8408;
 
-/// Returns the frame check of octets, which is sent behind them, its low octet first.
+/// Returns the frame check of octets. It is sent after them, its low octet first.
 pub fn frame_check(octets: &[u8]) -> u16
     ensures { result ≡ frame_check_of octets.now }
 {

@@ -1,4 +1,4 @@
-//! Times in lines of logs. They are told with a frame, and read none.
+//! Times in lines of logs, which verdicts report.
 ghost use Rattle.std.specs.Prelude.{◌≤◌, ◌<◌, IfSome, length};
 
 use crate::digits::{digit, is_decimal, is_letter};
@@ -12,7 +12,7 @@ pub struct Time {
     pub start: usize,
     /// Where it ends.
     pub end: usize,
-    /// How late it is, in microseconds since 1970, or since midnight or a start where it has no date.
+    /// How late it is, in microseconds since 1970, or since midnight or a start if it has no date.
     pub microseconds: u64,
 }
 
@@ -52,7 +52,7 @@ pub fn time_in(line: &[u8]) -> Option<Time>
     None
 }
 
-/// Returns whether a time may begin at a place: with a digit or a letter, and behind none, and no `.`, `:`, `-` or `/`.
+/// Returns whether a time may begin at `place`: at a digit or letter that is not after another, nor after `.`, `:`, `-` or `/`.
 fn may_begin(line: &[u8], place: usize) -> bool
     requires { place < length line.now }
 {
@@ -63,7 +63,7 @@ fn may_begin(line: &[u8], place: usize) -> bool
     is_free && line[place].is_ascii_alphanumeric()
 }
 
-/// Returns the time of a form that begins at a place of a line.
+/// Returns the time of the form `form` that begins at `start`.
 fn time_at(line: &[u8], start: usize, form: &[u8]) -> Option<Time>
     requires { start ≤ length line.now }
     ensures order { IfSome result (λ time. time.start ≤ time.end) }
@@ -94,7 +94,7 @@ fn time_at(line: &[u8], start: usize, form: &[u8]) -> Option<Time>
     })
 }
 
-/// Returns where the part of a time ends that begins at a place of a line, and sets it.
+/// Sets the part of a time that begins at `place`, and returns where it ends.
 fn part_end(line: &[u8], place: usize, sign: u8, parts: &mut Parts) -> Option<usize>
     requires { place ≤ length line.now }
     ensures order { IfSome result (λ end. place ≤ end) }
@@ -128,7 +128,7 @@ fn part_end(line: &[u8], place: usize, sign: u8, parts: &mut Parts) -> Option<us
     is_right.then_some(end)
 }
 
-/// Returns the number of the digits, at most so many, that begin at a place of a line, and where they end.
+/// Returns the value of the digits that begin at `place`, at most `most` of them, and where they end.
 fn number_at(line: &[u8], place: usize, most: usize) -> (u64, usize)
     requires { place ≤ length line.now }
     ensures order { place ≤ result.1 }
@@ -159,7 +159,7 @@ fn gap_end(line: &[u8], place: usize) -> Option<usize>
     (end > place).then_some(end)
 }
 
-/// Returns where the name of a month ends that stands at a place of a line, and sets the month.
+/// Sets the month whose name is at `place`, and returns where the name ends.
 fn month_end(line: &[u8], place: usize, parts: &mut Parts) -> Option<usize>
     requires { place ≤ length line.now }
     ensures order { IfSome result (λ end. place ≤ end) }
@@ -191,7 +191,7 @@ fn month_end(line: &[u8], place: usize, parts: &mut Parts) -> Option<usize>
     Some(place + 3)
 }
 
-/// Returns where the fraction of a second ends that begins at a place of a line, and sets its microseconds.
+/// Sets the microseconds of the fraction of a second that begins at `place`, and returns where it ends.
 fn fraction_end(line: &[u8], place: usize, parts: &mut Parts) -> usize
     requires { place ≤ length line.now }
     ensures order { place ≤ result }
@@ -215,7 +215,7 @@ fn fraction_end(line: &[u8], place: usize, parts: &mut Parts) -> usize
     end
 }
 
-/// Returns whether what stands at a place of a line goes on a word or a number with colons.
+/// Returns whether the characters at `place` continue a word or a number with colons.
 fn goes_on(line: &[u8], place: usize) -> bool
     requires { place ≤ length line.now }
 {
@@ -227,7 +227,7 @@ fn goes_on(line: &[u8], place: usize) -> bool
     }
 }
 
-/// Sets the hour of the half of a day, `AM` or `PM`, that may stand at a place of a line.
+/// Sets the hour by the half of a day, `AM` or `PM`, if one is at `place`.
 fn set_half(line: &[u8], place: usize, parts: &mut Parts)
     requires { place ≤ length line.now }
 {

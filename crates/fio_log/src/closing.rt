@@ -13,7 +13,7 @@ use crate::shapes::{front_key, whole_key};
 use crate::verdict::{Kind, Reason};
 
 impl Judge {
-    /// Closes the lines that are open: their octets are judged, and they stand or fall together.
+    /// Closes the lines that are open: their octets are judged together, and the lines have one decision.
     pub(crate) fn close(&mut self)
         ensures { (log : Log) → IsJudgeOf log self.old → IsJudgeOf log self.new }
     {
@@ -28,7 +28,7 @@ impl Judge {
         }
     }
 
-    /// Returns whether the line that is open stayed alone, and is judged as any other.
+    /// Returns whether no line was joined to the one that is open, so that it is judged as any other.
     fn is_one_line(&self) -> bool {
         let is_alone = self.join.lines.rows.len() <= 1;
         match self.join.joining {

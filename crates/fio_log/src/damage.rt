@@ -63,7 +63,8 @@ impl Texts {
 
 impl Decider {
     /// Finds whether an entry that gives no frame may have held one: it says a message that is written as frames are, or
-    /// may be what is left of the line of one after a cut. In a log that has frames no message is only possible.
+    /// may be what is left of the line of one after a cut. In a log that has frames no message is possible: it is damaged or
+    /// passed over.
     pub(crate) fn find_damage(&mut self, entries: &Entries, slot: usize) {
         let (Some(entry), Some(decision)) = (entries.get(slot), self.queue.get(slot)) else {
             return;

@@ -29,7 +29,7 @@ pub(crate) struct Above {
     pub slot: Option<usize>,
 }
 
-/// What is decided of the entries, and what is known of the log. What is read of the entries it does not change.
+/// What is decided of the entries, and what is known of the log. It does not change what is read of the entries.
 #[derive(Drop)]
 pub(crate) struct Decider {
     pub shapes: Shapes,
@@ -39,7 +39,7 @@ pub(crate) struct Decider {
     pub above: Above,
     /// The runs of the line that is decided, or of the first one of those that are open.
     pub seen: ArrayVec<Seen, LINE_RUNS>,
-    /// The slot of the entry whose lines may go on.
+    /// The slot of the entry that further lines may continue.
     pub open: Option<usize>,
     /// The slot of the entry whose frames are those of the chain.
     pub chain: Option<usize>,
@@ -47,12 +47,12 @@ pub(crate) struct Decider {
     pub count: u64,
     /// Whether there was a line that is not a bare message.
     pub has_others: bool,
-    /// Whether a shape is new since entries that wait were judged.
+    /// Whether a shape became known after the waiting entries were judged.
     pub is_news: bool,
 }
 
 impl Decider {
-    /// Returns that nothing is decided or known.
+    /// Returns a decider of an empty log.
     pub(crate) fn new() -> Decider {
         Decider {
             shapes: Shapes::new(),
@@ -73,7 +73,7 @@ impl Decider {
         }
     }
 
-    /// Returns the slot of the next entry. What is known of the one that was there is kept as far as a pair needs it.
+    /// Returns the slot of the next entry. Keeps what a pair needs of the entry that was in it.
     pub(crate) fn next_slot(&mut self) -> Option<usize> {
         let slot = self.queue.next_slot()?;
         if self.above.slot == Some(slot) {
@@ -103,7 +103,7 @@ impl Decider {
         }
     }
 
-    /// Decides on an entry as far as its own runs, those of the entry above and known shapes do.
+    /// Decides on an entry by its own runs, those of the entry above and known shapes, as far as they suffice.
     pub(crate) fn decide(&mut self, entries: &Entries, slot: usize) {
         let Some(entry) = entries.get(slot) else {
             return;
@@ -176,7 +176,7 @@ impl Decider {
         }
     }
 
-    /// Returns the command that the entry above says and its answer in an entry, if these are only one pair.
+    /// Returns the command that the entry above says and its answer in an entry, if there is exactly one such pair.
     fn pair_above(&self, entries: &Entries, slot: usize) -> Option<(Brief, Brief)> {
         let entry = entries.get(slot)?;
         let chosen = match self.above.slot {
@@ -202,7 +202,7 @@ impl Decider {
         pair
     }
 
-    /// Makes the runs of an entry sure that say a message.
+    /// Marks as sure the runs of an entry that say a message.
     fn make_sure(&mut self, entries: &Entries, slot: Option<usize>, brief: Brief) {
         let Some(slot) = slot else {
             return;
@@ -214,7 +214,7 @@ impl Decider {
         }
     }
 
-    /// Judges an entry that waits; if its shape is new then, all others that wait.
+    /// Judges an entry that waits; if a shape becomes known by it, judges all others that wait.
     pub(crate) fn judge(&mut self, entries: &Entries, slot: usize) {
         self.judge_one(entries, slot);
         for _ in 0..ENTRIES {
@@ -298,7 +298,7 @@ impl Decider {
         Reason::NoMessage
     }
 
-    /// Returns whether one of the runs of the line that is decided may have been a frame.
+    /// Returns whether a run of the line that is decided may have been a frame.
     fn is_damaged(&self) -> bool {
         self.seen.as_slice().iter().any(|seen| seen.is_known(&self.shapes)
             || seen.is_begun && self.styles.has(seen.mark, seen.ways))
@@ -332,7 +332,7 @@ impl Decider {
         self.judge(entries, slot);
     }
 
-    /// Returns whether each line so far with a front said a message, or each line of the log if nothing is before it.
+    /// Returns whether each line so far with a front said a message; if the front is empty, whether each line of the log did.
     pub(crate) fn is_alone(&self, has_before: bool, front: u64) -> bool {
         if has_before {
             self.shapes.is_always_good(front)

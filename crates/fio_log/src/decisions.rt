@@ -28,7 +28,7 @@ pub(crate) struct Decision {
     pub state: State,
     /// Up to how many frames it waits.
     pub waits: u64,
-    /// Which of its runs other lines make sure.
+    /// Which of its runs are made sure by other lines.
     sure: [bool; KEPT],
 }
 
@@ -50,7 +50,7 @@ enum Only {
 }
 
 impl Decision {
-    /// Returns that nothing is decided yet of an entry of one line.
+    /// Returns the decision on a new entry of one line, which waits.
     pub(crate) fn waiting(line: u64) -> Decision {
         Decision {
             until: line,
@@ -75,7 +75,7 @@ impl Decision {
                 .is_some_and(|kept| kept.is_sure)
     }
 
-    /// Makes the runs of the entry sure that say a message.
+    /// Marks as sure the runs of the entry that say a message.
     pub(crate) fn make_sure(&mut self, entry: &Entry, brief: Brief) {
         for (index, kept) in entry.kept.as_slice().iter().enumerate() {
             if index < KEPT && kept.brief == brief {
@@ -102,7 +102,7 @@ impl Decision {
             || kept.get(second).is_some_and(|kept| kept.brief == brief)
     }
 
-    /// Returns the message that the runs of the entry say which are right, or among these are known.
+    /// Returns what the runs of the entry that are right say together, or those of them that are known.
     fn only(&self, entry: &Entry, shapes: &Shapes, are_known: bool) -> Only {
         let mut only = Only::None;
         let mut brief = Brief::default();
@@ -125,7 +125,7 @@ impl Decision {
         only
     }
 
-    /// Takes the one message that the runs of the entry say surely, or in a shape that is known; or a command and its answer.
+    /// Takes the one message that sure runs of the entry say, or runs of a known shape; or a command and its answer.
     pub(crate) fn judge(&mut self, entry: &Entry, shapes: &Shapes) {
         if let Some((command, answer)) = entry.only_pair() {
             self.state = State::Both(command, answer);
@@ -151,7 +151,7 @@ impl Decision {
         }
     }
 
-    /// Returns what a line of the entry is, whose first line is `from`, and why it gave no frame.
+    /// Returns what a line of the entry is, and why it gave no frame. `from` is the entry's first line.
     pub(crate) fn verdict(&self, from: u64, line: u64) -> (Kind, Reason) {
         match self.state {
             State::Passed(Kind::Possible, _) if line > from => (Kind::Part, Reason::None),

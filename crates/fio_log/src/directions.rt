@@ -88,7 +88,7 @@ pub(crate) fn direction_of_word(word: &[u8]) -> Option<Direction> {
     Some(direction_at(index_of(word)?))
 }
 
-/// Returns the direction that the words of a text say, if it has one word for it, perhaps several times, no other word
+/// Returns the direction that a text says, if it has one word for it, perhaps several times, no other word
 /// but numbers, and no number after it. The gap is a time.
 pub(crate) fn direction_of(text: &[u8], gap: Gap) -> Option<Direction> {
     let mut words = Words {

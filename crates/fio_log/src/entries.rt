@@ -1,4 +1,4 @@
-//! Entries: lines of a log that stand or fall together, and what is read of them.
+//! Entries: lines of a log that have one decision, and what is read of them.
 ghost use Rattle.std.specs.Prelude.{◌≡◌, ℕ, ◌<◌, [], IfSome};
 ghost use Rattle.fio_log.specs.Frames.{AreEntriesOf, AreJoined, IsEntryOf, IsMessageOf, IsRunOf, Log, line_place};
 
@@ -15,7 +15,7 @@ pub(crate) const KEPT: usize = 3;
 /// The most rows of an entry that are kept with it.
 pub(crate) const KEPT_ROWS: usize = 98;
 
-/// Lines that stand or fall together. What is read of them stays as it is until the entry is told.
+/// Lines that have one decision. What is read of them does not change until the verdict of the entry is returned.
 #[derive(Debug, Drop)]
 pub(crate) struct Entry {
     /// Its first line.
@@ -87,7 +87,7 @@ impl Entry {
         }
     }
 
-    /// Returns the command and its answer that its runs say, if these are only one pair.
+    /// Returns the command and its answer that its runs say, if they say exactly one pair.
     pub(crate) fn only_pair(&self) -> Option<(usize, usize)> {
         let mut found: Option<(usize, usize)> = None;
         let mut briefs = (Brief::default(), Brief::default());

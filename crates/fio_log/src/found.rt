@@ -33,7 +33,7 @@ pub(crate) struct Found {
 }
 
 impl Found {
-    /// Returns whether it ends after another run, or ends with it and begins before it.
+    /// Returns whether it ends after another run, or ends with that run and begins before it.
     pub(crate) fn is_later(self, start: usize, end: usize) -> bool {
         self.end > end || self.end == end && self.start < start
     }
@@ -74,7 +74,7 @@ fn run_before(
     next_run(part, place, mark, is_short, octets)
 }
 
-/// Returns that a run of words is found.
+/// Returns what is found with a run of words.
 fn found_words(run: Run, mark: u8, is_short: bool) -> Found
     ensures start { result.start ≡ run.start }
     ensures end { result.end ≡ run.end }

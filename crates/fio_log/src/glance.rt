@@ -1,4 +1,4 @@
-//! One look at a line: which characters it has, so that marks and words that it cannot have are not looked for.
+//! One look at a line: which characters it has, so that no search looks for marks and words that it cannot have.
 use crate::digits::{digit, is_letter};
 use crate::marks::Mark;
 

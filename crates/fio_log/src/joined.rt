@@ -18,7 +18,7 @@ pub(crate) struct Row {
 }
 
 impl Row {
-    /// Returns the row between two indexes of a line; `None` if they are none.
+    /// Returns the row between two indexes of a line; `None` if a row cannot have these.
     fn between(start: usize, end: usize) -> Option<Row>
         ensures start { IfSome result (λ row. row.start ≡ start) }
         ensures end { IfSome result (λ row. row.start + row.length ≡ end) }
@@ -96,7 +96,7 @@ impl Joined {
         self.from.checked_add(self.rows.len() as u64)
     }
 
-    /// Returns what the octets say with those of a next row; `None` if there is no room for these.
+    /// Returns what the octets say together with those of a next row; `None` if there is no room for these.
     pub(crate) fn saying_with(&mut self, octets: &[u8]) -> Option<Saying>
         ensures from { self.new.from ≡ self.old.from }
         ensures notation { self.new.notation ≡ self.old.notation }

@@ -28,7 +28,7 @@ pub(crate) enum Joining {
     Octets,
 }
 
-/// Whether a line goes on with those above it.
+/// Whether a line continues those above it.
 #[derive(Clone, Copy, Debug, PartialEq, Eq)]
 pub(crate) enum Going {
     /// It does not.
@@ -52,7 +52,7 @@ pub(crate) struct Join {
     pub width: usize,
     /// Whether the octets are to be passed over: they may be one message or several.
     pub is_bad: bool,
-    /// Whether a row had before it what the first has.
+    /// Whether a later row has the same before it as the first one.
     pub is_same: bool,
     /// How many octets the last row has.
     last: usize,
@@ -119,7 +119,7 @@ impl Join {
                 .push(said.octets.as_slice(), said.start, said.end)
     }
 
-    /// Returns the key of the front of the lines: that of the first row, or for octet rows and dumps one of their own.
+    /// Returns what surrounds the lines: as the first row, but with keys of their own for octet rows and dumps.
     pub(crate) fn surroundings(&self) -> Around {
         let mut around = self.around;
         match self.joining {
@@ -173,7 +173,7 @@ impl Join {
         }
     }
 
-    /// Returns whether a row may be a message by itself, so that it is none of this one. If that is not known, all rows
+    /// Returns whether a row may be a message by itself, and so no row of this one. If that is not known, all rows
     /// are to be passed over.
     fn is_other(&mut self, row: &Said, hangs: bool, shapes: &Shapes) -> bool
         ensures { self.new.lines ≡ self.old.lines }
@@ -239,7 +239,7 @@ impl Join {
         }
     }
 
-    /// Begins with the first row of a dump; `None` if a line is none. Returns whether it has octets.
+    /// Begins with the first row of a dump. Returns whether it has octets; `None` if the line is no such row.
     pub(crate) fn begin_dump(&mut self, line: Line) -> Option<bool>
         ensures { (log : Log) → AreJoined log self.old.lines → line.entry.text.now ≡ log line.entry.number
             → AreJoined log self.new.lines }
@@ -292,12 +292,12 @@ impl Join {
     }
 }
 
-/// What sets the shapes of dumps and of octet rows apart from those of lines.
+/// The numbers that set the shapes of dumps and of octet rows apart from those of lines.
 const DUMP: u64 = 0x9e37_79b9_7f4a_7c15;
 
 const OCTETS: u64 = 0xc2b2_ae3d_27d4_eb4f;
 
-/// Returns whether a time comes at most two and a half times the shortest step after another, and keeps the shortest.
+/// Returns whether a time is at most two and a half times the shortest step after another; keeps the shortest step.
 fn is_in_step(above: u64, time: u64, step: &mut Option<u64>) -> bool {
     let Some(passed) = time.checked_sub(above) else {
         return true;

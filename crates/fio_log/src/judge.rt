@@ -53,7 +53,7 @@ pub(crate) struct Judge {
 }
 
 impl Judge {
-    /// Returns a judge who knows nothing.
+    /// Returns a judge of an empty log.
     pub(crate) fn new() -> Judge
         ensures { (log : Log) → IsJudgeOf log result }
     {
@@ -103,7 +103,7 @@ impl Judge {
         }
     }
 
-    /// Reads a line that does not go on with those above it.
+    /// Reads a line that does not continue those above it.
     pub(crate) fn begin(&mut self, line: Line, runs: &LineRuns)
         ensures { (log : Log) → IsJudgeOf log self.old → line.entry.text.now ≡ log line.entry.number
             → All (IsSaidIn (log line.entry.number)) runs.now.said.items → IsJudgeOf log self.new }
@@ -172,7 +172,7 @@ impl Judge {
         }
     }
 
-    /// Returns whether a line may go on in the next one, and begins with it.
+    /// Returns whether the next line may continue this one; if so, begins with it.
     fn opens(&mut self, line: Line, runs: &LineRuns) -> bool
         ensures { (log : Log) → IsJudgeOf log self.old → line.entry.text.now ≡ log line.entry.number
             → All (IsSaidIn (log line.entry.number)) runs.now.said.items → IsJudgeOf log self.new }
@@ -188,7 +188,7 @@ impl Judge {
         self.join.begin(joining, line.number, row, runs.time)
     }
 
-    /// Returns the run of a line that may go on in the next one, and why.
+    /// Returns the run of a line that the next line may continue, and why.
     fn first_of_several<'a>(&self, runs: &'a LineRuns) -> Option<(Joining, &'a Said)>
         ensures { (line : List ℕ) → All (IsSaidIn line) runs.now.said.items
             → IfSome result (λ found. IsSaidIn line found.1.now) }

@@ -1,4 +1,4 @@
-//! Runs of octets, as far as the judge needs them.
+//! What the judge keeps of runs of octets.
 ghost use Rattle.std.specs.Prelude.{◌≡◌, ℕ, [], IfSome};
 ghost use Rattle.fio_log.specs.Frames.{IsMessageOf, IsRunOf, Log};
 ghost use Rattle.fio_log.specs.Said.{IsSaidIn};
@@ -152,13 +152,13 @@ impl Kept {
         }
     }
 
-    /// Returns whether it is known or, if it is sure, not without a digit.
+    /// Returns whether it is known or, if it is sure, lacks no digit.
     pub(crate) fn is_right(&self, is_sure: bool, shapes: &Shapes) -> bool {
         is_sure && !self.has_lost_a_digit(shapes) || self.is_known(shapes)
     }
 }
 
-/// A run of a line, as far as counting needs it.
+/// What counting needs of a run of a line.
 #[derive(Clone, Copy, Debug, Default)]
 pub(crate) struct Seen {
     /// The key of its whole shape.

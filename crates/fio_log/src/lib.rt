@@ -1,13 +1,13 @@
 //! Reads logs that have frames of the field I/O link: octets to lines, lines to runs of octets, and what these say.
-//! Nothing here takes memory. It goes by a definition of what octets in a line are, and not by the forms of known
+//! Nothing here allocates memory. It goes by a definition of what octets in a line are, and not by the forms of known
 //! loggers.
 //!
 //! | To | Call |
 //! |---|---|
 //! | read a log: a verdict of each line, with its frames | `Reader` |
-//! | make lines of octets, cut anywhere | `LineMaker` |
+//! | make lines of octets that come in pieces, cut anywhere | `LineMaker` |
 //! | find the octets that are written as hexadecimal words, with each mark of `MARKS` | `next_run` |
-//! | .. as decimal numbers in brackets, or as a string literal | `numbers_at`, `literal_at` |
+//! | find those written as decimal numbers in brackets, or as a string literal | `numbers_at`, `literal_at` |
 //! | know what octets say: a message, the beginning of one, or none | `read_saying` |
 //! | compute the check of a frame | `frame_check` |
 //! | find the first time in a line | `time_in` |
@@ -15,8 +15,8 @@
 //! The definitions are in `specs/`, in this order: characters (`Digits`), words with their marks (`Words`), the octets that
 //! characters spell (`Readings`, `Numbers`, `Literals`) and the places where they are written (`Written`), runs (`Runs`),
 //! frame checks (`Checks`), what octets say (`Sayings`), lines (`Lines`), chains of messages (`Chains`), what a reader has
-//! read and told (`Telling`). What times are, and which messages are frames (`judge`, `deciding`), is the code alone. The laws
-//! are the contracts of `Reader` and of the module `laws`.
+//! read and returned (`Telling`). Only the code says what times are, and which messages are frames (`judge`, `deciding`). The
+//! laws are the contracts of `Reader` and of the module `laws`.
 //!
 //! # Examples
 //!

@@ -17,7 +17,7 @@ use crate::sides::said_at;
 use crate::surroundings::{Before, Gap, read_after};
 use std::mem;
 
-/// What is known while the runs of a line are looked for.
+/// What is known during the search for the runs of a line.
 #[derive(Drop)]
 struct Finder {
     /// The time of the line.

@@ -39,7 +39,7 @@ impl Held {
         }
     }
 
-    /// Returns what stands in the line for it, where an octet goes it on.
+    /// Returns what the line gets in its place, if an octet continues it.
     fn text(self) -> &'static [u8]
         ensures { result.now ≡ held_text self }
     {
@@ -49,7 +49,7 @@ impl Held {
         }
     }
 
-    /// Returns whether an octet goes it on.
+    /// Returns whether an octet continues it.
     fn goes_on(self, octet: u8) -> bool
         ensures { result ≡ goes_on_held self octet }
     {
@@ -63,7 +63,7 @@ impl Held {
         }
     }
 
-    /// Returns what is held with an octet that goes it on.
+    /// Returns what is held after an octet that continues it.
     fn next(self, octet: u8) -> Held
         ensures { result ≡ held_next self octet }
     {
@@ -91,11 +91,11 @@ impl Held {
 /// How a line ends.
 #[derive(Clone, Copy, Debug, PartialEq, Eq)]
 enum Ending {
-    /// It does not yet.
+    /// It has not ended.
     Open,
-    /// With LF, or with the text.
+    /// It ends with LF, or with the text.
     Feed,
-    /// With CR.
+    /// It ends with CR.
     Return,
 }
 
@@ -123,7 +123,7 @@ impl LineText {
         self.is_long = false;
     }
 
-    /// Appends an octet; one above the most is not kept.
+    /// Appends an octet, if the line has room for it.
     fn push(&mut self, octet: u8)
         ensures { self.new ≡ pushed self.old octet }
     {
@@ -162,7 +162,7 @@ impl Model for LineMaker {
 }
 
 impl LineMaker {
-    /// Returns a line that is not begun.
+    /// Returns a maker whose line has not begun.
     pub fn new() -> LineMaker
         ensures { result ≡ no_line }
     {
@@ -223,7 +223,7 @@ impl LineMaker {
         }
     }
 
-    /// Reads one octet more. Behind a whole line it begins the next one.
+    /// Reads one octet more. After a whole line it begins the next one.
     pub fn add(&mut self, octet: u8)
         ensures { self.new ≡ with_octet self.old octet }
     {

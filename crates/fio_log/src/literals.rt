@@ -17,7 +17,7 @@ pub struct Literal {
     pub is_escaped: bool,
 }
 
-/// Returns the string literal whose quote is at a place of a line, and writes its octets to `octets`. It has an escape, or
+/// Returns the string literal whose quote is at `place`, and writes its octets to `octets`. It has an escape, or
 /// `b` before it, and does not write some printable characters as themselves and others as hexadecimal escapes.
 pub fn literal_at(line: &[u8], place: usize, octets: &mut Octets) -> Option<Literal>
     ensures { IfSome result (λ literal. IsLiteral line.now place octets.new.items literal.end) }
@@ -54,7 +54,7 @@ pub fn literal_at(line: &[u8], place: usize, octets: &mut Octets) -> Option<Lite
     }
 }
 
-/// Returns whether the quote at a place of a line has a `b` before it that no word ends with.
+/// Returns whether the quote at `place` has a `b` before it that is not the end of a word.
 fn is_bytes(line: &[u8], place: usize) -> bool
     requires { place < length line.now }
 {
@@ -65,7 +65,7 @@ fn is_bytes(line: &[u8], place: usize) -> bool
     }
 }
 
-/// Returns how many octets the character has that begins at a place of a line, an escape with its digits: 1 to 6.
+/// Returns how many octets the character at `place` has, an escape with its digits: 1 to 6.
 fn character_length(line: &[u8], place: usize) -> usize
     requires { place < length line.now }
     ensures some { 0 < result }
@@ -95,7 +95,7 @@ fn character(text: &[u8]) -> Option<u8>
     }
 }
 
-/// Returns the octet that one character behind a backslash spells.
+/// Returns the octet that one character after a backslash spells.
 fn escape_octet(escape: u8) -> Option<u8>
     ensures { result ≡ escape_of escape }
 {

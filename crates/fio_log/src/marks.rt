@@ -1,15 +1,15 @@
-//! Words of hexadecimal digits, with the marks that may stand around them.
+//! Words of hexadecimal digits, with the marks that may be around them.
 ghost use Rattle.std.specs.Prelude.{◌≡◌, ◌≤◌, IfSome, length, slice_index};
 ghost use Rattle.fio_log.specs.Words.{AreDigits, IsWord, StandsAt, goes_on};
 
 use crate::digits::{digit, is_decimal, is_letter};
 
-/// What stands before the digits of a word and behind them.
+/// The characters before and after the digits of a word.
 #[derive(Clone, Copy, Debug)]
 pub struct Mark {
-    /// What stands before them.
+    /// Those before the digits.
     pub before: &'static [u8],
-    /// What stands behind them.
+    /// Those after the digits.
     pub after: &'static [u8],
 }
 
@@ -90,7 +90,7 @@ pub struct Word {
     pub end: usize,
 }
 
-/// Returns the word with a mark that begins at a place of a line, if nothing behind it goes it on.
+/// Returns the word with the mark `mark` that begins at `place`, if nothing after it continues it.
 pub fn word_at(line: &[u8], place: usize, mark: Mark) -> Option<Word>
     ensures { IfSome result (IsWord line.now mark.before.now mark.after.now place) }
 {
@@ -108,7 +108,7 @@ pub fn word_at(line: &[u8], place: usize, mark: Mark) -> Option<Word>
     })
 }
 
-/// Returns where a text ends that stands at a place of a line; `None` if it does not.
+/// Returns where `text` ends if it is at `place` of the line, else `None`.
 pub(crate) fn end_of(line: &[u8], place: usize, text: &[u8]) -> Option<usize>
     ensures { IfSome result (StandsAt line.now text.now place) }
 {
@@ -116,7 +116,7 @@ pub(crate) fn end_of(line: &[u8], place: usize, text: &[u8]) -> Option<usize>
     Some(line.len() - rest.len())
 }
 
-/// Returns where the hexadecimal digits end that begin at a place of a line, perhaps none.
+/// Returns where the hexadecimal digits that begin at `start` end: at `start` if there are none.
 pub(crate) fn digits_end(line: &[u8], start: usize) -> usize
     requires { start ≤ length line.now }
     ensures order { start ≤ result }
@@ -130,7 +130,7 @@ pub(crate) fn digits_end(line: &[u8], start: usize) -> usize
     end
 }
 
-/// Returns the character at a place of a line, 0 behind it.
+/// Returns the character at `place`; 0 after the end of the line.
 pub(crate) fn character(line: &[u8], place: usize) -> u8
     ensures { result ≡ slice_index line.now place }
 {
@@ -140,7 +140,7 @@ pub(crate) fn character(line: &[u8], place: usize) -> u8
     }
 }
 
-/// Returns whether what stands at a place of a line goes on a word that ends there: a letter or digit, or a decimal
+/// Returns whether the characters at `place` continue a word that ends there: a letter or digit, or a decimal
 /// point and a digit.
 fn goes_on(line: &[u8], place: usize) -> bool
     requires { place ≤ length line.now }

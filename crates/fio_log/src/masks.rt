@@ -1,4 +1,4 @@
-//! Sums of the text around runs, by which lines of one shape are known.
+//! Sums of the text around runs, which show that lines have one shape.
 use crate::digits::{is_decimal, is_letter};
 
 /// The sum of no text, and the factor of each character (FNV-1a, 64 bits).

@@ -10,10 +10,10 @@ use crate::octets::Octets;
 /// The brackets that may open before decimal numbers.
 const OPENING: [&[u8]; 4] = [b"[", b"(", b"{", b"<<"];
 
-/// What may stand between two of them.
+/// What may be between two of them.
 const COMMAS: [&[u8]; 3] = [b", ", b",", b" "];
 
-/// Returns where the brackets end that open at a place of a line, if in them stand decimal numbers that are octets, and
+/// Returns where the brackets that open at `place` end, if they contain decimal numbers that are octets, and
 /// writes these to `octets`. They are from -128 to 255, not both negative and above 127, without zeros before them, and
 /// a comma, a blank or both between. One number in round brackets is none, and more than the most are none.
 pub fn numbers_at(line: &[u8], place: usize, octets: &mut Octets) -> Option<usize>
@@ -43,7 +43,7 @@ pub fn numbers_at(line: &[u8], place: usize, octets: &mut Octets) -> Option<usiz
     None
 }
 
-/// Returns where the first of some breaks ends that stands at a place of a line.
+/// Returns where a break ends: the first of `breaks` that is at `place`.
 fn break_end(line: &[u8], place: usize, breaks: &[&[u8]]) -> Option<usize>
     ensures { IfSome result (λ end.
         (place < end) × (end ≤ length line.now) × (is_break (slice_range line.now place end) ≡ true)) }
@@ -59,7 +59,7 @@ fn break_end(line: &[u8], place: usize, breaks: &[&[u8]]) -> Option<usize>
     None
 }
 
-/// Returns whether a text may stand before a number.
+/// Returns whether a text may be before a number.
 fn is_break(text: &[u8]) -> bool
     ensures { result ≡ is_break text.now }
 {
@@ -70,7 +70,7 @@ fn is_break(text: &[u8]) -> bool
     }
 }
 
-/// Returns the bracket that closes what one opens.
+/// Returns the bracket that closes what `opening` opens.
 fn closing(opening: u8) -> &'static [u8]
     ensures { is_closing result.now ≡ true }
 {
@@ -82,7 +82,7 @@ fn closing(opening: u8) -> &'static [u8]
     }
 }
 
-/// Returns where a number ends that begins at a place of a line: its sign and its digits, perhaps none.
+/// Returns where the number that begins at `place` ends: its sign and its digits, perhaps none.
 fn number_end(line: &[u8], place: usize) -> usize
     requires { place < length line.now }
     ensures order { place ≤ result }

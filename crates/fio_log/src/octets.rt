@@ -28,7 +28,7 @@ pub(crate) fn read_words(text: &[u8], octets: &mut Octets)
     add_some(octets, waiting);
 }
 
-/// Returns the octet that a character makes whole, of its own digit and the one that waits.
+/// Returns the octet that a character completes, with its own digit and the one that waits.
 fn made_whole(waiting: Option<u8>, digit: Option<u8>, character: u8) -> Option<u8>
     requires waiting { ForSome waiting (λ high. high < 16) }
     requires digit { ForSome digit (λ low. low < 16) }
@@ -41,7 +41,7 @@ fn made_whole(waiting: Option<u8>, digit: Option<u8>, character: u8) -> Option<u
     }
 }
 
-/// Returns the digit that waits then.
+/// Returns the digit that waits after a character.
 fn waits_then(waiting: Option<u8>, digit: Option<u8>) -> Option<u8>
     requires { ForSome digit (λ low. low < 16) }
     ensures value { result ≡ waits_then waiting digit }

@@ -158,7 +158,7 @@ fn longest_at(line: &[u8], place: usize, octets: &mut Octets) -> Option<(u8, boo
     longest
 }
 
-/// Returns the value of digits in a base; `None` if one is none of it.
+/// Returns the value of digits in a base; `None` if one is no digit of it.
 fn value_of(digits: &[u8], base: u64) -> Option<u64> {
     let mut value = 0_u64;
     for character in digits {

@@ -1,4 +1,4 @@
-//! Which lines may go on in the next one.
+//! Which lines the next one may continue.
 ghost use Rattle.std.specs.Prelude.{ℕ, List, IfSome};
 ghost use Rattle.std.specs.List.{All};
 ghost use Rattle.fio_log.specs.Said.{IsSaidIn};
@@ -8,11 +8,11 @@ use crate::said::{LineRuns, Said};
 use crate::sayings::Saying;
 use crate::shapes::{Shapes, front_key};
 
-/// The least octets of a row that may go on in the next line.
+/// The least number of octets in a row that the next line may continue.
 const ROW_OCTETS: usize = 8;
 
-/// Returns the run that may go on in the next line: it is the last of its line, has at least eight octets, and begins a
-/// message or says one of open length. If runs of different octets may, or a run is sure by itself, none does.
+/// Returns the run that the next line may continue: it is the last of its line, has at least eight octets, and begins a
+/// message or says one of open length. There is none if this is true of runs of different octets, or a run is sure by itself.
 pub(crate) fn first_row(runs: &LineRuns) -> Option<&Said>
     ensures { (line : List ℕ) → All (IsSaidIn line) runs.now.said.items → IfSome result (λ row. IsSaidIn line row.now) }
 {
@@ -34,7 +34,7 @@ pub(crate) fn first_row(runs: &LineRuns) -> Option<&Said>
     found
 }
 
-/// Returns whether a run may go on in the next line.
+/// Returns whether the next line may continue a run.
 fn may_go_on(said: &Said) -> bool {
     said.is_last
         && said.octets.len() >= ROW_OCTETS

@@ -20,7 +20,7 @@ pub enum OwnForm {
 pub enum OwnLine {
     /// It is empty, or begins with `#`.
     Skipped,
-    /// It has no form of its text.
+    /// It has no form that the text allows.
     Bad,
     /// It is a frame that spells no message of the end that sent it.
     Faulty {

@@ -1,4 +1,4 @@
-//! What is told of the lines of the program's own texts, by order.
+//! Verdicts of lines that are read by order as those of the program's own texts.
 ghost use Rattle.std.specs.Prelude.{◌≡◌, [], ◌∷◌, false, map, true};
 ghost use Rattle.fio_log.specs.Frames.{octets_in};
 ghost use Rattle.fio_log.specs.OwnVerdicts.{IsOwnVerdict, own_form_of};

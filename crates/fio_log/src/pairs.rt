@@ -1,4 +1,4 @@
-//! Commands and answers of neighbouring lines.
+//! Pairs of a command and its answer in neighbouring lines.
 use crate::kept::Kept;
 use crate::messages::Brief;
 use crate::shapes::Shapes;
@@ -21,7 +21,7 @@ impl Half {
         }
     }
 
-    /// Returns whether this is a command, and another its answer, and of the lines with the front of each at least half say
+    /// Returns whether this is a command, and `answer` its answer, and of the lines with the front of each at least half say
     /// messages.
     pub(crate) fn is_answered_by(self, answer: Half, shapes: &Shapes) -> bool {
         self.brief.is_answered_by(answer.brief)

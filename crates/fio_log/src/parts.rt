@@ -16,7 +16,7 @@ pub(crate) struct Parts {
 }
 
 impl Parts {
-    /// Sets the part of a sign of a form.
+    /// Sets the part that a sign of a form names.
     pub(crate) fn set(&mut self, sign: u8, value: u64) {
         match sign {
             b'Y' => self.year = value,

@@ -7,7 +7,7 @@ use arrayvec::ArrayVec;
 /// The most entries that wait.
 pub(crate) const WAITING: usize = 64;
 
-/// The most entries that are kept: those that wait, the one that was told last, and the one that is open.
+/// The most entries that are kept: those that wait, the one of the last verdict, and the one that is open.
 pub(crate) const ENTRIES: usize = WAITING + 2;
 
 /// A ring of decisions, each in the slot of its entry.
@@ -59,7 +59,7 @@ impl Queue {
         (self.count < ENTRIES).then_some(self.slot(self.count))
     }
 
-    /// Appends the entry of a line in the next slot, of which nothing is decided.
+    /// Appends the entry of a line in the next slot, with nothing decided yet.
     pub(crate) fn push(&mut self, slot: usize, line: u64) {
         if let Some(decision) = self.decisions.get_mut(slot) {
             *decision = Decision::waiting(line);
@@ -74,7 +74,7 @@ impl Queue {
         }
     }
 
-    /// Takes the entries out whose lines all come before a line.
+    /// Removes the entries whose lines all come before a line.
     pub(crate) fn remove_before(&mut self, line: u64) {
         'entries: while self.count > 0 {
             match self.get(self.first) {

@@ -19,9 +19,9 @@ use crate::telling::{Frames, Told};
 use crate::verdict::{Form, Verdict};
 use std::marker::Model;
 
-/// A reader of a log. It takes the octets of the log, and tells a verdict of each line, in order.
+/// A reader of a log. It takes the octets of the log, and returns a verdict of each line, in order.
 ///
-/// Verdicts are fetched with `verdict` until there is none, then the next octets are fed.
+/// Call `verdict` until it returns `None`, then feed the next octets.
 #[derive(Drop)]
 pub struct Reader {
     maker: LineMaker,
@@ -29,7 +29,7 @@ pub struct Reader {
     judge: Judge,
     frames: Frames,
     form: Form,
-    /// What is told of the last line, if it is read by order.
+    /// The verdict of the last line, if it is read by order.
     own: Told,
     read: u64,
     told: u64,
@@ -94,7 +94,7 @@ impl Reader {
         }
     }
 
-    /// Begins anew with another log.
+    /// Starts again with another log.
     pub fn start(&mut self, form: Form)
         ensures line { self.new.making ≡ no_line }
         ensures none_read { self.new.read ≡ 0 }
@@ -106,8 +106,8 @@ impl Reader {
         *self = Reader::new(form);
     }
 
-    /// Takes octets of the log until they end a line or there are no more, and returns how many it has taken. While a
-    /// verdict can be fetched, after the end, and after 2^64 - 1 lines it takes none.
+    /// Takes octets of the log until they end a line or there are no more, and returns how many it has taken. It takes none
+    /// while a verdict can be fetched, after the end, or after 2^64 - 1 lines.
     pub fn feed(&mut self, octets: &[u8]) -> usize
         ensures within { result ≤ length octets.now }
         ensures taken { 0 < result → HasTaken self.old (take result octets.now) self.new }
@@ -146,7 +146,7 @@ impl Reader {
         self.refresh();
     }
 
-    /// Ends the line that is made, and reads it if it has octets, unless the log has ended.
+    /// Ends the line that is being made, and reads it if it has octets, unless the log has ended.
     fn finish_line(&mut self)
         ensures line { self.old.is_ended ≡ false → self.old.read < u64.MAX
             → (self.new.making ≡ finished self.old.making)
@@ -284,7 +284,7 @@ impl Reader {
         })
     }
 
-    /// Tells what a line is, and takes its frames.
+    /// Returns the verdict of a line, and takes its frames.
     fn tell_line(&mut self, line: u64) -> Told
         requires { self.old.told < self.old.read }
         ensures line { self.new.making ≡ self.old.making }
@@ -357,7 +357,7 @@ impl Reader {
     }
 }
 
-/// Finds the runs of a line; of one that is too long none.
+/// Finds the runs of a line; none in a line that is too long.
 fn read_runs(line: Line, runs: &mut LineRuns)
     ensures { All (IsSaidIn line.entry.text.now) runs.new.said.items }
 {

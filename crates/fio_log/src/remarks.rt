@@ -44,7 +44,7 @@ fn is_exchanged(octets: &[u8]) -> bool {
     exchanged.pop() == Some(0) && spells_counted(exchanged.as_slice())
 }
 
-/// Returns whether octets spell a message that has a count without the two at their beginning or at their end.
+/// Returns whether octets, without two at their beginning or at their end, spell a message that has a count.
 fn has_two_more(octets: &[u8]) -> bool {
     let Some(end) = octets.len().checked_sub(MORE) else {
         return false;

@@ -1,4 +1,4 @@
-//! Runs: the longest rows of octets of a line that are written as hexadecimal words.
+//! Runs: the longest sequences of octets in a line that are written as hexadecimal words.
 ghost use Rattle.std.specs.Prelude.{◌≤◌, ◌<◌, IfSome, length};
 ghost use Rattle.fio_log.specs.Runs.{IsBehind, IsRun, IsSpan};
 
@@ -6,17 +6,17 @@ use crate::digits::{digit, is_letter};
 use crate::marks::{Mark, Word, word_at};
 use crate::octets::{Octets, read_words};
 
-/// The mark of words that may stand behind a letter.
+/// The mark of words that may come after a letter.
 const BACKSLASH: &[u8] = b"\\x";
 
-/// What stands between two words.
+/// What is between two words.
 #[derive(Clone, Copy, Debug, PartialEq, Eq)]
 pub struct Separator {
     /// Its sign: a blank, a tab, one of `,;:-|`, or 0 for none.
     pub sign: u8,
-    /// Whether a blank stands before the sign.
+    /// Whether a blank is before the sign.
     pub before: bool,
-    /// Whether a blank stands behind the sign.
+    /// Whether a blank is after the sign.
     pub behind: bool,
 }
 
@@ -27,14 +27,14 @@ pub struct Run {
     pub start: usize,
     /// Where its last word ends.
     pub end: usize,
-    /// Where the next run may begin: at its end, or at its last word if that has fewer digits or another separator goes
-    /// on behind it.
+    /// Where the next run may begin: at its end, or at its last word if that has fewer digits or another separator comes
+    /// after it.
     pub next: usize,
-    /// How many digits its words have: the last one perhaps fewer; 0 where all have one or two.
+    /// How many digits its words have: the last one perhaps fewer; 0 if all have one or two.
     pub width: usize,
     /// How many words it has.
     pub words: usize,
-    /// What stands between its words; `None` for a single word.
+    /// What is between its words; `None` for a single word.
     pub separator: Option<Separator>,
     /// Whether none of its words begins with 0.
     pub is_bare: bool,
@@ -42,9 +42,9 @@ pub struct Run {
     pub has_single: bool,
 }
 
-/// Returns the first run at or behind a place of a line whose words have a mark, and writes its octets to `octets`. With
+/// Returns the first run from `from` on whose words have the mark `mark`, and writes its octets to `octets`. With
 /// `is_short` its words have one or two digits, one of them one, and none begins with 0 before another digit; else they
-/// have 2, 4 or 8, or it is one word of any even number. Octets above the most are not kept.
+/// have 2, 4 or 8, or it is one word of any even number. At most `RUN_OCTETS` octets are kept.
 pub fn next_run(
     line: &[u8],
     from: usize,
@@ -73,7 +73,7 @@ pub fn next_run(
     None
 }
 
-/// Returns whether a word can begin with a character, if its mark begins with another.
+/// Returns whether a word can begin with `character`, if its mark begins with `opening`.
 fn is_first(character: u8, opening: Option<u8>) -> bool {
     match opening {
         Some(opening) => character == opening,
@@ -81,12 +81,12 @@ fn is_first(character: u8, opening: Option<u8>) -> bool {
     }
 }
 
-/// Returns whether a run of words of one or two digits is one: it has a word of one, and more than one word or a mark.
+/// Returns whether words of one or two digits are a run: one has one digit, and there are several words or a mark.
 fn is_short_run(run: Run, mark: Mark) -> bool {
     run.has_single && (run.words > 1 || !mark.before.is_empty() || !mark.after.is_empty())
 }
 
-/// Returns the run that begins at a place of a line, if a word may begin there.
+/// Returns the run that begins at `place`, if a word may begin there.
 fn run_from(line: &[u8], place: usize, mark: Mark, is_short: bool) -> Option<Run>
     ensures { IfSome result (IsSpan line.now place) }
 {
@@ -97,7 +97,7 @@ fn run_from(line: &[u8], place: usize, mark: Mark, is_short: bool) -> Option<Run
     }
 }
 
-/// Returns whether a word may begin at a place: behind no letter, digit or point, unless its mark begins with a
+/// Returns whether a word may begin at `place`: not after a letter, digit or point, unless its mark begins with a
 /// backslash.
 fn may_begin(line: &[u8], place: usize, mark: Mark) -> bool {
     match line[..place.min(line.len())].last() {
@@ -106,7 +106,7 @@ fn may_begin(line: &[u8], place: usize, mark: Mark) -> bool {
     }
 }
 
-/// Returns the run that begins with the word at a place of a line.
+/// Returns the run that begins with the word at `place`.
 fn run_at(line: &[u8], place: usize, mark: Mark, is_short: bool) -> Option<Run>
     ensures { IfSome result (IsSpan line.now place) }
 {
@@ -159,7 +159,7 @@ fn fits(line: &[u8], word: Word, width: usize) -> bool
     }
 }
 
-/// Returns the word that goes on a run behind its last word, and the separator before it.
+/// Returns the word that continues a run after its last word, and the separator before it.
 fn next_word(line: &[u8], run: Run, last: Word, mark: Mark) -> Option<(Word, Separator)>
     requires order { last.start < last.stop }
     requires within { last.end ≤ length line.now }
@@ -177,7 +177,7 @@ fn next_word(line: &[u8], run: Run, last: Word, mark: Mark) -> Option<(Word, Sep
 }
 
 /// Returns whether the last word of a run may begin the next one: it has fewer digits than the others, or another
-/// separator goes on behind it.
+/// separator comes after it.
 fn may_begin_next(line: &[u8], run: Run, last: Word, mark: Mark) -> bool
     requires order { last.start < last.stop }
     requires within { last.end ≤ length line.now }
@@ -191,8 +191,8 @@ fn may_begin_next(line: &[u8], run: Run, last: Word, mark: Mark) -> bool
     is_cut || next_word(line, alone, last, mark).is_some()
 }
 
-/// Returns the separator at a place of a line, perhaps that of nothing, and where it ends. Behind the eighth octet two
-/// blanks are as one.
+/// Returns the separator at `place`, perhaps an empty one, and where it ends. After the eighth octet two
+/// blanks count as one.
 fn separator_at(line: &[u8], place: usize, is_eighth: bool) -> Option<(Separator, usize)>
     requires { place ≤ length line.now }
     ensures { IfSome result (λ found. (place ≤ found.1) × (found.1 ≤ length line.now)) }

@@ -21,7 +21,7 @@ pub(crate) const LINE_SINGLES: usize = 4;
 pub(crate) struct Shape {
     /// The sum of the line before it.
     pub before: u64,
-    /// The index of its mark in `MARKS`; above them `LITERAL_MARK` and `NUMBERS_MARK`.
+    /// The index of its mark in `MARKS`; or `LITERAL_MARK` or `NUMBERS_MARK`, which are no index there.
     pub mark: u8,
     /// The sum of the line after it, without a column of its characters and without separators.
     pub after: u64,

@@ -8,7 +8,7 @@ use crate::checks::frame_check;
 use fio_message::types::{BLOCK_ANSWER, CONFIGURE_INPUTS};
 use fio_message::{DecodeError, FRAME_OCTETS, read_answer, read_command};
 
-/// The flag before and behind the frames of SDLC.
+/// The flag before and after the frames of SDLC.
 pub(crate) const FLAG: u8 = 0x7e;
 
 /// The most octets of a frame with one flag at each end.
@@ -76,7 +76,7 @@ fn flags_before(octets: &[u8]) -> usize
     octets.iter().take_while(|octet| **octet == FLAG).count()
 }
 
-/// Returns where the frame ends that begins at a place, if only flags stand behind it.
+/// Returns where the frame that begins at `start` ends, if only flags come after it.
 fn frame_end(octets: &[u8], start: usize) -> Option<usize>
     requires { start ≤ length octets.now }
     ensures end { result ≡ frame_end octets.now start (length octets.now) }
@@ -109,7 +109,7 @@ fn is_checked(octets: &[u8], start: usize, end: usize) -> bool
     check == frame_check(&octets[start..end - 2])
 }
 
-/// Returns nothing if octets spell a message, else why they spell none.
+/// Returns `Ok` if octets spell a message, else why they spell none.
 pub(crate) fn spelled(octets: &[u8]) -> Result<(), DecodeError>
     ensures ok { is_ok result ≡ spells octets.now }
     ensures refused { (fault : DecodeError)

@@ -95,7 +95,7 @@ impl Shapes {
         row.is_known.then_some(row.ways)
     }
 
-    /// Learns that a sure message was written so in a whole shape, and returns whether that is new.
+    /// Learns in which ways a sure message was written in a whole shape, and returns whether that is new.
     pub(crate) fn learn(&mut self, whole: u64, ways: Ways) -> bool {
         let row = self.row(whole);
         let all = row.ways.with(ways);

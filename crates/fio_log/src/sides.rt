@@ -13,7 +13,7 @@ pub(crate) fn said_at(line: &[u8], place: usize) -> Option<Direction> {
     }
 }
 
-/// What a word is made of.
+/// A kind of word, by its characters.
 #[derive(Clone, Copy, PartialEq, Eq)]
 enum Part {
     /// Letters.
@@ -26,7 +26,7 @@ enum Part {
     Other,
 }
 
-/// Returns what a word with a character is made of.
+/// Returns the kind of word that a character belongs to.
 fn part_of(character: u8) -> Part {
     match character {
         b'A'..=b'Z' | b'a'..=b'z' => Part::Letters,

@@ -19,7 +19,7 @@ impl Styles {
         }
     }
 
-    /// Learns that a frame was written so.
+    /// Learns how a frame was written.
     pub(crate) fn learn(&mut self, mark: u8, ways: Ways) {
         let mark = usize::from(mark);
         if mark < MARKS && !ways.is_any() {

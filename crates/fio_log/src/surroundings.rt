@@ -28,7 +28,7 @@ pub(crate) struct Before {
 }
 
 impl Before {
-    /// Returns that nothing is read.
+    /// Returns the state before anything is read.
     pub(crate) fn new() -> Before {
         Before {
             mask: Mask::new(),
@@ -62,7 +62,7 @@ pub(crate) struct After {
     pub is_last: bool,
 }
 
-/// Returns what is after a run: `text` is the line from its end.
+/// Returns what is after a run. `text` is the line from the end of the run.
 pub(crate) fn read_after(text: &[u8], octets: &[u8]) -> After {
     let rest = if is_column(text, octets) {
         &text[..0]

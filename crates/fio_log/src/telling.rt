@@ -1,4 +1,4 @@
-//! What is told of a line, and its frames and their places.
+//! The verdict of a line, with its frames and their places.
 ghost use Rattle.std.specs.Prelude.{◌≡◌, [], ◌∷◌, ◌++◌, map, true};
 ghost use Rattle.fio_log.specs.Frames.{AreFramesOf, IsEntryOf, IsJudgeOf, Log, octets_in, run_places};
 
@@ -12,7 +12,7 @@ use crate::places::Place;
 use crate::verdict::{Kind, Reason};
 use arrayvec::ArrayVec;
 
-/// What is told of a line.
+/// What a verdict says of a line.
 #[derive(Clone, Copy, Debug)]
 pub(crate) struct Told {
     /// What it is.
@@ -26,7 +26,7 @@ pub(crate) struct Told {
 }
 
 impl Told {
-    /// Returns what is told of a line without octets.
+    /// Returns what a verdict says of a line without octets.
     pub(crate) fn none() -> Told {
         Told {
             kind: Kind::PassedOver,
@@ -40,7 +40,7 @@ impl Told {
 /// The most messages of a line that is not the first of a chain.
 pub(crate) const LINE_FRAMES: usize = 2;
 
-/// The frames of the verdict that was told last.
+/// The frames of the last verdict.
 #[derive(Drop)]
 pub(crate) struct Frames {
     /// Its messages, if they are no chain.
@@ -52,7 +52,7 @@ pub(crate) struct Frames {
 }
 
 impl Frames {
-    /// Returns none.
+    /// Returns no frames.
     pub(crate) fn new() -> Frames
         ensures { (log : Log) → AreFramesOf log result }
     {
@@ -63,7 +63,7 @@ impl Frames {
         }
     }
 
-    /// Takes all out.
+    /// Removes all frames.
     pub(crate) fn clear(&mut self)
         ensures { (log : Log) → AreFramesOf log self.new }
     {
@@ -92,7 +92,7 @@ impl Frames {
         }
     }
 
-    /// Takes the message of a run of an entry, and its places. If there is no room, there are no frames.
+    /// Takes the message of a run of an entry, and its places. If there is no room, no frame is kept.
     fn add(&mut self, entry: &Entry, index: usize)
         ensures { (log : Log) → AreFramesOf log self.old → IsEntryOf log entry.now → AreFramesOf log self.new }
     {
@@ -153,7 +153,7 @@ impl Judge {
         }
     }
 
-    /// Returns the decision on the entry of a line, which is the first or the second one.
+    /// Returns the decision on the entry of a line, which is the first or the second in the queue.
     fn decision_on(&self, line: u64) -> Option<&Decision> {
         let queue = &self.decider.queue;
         let first = queue.get(queue.slot(0))?;
@@ -168,7 +168,7 @@ impl Judge {
         }
     }
 
-    /// Tells what a line is, and takes its messages. The entries before it are given up.
+    /// Returns what a line is, and takes its messages. Removes the entries before it.
     pub(crate) fn tell(&mut self, line: u64, frames: &mut Frames) -> Told
         ensures judge { (log : Log) → IsJudgeOf log self.old → IsJudgeOf log self.new }
         ensures frames { (log : Log) → IsJudgeOf log self.old → AreFramesOf log frames.new }

@@ -1,8 +1,8 @@
 //! What a reader says of the lines of a log.
 use crate::directions::Direction;
 
-/// How lines are read. By order each line is one of `show` or `check`, without what is no character of a line; other than
-/// there a line also ends at CR.
+/// How lines are read. By order each line is read as `show` or `check` reads it, with two differences: colour sequences,
+/// NUL and byte order marks are taken out, and a line also ends at CR.
 #[derive(Clone, Copy, Debug, PartialEq, Eq)]
 pub enum Form {
     /// By the definition: what octets of a line say, and what makes that sure.
@@ -64,7 +64,7 @@ pub struct Verdict {
     pub kind: Kind,
     /// Why it gave no frame.
     pub reason: Reason,
-    /// How many frames it gives, with those of the lines below that go on with it.
+    /// How many frames it gives, with those of the lines below that continue it.
     pub frames: usize,
     /// At how many places their octets are written.
     pub places: usize,

@@ -1,4 +1,4 @@
-//! The words of a log around its frames, and lines that are what is left of a frame's line after a cut.
+//! The words of a log around its frames, and lines that are what a cut left of a frame's line.
 use crate::digits::{digit, is_decimal, is_letter};
 use crate::masks::{Mask, NO_SUM, summed};
 

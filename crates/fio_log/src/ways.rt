@@ -87,7 +87,7 @@ impl Ways {
         !self.is_any() && self.bits & !ONE_DIGIT == 0
     }
 
-    /// Returns whether it has words of one digit, and `known` has the same with two digits.
+    /// Returns whether it has words of one digit, and `known` has the same separators with words of two digits.
     pub(crate) fn has_lost_a_digit(self, known: Ways) -> bool {
         self.is_one_digit() && self.bits & !((known.bits & TWO_DIGITS) << 3) == 0
     }
