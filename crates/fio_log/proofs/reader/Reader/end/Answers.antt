@@ -1,4 +1,4 @@
-use Rattle.std.proofs.Common.{◌≡◌, ◌∙◌, false, true, sym, refl, ap, arith, rules}
+use Rattle.std.proofs.Common.{◌≡◌, ◌∙◌, false, true, sym, rules}
 use Rattle.fio_log.specs.Lines.{is_whole}
 use Rattle.fio_log.proofs.OwnVerdictLemmas.{none-left}
 use Rattle.fio_log.proofs.reader.Reader.end.Goals as goal

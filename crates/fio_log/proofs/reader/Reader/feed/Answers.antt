@@ -1,4 +1,4 @@
-use Rattle.std.proofs.Common.{◌≡◌, ◌∙◌, ◌<◌, Some, false, true, sym, ap, arith}
+use Rattle.std.proofs.Common.{◌≡◌, ◌∙◌, Some, false, true, sym, ap, arith}
 use Rattle.fio_log.specs.OwnVerdicts.{own_form_of}
 use Rattle.fio_log.specs.Telling.{Telling}
 use Rattle.fio_log.specs.contracts.reader.Reader.{the_invariant, the_view}
