@@ -1,14 +1,14 @@
 -- What is told of a line by order: octets that spell a message of the end that sent them spell one by their first octet.
 use Rattle.std.proofs.Common.{◌≡◌, ◌≤◌, ◌<◌, ℕ, ◌+◌, Bool, true, false, List, [], ◌∷◌, length, take, Option, Some, None, refl, ap, sym, ◌∙◌, arith, is_some, nat_le, nat_lt, ◌&&◌, inl, inr, if◌then◌else◌}
+use Rattle.std.proofs.lemmas.Bool.Decides.{leb_tells, nat_tests}
 use Rattle.fio_message.specs.Answers.{answer_length}
 use Rattle.fio_message.specs.Commands.{command_length}
-use Rattle.std.proofs.lemmas.Bool.Decides.{leb_tells, nat_tests}
 use Rattle.fio_message.specs.Decoding.{answer_in, command_in, message_in}
 use Rattle.fio_message.specs.Reading.{answer_at, command_at}
 use Rattle.fio_message.specs.declared.limits.TheConstants.{BODY_OCTETS}
 use Rattle.fio_message.proofs.KnownTypes.{answer_codes, command_codes}
 use Rattle.fio_log.specs.OwnTexts.{IsOwnFrame, spells_from}
-use Rattle.fio_log.specs.Sayings.{is_answer, spells}
+use Rattle.fio_log.specs.Sayings.{spells}
 use Rattle.fio_log.specs.declared.own_texts.OwnForm.{OwnForm}
 use Rattle.fio_log.proofs.OwnTextLemmas.{too_long-spells}
 

@@ -180,15 +180,22 @@ impl Judge {
         }
         let slot = self.decider.queue.slot(0);
         self.decider.find_damage(&self.entries, slot);
+        self.tell_entry(slot, line, frames)
+    }
+
+    /// Returns what is told of a line of the entry in a slot, and takes its messages.
+    fn tell_entry(&self, slot: usize, line: u64, frames: &mut Frames) -> Told
+        ensures { (log : Log) → IsJudgeOf log self.now → AreFramesOf log frames.old → AreFramesOf log frames.new }
+    {
         let (Some(entry), Some(decision)) = (self.entries.get(slot), self.decider.queue.get(slot))
         else {
             return Told::none();
         };
         let (kind, reason) = decision.verdict(entry.from, line);
-        let mut said = None;
-        if kind == Kind::Frames || kind == Kind::Possible {
+        let has_octets = kind == Kind::Frames || kind == Kind::Possible;
+        let said = if has_octets { self.said(slot) } else { None };
+        if has_octets {
             frames.fill(entry, decision.state);
-            said = self.said(slot);
         }
         Told {
             kind,

@@ -1,4 +1,4 @@
-use Rattle.std.proofs.Common.{◌≡◌, ◌∙◌, ◌<◌, Some, false, true, sym, ap, arith}
+use Rattle.std.proofs.Common.{◌≡◌, ◌∙◌, Some, false, true, sym, ap, arith}
 use Rattle.fio_log.specs.OwnVerdicts.{own_form_of}
 use Rattle.fio_log.specs.Telling.{Telling}
 use Rattle.fio_log.specs.contracts.reader.Reader.{the_invariant, the_view}
@@ -29,7 +29,9 @@ invariant_of-self c =
       kept.0,
       kept.1,
       kept.2,
-      λ held. absurd (cc),
+      λ held.
+          let none : c.self-2.inside.is_held ≡ false = ap (λ (telling : Telling). telling.is_held) c.self-2.view_is ∙ was.none in
+          let no : false ≡ true = sym none ∙ held in absurd (cc),
       λ own is less.
           let all = all-told own c.self.inside c.self-2.inside _ _ c.self.view_is c.self-2.view_is c.self.invariant c.if-self.false was.told was.read was.form is in
           absurd (omega (arith, all, less)),
@@ -47,7 +49,9 @@ invariant_of-self-else-is_whole c =
       kept.0,
       kept.1,
       kept.2,
-      λ held. absurd (cc),
+      λ held.
+          let none : c.self-2.inside.is_held ≡ false = ap (λ (telling : Telling). telling.is_held) c.self-2.view_is ∙ was.none in
+          let no : false ≡ true = sym none ∙ held in absurd (cc),
       λ own is less.
           let all = all-told own c.self.inside c.self-2.inside _ _ c.self.view_is c.self-2.view_is c.self.invariant c.if-self.false was.told was.read was.form is in
           absurd (omega (arith, all, less)),

@@ -1,4 +1,4 @@
-use Rattle.std.proofs.Common.{◌≤◌, sym, arith, length-take-le}
+use Rattle.std.proofs.Common.{sym, arith, length-take-le}
 use Rattle.fio_log.proofs.OwnVerdictLemmas.{frame-short, frame-spells}
 use Rattle.fio_log.proofs.telling.Frames.tell_own.Goals as goal
 
