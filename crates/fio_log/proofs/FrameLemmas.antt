@@ -1,11 +1,10 @@
 -- Frames and the places where they are written, put together.
 use Rattle.std.proofs.Common.{◌≡◌, ◌≤◌, ◌<◌, ℕ, zero, suc, ◌+◌, ◌-◌, List, [], ◌∷◌, ◌++◌, length, take, drop, get_or, refl, ap, sym, ◌∙◌, arith, append-nil, append_assoc, length-append}
 use Rattle.std.specs.List.{All}
-use Rattle.std.specs.Prelude.{slice_range}
 use Rattle.std.proofs.lemmas.List.{drop-append-le, length-drop, length-take-le, take-append-le, take_all, take_more}
 use Rattle.std.proofs.lemmas.List.Elements.{All-append, All-nil}
 use Rattle.std.proofs.Math.Seq.{drop-append-add}
-use Rattle.fio_log.specs.Frames.{AreAt, AreFramesAt, AreJoined, IsWithin, Log, row_place, row_places}
+use Rattle.fio_log.specs.Frames.{AreAt, AreFramesAt, IsWithin, Log, row_place, row_places}
 use Rattle.fio_log.specs.Said.{IsWrittenAt}
 use Rattle.fio_log.specs.declared.joined.Row.{Row}
 use Rattle.fio_log.specs.declared.places.Notation.{Notation}

@@ -1,6 +1,5 @@
 -- The frames of the last verdict are written at its places.
 use Rattle.std.proofs.Common.{◌≡◌, ℕ, Bool, true, false, List, refl, if◌then◌else◌, map}
-use Rattle.std.specs.List.{All}
 use Rattle.std.proofs.lemmas.List.Elements.{All-map}
 use Rattle.fio_log.specs.Chains.{IsPart, part_of}
 use Rattle.fio_log.specs.Frames.{AreFramesAt, AreJoined, IsWithin, Log, octets_in, row_places}

@@ -1,7 +1,7 @@
 -- Frames of a log, and the places where they are written.
 use Rattle.std.specs.Prelude.{◌≡◌, ℕ, ◌+◌, ◌≤◌, List, [], ◌∷◌, ◌++◌, length, map, slice_range, IfSome}
 use Rattle.std.specs.List.{All}
-use Rattle.fio_log.specs.Said.{IsSaidIn, IsWrittenAt}
+use Rattle.fio_log.specs.Said.{IsWrittenAt}
 use Rattle.fio_log.specs.declared.joined.Joined.{Joined}
 use Rattle.fio_log.specs.declared.joined.Row.{Row}
 use Rattle.fio_log.specs.declared.entries.Entries.{Entries}

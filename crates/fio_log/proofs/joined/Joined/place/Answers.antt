@@ -1,4 +1,4 @@
-use Rattle.std.proofs.Common.{◌≡◌, ◌+◌, ◌<◌, length, get_or, ◌∙◌, arith, rules}
+use Rattle.std.proofs.Common.{◌≡◌, ◌+◌, ◌<◌, length, get_or, ◌∙◌, rules}
 use Rattle.fio_log.proofs.FrameLemmas.{row_places-at}
 use Rattle.fio_log.proofs.joined.Joined.place.Goals as goal
 

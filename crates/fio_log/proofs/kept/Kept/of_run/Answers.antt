@@ -1,5 +1,4 @@
-use Rattle.std.proofs.Common.{◌∙◌, sym}
-use Rattle.fio_log.specs.Frames.{line_place}
+use Rattle.std.proofs.Common.{sym}
 use Rattle.fio_log.proofs.KeptLemmas.{run-of_line}
 use Rattle.fio_log.proofs.kept.Kept.of_run.Goals as goal
 

@@ -1,6 +1,6 @@
-use Rattle.std.proofs.Common.{◌≡◌, ◌∙◌, Some, ap, arith, rules}
+use Rattle.std.proofs.Common.{◌≡◌, ◌∙◌, ap, arith, rules, sym}
 use Rattle.fio_log.specs.OwnVerdicts.{own_form_of}
-use Rattle.fio_log.specs.Telling.{IsReaderOf}
+use Rattle.fio_log.specs.Telling.{IsReaderOf, Telling}
 use Rattle.fio_log.specs.declared.verdict.Form.TheVariants.{Auto}
 use Rattle.fio_log.proofs.TellingLemmas.{frames-written}
 use Rattle.fio_log.proofs.reader.Reader.verdict.Goals as goal
@@ -24,7 +24,17 @@ returns-clause-written c = λ log before auto.
     rw (← c.self-3.view_is) at (frames-written log c.tell_line-told.new.self told form)
 
 pub invariant_of-self : goal.invariant_of-self
-invariant_of-self c = ?
+invariant_of-self c = (
+  search rules,
+  search rules,
+  search rules,
+  search rules,
+  λ own is less.
+      let same : c.refresh.new.self.form ≡ c.self-3.inside.form =
+      sym (ap (λ (telling : Telling). telling.form) c.self-3.view_is ∙ c.tell_line-told.ensures.form) in
+      let last = rw (← c.self-3.view_is) at (c.tell_line-told.ensures.last own (ap own_form_of same ∙ is)) in
+      absurd (omega (arith, last.0, less)),
+)
 
 pub returns-clause-own : goal.returns-clause-own
 returns-clause-own c = λ own is.

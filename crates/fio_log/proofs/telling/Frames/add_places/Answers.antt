@@ -1,4 +1,4 @@
-use Rattle.std.proofs.Common.{◌≡◌, ◌+◌, ◌<◌, ◌++◌, [], ◌∷◌, length, arith, rules}
+use Rattle.std.proofs.Common.{◌≡◌, ◌<◌, ◌++◌, [], ◌∷◌, length, arith, rules}
 use Rattle.fio_log.proofs.FrameLemmas.{row_places-more}
 use Rattle.fio_log.proofs.telling.Frames.add_places.Goals as goal
 
