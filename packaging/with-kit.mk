@@ -74,7 +74,7 @@ page: $(page)
 
 $(lowered_module): $(module)
 	wasm-opt --enable-memory64 --enable-bulk-memory --enable-mutable-globals --enable-sign-ext \
-	    --memory64-lowering -O2 $< -o $@
+	    --memory64-lowering -Os $< -o $@
 
 $(page): $(module) $(lowered) $(page_sources)
 	tools/page/join $(module) $@ $(addprefix --lowered ,$(lowered))
