@@ -1,8 +1,8 @@
 /* The field I/O transition link of the Model 2070: the header of fio2070.c.
  *
- * Sources: af28420e8cf34bda1449bd2179f995c390d4c7a9bcf87d5053853687057877b8 (SHA-256; packaging/release-files --sources)
+ * Sources: 6efc5b7f9a455924190ebfb4e8921634778ecff277deeb774b71215fc93edb66 (SHA-256; packaging/release-files --sources)
  * Kit: rattle-kit-13f logic dac8208d650f15bf
- * Proof: logic=proved functions=144 target=wasm64-unknown-unknown sum=dac8208d650f15bf native=nat,char,string
+ * Proof: logic=proved functions=145 target=wasm64-unknown-unknown sum=dac8208d650f15bf native=nat,char,string
  * Made by `make release-files`: do not edit.
  *
  * Proved is the module of which fio2070.c was made, for wasm64: each call does what fio2070.h says for all octets,
@@ -708,7 +708,16 @@ enum fio2070_log_reason {
     FIO2070_LOG_SEVERAL_MESSAGES = 4, /**< it says more than one message */
     FIO2070_LOG_MAY_BE_LONGER = 5,    /**< it may be one message with the line below or above, or one by itself */
     FIO2070_LOG_TOO_LONG = 6,         /**< it is longer than a line, or than the octets of several lines, that are kept */
-    FIO2070_LOG_BAD_LINE = 7          /**< it is no line of the text that it is read as by order */
+    FIO2070_LOG_BAD_LINE = 7,         /**< it is no line of the text that it is read as by order */
+    FIO2070_LOG_EXCHANGED = 8,        /**< its octets spell a message with a count if those of each pair are exchanged */
+    FIO2070_LOG_TWO_MORE = 9          /**< its octets spell a message with a count but for two at one end */
+};
+
+/** Who sent the octets of a line, as the line says: by its last word or arrow before them that says it. */
+enum fio2070_log_side {
+    FIO2070_LOG_NO_SIDE = 0,    /**< it does not say it */
+    FIO2070_LOG_FROM_CPU = 1,   /**< the CPU */
+    FIO2070_LOG_FROM_MODULE = 2 /**< the module */
 };
 
 /** What the reader says of a line of a log. */
@@ -728,8 +737,11 @@ struct fio2070_log_verdict {
     uint8_t reason;
     /** 1 if there is a time, else 0. */
     uint8_t has_time;
+    /** Who sent the octets of the frames, as the line says: one of `FIO2070_LOG_NO_SIDE` and those after
+     *  it. */
+    uint8_t said;
     /** 0 in each octet that the library writes. */
-    uint8_t reserved[5];
+    uint8_t reserved[4];
 };
 
 /** Where octets are written in a log. Colour sequences, NUL and byte order marks are no characters of a line. */
@@ -1128,7 +1140,8 @@ FIO2070_SAME(log_verdict, sizeof(struct fio2070_log_verdict) == 32 &&
              offsetof(struct fio2070_log_verdict, kind) == 24 &&
              offsetof(struct fio2070_log_verdict, reason) == 25 &&
              offsetof(struct fio2070_log_verdict, has_time) == 26 &&
-             offsetof(struct fio2070_log_verdict, reserved) == 27);
+             offsetof(struct fio2070_log_verdict, said) == 27 &&
+             offsetof(struct fio2070_log_verdict, reserved) == 28);
 
 FIO2070_SAME(log_place, sizeof(struct fio2070_log_place) == 16 &&
              offsetof(struct fio2070_log_place, start) == 8 &&

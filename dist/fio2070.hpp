@@ -1,8 +1,8 @@
 /* The field I/O transition link of the Model 2070: the header for C++17, above fio2070.h.
  *
- * Sources: af28420e8cf34bda1449bd2179f995c390d4c7a9bcf87d5053853687057877b8 (SHA-256; packaging/release-files --sources)
+ * Sources: 6efc5b7f9a455924190ebfb4e8921634778ecff277deeb774b71215fc93edb66 (SHA-256; packaging/release-files --sources)
  * Kit: rattle-kit-13f logic dac8208d650f15bf
- * Proof: logic=proved functions=144 target=wasm64-unknown-unknown sum=dac8208d650f15bf native=nat,char,string
+ * Proof: logic=proved functions=145 target=wasm64-unknown-unknown sum=dac8208d650f15bf native=nat,char,string
  * Made by `make release-files`: do not edit.
  *
  * Proved is the module of which fio2070.c was made, for wasm64: each call does what fio2070.h says for all octets,
