@@ -1,7 +1,7 @@
 /** @file
  * Messages between the CPU of a Model 2070 controller and its field I/O module, and both ends of the link.
  *
- * The code behind these calls is proved: each does what its description says for all octets, all
+ * The implementation of these calls is proved: each does what its description says for all octets, all
  * lengths and all contents of its structs. docs/C-LIBRARY.md says what that covers. These calls
  * allocate nothing, keep no static data, start no thread, and call memcpy, memmove and memset
  * alone. On x86-64 it needs a processor with SSE4.2 and POPCNT (see fio2070_processor_fits).
@@ -241,9 +241,9 @@ struct fio2070_configuration_item {
     /** 1 where the input's transitions are left out of the blocks, else 0. Calls that are given an item
      *  take any number but 0 as 1. */
     uint8_t ignore;
-    /** The leading filter: so many samples of 0 in a row change the state from 1 to 0; 0 acts as 1. */
+    /** The leading filter: how many successive samples of 0 change the state from 1 to 0; 0 acts as 1. */
     uint8_t leading;
-    /** The trailing filter: so many samples of 1 in a row change the state from 0 to 1; 0 acts as 1. */
+    /** The trailing filter: how many successive samples of 1 change the state from 0 to 1; 0 acts as 1. */
     uint8_t trailing;
 };
 
@@ -298,8 +298,8 @@ struct fio2070_fault fio2070_read_outputs_answer(const uint8_t *octets, size_t l
 FIO2070_MUST_USE
 struct fio2070_fault fio2070_read_identification(const uint8_t *octets, size_t length, uint8_t *id);
 
-/** Writes the text that `fio2070 show` writes of a frame, with a line feed behind each line: the lines of the message,
- * of an answer where the first octet is 128 or more, else of a command; where it is none the words of the fault. */
+/** Writes the text that `fio2070 show` writes of a frame, with a line feed after each line. If the first octet is 128 or more,
+ * the frame is read as an answer, else as a command; if it is neither, the text is that of the fault. */
 FIO2070_MUST_USE
 size_t fio2070_show(const uint8_t *octets, size_t length, char *text, size_t room);
 
@@ -745,13 +745,14 @@ struct fio2070_log_verdict {
     uint8_t reserved[4];
 };
 
-/** Where octets are written in a log. Colour sequences, NUL and byte order marks are no characters of a line. */
+/** Where octets are written in a log. A line is counted in octets, those of UTF-8; colour sequences, NUL and byte order marks
+ * are none of them. */
 struct fio2070_log_place {
     /** The number of the line, from 1. */
     uint64_t line;
-    /** The index of the first character, with its mark, bracket or quote. */
+    /** The index of the first octet in the line, with its mark, bracket or quote. */
     uint32_t start;
-    /** The index after the last character. */
+    /** The index after the last one. */
     uint32_t end;
 };
 
@@ -912,8 +913,8 @@ static inline struct fio2070_ring fio2070_ring_of(struct fio2070_slot (&slots)[c
 #endif
 
 /** A module whose waiting entries are in slots of the caller. _scan and _receive are given these as `ring`, always the same
- * ones, or others with their octets; they use as many as the limit says, and leave further ones unchanged. With fewer each
- * call is safe, but which and how many entries wait is not promised. The fields are the library's own. */
+ * ones, or others with their octets; they use the number of slots that the limit says, and leave further ones unchanged. With
+ * fewer each call is safe, but which and how many entries wait is not promised. The fields are the library's own. */
 struct fio2070_sized_module {
     struct {
         uint8_t id;

@@ -25,8 +25,8 @@ class Verdict(NamedTuple):
     the line gives no frame, in one of these words: 'no octets', 'no message', 'short message', 'several messages', 'may be
     longer', 'too long', 'exchanged' (a message that has a count, if the octets of each pair are exchanged), 'two more' (one but
     for two octets at one end), and by order 'bad line'; else it is empty. The octets of `frames` are written at `places`, in
-    their order: each is the number of a line, and where it begins and ends there, in characters, after colours, NUL and marks
-    are taken out. `time` is in microseconds since 1970, or since midnight or a start; None if the log has none there. `said` is
+    their order: each is the number of a line, and where it begins and ends there, in octets of UTF-8, after colours, NUL and
+    marks are taken out. `time` is in microseconds since 1970, or since midnight or a start; None if the log has none there. `said` is
     '>' if the line says that the CPU sent these octets, '<' if the module, else empty."""
     line: int
     kind: str

@@ -44,7 +44,7 @@ side_number None = 0
 side_number (Some directions.Command) = 1
 side_number (Some directions.Answer) = 2
 
--- a verdict as C sees it, with so many frames and places
+-- a verdict as C sees it, with its numbers of frames and places
 abbrev pub flat_verdict : Verdict → ℕ → ℕ → LogVerdict
 flat_verdict verdict frames places = record {
   line = verdict.line;
@@ -121,7 +121,7 @@ pub record HasTakenAll (before : Telling) (octets : List ℕ) (after : Telling) 
   pub read : after.read ≡ before.read + length whole
   pub is_ended : after.is_ended ≡ before.is_ended
 
--- A reader has taken so many octets of a text, and has told all verdicts that are in a batch.
+-- A reader has taken octets of a text, and has told all verdicts that are in a batch.
 pub record HasRead (before : Telling) (text : List ℕ) (taken : ℕ) (after : Telling) (batch : LogBatch) : Type 0 where
   pub within : taken ≤ length text
   pub octets : HasTakenAll before (take taken text) after

@@ -49,7 +49,7 @@ pub extern "C" fn fio2070_read_identification(octets: &[u8], id: &mut u8) -> Fau
     }
 }
 
-/// Returns the octets after the type, where octets have this type and are so many; else the first fault.
+/// Returns the octets after the type if octets have this type and length; else the first fault.
 fn fields_of(code: u8, needed: usize, octets: &[u8]) -> Result<&[u8], DecodeError>
     ensures { MatchResult result
         (λ fields. IsWhole (Some needed) octets.now code fields.now)

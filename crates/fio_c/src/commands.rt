@@ -46,9 +46,9 @@ pub struct ConfigurationItem {
     /// 1 where the input's transitions are left out of the blocks, else 0. Calls that are given an
     /// item take any number but 0 as 1.
     pub ignore: u8,
-    /// The leading filter: so many samples of 0 in a row change the state from 1 to 0; 0 acts as 1.
+    /// The leading filter: how many successive samples of 0 change the state from 1 to 0; 0 acts as 1.
     pub leading: u8,
-    /// The trailing filter: so many samples of 1 in a row change the state from 0 to 1; 0 acts as 1.
+    /// The trailing filter: how many successive samples of 1 change the state from 0 to 1; 0 acts as 1.
     pub trailing: u8,
 }
 

@@ -43,15 +43,16 @@ pub struct LogVerdict {
     pub reserved: [u8; 4],
 }
 
-/// Where octets are written in a log. Colour sequences, NUL and byte order marks are no characters of a line.
+/// Where octets are written in a log. A line is counted in octets, those of UTF-8; colour sequences, NUL and byte order
+/// marks are none of them.
 #[derive(Clone, Copy)]
 #[repr(C)]
 pub struct LogPlace {
     /// The number of the line, from 1.
     pub line: u64,
-    /// The index of the first character, with its mark, bracket or quote.
+    /// The index of the first octet in the line, with its mark, bracket or quote.
     pub start: u32,
-    /// The index after the last character.
+    /// The index after the last one.
     pub end: u32,
 }
 

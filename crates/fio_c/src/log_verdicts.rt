@@ -52,7 +52,7 @@ fn add_frames(reader: &Reader, batch: &mut LogBatch) -> u32
     LOG_FRAMES as u32
 }
 
-/// Adds so many places of the last verdict, and returns how many they are.
+/// Adds `count` places of the last verdict, and returns how many were added.
 fn add_places(reader: &Reader, count: usize, batch: &mut LogBatch) -> u32
     ensures more { (content : Content) → Holds batch.old content → HasPlacesMore content result batch.new }
     ensures verdicts { batch.new.verdict_count ≡ batch.old.verdict_count }

@@ -10,7 +10,7 @@ use std::convert::Infallible;
 
 /// Writes what `fio2070 show` writes of a frame, with a line feed at the end of each line: the lines of
 /// the message, of an answer where its first octet is 128 or more, else of a command; the words of the
-/// fault where the octets are none. A zero octet is written behind it. Returns how many octets the text
+/// fault where the octets are none. A zero octet is written after it. Returns how many octets the text
 /// has; where there is no room for it and the zero octet, nothing is written.
 #[unsafe(no_mangle)]
 pub extern "C" fn fio2070_show(octets: &[u8], text: &mut [u8]) -> usize

@@ -17,7 +17,7 @@ use fio_message::DecodeError;
 use fio_show::{LINE_OCTETS, put_heard};
 use fio_text::{line_end, put_pieces};
 
-/// The most octets of a text of this module, with the zero octet behind it.
+/// The most octets of a text of this module, with the zero octet after it.
 const LONGEST_TEXT: usize = 62;
 
 /// The most octets of the words of a fault, whose numbers have 16 and 64 bits.

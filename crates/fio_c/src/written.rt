@@ -36,7 +36,7 @@ pub(crate) fn write_with_body(code: u8, body: &[u8], out: &mut [u8]) -> usize
     count
 }
 
-/// Writes a text and a zero octet behind it where the buffer has room for both, and returns how many octets
+/// Writes a text and a zero octet after it if the buffer has room for both, and returns how many octets
 /// the text has.
 pub(crate) fn write_text(words: &[u8], text: &mut [u8]) -> usize
     ensures { WritesText words.now text.old text.new result }

@@ -18,7 +18,7 @@ use core::fmt;
 /// What a poller heard.
 #[derive(Clone, Copy, Debug, PartialEq, Eq)]
 pub enum Heard {
-    /// A block was taken; so many items were written. The stamp is the module's millisecond counter when the block was
+    /// A block was taken; this many items were written. The stamp is the module's millisecond counter when the block was
     /// made.
     Taken {
         number: u8,
@@ -33,7 +33,7 @@ pub enum Heard {
     Other(u8),
     /// A block with this number, another than the present one.
     Stale { number: u8, stamp: u32 },
-    /// A block with the present number adds so many items, for which there is no room.
+    /// A block with the present number adds this many items, for which there is no room.
     NoRoom {
         number: u8,
         stamp: u32,

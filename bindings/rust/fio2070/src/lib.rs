@@ -121,7 +121,7 @@ pub fn command_items<'a>(
     })
 }
 
-/// Writes what `fio2070 show` writes of a frame, and a zero octet behind it, which needs room too.
+/// Writes what `fio2070 show` writes of a frame, and a zero octet after it, which needs room too.
 pub fn show<'a>(octets: &[u8], out: &'a mut [u8]) -> Result<&'a str, Unwritten> {
     // SAFETY: both slices are initialised memory of their lengths and do not overlap.
     text(out, |out, room| unsafe {
@@ -129,7 +129,7 @@ pub fn show<'a>(octets: &[u8], out: &'a mut [u8]) -> Result<&'a str, Unwritten> 
     })
 }
 
-/// Writes the name of a rule, such as `advance`, and a zero octet behind it, which needs room too; the empty
+/// Writes the name of a rule, such as `advance`, and a zero octet after it, which needs room too; the empty
 /// text for what is no rule.
 pub fn rule_text(rule: u8, out: &mut [u8]) -> Result<&str, Unwritten> {
     // SAFETY: `out` is initialised and has as many octets as `room` says.

@@ -6,7 +6,7 @@ use core::fmt;
 /// Why nothing was written. Nothing changed then.
 #[derive(Clone, Copy, Debug, PartialEq, Eq)]
 pub enum Unwritten {
-    /// There are so many octets, entries or items to write, and the slice is shorter.
+    /// There are this many octets, entries or items to write, and the slice is shorter.
     NoRoom(usize),
     /// There is nothing such: no message has these fields, or the octets do not carry what is asked for.
     NoMessage,
@@ -35,7 +35,7 @@ pub(crate) fn front<T>(
     }
 }
 
-/// The text that a call wrote, which returns how many octets it has without the zero octet behind it.
+/// The text that a call wrote, which returns how many octets it has without the zero octet after it.
 pub(crate) fn text(
     out: &mut [u8],
     write: impl FnOnce(*mut u8, usize) -> usize,
