@@ -3,9 +3,8 @@ use crate::damage::Texts;
 use crate::decisions::State;
 use crate::entries::{Entries, KEPT};
 use crate::kept::Seen;
-use crate::messages::Brief;
 use crate::pairs::Half;
-use crate::queue::{ENTRIES, Queue, WAITING};
+use crate::queue::{ENTRIES, Queue};
 use crate::said::LINE_RUNS;
 use crate::shapes::Shapes;
 use crate::styles::Styles;
@@ -155,65 +154,6 @@ impl Decider {
         }
     }
 
-    /// Makes an entry and the one above sure, if they say a command and its answer; then the entry is the one above.
-    fn pair_with_above(&mut self, entries: &Entries, slot: usize) {
-        let pair = self.pair_above(entries, slot);
-        let above = self.above.slot;
-        if let Some((command, answer)) = pair {
-            self.make_sure(entries, above, command);
-            self.make_sure(entries, Some(slot), answer);
-            if let Some(above) = above {
-                self.judge(entries, above);
-            }
-        }
-        self.above.halves.clear();
-        self.above.chosen = None;
-        self.above.slot = Some(slot);
-        if let Some(entry) = entries.get(slot) {
-            for kept in entry.kept.as_slice() {
-                let _room = self.above.halves.try_push(Half::of(kept));
-            }
-        }
-    }
-
-    /// Returns the command that the entry above says and its answer in an entry, if there is exactly one such pair.
-    fn pair_above(&self, entries: &Entries, slot: usize) -> Option<(Brief, Brief)> {
-        let entry = entries.get(slot)?;
-        let chosen = match self.above.slot {
-            Some(above) => self.queue.get(above).and_then(|above| above.chosen()),
-            None => self.above.chosen,
-        };
-        let mut pair: Option<(Brief, Brief)> = None;
-        for (index, command) in self.above.halves.as_slice().iter().enumerate() {
-            if chosen.is_some_and(|chosen| chosen != index) {
-                continue;
-            }
-            for kept in entry.kept.as_slice() {
-                let found = (command.brief, kept.brief);
-                if !command.is_answered_by(Half::of(kept), &self.shapes) {
-                    continue;
-                }
-                match pair {
-                    Some(other) if other.0 != found.0 || other.1 != found.1 => return None,
-                    _ => pair = Some(found),
-                }
-            }
-        }
-        pair
-    }
-
-    /// Marks as sure the runs of an entry that say a message.
-    fn make_sure(&mut self, entries: &Entries, slot: Option<usize>, brief: Brief) {
-        let Some(slot) = slot else {
-            return;
-        };
-        if let Some(entry) = entries.get(slot)
-            && let Some(decision) = self.queue.get_mut(slot)
-        {
-            decision.make_sure(entry, brief);
-        }
-    }
-
     /// Judges an entry that waits; if a shape becomes known by it, judges all others that wait.
     pub(crate) fn judge(&mut self, entries: &Entries, slot: usize) {
         self.judge_one(entries, slot);
@@ -249,7 +189,7 @@ impl Decider {
     }
 
     /// Counts the frame of an entry, and learns the shapes of its sure runs that say it.
-    fn take(&mut self, entries: &Entries, slot: usize) {
+    pub(crate) fn take(&mut self, entries: &Entries, slot: usize) {
         self.count = self.count.saturating_add(1);
         let (Some(entry), Some(decision)) = (entries.get(slot), self.queue.get(slot)) else {
             return;
@@ -270,7 +210,7 @@ impl Decider {
     }
 
     /// Passes an entry over.
-    fn pass_over(&mut self, entries: &Entries, slot: usize) {
+    pub(crate) fn pass_over(&mut self, entries: &Entries, slot: usize) {
         let Some(entry) = entries.get(slot) else {
             return;
         };
@@ -302,71 +242,5 @@ impl Decider {
     fn is_damaged(&self) -> bool {
         self.seen.as_slice().iter().any(|seen| seen.is_known(&self.shapes)
             || seen.is_begun && self.styles.has(seen.mark, seen.ways))
-    }
-
-    /// Ends the wait of an entry. A line that is nothing but a message is a frame if each line of its shape so far said
-    /// one; without a word for its direction, if each line of the log did.
-    pub(crate) fn give_up(&mut self, entries: &Entries, slot: usize) {
-        let Some(entry) = entries.get(slot) else {
-            return;
-        };
-        if !self
-            .queue
-            .get(slot)
-            .is_some_and(|decision| decision.is_waiting())
-        {
-            return;
-        }
-        let is_sure = match entry.kept.as_slice() {
-            [only] => only.is_bare && self.is_alone(only.has_before, only.front),
-            _ => false,
-        };
-        if !is_sure {
-            self.pass_over(entries, slot);
-            return;
-        }
-        if let Some(decision) = self.queue.get_mut(slot) {
-            decision.take_only();
-        }
-        self.take(entries, slot);
-        self.judge(entries, slot);
-    }
-
-    /// Returns whether each line so far with a front said a message; if the front is empty, whether each line of the log did.
-    pub(crate) fn is_alone(&self, has_before: bool, front: u64) -> bool {
-        if has_before {
-            self.shapes.is_always_good(front)
-        } else {
-            !self.has_others && !self.shapes.has_known()
-        }
-    }
-
-    /// Ends the wait of all entries but the one that is open.
-    pub(crate) fn give_up_all(&mut self, entries: &Entries) {
-        for position in 0..self.queue.len().min(ENTRIES) {
-            let slot = self.queue.slot(position);
-            if self.open != Some(slot) {
-                self.give_up(entries, slot);
-            }
-        }
-    }
-
-    /// Ends the wait of those that have waited long enough.
-    pub(crate) fn give_up_old(&mut self, entries: &Entries) {
-        let count = self.queue.len().min(ENTRIES);
-        for position in 0..count {
-            let slot = self.queue.slot(position);
-            let Some(decision) = self.queue.get(slot) else {
-                return;
-            };
-            if !decision.is_waiting() {
-                continue;
-            }
-            let may_wait = self.count < decision.waits && count - position <= WAITING;
-            if self.open == Some(slot) || may_wait {
-                return;
-            }
-            self.give_up(entries, slot);
-        }
     }
 }

@@ -42,6 +42,7 @@ mod digits;
 mod directions;
 mod entries;
 mod found;
+mod giving_up;
 mod glance;
 mod joined;
 mod joins;
