@@ -4,7 +4,7 @@
  * call, which the proof excludes, ends in FIO2070_TRAP(). FIO2070_UNCHECKED leaves the test of accesses to arguments out.
  * FIO2070_FAST makes the code longer and faster.
  *
- * Sources: cf6e1fab1712a753e4820fe7f89864f75ee0e926000cc82106c61b7b11274fbc (SHA-256; packaging/release-files --sources)
+ * Sources: af003babd5d69f2a8f636a6e845e622e2e88d67a07cebe241777772b41931d0f (SHA-256; packaging/release-files --sources)
  * Kit: rattle-kit-13f logic dac8208d650f15bf
  * Proof: logic=proved functions=145 target=wasm64-unknown-unknown sum=dac8208d650f15bf native=nat,char,string
  * Made by `make release-files`: do not edit.
