@@ -7,19 +7,24 @@
 #     make uninstall PREFIX=/usr/local
 #     make release
 #
-# With the Rattle kit, `rt`, everything is made from the proved sources. Without it, the libraries and tools are made from
-# dist/ by a C compiler, for the machine that it compiles for, and the program is not made.
+# The program is the one that packaging/program names: that of dist/, if the sources are those that it was made of. With the
+# Rattle kit, `rt`, the libraries are made from the proved sources. Without it, they are made from dist/ by a C compiler, for
+# the machine that it compiles for.
 #
 # DESTDIR, if it is given, precedes each path, as for a package. LIB, ZSH and TOOLS are the folders of libraries, of zsh's
-# completions and of tools/ below PREFIX. DIST is the folder of the packages. CFLAGS and LDFLAGS are passed to the compiler.
+# completions and of tools/ below PREFIX. What is made goes to the folder OUT, so that a tree that can only be read can be
+# built and installed from; what the kit makes of a crate goes beside the crate. DIST is the folder of the packages. CFLAGS and
+# LDFLAGS are passed to the compiler, with the flags of packaging/hardening; HARDENING= and LINK_HARDENING= leave these out.
 
 PREFIX = /usr/local
 DESTDIR =
 LIB = lib
 ZSH = share/zsh/site-functions
 TOOLS = share/fio2070
-DIST = release
+OUT = .
+DIST = $(OUT)/release
 CFLAGS ?= -O2
+LDCONFIG = ldconfig
 
 root = $(DESTDIR)$(PREFIX)
 bin = $(root)/bin
@@ -35,9 +40,9 @@ kit := $(shell command -v rt)
 # One after another: what is installed first is needed to link what is installed after it.
 .NOTPARALLEL:
 
-# Proves and builds the program if that is not done yet.
+# The program of this tree: makes it if there is none yet, and says which it is.
 all:
-	@./fio2070 --version
+	@FIO2070_OUT='$(OUT)' ./fio2070 --version
 
 # Checks what a change can break here; a merge waits for `./test --all`.
 test:
@@ -45,18 +50,27 @@ test:
 
 # ---- The C library ----
 
-# `make library` makes the archive, a shared library for languages that load one, and the tester, in OUT. The number in the
-# shared library's name is that of its interface: it rises when a program has to be rebuilt. PCPREFIX is the prefix that
-# fio2070.pc names. RTFLAGS are further words for `rt lib`, such as `--jobs 1`.
+# `make library` makes the archive, a shared library for languages that load one, and the tester. The number in the shared
+# library's name is that of its interface: it rises when a program has to be rebuilt. PCPREFIX is the prefix that fio2070.pc
+# names. RTFLAGS are further words for `rt lib`, such as `--jobs 1`.
 
-OUT = .
 PCPREFIX = $(PREFIX)
 RTFLAGS =
 VERSION = $(shell sed -n 's/^\#\# \([0-9][0-9.]*\).*/\1/p' CHANGELOG.md | head -n 1)
 tester = $(wildcard tools/conformance/conformance*.c)
 objects = $(OUT)/out/tester
 exports = tools/conformance/exports.map
-compile = $(CC) $(CPPFLAGS) $(CFLAGS)
+# Found out once, when something is compiled.
+HARDENING = $(eval HARDENING := $(shell packaging/hardening $(CC) $(CPPFLAGS) $(CFLAGS)))$(HARDENING)
+LINK_HARDENING = $(eval LINK_HARDENING := $(shell packaging/hardening --link $(CC)))$(LINK_HARDENING)
+compile = $(CC) $(HARDENING) $(CPPFLAGS) $(CFLAGS)
+linking = $(LINK_HARDENING) $(LDFLAGS)
+
+# $(call made,COMMAND): a recipe that shows and runs a command, which writes `$$room/FILE` for a target FILE. The file then takes
+# its place at once, so that two makes can work in one tree.
+shown = $(if $(findstring s,$(firstword -$(MAKEFLAGS))),,$(info $(1)))
+made = $(shown)mkdir -p '$(@D)' '$(OUT)/out' && room=$$(mktemp -d '$(OUT)/out/make.XXXXXX') && trap 'rm -rf "$$room"' EXIT && $(1) && \
+    mv -f "$$room/$(@F)" '$@'
 
 # The name of a shared library, and how it is linked, on the machine that CC compiles for. On Windows there is no tester,
 # since it needs POSIX.
@@ -97,29 +111,32 @@ include packaging/without-kit.mk
 endif
 
 # The tester, compiled once for the shared library and for the command.
-$(objects)/tester.a: $(tester) $(wildcard tools/conformance/*.h) $(interface)/fio2070.h
-	mkdir -p $(objects)
-	cd $(objects) && rm -f *.o && $(compile) -fPIC -I $(abspath $(interface)) -c $(abspath $(tester))
-	rm -f $@
-	$(AR) rcs $@ $(objects)/*.o
+tester_objects = $(tester:tools/conformance/%.c=$(objects)/%.o)
+
+$(objects)/%.o: tools/conformance/%.c $(wildcard tools/conformance/*.h) $(interface)/fio2070.h
+	@$(call made,$(compile) -fPIC -I $(interface) -c $< -o "$$room/$(@F)")
+
+$(objects)/tester.a: $(tester_objects)
+	@$(call made,$(AR) rcs "$$room/$(@F)" $^)
 
 # The shared library includes the tester. It exports only names that begin with `fio2070_`.
 $(OUT)/$(soname): $(OUT)/libfio2070.a $(shared_tester) $(exports)
-	$(compile) -I $(interface) $(sharing) $(LDFLAGS) $(shared_tester) $(call all_of,$<) -o $@
+	@$(call made,$(compile) -I $(interface) $(sharing) $(linking) $(shared_tester) $(call all_of,$<) -o "$$room/$(@F)")
 
 # The name by which a program is linked.
 ifneq ($(link_name),$(soname))
 $(OUT)/$(link_name): $(OUT)/$(soname)
-	ln -sf $(soname) $@
+	@$(call made,ln -s $(soname) "$$room/$(@F)")
 endif
 
 # The tester as a command, for modules that are asked over a wire (tools/conformance/README.md).
 $(OUT)/fio2070-test: $(objects)/tester.a $(OUT)/libfio2070.a tools/conformance/fio2070_test.c
-	$(compile) -I $(interface) $(LDFLAGS) tools/conformance/fio2070_test.c $(objects)/tester.a $(OUT)/libfio2070.a -o $@
+	@$(call made,$(compile) -I $(interface) $(linking) tools/conformance/fio2070_test.c $(objects)/tester.a $(OUT)/libfio2070.a \
+	    -o "$$room/$(@F)")
 
 # The glossary of all definitions, DOC/GLOSSARY.md, and the page of the C library, made from the header by doxygen,
 # DOC/html/index.html.
-DOC = doc
+DOC = $(OUT)/doc
 
 .PHONY: doc
 
@@ -128,10 +145,20 @@ doc:
 	tools/generate-glossary >'$(DOC)/GLOSSARY.md'
 	(cat packaging/Doxyfile; echo 'OUTPUT_DIRECTORY = "$(DOC)"') | doxygen -
 
+# The archive and the Debian packages: the same files give the same octets each time. With TARGET=aarch64 they only have the
+# library, for AArch64.
+ifeq ($(TARGET),aarch64)
+dist deb: $(OUT)/aarch64/libfio2070.a
+else
+dist deb: library
+endif
+	@kit='$(kit)' OUT='$(OUT)' packaging/$@ '$(DIST)' $(TARGET)
+
 # ---- Installing ----
 
-# With the kit, the program is installed, and the library and the tester if they were made; without it, these two are made
-# first. `fiolog` loads the shared library, which is beside the Python packages.
+# The program is installed if a proved one runs here. With the kit, the library and the tester are installed if they were made;
+# without it, these two are made first. `fiolog` loads the shared library, which is beside the Python packages. Everyone can read
+# all of it, whatever the settings of the user who cloned the repository or installs it.
 headers = $(wildcard $(interface)/*.h $(interface)/*.hpp)
 tools = lossy-script transcript conformance waveform wireshark $(if $(shared),fiolog)
 filters = transcript lossy-script waveform/vcd wireshark/hex2pcap
@@ -145,19 +172,31 @@ share = $(root)/$(TOOLS)
 
 install: install-program install-library install-tester install-tools install-documents
 
+install-program:
+	program=$$(packaging/program --proved) || { [ $$? -eq 2 ] && echo 'The program fio2070 is not installed.' && exit; exit 1; }; \
+	install -d '$(bin)' '$(man)' '$(bash)' '$(zsh)' '$(fish)' && \
+	install -m 755 "$$program" '$(bin)/fio2070' && \
+	install -m 644 man/fio2070.1 '$(man)/fio2070.1' && \
+	install -m 644 completions/fio2070.bash '$(bash)/fio2070' && \
+	install -m 644 completions/fio2070.zsh '$(zsh)/_fio2070' && \
+	install -m 644 completions/fio2070.fish '$(fish)/fio2070.fish'
+
 install-library:
 ifneq ($(libraries),)
 	install -d '$(root)/$(LIB)' '$(root)/include' '$(pkgconfig)' '$(cmake)'
 	install -m 644 $(libraries) '$(root)/$(LIB)'
 	install -m 644 $(headers) '$(root)/include'
-	sed -e 's|@PREFIX@|$(PCPREFIX)|' -e 's|@LIB@|$(LIB)|' -e 's|@VERSION@|$(VERSION)|' packaging/fio2070.pc.in \
+	umask 022; sed -e 's|@PREFIX@|$(PCPREFIX)|' -e 's|@LIB@|$(LIB)|' -e 's|@VERSION@|$(VERSION)|' packaging/fio2070.pc.in \
 	    >'$(pkgconfig)/fio2070.pc'
-	for file in fio2070-config fio2070-config-version; do \
+	umask 022; for file in fio2070-config fio2070-config-version; do \
 	    sed -e 's|@LIB@|$(LIB)|' -e 's|@VERSION@|$(VERSION)|' "packaging/$$file.cmake.in" >'$(cmake)'/$$file.cmake; done
 endif
 ifneq ($(shared),)
 	install -m 644 $(shared) '$(root)/$(LIB)'
 	[ $(link_name) = $(soname) ] || ln -sf $(soname) '$(root)/$(LIB)/$(link_name)'
+	@[ -n '$(DESTDIR)' ] || [ "$$(id -u)" != 0 ] || \
+	    ! $(LDCONFIG) -v -N -X 2>/dev/null | sed -n 's/:.*//p' | grep -qxF '$(PREFIX)/$(LIB)' || \
+	    echo 'Programs find $(soname) once you have run ldconfig.'
 endif
 
 install-tester:
@@ -173,20 +212,19 @@ endif
 install-tools:
 	install -d '$(bin)' '$(man)' '$(share)/tools/page' '$(share)/tools/portable' '$(share)/rust/fio2070/src' \
 	    '$(share)/rust/fio2070/c'
-	cp -R $(addprefix tools/,$(tools)) '$(share)/tools'
+	cp -R $(addprefix tools/,$(tools)) '$(share)/tools' && chmod -R u=rwX,go=rX '$(share)/tools'
 	for file in $(tool_pages); do install -m 644 "tools/$$file" '$(share)/tools'/"$$file" || exit 1; done
-	install -m 644 bindings/rust/fio2070/Cargo.* bindings/rust/fio2070/build.rs '$(share)/rust/fio2070'
+	install -m 644 bindings/rust/fio2070/Cargo.* bindings/rust/fio2070/build.rs LICENSE '$(share)/rust/fio2070'
 	install -m 644 bindings/rust/fio2070/src/*.rs '$(share)/rust/fio2070/src'
 	install -m 644 dist/fio2070.c dist/fio2070.h '$(share)/rust/fio2070/c'
 	install -m 644 dist/fio2070.html '$(share)'
-	install -d '$(share)/hdlc'
-	install -m 644 examples/hdlc/hdlc.* '$(share)/hdlc'
 	for file in $(filters); do ln -sf "../$(TOOLS)/tools/$$file" '$(bin)'/fio2070-"$${file##*/}" || exit 1; done
 	install -m 644 man/fio2070-tools.1 '$(man)'
-ifneq ($(shared),)
-	install -d '$(share)/python/fio2070' '$(share)/python/fiolog' '$(bash)' '$(zsh)' '$(fish)'
-	install -m 644 bindings/python/fio2070/*.py bindings/python/fio2070/py.typed $(shared) '$(share)/python/fio2070'
+	install -d '$(share)/python/fiolog'
 	install -m 644 bindings/python/fiolog/*.py '$(share)/python/fiolog'
+ifneq ($(shared),)
+	install -d '$(share)/python/fio2070' '$(bash)' '$(zsh)' '$(fish)'
+	install -m 644 bindings/python/fio2070/*.py bindings/python/fio2070/py.typed $(shared) '$(share)/python/fio2070'
 	ln -sf '../$(TOOLS)/tools/fiolog' '$(bin)/fiolog'
 	install -m 644 man/fiolog.1 '$(man)'
 	install -m 644 completions/fiolog.bash '$(bash)/fiolog'
@@ -210,10 +248,15 @@ install-documents:
 	[ ! -d '$(share)/tools' ] || ln -sfn '../../$(notdir $(TOOLS))/tools' '$(documents)/tools'
 
 names = fio2070 fio2070-test fiolog
+# The folders of an installation, which go if they are empty, and so does the prefix; the system's own prefixes keep theirs.
+folders = bin include $(LIB)/pkgconfig $(LIB)/cmake $(TOOLS) $(ZSH) $(addprefix share/,doc man/man1 bash-completion/completions fish/vendor_completions.d)
+of_system = $(filter /usr /usr/local,$(root:%/=%))
 uninstall:
 	rm -f $(foreach name,$(names) $(addprefix fio2070-,vcd hex2pcap transcript lossy-script),'$(bin)/$(name)') \
 	    $(foreach name,$(names) fio2070-tools,'$(man)/$(name).1') \
 	    $(foreach name,$(names),'$(bash)/$(name)' '$(zsh)/_$(name)' '$(fish)/$(name).fish') \
 	    $(foreach name,libfio2070.a $(soname) $(link_name) pkgconfig/fio2070.pc,'$(root)/$(LIB)/$(name)') \
 	    $(foreach name,fio2070.h fio2070.hpp,'$(root)/include/$(name)')
-	rm -rf '$(cmake)' '$(share)/tools' '$(share)/python' '$(share)/rust' '$(share)/hdlc' '$(share)/fio2070.html' '$(documents)'
+	rm -rf '$(cmake)' '$(share)/tools' '$(share)/python' '$(share)/rust' '$(share)/fio2070.html' '$(documents)'
+	@if [ -d '$(root)' ]; then cd '$(root)' && rmdir -p $(if $(of_system),$(TOOLS),$(folders)) 2>/dev/null; fi; true
+	@$(if $(of_system),,rmdir '$(root)' 2>/dev/null;) true

@@ -20,14 +20,19 @@ BESIDE = {('copy_items', 'configure, 64 items'): ('decode_commands', 'configure,
           ('copy_entries', '255 entries'): ('read_blocks', '255 entries, each read')}
 
 
-def build(folder):
-    """The program in C, with the library in the folder."""
+def build(folder, name='library'):
+    """A program in C, with the library in the folder."""
     succeed(['make', '-s', '-C', TOP, 'library', f'OUT={folder}'])
-    program = folder / 'library'
+    program = folder / name
     compiler = shlex.split(os.environ.get('CC') or 'cc')
-    succeed([*compiler, '-O2', '-I', TOP / 'include', calls.TEXTS / 'library.c', folder / 'libfio2070.a',
+    succeed([*compiler, '-O2', '-I', TOP / 'include', calls.TEXTS / f'{name}.c', folder / 'libfio2070.a',
              '-o', program])
     return program
+
+
+def times_of_a_line(folder):
+    """Nanoseconds an octet of a line, for a plain loop in C and for each call that decodes it."""
+    return [(name, float(time)) for name, time in (line.split('\t') for line in succeed([build(folder, 'line')]).splitlines())]
 
 
 def counts_by_case(said, program, function, folder):

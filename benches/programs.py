@@ -32,9 +32,8 @@ def succeed(command, **options):
 
 
 def build_ours():
-    """The program of this repository, proved and built if it is not yet."""
-    succeed([TOP / 'fio2070', '--version'])
-    return TOP / 'crates/fio2070/out/fio2070'
+    """The program of this repository: with the kit the one that is built here, which has the names of functions."""
+    return Path(succeed([TOP / 'packaging/program', '--built' if shutil.which('rt') else '--proved']).rstrip('\n'))
 
 
 def build_peer(folder):

@@ -1,16 +1,13 @@
 """Tables of what was measured, in Markdown."""
 
-import re
 import shutil
 import statistics
-import subprocess
 from pathlib import Path
 
 import workloads
 from programs import TOP
 
 PAGE = TOP / 'docs/PERFORMANCE.md'
-FIGURES = TOP / 'benches/figures.md'
 RECORD_ROUNDS = 31
 PARTS = [(0.25, 'a quarter'), (0.5, 'a half'), (1, 'whole')]
 
@@ -131,6 +128,11 @@ def of_library(found):
     return table(['Call', 'case', 'C', 'crate', 'ratio'], rows).replace('| --- | ---: |', '| --- | --- |', 1)
 
 
+def of_line(found):
+    """Time of an octet of a line, for a plain loop in C and for each call, and its ratio to the loop's."""
+    return table(['Decoder', 'ns an octet', 'ratio'], [[name, figure(time, 2), figure(time / found[0][1], 1)] for name, time in found])
+
+
 def of_logs(found):
     """Time, and instructions of a line, of each program for each log, and their ratios to those of the first, the plain one."""
     rows = []
@@ -141,13 +143,6 @@ def of_logs(found):
             rows.append([log, program, figure(cost[0], 0), ratios[0], figure(cost[1], 0), ratios[1]])
     heads = ['Log', 'program', 'time, ms', 'ratio', 'instructions of a line', 'ratio']
     return table(heads, rows).replace('| --- | ---: |', '| --- | --- |', 1)
-
-
-def measured():
-    """The commit that was measured, and the name of this machine's processor."""
-    commit = subprocess.run(['git', 'describe', '--always', '--dirty'], cwd=TOP, capture_output=True, text=True, check=True)
-    about = subprocess.run(['lscpu'], capture_output=True, text=True, check=True).stdout
-    return 'Commit %s, on %s.\n' % (commit.stdout.strip(), re.search(r'Model name:\s*(.*)', about).group(1))
 
 
 def of_ratios(lines):
@@ -167,8 +162,6 @@ def put(page, found):
 
 
 def write(found):
-    """Writes the table of single calls and the ratios of the program into their pages."""
-    if 'calls' in found:
-        put(FIGURES, {'calls': found['calls'], 'measured': measured()})
+    """Writes the ratios of the program into their page."""
     if 'ratio' in found.get('programs', ''):
         put(PAGE, {'ratios': of_ratios(found['programs'])})

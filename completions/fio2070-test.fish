@@ -8,10 +8,11 @@ complete -c fio2070-test -l id -x -d 'the octet that the module answers to comma
 complete -c fio2070-test -l per-block -x -d 'the most entries of its blocks'
 complete -c fio2070-test -l deadline -x -d 'milliseconds for each line that it writes'
 complete -c fio2070-test -l own-clock -d 'it samples by a clock of its own'
+complete -c fio2070-test -l cpu -d "it is a CPU's end"
 complete -c fio2070-test -l except -x -d 'does not ask this rule'
 complete -c fio2070-test -l coverage -d 'how many events exercised each rule'
 complete -c fio2070-test -l junit -r -d 'writes JUnit XML'
 complete -c fio2070-test -l first -d 'stops at the first difference'
-complete -c fio2070-test -l replay -d 'runs the script on standard input'
+complete -c fio2070-test -l replay -d 'runs the scripts on standard input'
 complete -c fio2070-test -l rules -d 'the rules, with their sources'
 complete -c fio2070-test -l help -d 'print help'

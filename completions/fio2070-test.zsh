@@ -10,10 +10,11 @@ _arguments \
     '--per-block[the most entries of its blocks]:number' \
     '--deadline[for each line that it writes]:milliseconds' \
     '--own-clock[it samples by a clock of its own]' \
+    "--cpu[it is a CPU's end]" \
     '*--except[does not ask this rule]:rule' \
     '--coverage[how many events exercised each rule]' \
     '--junit[writes JUnit XML]:file:_files' \
     '--first[stops at the first difference]' \
-    '--replay[runs the script on standard input]' \
+    '--replay[runs the scripts on standard input]' \
     '--rules[the rules, with their sources]' \
     '--help[print help]'

@@ -4,31 +4,38 @@ _fiolog() {
     local word=${COMP_WORDS[COMP_CWORD]} command=${COMP_WORDS[1]} words=
     case "$command ${COMP_WORDS[COMP_CWORD - 1]}" in
     'decode --format') words='auto frames transcript' ;;
+    'decode --line') words='octets bits bits-high-first' ;;
     'decode --direction') words='sent heard' ;;
     'decode --color') words='auto always never' ;;
     'check --format') words='auto frames transcript' ;;
+    'check --line') words='octets bits bits-high-first' ;;
     'check --at') words='auto cpu module bus' ;;
-    'check --rules') words='all nine' ;;
+    'check --rules') words='all transcript' ;;
+    'check --except') words='readable pair number advance same sequence limits rest refusal order fresh alternate apart ignored state clock done accepted cleared watchdog' ;;
     'stats --format') words='auto frames transcript' ;;
+    'stats --line') words='octets bits bits-high-first' ;;
     'plan --limits') words='standard largest' ;;
     'convert --format') words='auto frames transcript' ;;
+    'convert --line') words='octets bits bits-high-first' ;;
     'convert --to') words='transcript frames pcapng vcd' ;;
     'record --format') words='auto frames transcript' ;;
+    'record --line') words='octets bits bits-high-first' ;;
     'record --at') words='auto cpu module bus' ;;
     'record --on') words='0 1' ;;
     'live --at') words='auto cpu module bus' ;;
+    'live --except') words='readable pair number advance same sequence limits rest refusal order fresh alternate apart ignored state clock done accepted cleared watchdog' ;;
     *)
         case $COMP_CWORD:$word in
         1:*) words='decode check stats plan convert record live -h --help' ;;
         *:-*)
             case $command in
-            decode) words='-h --help --format --pattern --sdlc --no-check -v --verbose -q --quiet --json --csv --input --type --block --status --direction --lines --color' ;;
-            check) words='-h --help --format --pattern --sdlc --no-check -v --verbose -q --quiet --at --start-at-poll --whole --limits --rules --late-answers --jobs --json' ;;
-            stats) words='-h --help --format --pattern --sdlc --no-check -v --verbose -q --quiet --jobs --json' ;;
-            plan) words='-h --help --inputs --filter --group --limits --outage --lost --every -v --verbose --json' ;;
-            convert) words='-h --help --format --pattern --sdlc --no-check -v --verbose -q --quiet --to -o --output --times' ;;
-            record) words='-h --help --format --pattern --sdlc --no-check -v --verbose -q --quiet --at --start-at-poll --whole --limits --text --json --csv --vcd --plot --hires --start --signal --on --channels' ;;
-            live) words='-h --help --exec --serial --udp --fifo --rate --host --transcript --pcapng --at --whole --limits --seconds -v --verbose -q --quiet' ;;
+            decode) words='-h --help --format --pattern --sdlc --no-check --line --address --merge -v --verbose -q --quiet --json --csv --input --type --block --status --direction --lines --color' ;;
+            check) words='-h --help --format --pattern --sdlc --no-check --line --address --merge -v --verbose -q --quiet --at --start-at-poll --whole --limits --rules --except --late-answers --jobs --json' ;;
+            stats) words='-h --help --format --pattern --sdlc --no-check --line --address --merge -v --verbose -q --quiet --jobs --json' ;;
+            plan) words='-h --help --inputs --filter --group --limits --block --waiting --outage --lost --every -v --verbose --json' ;;
+            convert) words='-h --help --format --pattern --sdlc --no-check --line --address --merge -v --verbose -q --quiet --to -o --output --times' ;;
+            record) words='-h --help --format --pattern --sdlc --no-check --line --address --merge -v --verbose -q --quiet --at --start-at-poll --whole --limits --text --json --csv --vcd --plot --hires --start --signal --on --channels' ;;
+            live) words='-h --help --exec --serial --udp --fifo --address --rate --host --transcript --pcapng --force --at --whole --limits --except --seconds -v --verbose -q --quiet' ;;
             esac ;;
         esac ;;
     esac

@@ -26,8 +26,11 @@ _fiolog() {
             '--help[show this help message and exit]' \
             '--format[auto (the default); frames or transcript, as fio2070 show and check read lines]:name:(auto frames transcript)' \
             '--pattern[an expression with the groups octets (hexadecimal digits) and perhaps time and dir]:regex:' \
-            '--sdlc[each line ends with a frame that has address, control and frame check]' \
-            '--no-check[with --sdlc, without the frame check]' \
+            '--sdlc[each line ends with frames that have address, control and frame check; with flags, a frame may go on in the next line, or row of a dump]' \
+            '--no-check[with --sdlc, each line ends with one frame, without the frame check]' \
+            '--line[the file is what a line carried, octets, or bits (bits-high-first), one a clock, as a text of 0 and 1 or eight to an octet]:form:(octets bits bits-high-first)' \
+            '--address[the address of the frames of a line that are judged (14), with or without the control octet (1483), or any]:hex:' \
+            '--merge[read the files as one log, in the order of their times, such as one file of each channel]' \
             '-v[name each line that is passed over, and why]' \
             '--verbose[name each line that is passed over, and why]' \
             '-q[say nothing on standard error but faults]' \
@@ -48,8 +51,11 @@ _fiolog() {
             '--help[show this help message and exit]' \
             '--format[auto (the default); frames or transcript, as fio2070 show and check read lines]:name:(auto frames transcript)' \
             '--pattern[an expression with the groups octets (hexadecimal digits) and perhaps time and dir]:regex:' \
-            '--sdlc[each line ends with a frame that has address, control and frame check]' \
-            '--no-check[with --sdlc, without the frame check]' \
+            '--sdlc[each line ends with frames that have address, control and frame check; with flags, a frame may go on in the next line, or row of a dump]' \
+            '--no-check[with --sdlc, each line ends with one frame, without the frame check]' \
+            '--line[the file is what a line carried, octets, or bits (bits-high-first), one a clock, as a text of 0 and 1 or eight to an octet]:form:(octets bits bits-high-first)' \
+            '--address[the address of the frames of a line that are judged (14), with or without the control octet (1483), or any]:hex:' \
+            '--merge[read the files as one log, in the order of their times, such as one file of each channel]' \
             '-v[name each line that is passed over, and why]' \
             '--verbose[name each line that is passed over, and why]' \
             '-q[say nothing on standard error but faults]' \
@@ -58,7 +64,8 @@ _fiolog() {
             '--start-at-poll[leave out what comes before the first poll]' \
             '--whole[the log begins with the start of both ends, more is found]' \
             '--limits[of the module, the most entries of a block, and the most that wait (255 1024)]:entries::waiting:' \
-            '--rules[nine, the rules of transcripts alone]:rules:(all nine)' \
+            '--rules[transcript, the rules of transcripts alone]:rules:(all transcript)' \
+            '--except[leave out breaches of this rule, and count them; may be given again]:rule:(readable pair number advance same sequence limits rest refusal order fresh alternate apart ignored state clock done accepted cleared watchdog)' \
             '--late-answers[leave out answers that came late or twice, and count them]' \
             '--jobs[with several logs, read this many at a time (all processors)]:n:' \
             '--json[an object for each breach, with several logs for each log; and one for the summary]' \
@@ -69,8 +76,11 @@ _fiolog() {
             '--help[show this help message and exit]' \
             '--format[auto (the default); frames or transcript, as fio2070 show and check read lines]:name:(auto frames transcript)' \
             '--pattern[an expression with the groups octets (hexadecimal digits) and perhaps time and dir]:regex:' \
-            '--sdlc[each line ends with a frame that has address, control and frame check]' \
-            '--no-check[with --sdlc, without the frame check]' \
+            '--sdlc[each line ends with frames that have address, control and frame check; with flags, a frame may go on in the next line, or row of a dump]' \
+            '--no-check[with --sdlc, each line ends with one frame, without the frame check]' \
+            '--line[the file is what a line carried, octets, or bits (bits-high-first), one a clock, as a text of 0 and 1 or eight to an octet]:form:(octets bits bits-high-first)' \
+            '--address[the address of the frames of a line that are judged (14), with or without the control octet (1483), or any]:hex:' \
+            '--merge[read the files as one log, in the order of their times, such as one file of each channel]' \
             '-v[name each line that is passed over, and why]' \
             '--verbose[name each line that is passed over, and why]' \
             '-q[say nothing on standard error but faults]' \
@@ -86,6 +96,8 @@ _fiolog() {
             '--filter[the smallest filter of one of them, 0 to 255]:n:' \
             '--group[instead of both, at most N inputs are open in a group with such filters; repeat it for each group]:n:filter:' \
             '--limits[1,024 entries wait (standard) or 8,192]:limits:(standard largest)' \
+            '--block[a block takes N entries, 1 to 255]:n:' \
+            '--waiting[instead of --limits, N entries wait, 1 to 8,192]:n:' \
             '--outage[the link is down so long]:ms:' \
             '--lost[rounds lost in a row]:n:' \
             '--every[a poll comes so often]:ms:' \
@@ -99,8 +111,11 @@ _fiolog() {
             '--help[show this help message and exit]' \
             '--format[auto (the default); frames or transcript, as fio2070 show and check read lines]:name:(auto frames transcript)' \
             '--pattern[an expression with the groups octets (hexadecimal digits) and perhaps time and dir]:regex:' \
-            '--sdlc[each line ends with a frame that has address, control and frame check]' \
-            '--no-check[with --sdlc, without the frame check]' \
+            '--sdlc[each line ends with frames that have address, control and frame check; with flags, a frame may go on in the next line, or row of a dump]' \
+            '--no-check[with --sdlc, each line ends with one frame, without the frame check]' \
+            '--line[the file is what a line carried, octets, or bits (bits-high-first), one a clock, as a text of 0 and 1 or eight to an octet]:form:(octets bits bits-high-first)' \
+            '--address[the address of the frames of a line that are judged (14), with or without the control octet (1483), or any]:hex:' \
+            '--merge[read the files as one log, in the order of their times, such as one file of each channel]' \
             '-v[name each line that is passed over, and why]' \
             '--verbose[name each line that is passed over, and why]' \
             '-q[say nothing on standard error but faults]' \
@@ -116,8 +131,11 @@ _fiolog() {
             '--help[show this help message and exit]' \
             '--format[auto (the default); frames or transcript, as fio2070 show and check read lines]:name:(auto frames transcript)' \
             '--pattern[an expression with the groups octets (hexadecimal digits) and perhaps time and dir]:regex:' \
-            '--sdlc[each line ends with a frame that has address, control and frame check]' \
-            '--no-check[with --sdlc, without the frame check]' \
+            '--sdlc[each line ends with frames that have address, control and frame check; with flags, a frame may go on in the next line, or row of a dump]' \
+            '--no-check[with --sdlc, each line ends with one frame, without the frame check]' \
+            '--line[the file is what a line carried, octets, or bits (bits-high-first), one a clock, as a text of 0 and 1 or eight to an octet]:form:(octets bits bits-high-first)' \
+            '--address[the address of the frames of a line that are judged (14), with or without the control octet (1483), or any]:hex:' \
+            '--merge[read the files as one log, in the order of their times, such as one file of each channel]' \
             '-v[name each line that is passed over, and why]' \
             '--verbose[name each line that is passed over, and why]' \
             '-q[say nothing on standard error but faults]' \
@@ -141,17 +159,20 @@ _fiolog() {
         _arguments \
             '-h[show this help message and exit]' \
             '--help[show this help message and exit]' \
-            '--exec[a process that writes lines > HEX and < HEX]:command:' \
+            '--exec[a process that writes lines > HEX and < HEX, or those of another log]:command:' \
             '--serial[octet-stuffed HDLC with frame check]:device:_files' \
             '--udp[a frame a datagram]:port:' \
             '--fifo[a pipe or file with lines of a log]:file:_files' \
+            '--address[the address of the frames of a line that are judged (14), with or without the control octet (1483), or any]:hex:' \
             '--rate[of the serial port (153600)]:baud:' \
             '--host[the address to hear datagrams at (127.0.0.1)]:host:' \
             '--transcript[write what comes as a transcript]:file:_files' \
             '--pcapng[write it as pcapng; - for | wireshark -k -i -]:file:_files' \
+            '--force[overwrite files that are there already]' \
             '--at[where it is heard]:at:(auto cpu module bus)' \
             '--whole[the log begins with the start of both ends, more is found]' \
             '--limits[of the module, the most entries of a block, and the most that wait (255 1024)]:entries::waiting:' \
+            '--except[leave out breaches of this rule, and count them; may be given again]:rule:(readable pair number advance same sequence limits rest refusal order fresh alternate apart ignored state clock done accepted cleared watchdog)' \
             '--seconds[end after so long]:n:' \
             '-v[name each line that is passed over, and why]' \
             '--verbose[name each line that is passed over, and why]' \

@@ -1,8 +1,11 @@
-/* The field I/O transition link of the Model 2070: the header of fio2070.c.
+/* SPDX-License-Identifier: MIT
+ * Copyright (c) 2026 Wapukiro maintainers
  *
- * Sources: af003babd5d69f2a8f636a6e845e622e2e88d67a07cebe241777772b41931d0f (SHA-256; packaging/release-files --sources)
+ * The field I/O transition link of the Model 2070: the header of fio2070.c.
+ *
+ * Sources: 499100f80aa16f7c255bfc45560b795c9a75c6a5e6b6303a8216a64195adef2f (SHA-256; packaging/release-files --sources)
  * Kit: rattle-kit-13f logic dac8208d650f15bf
- * Proof: logic=proved functions=145 target=wasm64-unknown-unknown sum=dac8208d650f15bf native=nat,char,string
+ * Proof: logic=proved functions=163 target=wasm64-unknown-unknown sum=dac8208d650f15bf native=nat,char,string
  * Made by `make release-files`: do not edit.
  *
  * Proved is the module of which fio2070.c was made, for wasm64: each call does what fio2070.h says for all octets,
@@ -16,8 +19,9 @@
  * Messages between the CPU of a Model 2070 controller and its field I/O module, and both ends of the link.
  *
  * The implementation of these calls is proved: each does what its description says for all octets, all
- * lengths and all contents of its structs. docs/C-LIBRARY.md says what that covers. These calls
- * allocate nothing, keep no static data, start no thread, and call memcpy, memmove and memset
+ * lengths and all contents of its structs. Of the reader of logs less is proved: see fio2070_log_read, and
+ * note that the contents of its struct are the library's. docs/C-LIBRARY.md says what all this covers. These
+ * calls allocate nothing, keep no static data, start no thread, and call memcpy, memmove and memset
  * alone.
  *
  * What the caller owes, and nothing checks:
@@ -28,10 +32,10 @@
  *    argument without const points to. Such an argument overlaps no other. So threads may call at once, each with its
  *    own structs. A firmware that scans in a timer interrupt makes each other call on the module, getters too, with
  *    that interrupt held off.
- *  - The structs filters, counter, checker, content_checker, module, sized_module and log_reader are written by the calls
- *    of this header alone, _start first, and so are the slots of a sized_module. Before _start they may hold any octets;
- *    _start sets each of those of a struct but a log_reader. They may be copied and moved by memcpy. A log_reader that
- *    other code wrote, or that was not started, is no reader: what a call then does is not promised at all.
+ *  - The structs filters, counter, checker, content_checker, module, sized_module, wire, wire_bits and log_reader are
+ *    written by the calls of this header alone, _start first, and so are the slots of a sized_module. Before _start they may
+ *    hold any octets; _start sets each of those of a struct but a log_reader. They may be copied and moved by memcpy. A
+ *    log_reader that other code wrote, or that was not started, is no reader: what a call then does is not promised at all.
  *
  * Sources: TEES 2009 is Caltrans TEES 2009. "Own profile" is a choice of this project where TEES
  * leaves one: 64 inputs, 64 outputs, and what docs/PROTOCOL.md marks so.
@@ -370,6 +374,94 @@ size_t fio2070_encode_watchdog_answer(uint8_t status, uint8_t *out, size_t room)
 FIO2070_MUST_USE
 size_t fio2070_encode_other_answer(uint8_t code, const uint8_t *body, size_t length, uint8_t *out, size_t room);
 
+/* ---- Frames on a line (own profile) ---- */
+
+/** On a line a frame is a flag, the address, the control octet, a message of 1 to FIO2070_LONGEST_FRAME octets, their frame
+ * check (CRC-16/X-25, low octet first), and a flag. A part is what is between two flags next to each other. An empty part
+ * says nothing; a part that is no frame is damage. On a line of octets the flag is 7E, and 7D stuffs 7E and 7D (RFC 1662);
+ * on a line of bits the flag is 01111110, and a 0 follows each five ones (SDLC). */
+enum fio2070_wire_limit {
+    FIO2070_WIRE_ADDRESS = 0x14, /**< the address of a field I/O module */
+    FIO2070_WIRE_CONTROL = 0x83, /**< the control octet of its frames */
+    FIO2070_WIRE_ANY = 256,      /**< as an address or a control octet: each is one's own */
+    FIO2070_WIRE_LONGEST = 1556  /**< the most octets that `fio2070_wire_write` writes */
+};
+
+/** What the next octet or bit of a line ends. */
+enum fio2070_wire_heard {
+    FIO2070_WIRE_NOTHING = 0, /**< neither a frame nor damage */
+    FIO2070_WIRE_MESSAGE = 1, /**< a frame with one's own address and control octet; it is held until the next one is read */
+    FIO2070_WIRE_OTHER = 2,   /**< a frame with another address or control octet; it is held likewise */
+    FIO2070_WIRE_DAMAGED = 3  /**< a part that is no frame */
+};
+
+/** A decoder of a line of octets. `octets` are for reading while a frame is held; the other fields are the library's own. */
+struct fio2070_wire {
+    /** The octets of the present part, or of the frame that is held: address, control octet, message,
+     *  frame check. */
+    uint8_t octets[777];
+    uint8_t phase;
+    uint16_t held;
+    uint16_t check;
+    uint16_t address;
+    uint16_t control;
+};
+
+/** A decoder of a line of bits. `octets` are for reading while a frame is held; the other fields are the library's own. */
+struct fio2070_wire_bits {
+    /** The octets of the present part, or of the frame that is held: address, control octet, message,
+     *  frame check. */
+    uint8_t octets[777];
+    uint8_t phase;
+    uint8_t ones;
+    uint8_t pending;
+    uint8_t value;
+    uint8_t count;
+    uint8_t full;
+    uint8_t reserved;
+    uint16_t held;
+    uint16_t check;
+    uint16_t address;
+    uint16_t control;
+};
+
+/** Starts before the first flag of a line: what comes before it says nothing. One's own frames are those with this address and
+ * this control octet; FIO2070_WIRE_ANY, and each number above 255, is any. */
+void fio2070_wire_start(struct fio2070_wire *wire, uint16_t address, uint16_t control);
+/** Reads the next octet of the line, and returns what it ends: one of `FIO2070_WIRE_NOTHING` and those after it. */
+FIO2070_MUST_USE
+uint8_t fio2070_wire_read(struct fio2070_wire *wire, uint8_t octet);
+/** Reads octets of the line up to the end of the next frame or damage, and returns how many it read. `heard` is what
+ * `fio2070_wire_read` returns for the last of them, FIO2070_WIRE_NOTHING only if all were read. */
+FIO2070_MUST_USE
+size_t fio2070_wire_read_many(struct fio2070_wire *wire, const uint8_t *octets, size_t length, uint8_t *heard);
+/** Marks the present part as damaged, whatever its frame check says: an octet of it was lost, or came with a wrong parity or
+ * stop bit. Directly after a frame this is the next part; before the first flag nothing changes. */
+void fio2070_wire_lose(struct fio2070_wire *wire);
+/** Returns how many octets the message of the frame has that is held, 0 if none is. The address is `octets[0]`, the control
+ * octet `octets[1]`, and the message is at `octets + 2`. */
+FIO2070_MUST_USE
+size_t fio2070_wire_message_length(const struct fio2070_wire *wire);
+/** Writes the frame of a message for a line of octets, with a flag at each end, and returns how many octets it has. If the
+ * message is empty or longer than FIO2070_LONGEST_FRAME, or `room` is less than 2 * length + 10, nothing is written, and the
+ * result is 0. FIO2070_WIRE_LONGEST octets of room are enough for each. */
+FIO2070_MUST_USE
+size_t fio2070_wire_write(uint8_t address, uint8_t control, const uint8_t *message, size_t length, uint8_t *out,
+                          size_t room);
+/** Returns the frame check of octets, CRC-16/X-25: that of the nine octets "123456789" is 906E. */
+uint16_t fio2070_wire_check(const uint8_t *octets, size_t length);
+/** As `fio2070_wire_start`, of a line of bits. */
+void fio2070_wire_bits_start(struct fio2070_wire_bits *bits, uint16_t address, uint16_t control);
+/** Reads the next bit of the line, the lowest of `bit`, and returns what it ends, as `fio2070_wire_read` does. */
+FIO2070_MUST_USE
+uint8_t fio2070_wire_bits_read(struct fio2070_wire_bits *bits, uint8_t bit);
+/** As `fio2070_wire_read_many`, of a line that has a bit an octet, its lowest: the characters 0 and 1 serve too. */
+FIO2070_MUST_USE
+size_t fio2070_wire_bits_read_many(struct fio2070_wire_bits *bits, const uint8_t *line, size_t length, uint8_t *heard);
+/** As `fio2070_wire_message_length`. */
+FIO2070_MUST_USE
+size_t fio2070_wire_bits_message_length(const struct fio2070_wire_bits *bits);
+
 /* ---- The CPU's end (own profile) ---- */
 
 /** The CPU's end. The caller keeps the record. */
@@ -430,7 +522,14 @@ struct fio2070_heard {
  * that it kept loses nothing and records nothing twice. One that starts anew with the number of the module's last poll
  * gets that poll's block again, with E, and records it a second time. */
 void fio2070_poller_start(struct fio2070_poller *poller, uint8_t number);
-/** Writes a poll with the present number. 2 octets. */
+/** Writes a poll with the present number. 2 octets.
+ *
+ * How often: if k inputs are not ignored, each with filters of at least f scans, and blocks take b entries, nothing is lost
+ * if a poll reaches the module, and its answer the CPU, at least every b f / k milliseconds, rounded down: every 19 for 64
+ * inputs with filters of 5 under the standard limits. docs/PLANNING.md has the table, and what is late or lost otherwise.
+ *
+ * How long to wait: until the answer comes, or no longer than the longest answer takes on the line and the module's longest
+ * call; then poll again, with the same number (docs/CONTROLLER.md, The deadline). A shorter wait loses nothing. */
 FIO2070_MUST_USE
 size_t fio2070_poller_poll(const struct fio2070_poller *poller, uint8_t *out, size_t room);
 
@@ -514,7 +613,8 @@ struct fio2070_checker {
     uint8_t advanced;
     /** 0 where no block answer is above, 1 where the latest has no C, 2 where it has. */
     uint8_t more;
-    /** 1 below a breach, until the next poll. */
+    /** What is passed over: 0 nothing; 1 all frames to the next poll, as below a breach; 2 what is heard
+     *  above the first command. */
     uint8_t skips;
     /** The most entries of a block of the module. */
     uint8_t per_block;
@@ -549,6 +649,10 @@ void fio2070_checker_start(struct fio2070_checker *checker);
  * FIO2070_STARTED; where a limit is out of its range, as there, it returns FIO2070_REFUSED, and nothing changes. */
 FIO2070_MUST_USE
 uint8_t fio2070_checker_start_within(struct fio2070_checker *checker, struct fio2070_limits limits);
+/** As `fio2070_checker_start_within`, above the first frame of a log that begins anywhere: what the CPU's end heard above the
+ * first frame that it sent is passed over. Start so again after a gap in the log, a damaged frame or a restart. */
+FIO2070_MUST_USE
+uint8_t fio2070_checker_start_anywhere(struct fio2070_checker *checker, struct fio2070_limits limits);
 /** Takes a frame that the CPU's end sent: writes its breach, and returns the breach's rule. Below a breach the checker goes
  * on as one that starts at the next poll, which is not the frame with the breach: until then no frame has a breach, even if
  * it is unreadable. */
@@ -563,34 +667,43 @@ uint8_t fio2070_checker_heard(struct fio2070_checker *checker, const uint8_t *oc
 /* ---- The rules on content ---- */
 
 /** What the record of a CPU's end, or an answer that it heard, may break (own profile; docs/FORMATS.md). The rules judge a
- * transcript that keeps the rules above. A clear block is a block answer with neither C nor E. An input is watched from an
- * entry on if a clear block is above that entry, and no configuration that ignores the input was sent since that block; a
- * gap mark ends it. */
+ * transcript that keeps the rules above. A clear block is a block answer with neither C nor E. It settles each input; below
+ * one, a block with E and without C settles each input of which no item was sent since the first poll for that block. An
+ * input is watched from an entry on if a clear block is above that entry, and of what was sent since the latest block that
+ * settles it nothing opens the input below what ignores it; it is steady if nothing ignores it; a gap mark ends both. Below
+ * a clear block a block is late if its stamp is 65,536 or more after that of the latest block without C: its entries may be
+ * older than their 16 bits say. */
 enum fio2070_content_rule {
     FIO2070_CONTENT_NONE = 0, /**< no rule is broken */
     /** An entry is later than the entry above it, or has its time and a higher input. Judged if a clear
-     *  block is above the upper entry, and no load of the counter is sent above. */
+     *  block is above the upper entry, the blocks of both are not late, and no load of the counter excuses
+     *  it. */
     FIO2070_CONTENT_ORDER = 1,
     /** An entry is later than the stamp of the latest block without C, which had all entries up to that
-     *  stamp. Judged if that block or one above it is clear, and no load of the counter is sent above. */
+     *  stamp. Judged if that block or one above it is clear, the block of the entry is not late, and no
+     *  load of the counter excuses it. */
     FIO2070_CONTENT_FRESH = 2,
     /** The entries of an input have the states 0 and 1 in turn. Judged if the input is watched from the
      *  earlier entry on. */
     FIO2070_CONTENT_ALTERNATE = 3,
     /** An entry of an input follows the one before no sooner than the filter for its change lets it.
-     *  Judged if a clear block is above the earlier entry, and no load of the counter is sent above. The
-     *  filter is the least that can be in force: at first 1; an item that is sent can lower it; a clear
-     *  block sets it to the last item of the input, if its answer says done. */
+     *  Judged if a clear block is above the earlier entry, the blocks of both are not late, and no load of
+     *  the counter excuses it. The filter is the least that can be in force: at first 1; an item that is
+     *  sent can lower it; a block that settles the input sets it to its last item, if the answer to that
+     *  says done. */
     FIO2070_CONTENT_APART = 4,
-    /** An input that is ignored has no entry. Judged if above some clear block the last item of the input
-     *  ignores it, and its answer says done, and no item that is sent below opens the input. */
+    /** An input that is ignored has no entry. Judged if above some block that settles the input its last
+     *  item ignores it, and the answer to that says done, and no item that is sent below opens the input. */
     FIO2070_CONTENT_IGNORED = 5,
-    /** An answer 181 has the states of the record at its stamp. Judged if the input is watched and no load
-     *  of the counter is sent above: at the first entry later than the stamp of the latest 181, or the end
-     *  of the first block without C whose stamp is not before it. */
+    /** An answer 181 has the states of the record at its stamp. Judged if a clear block is above the
+     *  latest 181, neither a late block nor a gap mark is below it, and no load of the counter excuses it:
+     *  at the first entry later than its stamp, or the end of the first block without C whose stamp is not
+     *  before it, of each steady input. From there on the next entry of an input has another state, and an
+     *  input with another state in the next 181 and no entry between is not logged, and has none: till an
+     *  item of it is sent, if none was since the latest block that settles it. */
     FIO2070_CONTENT_STATE = 6,
     /** The stamp of a 177, 180 or 181, or of a block without E, is not before the latest one above. Judged
-     *  if no load of the counter is sent above. */
+     *  if no load of the counter excuses it. */
     FIO2070_CONTENT_CLOCK = 7,
     /** An answer 178 has no S: a load of the counter is never refused. */
     FIO2070_CONTENT_DONE = 8,
@@ -612,9 +725,15 @@ struct fio2070_content_checker {
             uint64_t taken;
             uint64_t settled;
             uint64_t hidden;
+            uint64_t reopened;
+            uint64_t touched;
+            uint64_t told;
+            uint64_t told_levels;
+            uint64_t unlogged;
             uint64_t shut;
             uint64_t levels;
             uint64_t watched;
+            uint64_t shaded;
             uint64_t timed;
             uint32_t times[64];
             uint8_t leading[64];
@@ -623,23 +742,30 @@ struct fio2070_content_checker {
             uint8_t least_trailing[64];
         } inputs;
         uint64_t seen_levels;
+        uint64_t since_poll;
         uint32_t clock;
+        uint32_t full;
         uint32_t floor;
         uint32_t seen;
-        uint8_t loaded;
+        uint8_t excuses;
         uint8_t watchdog_set;
         uint8_t clearing;
         uint8_t absent_named;
         uint8_t has_clock;
         uint8_t clear;
+        uint8_t aged;
         uint8_t floor_kind;
         uint8_t floor_input;
         uint8_t has_seen;
+        uint8_t polled;
+        uint8_t block_heard;
+        uint8_t timely;
         uint8_t reserved[3];
     } above;
     uint8_t has_number;
     uint8_t number;
-    uint8_t reserved[6];
+    uint8_t begun;
+    uint8_t reserved[5];
 };
 
 /** The first rule on content that a frame breaks. Without a breach each field is 0. */
@@ -658,12 +784,13 @@ struct fio2070_content_breach {
 FIO2070_MUST_USE
 size_t fio2070_content_rule_text(uint8_t rule, char *text, size_t room);
 
-/** Starts above the first frame of a log, which may begin anywhere, whatever both ends did above. Start again after a gap in
- * the log, a damaged frame or a restart. The rules assume what `fio2070_checker_start` does, and of the link:
- *  - no load of the counter that was sent above the log takes effect in it (order, fresh, apart, state, clock);
- *  - an entry waits for fewer than 65,536 scans (order, fresh, apart, state);
- *  - there are fewer than 2^31 scans between an entry or a block without C and the next entry (order, fresh), between a 181
- *    and the entry or block to which it is compared (state), and between successive stamps (clock);
+/** Starts above the first frame of a log, which may begin anywhere, whatever both ends did above: what the CPU's end heard
+ * above the first frame that it sent is passed over. Start again after a gap in the log, a damaged frame or a restart. The
+ * rules assume what `fio2070_checker_start` does, and of the link, from that frame on:
+ *  - no more loads of the counter take effect than are sent: each excuses one breach (order, fresh, apart, state, clock);
+ *  - there are fewer than 2^31 scans between a block without C and each block up to the next one without C (order, fresh,
+ *    apart, state), between a 181 and the entry or block to which it is compared (state), and between successive stamps
+ *    (clock);
  *  - there are fewer than 2^32 scans between successive entries of an input (apart).
  * docs/PROMISES.md says which rules are proved to accuse no such link. */
 void fio2070_content_start(struct fio2070_content_checker *content);
@@ -680,8 +807,9 @@ FIO2070_MUST_USE
 uint8_t fio2070_content_heard(struct fio2070_content_checker *content, const uint8_t *octets, size_t length,
                               struct fio2070_content_breach *breach);
 
-/* ---- Logs ---- */
+/* ---- Logs: left out if FIO2070_NO_LOG is defined ---- */
 
+#ifndef FIO2070_NO_LOG
 /** How the lines of a log are read. By order a line is read without what is no character of it, and also ends at CR. */
 enum fio2070_log_form {
     FIO2070_LOG_AUTO = 0,      /**< by the definition of docs/CAPTURES.md */
@@ -691,11 +819,11 @@ enum fio2070_log_form {
 
 /** What a line of a log is. */
 enum fio2070_log_kind {
-    FIO2070_LOG_BLANK = 0,      /**< it has nothing but blanks */
+    FIO2070_LOG_BLANK = 0,      /**< it has nothing but blanks; by order: it is empty or begins with `#` */
     FIO2070_LOG_SAYS = 1,       /**< it says frames, with the lines below that go on with it */
     FIO2070_LOG_PART = 2,       /**< it has octets of the frames of a line above */
     FIO2070_LOG_POSSIBLE = 3,   /**< it says a message, and nothing makes that sure */
-    FIO2070_LOG_DAMAGED = 4,    /**< it may have held a frame, and gives none */
+    FIO2070_LOG_DAMAGED = 4,    /**< it may have held a frame, and gives none; by order: each other that gives none */
     FIO2070_LOG_PASSED_OVER = 5 /**< it is none of these */
 };
 
@@ -786,13 +914,21 @@ void fio2070_log_start(struct fio2070_log_reader *reader, uint8_t form);
 /** Takes octets of the log until all are taken or `batch` has no room for another verdict, and returns how many it took. The
  * log is cut into pieces anywhere. The batch then has the verdicts that were due, each line's once and in order: a line gets
  * its verdict as soon as it is decided, which can be lines later. Each of its frames spells a message. Call it again with the
- * octets that were not taken. What the batch held before is overwritten. */
+ * octets that were not taken. What the batch held before is overwritten.
+ *
+ * After fio2070_log_end it takes no octets until it has given each verdict. Octets then begin a new log of the same form,
+ * whose lines are counted from 1.
+ *
+ * Proved are: which lines the octets make that it takes; that the verdicts in a batch are those of the next lines, each once
+ * and in order, with as many frames and places as they say; that each frame spells a message; and that a new log begins as
+ * said. How many octets it takes, when a verdict is due and what it says are tested. */
 FIO2070_MUST_USE
 size_t fio2070_log_read(struct fio2070_log_reader *reader, const uint8_t *octets, size_t length,
                         struct fio2070_log_batch *batch);
 /** Ends the log: octets after the last line end are its last line. `fio2070_log_read` with no octets then gives the verdicts
- * that are left; call it until it gives none. */
+ * that are left; call it until it gives none. A verdict that was due before stays as it was. */
 void fio2070_log_end(struct fio2070_log_reader *reader);
+#endif
 
 /* ---- Parts of a module ---- */
 
@@ -995,7 +1131,9 @@ struct fio2070_module {
     struct fio2070_slot slots[FIO2070_STANDARD_WAITING];
 };
 
-/** As fio2070_sized_module_start; it refuses a limit above 1,024 too. */
+/** Starts a module that answers `id` to command 60, with these limits: FIO2070_STANDARD_LIMITS are those of TEES 2009, 1,024
+ * entries that wait and 255 of a block. Returns FIO2070_STARTED; where `waiting` is not 1 to 1,024, or `per_block` is 0,
+ * FIO2070_REFUSED, and then nothing changes: the struct is not started. */
 FIO2070_MUST_USE
 static inline uint8_t fio2070_module_start(struct fio2070_module *module, uint8_t id, struct fio2070_limits limits) {
     if (limits.waiting > FIO2070_STANDARD_WAITING) return FIO2070_REFUSED;
@@ -1132,6 +1270,7 @@ FIO2070_SAME(configured, sizeof(struct fio2070_configured) == 16 &&
              offsetof(struct fio2070_configured, reserved) == 1 &&
              offsetof(struct fio2070_configured, place) == 8);
 
+#ifndef FIO2070_NO_LOG
 FIO2070_SAME(log_reader, sizeof(struct fio2070_log_reader) == 524288);
 
 FIO2070_SAME(log_verdict, sizeof(struct fio2070_log_verdict) == 32 &&
@@ -1156,6 +1295,7 @@ FIO2070_SAME(log_batch, sizeof(struct fio2070_log_batch) == 565264 &&
              offsetof(struct fio2070_log_batch, places) == 131088 &&
              offsetof(struct fio2070_log_batch, lengths) == 458768 &&
              offsetof(struct fio2070_log_batch, octets) == 499728);
+#endif
 
 FIO2070_SAME(limits, sizeof(struct fio2070_limits) == 4 &&
              offsetof(struct fio2070_limits, per_block) == 2 &&
@@ -1185,7 +1325,7 @@ FIO2070_SAME(heard, sizeof(struct fio2070_heard) == 32 &&
              offsetof(struct fio2070_heard, reserved) == 11 &&
              offsetof(struct fio2070_heard, fault) == 16);
 
-FIO2070_SAME(content_checker, sizeof(struct fio2070_content_checker) == 632);
+FIO2070_SAME(content_checker, sizeof(struct fio2070_content_checker) == 696);
 
 FIO2070_SAME(counter, sizeof(struct fio2070_counter) == 12);
 
@@ -1193,6 +1333,10 @@ FIO2070_SAME(filters, sizeof(struct fio2070_filters) == 216);
 
 FIO2070_SAME(outputs, sizeof(struct fio2070_outputs) == 16 &&
              offsetof(struct fio2070_outputs, controls) == 8);
+
+FIO2070_SAME(wire, sizeof(struct fio2070_wire) == 786);
+
+FIO2070_SAME(wire_bits, sizeof(struct fio2070_wire_bits) == 792);
 #undef FIO2070_SAME
 /* ---- End of the layout ---- */
 

@@ -1,3 +1,5 @@
+/* SPDX-License-Identifier: MIT
+ * Copyright (c) 2026 Wapukiro maintainers */
 // The calls of fio2070.h for C++17: values that are always started, views of octets, optional results.
 // Header only; link libfio2070.a, or compile the portable fio2070.c, beside which `make portable` puts this header. Ranges,
 // errors and sources are those of fio2070.h. Nothing here throws but Read::value() and what a std::vector throws where
@@ -16,6 +18,7 @@
 #include <stdexcept>
 #include <string>
 #include <type_traits>
+#include <utility>
 #include <vector>
 
 namespace fio2070 {
@@ -370,6 +373,13 @@ public:
         if (::fio2070_checker_start_within(&checker->checker_, {waiting, per_block, 0}) != FIO2070_STARTED) checker.reset();
         return checker;
     }
+    /// As `within`, of a log that begins anywhere: what is heard above the first frame that is sent is passed over.
+    static std::optional<Checker> anywhere(std::uint8_t per_block = FIO2070_MOST_ENTRIES,
+                                           std::uint16_t waiting = FIO2070_STANDARD_WAITING) {
+        std::optional<Checker> checker{Checker()};
+        if (::fio2070_checker_start_anywhere(&checker->checker_, {waiting, per_block, 0}) != FIO2070_STARTED) checker.reset();
+        return checker;
+    }
     /// The breach of a frame: its rule is 0 where the frame keeps the rules.
     ::fio2070_breach sent(Octets octets) {
         ::fio2070_breach breach;
@@ -387,7 +397,8 @@ private:
 };
 
 /// A checker of the rules on content: it judges answers, and the entries of each block that a poller takes whose first
-/// number is that of the first poll sent. The log may begin anywhere.
+/// number is that of the first poll sent. The log may begin anywhere: what is heard above the first frame that is sent is
+/// passed over.
 class ContentChecker {
 public:
     ContentChecker() { ::fio2070_content_start(&content_); }
@@ -409,6 +420,7 @@ private:
     ::fio2070_content_checker content_{};
 };
 
+#ifndef FIO2070_NO_LOG
 /// A reader of a log, which takes its octets in pieces of any length. It has half a megabyte: make it static or on the heap.
 class LogReader {
 public:
@@ -416,7 +428,8 @@ public:
         ::fio2070_log_start(&reader_, static_cast<std::uint8_t>(form));
     }
     /// Takes octets until all are taken or the batch has no room for another verdict, and returns how many it took. The batch
-    /// then has the verdicts that were due.
+    /// then has the verdicts that were due. After the end, once each verdict was given, octets begin a new log of the same
+    /// form, whose lines are counted from 1.
     std::size_t read(Octets octets, ::fio2070_log_batch &batch) {
         return ::fio2070_log_read(&reader_, octets.data(), octets.size(), &batch);
     }
@@ -425,6 +438,87 @@ public:
 
 private:
     ::fio2070_log_reader reader_;
+};
+#endif
+
+/// A frame as it goes over a line of octets, with both flags; none if the message does not have 1 to 773 octets.
+inline std::optional<std::vector<std::uint8_t>> wire_frame(Octets message, std::uint8_t address = FIO2070_WIRE_ADDRESS,
+                                                           std::uint8_t control = FIO2070_WIRE_CONTROL) {
+    std::vector<std::uint8_t> frame(FIO2070_WIRE_LONGEST);
+    frame.resize(::fio2070_wire_write(address, control, message.data(), message.size(), frame.data(), frame.size()));
+    return frame.empty() ? std::nullopt : std::optional(std::move(frame));
+}
+
+/// The frame check of octets, whose low octet a frame has first.
+inline std::uint16_t wire_check(Octets octets) { return ::fio2070_wire_check(octets.data(), octets.size()); }
+
+/// What a line says at a flag: of a frame its address, its control octet and its message, in memory of its own; of damage none
+/// of them.
+class WireHeard {
+public:
+    WireHeard(std::uint8_t kind, const std::uint8_t *octets, std::size_t length) : kind_(kind) {
+        if (length == 0) return;
+        address_ = octets[0], control_ = octets[1];
+        message_ = *Frame::of([=](auto *out, auto room) {
+            std::size_t count = std::min(length, room);
+            std::copy_n(octets + 2, count, out);
+            return count;
+        });
+    }
+    ::fio2070_wire_heard kind() const { return static_cast<::fio2070_wire_heard>(kind_); }
+    /// Whether this is a frame with one's own address and control octet.
+    bool is_message() const { return kind_ == FIO2070_WIRE_MESSAGE; }
+    std::uint8_t address() const { return address_; }
+    std::uint8_t control() const { return control_; }
+    const Frame &message() const { return message_; }
+
+private:
+    std::uint8_t kind_, address_ = 0, control_ = 0;
+    Frame message_;
+};
+
+/// What both decoders of a line do: `Line` is their struct, and the others its calls. What comes before the first flag says
+/// nothing.
+template <typename Line, auto &Start, auto &Read, auto &ReadMany, auto &MessageLength>
+class WireDecoder {
+public:
+    /// One's own frames have this address and this control octet; FIO2070_WIRE_ANY stands for each.
+    WireDecoder(std::uint16_t address, std::uint16_t control) { Start(&line_, address, control); }
+    /// Takes an octet, and returns the frame or the damage that ends with it, if any.
+    std::optional<WireHeard> read(std::uint8_t octet) { return heard(Read(&line_, octet)); }
+    /// Takes octets from the front of the view, up to the next frame or damage, and returns that; none if it took them all and
+    /// nothing ended. So a loop reads a piece: `while (auto heard = wire.read(piece)) ..`.
+    std::optional<WireHeard> read(Octets &octets) {
+        std::uint8_t kind = FIO2070_WIRE_NOTHING;
+        std::size_t count = ReadMany(&line_, octets.data(), octets.size(), &kind);
+        octets = Octets(octets.data() + count, octets.size() - count);
+        return heard(kind);
+    }
+
+protected:
+    std::optional<WireHeard> heard(std::uint8_t kind) const {
+        if (kind == FIO2070_WIRE_NOTHING) return std::nullopt;
+        return WireHeard(kind, line_.octets, MessageLength(&line_));
+    }
+    Line line_{};
+};
+
+/// A decoder of a line of octets, such as a UART's.
+class Wire : public WireDecoder<::fio2070_wire, ::fio2070_wire_start, ::fio2070_wire_read, ::fio2070_wire_read_many,
+                                ::fio2070_wire_message_length> {
+public:
+    using WireDecoder::WireDecoder;
+    /// An octet was lost, or came with a wrong parity or stop bit: what is under way is damaged, whatever its check says.
+    /// Before the first flag nothing changes.
+    void lose() { ::fio2070_wire_lose(&line_); }
+};
+
+/// A decoder of a line of bits, such as a logic analyser's with one bit a clock. Each octet is a bit, its lowest: so the octets
+/// of a text of 0 and 1 serve too.
+class WireBits : public WireDecoder<::fio2070_wire_bits, ::fio2070_wire_bits_start, ::fio2070_wire_bits_read,
+                                    ::fio2070_wire_bits_read_many, ::fio2070_wire_bits_message_length> {
+public:
+    using WireDecoder::WireDecoder;
 };
 
 /// The millisecond counter.
@@ -460,10 +554,15 @@ template <std::uint16_t Waiting = FIO2070_STANDARD_WAITING>
 class Module {
 public:
     static_assert(Waiting > 0 && Waiting <= FIO2070_MOST_WAITING, "1 to 8,192 entries may wait");
-    /// None where `per_block` is 0.
+    /// Starts a module that answers `id` to command 60; its blocks have at most `per_block` entries. Throws
+    /// std::invalid_argument if that is 0.
+    explicit Module(std::uint8_t id, std::uint8_t per_block = FIO2070_MOST_ENTRIES) {
+        if (!is_started(id, per_block)) throw std::invalid_argument("a block has 1 to 255 entries");
+    }
+    /// As the constructor, but none where `per_block` is 0.
     static std::optional<Module> start(std::uint8_t id, std::uint8_t per_block = FIO2070_MOST_ENTRIES) {
         std::optional<Module> module{Module()};
-        if (::fio2070_sized_module_start(&module->module_, id, {Waiting, per_block, 0}) != FIO2070_STARTED) module.reset();
+        if (!module->is_started(id, per_block)) module.reset();
         return module;
     }
     void restart() { ::fio2070_sized_module_restart(&module_); }
@@ -496,6 +595,9 @@ public:
 
 private:
     Module() = default;
+    bool is_started(std::uint8_t id, std::uint8_t per_block) {
+        return ::fio2070_sized_module_start(&module_, id, {Waiting, per_block, 0}) == FIO2070_STARTED;
+    }
     ::fio2070_sized_module module_{};
     ::fio2070_slot slots_[Waiting]{};
 };

@@ -1,19 +1,9 @@
 # What the Makefile makes from the proved sources, with the Rattle kit.
 
 interface = include
-libraries = $(wildcard libfio2070.a)
-shared = $(wildcard $(soname))
-command = $(wildcard fio2070-test)
-
-install-program: all
-	install -d '$(bin)' '$(man)' '$(bash)' '$(zsh)' '$(fish)'
-	install -m 755 crates/fio2070/out/fio2070 '$(bin)/fio2070'
-	install -m 644 man/fio2070.1 '$(man)/fio2070.1'
-	install -m 644 completions/fio2070.bash '$(bash)/fio2070'
-	install -m 644 completions/fio2070.zsh '$(zsh)/_fio2070'
-	install -m 644 completions/fio2070.fish '$(fish)/fio2070.fish'
-
-.PHONY: install-program
+libraries = $(wildcard $(OUT)/libfio2070.a)
+shared = $(wildcard $(OUT)/$(soname))
+command = $(wildcard $(OUT)/fio2070-test)
 
 # The archive.
 archive = crates/fio_c/out/libfio_c.a
@@ -25,8 +15,7 @@ $(archive): $(proved)
 	@./build --library fio_c $(RTFLAGS)
 
 $(OUT)/libfio2070.a: $(archive)
-	mkdir -p $(OUT)
-	cp $(archive) $@
+	@$(call made,cp $(archive) "$$room/$(@F)")
 
 # The same sources, proved for other targets of the kit: `make wasm` makes the library as a WebAssembly module, without
 # imports, with a memory of 64 bits, for the portable library and for the page.
@@ -51,8 +40,8 @@ $(module): crates/fio_c/out/$(wasm)/libfio_c.a
 
 # The portable library: fio2070.c and fio2070.h, two files of C99 for any processor, with the C++ header
 # (tools/portable/README.md).
-portable = portable
-translator = $(addprefix tools/portable/,translate instructions.py functions.py module.py accesses.py ahead.py loops.py head.txt machine.c calls.c)
+portable = $(OUT)/portable
+translator = $(addprefix tools/portable/,translate instructions.py functions.py module.py parts.py accesses.py ahead.py loops.py head.txt machine.c calls.c)
 
 .PHONY: portable
 
@@ -63,7 +52,7 @@ $(portable)/fio2070.c: $(module) $(headers) $(translator) packaging/release-file
 
 # The page: one file that a browser opens offline, with the library in it (tools/page/README.md). If `wasm-opt` of the
 # package binaryen is installed, it also lowers the library to memory of 32 bits, for browsers that have no other.
-page = fio2070.html
+page = $(OUT)/fio2070.html
 lowered_module = crates/fio_c/out/$(wasm)/lowered.wasm
 lowered = $(if $(shell command -v wasm-opt),$(lowered_module))
 page_sources = $(wildcard tools/page/join tools/page/*.html tools/page/*/*.* examples/*.* examples/captures/*)
@@ -83,21 +72,16 @@ $(page): $(module) $(lowered) $(page_sources)
 # the folder FILES.
 FILES = dist
 
-.PHONY: release-files
+.PHONY: release-files release-program
 
-release-files: $(module) $(lowered) $(page_sources)
+release_program = release-program
+release-files: $(module) $(lowered) $(page_sources) $(release_program)
 	packaging/release-files $(module) '$(FILES)' --page $(addprefix --lowered ,$(lowered))
 
-# The archive and the Debian packages: the same files give the same octets each time. With TARGET=aarch64 they only have the
-# library, for AArch64.
-ifeq ($(TARGET),aarch64)
-dist deb: ./aarch64/libfio2070.a
-	@packaging/$@ '$(DIST)' aarch64
-else
-dist deb: all library
-	@packaging/$@ '$(DIST)'
-endif
+# The program of dist/ alone, which needs no wasm-opt.
+release-program:
+	packaging/release-files --program "$$(packaging/program --built)" '$(FILES)'
 
 # `make release` makes all packages, with their checksums.
-release: all library ./aarch64/libfio2070.a
-	@packaging/release '$(DIST)'
+release: library $(OUT)/aarch64/libfio2070.a
+	@kit='$(kit)' OUT='$(OUT)' packaging/release '$(DIST)'

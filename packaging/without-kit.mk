@@ -1,25 +1,21 @@
 # What the Makefile makes from dist/, without the Rattle kit.
 
 interface = dist
-libraries = libfio2070.a
-shared = $(soname)
-command = $(if $(shared_tester),fio2070-test)
+libraries = $(OUT)/libfio2070.a
+shared = $(OUT)/$(soname)
+command = $(if $(shared_tester),$(OUT)/fio2070-test)
 
-.PHONY: install-program page portable wasm release-files
+.PHONY: page portable wasm release-files release-program
 
-install-program: library
-	@echo 'The program fio2070 is not installed: it needs the Rattle kit (README.md, What is trusted).'
+install: library
 
 $(OUT)/libfio2070.a: dist/fio2070.c dist/fio2070.h
-	mkdir -p $(OUT)
-	$(compile) $(if $(findstring mingw,$(machine)),,-fPIC) -I dist -c dist/fio2070.c -o $(OUT)/fio2070.o
-	rm -f $@
-	$(AR) rcs $@ $(OUT)/fio2070.o
-	rm $(OUT)/fio2070.o
+	@$(call made,$(compile) $(if $(findstring mingw,$(machine)),,-fPIC) -ffunction-sections -fdata-sections -I dist -c dist/fio2070.c -o "$$room/fio2070.o" && \
+	    $(AR) rcs "$$room/$(@F)" "$$room/fio2070.o")
 
 page portable:
 	@echo 'They are in dist/.'
 
-wasm dist deb release release-files $(OUT)/aarch64/libfio2070.a:
+wasm release release-files release-program $(OUT)/aarch64/libfio2070.a:
 	@echo 'make: $@ needs the Rattle kit (README.md, What is trusted).' >&2
 	@exit 1

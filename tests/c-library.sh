@@ -17,9 +17,9 @@ builds() {
         *) language="-x c -D_DEFAULT_SOURCE $*" ;;
     esac
     mkdir -p "$folder"
-    for source in support/c/rows support/c/turns support/c/whole support/c/started support/c/sized support/c/fresh support/c/fuzz ../examples/c/decode ../examples/c/poller; do
+    for source in support/c/rows support/c/table support/c/turns support/c/whole support/c/started support/c/sized support/c/wire_rows support/c/fresh support/c/fuzz ../examples/c/decode ../examples/c/poller; do
         # shellcheck disable=SC2086
-        "$compiler" $language $strict -I "$top/include" "$top/tests/$source.c" -x none "$archive" \
+        "$compiler" $language $strict -I "$top/include" -I "$room" "$top/tests/$source.c" -x none "$archive" \
             -o "$folder/$(basename "$source")" || return 1
     done
 }
@@ -74,6 +74,32 @@ stacks() {
         awk '{ for (n = 2; n <= NF; n++) print $1, "fio2070_" $n }' | sort | diff - expected
 }
 
+# fails COMMAND..: it ends with the status 1.
+fails() {
+    "$@"
+    [ $? -eq 1 ]
+}
+
+# is_old_syntax: the sources of the Python packages have no syntax that is newer than the version which pyproject.toml requires.
+is_old_syntax() {
+    python3 - "$top/bindings/python" <<'end'
+import ast, glob, os, re, sys
+folder = sys.argv[1]
+with open(os.path.join(folder, 'pyproject.toml'), encoding='utf-8') as file:
+    major, minor = re.search('(?m)^requires-python = ">=(.*)[.](.*)"$', file.read()).groups()
+for path in glob.glob(os.path.join(folder, '**', '*.py'), recursive=True):
+    with open(path, encoding='utf-8') as file:
+        ast.parse(file.read(), path, feature_version=(int(major), int(minor)))
+end
+}
+
+# packs OPTION..: the crate is packed, and has the library as in dist/.
+packs() {
+    "$top/packaging/crate" "$room/packing" "$@" && tar -xzf "$room"/packing/package/*.crate -C "$room/packing" &&
+        cmp "$top/dist/fio2070.c" "$room"/packing/fio2070-*/c/fio2070.c &&
+        cmp "$top/dist/fio2070.h" "$room"/packing/fio2070-*/c/fio2070.h
+}
+
 # reads DOCUMENT: its blocks of C, C++ and Python compile; those with a `main` of their own, and Python, run.
 reads() {
     rm -f block.*
@@ -96,9 +122,9 @@ reads() {
     done
 }
 
-# alone ARCHIVE: it needs nothing but these three functions.
+# alone ARCHIVE: it needs nothing but these three functions, and what a stack protector calls where it finds a fault.
 alone() {
-    nm -g "$1" >names && ! awk '$1 == "U" { print $2 }' names | sort -u | grep -Ev '^mem(cpy|move|set)$'
+    nm -g "$1" >names && ! awk '$1 == "U" { print $2 }' names | sort -u | grep -Ev '^(mem(cpy|move|set)|__stack_chk_fail)$'
 }
 
 # declared: the functions that the header declares.
@@ -206,6 +232,7 @@ fi
 holds 'the header declares what there is' exports "$archive"
 holds 'the names of the shared library' prefixed "$room/libfio2070.so"
 
+"$top/tests/support/rows.py" >rows.h
 # Each frame cut after each of its octets, and with an octet too many.
 grep -v '^#' "$top/examples/every-type.frames" | awk '{
     for (place = 2; place <= length($1); place += 2) print substr($1, 1, place)
@@ -227,10 +254,12 @@ for build in 'gcc -std=c99' 'g++ -std=c++11' 'clang -std=c99 -g -O1 -fsanitize=a
     [ -z "$last" ] || whole "build by $1" || continue
     first "build by $1" builds "$room/$1" "$@"
     counts "rows by $1" "$room/$1/rows"
+    counts "the table of rows by $1" "$room/$1/table"
     counts "calls of a module in turn by $1" "$room/$1/turns"
     counts "whole structs by $1" "$room/$1/whole"
     counts "started structs by $1" "$room/$1/started"
     counts "modules in slots of the caller by $1" "$room/$1/sized"
+    counts "rows of the wire by $1" "$room/$1/wire_rows"
     counts "memory that nothing has written by $1" "$room/$1/fresh"
     holds "decode by $1" decodes "$room/$1"
     holds "poller by $1" polls "$room/$1"
@@ -274,9 +303,12 @@ for compiler in g++ clang++; do
     [ "$compiler" = g++ ] || set -- -fsanitize=address,undefined -fno-sanitize-recover=all
     [ "$compiler" != g++ ] || set --
     # shellcheck disable=SC2086
-    first "wrapper by $compiler" "$compiler" -std=c++17 $strict "$@" -I "$top/include" \
-        "$top/tests/support/c/wrapper.cpp" "$archive" -o "$room/wrapper"
-    counts "rows of the wrapper by $compiler" "$room/wrapper"
+    for program in wrapper table; do
+        # shellcheck disable=SC2086
+        first "$program by $compiler" "$compiler" -std=c++17 $strict "$@" -I "$top/include" -I "$room" \
+            "$top/tests/support/c/$program.cpp" "$archive" -o "$room/$program"
+        counts "rows of the $program by $compiler" "$room/$program"
+    done
 done
 last_rule=$(sed -n 's/^    FIO2070_RULE_[A-Z]* = \([0-9]*\),\{0,1\}$/\1/p' "$top/include/fio2070.h" | tail -n 1)
 buffers=50000
@@ -285,10 +317,22 @@ holds "$buffers random buffers" "$last/fuzz" "$buffers" 20260701 "$last_rule"
 if [ -n "$(command -v python3)" ]; then
     holds 'Python' env -C "$top/bindings/python" PYTHONDONTWRITEBYTECODE=1 FIO2070_LIBRARY="$room/libfio2070.so" \
         python3 test.py
+    holds 'Python, of a word that no test has' fails env -C "$top/bindings/python" PYTHONDONTWRITEBYTECODE=1 \
+        FIO2070_LIBRARY="$room/libfio2070.so" python3 test.py -k no-such-test
     if has_command mypy; then
         holds 'type hints' mypy --strict --cache-dir="$room/mypy" "$top/bindings/python/fio2070"
     else
         skip 'type hints' 'no mypy here (Debian package mypy)'
+    fi
+    holds 'no syntax newer than the oldest Python that is stated' is_old_syntax
+    oldest=$(sed -n 's/^requires-python = ">=\(.*\)"$/python\1/p' "$top/bindings/python/pyproject.toml")
+    if ! whole "by $oldest"; then
+        :
+    elif has_command "$oldest" && "$oldest" -c '' 2>/dev/null; then
+        holds "Python by $oldest" env -C "$top/bindings/python" PYTHONDONTWRITEBYTECODE=1 \
+            FIO2070_LIBRARY="$room/libfio2070.so" "$oldest" test.py
+    else
+        skip "by $oldest" 'it is not installed'
     fi
     if python3 -m venv "$room/python" >"$room/log" 2>&1; then
         holds 'pip install' "$room/python/bin/pip" install --quiet --no-index "$top/bindings/python"
@@ -313,6 +357,10 @@ if [ -n "$(command -v cargo)" ]; then
     # That of Debian 12 reads no lock file of a later version.
     holds 'the lock file of Rust' grep -qx 'version = 3' "$top/bindings/rust/fio2070/Cargo.lock"
     holds 'Rust without the library' names_variable
+    if whole 'the crate is built as it is packed'; then
+        holds 'the crate is built as it is packed' packs
+    fi
+    holds 'the crate is packed' packs --no-verify
 else
     skip 'Rust' 'cargo is not installed'
 fi

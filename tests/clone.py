@@ -1,9 +1,10 @@
 #!/usr/bin/env python3
-"""Copies the sources as a clone has them, and uses the copy without the Rattle kit, as a new user would: the first call of
-`./fio2070`, the library, a program in C, the tester, `fiolog`, the wrappers, `make install`. With `--all` also `./test` in
-the copy, a library for Windows and for ARM, and the same in a new Debian system that only has gcc, make and python3, without
-a network. Last line: `N passed, M failed`."""
+"""Uses the sources without the Rattle kit, as a new user would: `./fio2070` of a clone with few other commands, where its program
+runs and where it does not; in a copy the library, a program in C, the tester, `fiolog`, the wrappers, `make install`. With `--all`
+also `./test` in the copy, a library for Windows and for ARM, packages, and the same in a new Debian system that first only has git,
+and then gcc, make and python3 too, without a network. Last line: `N passed, M failed`."""
 
+import glob
 import os
 import random
 import re
@@ -18,7 +19,8 @@ sys.dont_write_bytecode = True
 from support import roots
 from support.browsers import browsers, running
 from support.check import Check
-from support.tables import HAS_KIT, TOP, program_of
+from support.opened import started
+from support.tables import TOP, can_simulate, program_of
 
 PATH = '/usr/bin:/bin'
 MINUTE = 60
@@ -34,6 +36,8 @@ LOG = '07:15:02.100 TX 36 05\n07:15:02.108 RX B6 05 00 00 00 00 03 E8\n'
 check = Check()
 room = tempfile.mkdtemp()
 clone = os.path.join(room, 'clone')
+# The packages of Debian whose commands `./fio2070` needs, and git.
+FEW = ['coreutils', 'findutils', 'sed', 'diffutils', 'git']
 
 
 def environment(**more):
@@ -63,20 +67,91 @@ def copy_sources():
             shutil.copy2(os.path.join(TOP, name), path, follow_symlinks=False)
 
 
-def program():
-    """The text of `./fio2070` if there is no kit: what it is, once."""
-    first, second = run('./fio2070', 'show', text='3605\n'), run('./fio2070', 'show', text='3605\n')
+def list_sources():
+    """Whether dist/ is of the present sources is asked by tests/release-files.sh; here its list is made of those of the copy."""
+    done = run('packaging/program', '--sources')
+    with open(os.path.join(clone, 'dist/fio2070-x86_64-linux-gnu.sources'), 'w', encoding='utf-8') as file:
+        file.write(done.stdout)
+
+
+def few_commands():
+    """A folder with the commands of few packages."""
+    folder = os.path.join(room, 'few')
+    os.makedirs(folder)
+    listed = subprocess.run(['dpkg', '-L', *FEW], stdout=subprocess.PIPE, text=True, check=True).stdout
+    for path in re.findall('^(?:/usr)?/bin/[^/]+$', listed, re.M):
+        os.symlink(path, os.path.join(folder, os.path.basename(path)))
+    return folder
+
+
+def as_repository():
+    """Makes the copy a repository of git, from which others are cloned."""
+    git = ['git', '-c', 'user.name=user', '-c', 'user.email=user@example.org', '-c', 'commit.gpgsign=false']
+    for words in (['init', '-q'], ['add', '-A'], ['commit', '-q', '-m', 'sources']):
+        subprocess.run(git + words, cwd=clone, check=True)
+
+
+# What a user does first, and what has to be in the text.
+ANSWERS = [
+    ('echo 3605 | ./fio2070 show', 'poll block 5\n'),
+    ('./fio2070 simulate <examples/overflow.script', '22 block entries 255 status 0c\n'),
+    ('./fio2070 check <examples/good.transcript', 'good '),
+    ('./fio2070 record <examples/doubled-entry.transcript', 'line 10 input 12 breaks fresh\n'),
+]
+
+
+def with_few_commands():
+    """A clone, in which the program answers at once, and says if it is of other sources."""
+    if not shutil.which('dpkg'):
+        check.skip('a clone with few commands', 'no dpkg here, which lists the commands of a package')
+        return
+    few = {'PATH': few_commands(), 'folder': os.path.join(room, 'cloned')}
+    check.equal('git clone', None, fault('git', 'clone', '-q', clone, few['folder'], PATH=few['PATH'], folder=room))
+    for command, wanted in ANSWERS:
+        begun = time.monotonic()
+        done = run('/bin/sh', '-c', command, **few)
+        check.equal('with few commands: ' + command, (True, ''), (wanted in done.stdout, done.stderr))
+        check.holds('at once: ' + command, time.monotonic() - begun < 5, '%.1f s' % (time.monotonic() - begun))
+    done = run('./fio2070', '--version', **few)
+    check.equal('which program it is', (True, True, 1), (done.stdout.startswith('fio2070 '), 'of dist/, made of these sources' in done.stderr,
+                                                         done.stderr.count('\n')))
+    changed, added = (os.path.join(few['folder'], 'crates', name) for name in ('fio_message/src/lib.rt', 'fio_cpu/specs/Added.antt'))
+    with open(changed, encoding='utf-8') as file:
+        text = file.read()
+    for name, path, before, after in (('a changed source', changed, text, text + '\n'), ('an added source', added, None, '')):
+        with open(path, 'w', encoding='utf-8') as file:
+            file.write(after)
+        done = run('./fio2070', 'show', text='3605\n', **few)
+        check.equal(name + ' is told', ('poll block 5\n', True, 1), (done.stdout, 'made of other sources' in done.stderr, done.stderr.count('\n')))
+        if before is None:
+            os.remove(path)
+        else:
+            with open(path, 'w', encoding='utf-8') as file:
+                file.write(before)
+    done = run('./fio2070', 'show', text='3605\n', **few)
+    check.equal('sources as they were', ('poll block 5\n', ''), (done.stdout, done.stderr))
+
+
+def elsewhere():
+    """The program that is compiled where that of dist/ does not run, as on another processor."""
+    os.makedirs(os.path.join(room, 'elsewhere'))
+    with open(os.path.join(room, 'elsewhere/uname'), 'w', encoding='ascii') as script:
+        script.write('#!/bin/sh\necho Linux riscv64\n')
+    os.chmod(os.path.join(room, 'elsewhere/uname'), 0o755)
+    there = {'PATH': os.path.join(room, 'elsewhere') + ':' + PATH}
+    first, second = run('./fio2070', 'show', text='3605\n', **there), run('./fio2070', 'show', text='3605\n', **there)
     check.equal('the first call', ('poll block 5\n', 0), (first.stdout, first.returncode))
-    check.holds('the first call says what answers', 'dist/fio2070.c' in first.stderr and 'simulate' in first.stderr, first.stderr)
+    check.holds('the first call says what answers', 'does not run on this machine' in first.stderr and 'dist/fio2070.c' in first.stderr, first.stderr)
     check.equal('the second call says nothing', ('poll block 5\n', ''), (second.stdout, second.stderr))
-    simulated = run('./fio2070', 'simulate', text='fio2070 script 1 2 0\n')
-    check.equal('simulate needs the kit', ('', 125, True),
-                (simulated.stdout, simulated.returncode, 'Rattle kit' in simulated.stderr))
-    check.equal('no subcommand', ('fio2070: no subcommand\n', 2), (lambda it: (it.stdout, it.returncode))(run('./fio2070')))
-    os.rename(os.path.join(clone, 'out'), os.path.join(clone, 'aside'))
-    lacking = run('./fio2070', 'show', text='3605\n', CC='no-such-compiler')
-    os.rename(os.path.join(clone, 'aside'), os.path.join(clone, 'out'))
-    check.equal('without a compiler', (125, 1), (lacking.returncode, lacking.stderr.count('\n')))
+    check.equal('everyone can run it', 0o755, os.stat(os.path.join(clone, 'out/fio2070')).st_mode & 0o777)
+    simulated = run('./fio2070', 'simulate', text='fio2070 script 1 2 0\n', **there)
+    check.equal('simulate says what is missing', ('', 125, True),
+                (simulated.stdout, simulated.returncode, re.match('[^\n]*no simulate[^\n]* Play ', simulated.stderr) is not None))
+    check.equal('no subcommand', ('fio2070: no subcommand\n', 2), (lambda it: (it.stdout, it.returncode))(run('./fio2070', **there)))
+    said = run('./fio2070', '--version', **there)
+    check.equal('which program it is there', (True, True, 1), (said.stdout.startswith('fio2070 '), 'compiled' in said.stderr, said.stderr.count('\n')))
+    lacking = run('./fio2070', 'show', text='3605\n', CC='no-such-compiler', FIO2070_OUT=os.path.join(room, 'lacking'), **there)
+    check.equal('without a compiler', (125, 2), (lacking.returncode, lacking.stderr.count('\n')))
 
 
 def mutated(octets, draw):
@@ -95,17 +170,16 @@ def answers(path, tool, octets):
 
 
 def alike():
-    """The program of the copy writes exactly what the proved one does: for the checks of texts, the examples, and changed
-    ones."""
+    """The compiled program writes exactly what the proved one does: for the checks of texts, the examples, and changed ones."""
     stand_in = os.path.join(clone, 'out/fio2070')
-    longer = ('random-inputs.py', 'records.py') if HAS_KIT and check.whole('texts of random-inputs.py and records.py') else ()
+    longer = ('random-inputs.py', 'records.py') if can_simulate() and check.whole('texts of random-inputs.py and records.py') else ()
     for name in ('shows.py', 'transcripts.py', 'examples.sh', *longer):
         if check.wants('texts of ' + name):
             done = subprocess.run([os.path.join(TOP, 'tests', name)], env={**os.environ, 'FIO2070_PROGRAM': stand_in}, capture_output=True,
                                   text=True, check=False)
             check.holds('texts of ' + name, re.search(r'^[1-9]\d* passed, 0 failed$', done.stdout, re.M), done.stdout[-600:])
     draw, folder = random.Random(59), os.path.join(TOP, 'examples')
-    for name in sorted(os.listdir(folder)) if HAS_KIT else ():
+    for name in sorted(os.listdir(folder)) if can_simulate() else ():
         if os.path.isfile(os.path.join(folder, name)):
             with open(os.path.join(folder, name), 'rb') as file:
                 whole = file.read()
@@ -114,18 +188,18 @@ def alike():
                 wrong = [text for text in texts if answers(stand_in, tool, text) != answers(program_of('simulate'), tool, text)]
                 check.equal('%s of %s and of changed ones' % (tool, name), [], wrong)
     for text in (b'', b'36' * (1 << 19), b'36' * (1 << 19) + b'0', b'#' * (1 << 20) + b'\n', b'> 36' + b'00' * 3000):
-        for tool in ('show', 'check', 'record') if HAS_KIT else ():
+        for tool in ('show', 'check', 'record') if can_simulate() else ():
             check.equal('%s of %d octets' % (tool, len(text)), answers(program_of('simulate'), tool, text), answers(stand_in, tool, text))
 
 
 def faults():
-    """A read or a write that fails."""
+    """A read or a write of the compiled program that fails."""
     for tool in ('show', 'check', 'record'):
         with open('/dev/full', 'w', encoding='ascii') as full:
-            done = subprocess.run(['./fio2070', tool], cwd=clone, env=environment(), input=b'3605\n', stdout=full, check=False)
+            done = subprocess.run(['out/fio2070', tool], cwd=clone, env=environment(), input=b'3605\n', stdout=full, check=False)
         check.equal('a failing write of ' + tool, 3, done.returncode)
         folder = os.open('/', os.O_RDONLY)
-        done = subprocess.run(['./fio2070', tool], cwd=clone, env=environment(), stdin=folder, stdout=subprocess.PIPE, check=False)
+        done = subprocess.run(['out/fio2070', tool], cwd=clone, env=environment(), stdin=folder, stdout=subprocess.PIPE, check=False)
         os.close(folder)
         check.equal('a failing read of ' + tool, (b'fio2070: read fault\n', 3), (done.stdout, done.returncode))
 
@@ -185,6 +259,9 @@ def pip():
     check.holds('and puts no fiolog in place', not os.path.exists(os.path.join(room, 'python/bin/fiolog')))
     check.fault('pip install', fault, *install)
     log = run(os.path.join(room, 'python/bin/fiolog'), 'decode', '-q', text=LOG, folder='/')
+    if shutil.which('readelf') and 'now' in run('packaging/hardening', '--link', 'cc').stdout:
+        (library,) = glob.glob(os.path.join(room, 'python/lib/python*/site-packages/fio2070/libfio2070.so.1'))
+        check.holds('the installed library is hardened', 'NOW' in run('readelf', '-d', library).stdout)
     check.holds('the installed fiolog', '> poll block 5' in log.stdout, log.stdout + log.stderr)
 
 
@@ -194,7 +271,8 @@ def installing():
     check.fault('make install', fault, 'make', '-s', 'install', 'PREFIX=' + prefix)
     log = run(os.path.join(prefix, 'bin/fiolog'), 'check', text=LOG, folder='/')
     check.equal('the installed fiolog checks', 0, log.returncode)
-    check.holds('no program without the kit', not os.path.exists(os.path.join(prefix, 'bin/fio2070')))
+    shown = run(os.path.join(prefix, 'bin/fio2070'), 'simulate', text='fio2070 script 1 2 0\n', folder='/')
+    check.equal('the installed program simulates', ('counter 0', 0), (shown.stdout.partition('\n')[0], shown.returncode))
     check.fault('make uninstall', fault, 'make', '-s', 'uninstall', 'PREFIX=' + prefix)
     left = [name for _, _, names in os.walk(prefix) for name in names]
     check.equal('nothing is left', [], left)
@@ -202,7 +280,7 @@ def installing():
 
 def own_test():
     """`./test` in the copy runs what can run, and says what it could not run."""
-    done = run('./test', seconds=1500, HOME=os.environ.get('HOME', room))
+    done = run('./test', seconds=3000, HOME=os.environ.get('HOME', room))
     last = done.stdout.rstrip().rpartition('\n')[2]
     check.holds('./test without the kit', re.fullmatch(r'\d\d+ passed, 0 failed', last) and 'proofs\n' in done.stdout,
                 '\n'.join(re.findall('^FAILED.*\n.*\n.*', done.stdout, re.M))[:1500] + last)
@@ -274,7 +352,7 @@ def page_fault(kind, path):
     """What is wrong with a page in which an example is opened."""
     begun = time.monotonic()
     with running(kind) as browser:
-        browser.open('file://' + path)
+        started(browser, 'file://' + path)
         browser.run('document.getElementById("more-examples").open = true')
         browser.click('[data-example="lost-answer.frames"]')
         browser.wait('return document.documentElement.dataset.opened === "lost-answer.frames"')
@@ -284,26 +362,49 @@ def page_fault(kind, path):
     return trouble or ('poll block 255' not in shown and shown)
 
 
+# The same of packages that are made without the kit, in a system that has not even git.
+INSTALLED = [
+    ('apt-get install -y --no-install-recommends ./packages/*.deb', ''),
+    ('echo 3605 | fio2070 show', 'poll block 5'),
+    ('fio2070 simulate </usr/share/doc/fio2070/examples/overflow.script', '22 block entries 255 status 0c'),
+    ("echo 'TX 36 05' | fiolog decode -q", '> poll block 5'),
+    ('fio2070-test --self module 2000', ''),
+    ('cc program.c -lfio2070 -o program && ./program && echo linked and run', 'linked and run'),
+    ('ls /usr/share/man/man1/', 'fio2070-test.1.gz\nfio2070-tools.1.gz'),
+    ('apt-cache show ./packages/libfio2070-1_*.deb || dpkg -s libfio2070-1', 'compiled from dist/fio2070.c'),
+]
+
+
+def session(root, folder, commands):
+    """A row for each command of a session in a new system."""
+    for command, wanted in commands:
+        status, text, seconds, used = roots.run(root, command, MOST_SECONDS, folder)
+        print('$ %s\n%s[status %d, %.1f s, %.1f s of a processor]' % (command, text, status, seconds, used))
+        check.holds('in a new system: ' + command, status == 0 and wanted in text and used < MINUTE, text[-600:])
+
+
 def in_new_system():
-    """All of it in a Debian system of its own that only has gcc, make and python3, without a network."""
+    """All of it in a Debian system of its own, without a network: first it only has git, and then gcc, make and python3 too."""
     why = roots.missing()
     if why:
         check.skip('a new Debian system', why)
         return
-    root = roots.made(room)
+    root = roots.made(room, ['git'])
     if not root:
         check.skip('a new Debian system', 'debootstrap could not make one, as without a network')
         return
-    shutil.rmtree(clone)
-    os.makedirs(clone)
-    copy_sources()
-    with open(os.path.join(clone, 'program.c'), 'w', encoding='utf-8') as file:
+    shutil.move(clone, os.path.join(root, 'sources'))
+    session(root, '/', [('git clone -q /sources clone', '')])
+    session(root, '/clone', [(command + ' || [ $? -eq 1 ]', wanted) for command, wanted in ANSWERS])
+    if not os.environ.get('FIO2070_ROOT') and not roots.install(root, *roots.USUAL):
+        check.skip('gcc, make and python3 in a new Debian system', 'apt-get could not install them, as without a network')
+        return
+    with open(os.path.join(root, 'clone/program.c'), 'w', encoding='utf-8') as file:
         file.write(PROGRAM)
-    shutil.move(clone, os.path.join(root, 'clone'))
-    for command, wanted in SESSION:
-        status, text, seconds, used = roots.run(root, command, MOST_SECONDS, '/clone')
-        print('$ %s\n%s[status %d, %.1f s, %.1f s of a processor]' % (command, text, status, seconds, used))
-        check.holds('in a new system: ' + command, status == 0 and wanted in text and used < MINUTE, text[-600:])
+    session(root, '/clone', SESSION)
+    session(root, '/clone', [('make -s deb DIST=/used/packages 2>&1', '/used/packages/python3-fio2070_'), ('make -s uninstall PREFIX=/usr/local', '')])
+    shutil.copy(os.path.join(root, 'clone/program.c'), os.path.join(root, 'used'))
+    session(root, '/used', INSTALLED)
     for kind in browsers(check):
         check.fault('the page opens in ' + kind.name, page_fault, kind, os.path.join(root, 'clone/dist/fio2070.html'))
 
@@ -316,7 +417,10 @@ def main():
         check.skip('a clone without the kit', 'no cc or no git here')
         check.end()
     copy_sources()
-    program()
+    list_sources()
+    as_repository()
+    with_few_commands()
+    elsewhere()
     alike()
     faults()
     library()

@@ -17,7 +17,7 @@ import time
 sys.dont_write_bytecode = True
 
 from support.check import Check
-from support.tables import HAS_KIT, TOP
+from support.tables import TOP, can_simulate
 
 # How each shell is started without the user's own settings, and how it reads the completions; {} is the folder into which
 # the program was installed.
@@ -102,7 +102,7 @@ def try_shell(check, name, prefix, folder):
     try:
         shell.run(setting.format(prefix), 1)
         for number, (line, expected) in enumerate(LINES, 2):
-            if line.startswith('fio2070 ') and not HAS_KIT:
+            if line.startswith('fio2070 ') and not can_simulate():
                 continue
             row = '%s completes %r' % (name, line)
             if check.wants(row):

@@ -1,8 +1,8 @@
 #!/usr/bin/env python3
 """The tester of tools/conformance: it finds no difference in the proved ends and in right ones that are written from
-docs/PROTOCOL.md, exercises each rule, and finds each planted fault, of a module and of a CPU's end, within the 20,000 events
-of a run over a wire; also its reports, scripts, texts and tables. With `--all` also by a second compiler and with
-sanitizers. Last line: `N passed, M failed`."""
+docs/PROTOCOL.md, and exercises each rule, in 100,000 events; also its reports, scripts, texts and tables. With `--all` in a
+million events; it finds each planted fault, of a module and of a CPU's end, within the 20,000 events of a run over a wire, or the
+200,000 of one with long scripts; and it does so by a second compiler and with sanitizers. Last line: `N passed, M failed`."""
 
 import os
 import pty
@@ -22,21 +22,27 @@ import xml.etree.ElementTree as xml
 sys.dont_write_bytecode = True
 
 from support.check import Check
-from support.planted import (BY_BOUNDS, EVENTS, FAILING, LASTING, MISSED, NAMED, NOW_AND_THEN, OF_LENGTH, REPLAYED, SEEDS,
-                             SHORT, is_long)
-from support.tables import HAS_KIT, TOP
+from support.planted import (BY_BOUNDS, BY_LINES, EVENTS, FAILING, LASTING, LATE, MISSED, NAMED, NOW_AND_THEN, OF_BOUND,
+                             OF_LENGTH, OF_REPLAY, REPLAYED, SEEDS, SHORT, SLOW, TOO_LONG, WRONG_LINES, is_long)
+from support.tables import TOP, can_simulate
 
 # The sections of docs/PROTOCOL.md that have rules in tables.
 RULED = ['Counter', 'Filters', 'Configuration', 'Waiting entries', 'Polls', 'Other commands']
 
-# How a script for `--replay` begins.
-FOR_REPLAY = '# For --replay alone'
+# The line of a script that simulate has not: it is for `--replay` alone.
+FOR_REPLAY = re.compile('(frame|answer) ')
+
+# What a tester says while it shrinks a script.
+GOES_ON = re.compile('(?m)^# Shrinking goes on: .*\n')
+
+# The line of a report that names the rule.
+BREAKS = '# the first rule that this breaks: '
 
 
 def run(words, text=''):
-    """The status of a command, and what it writes."""
+    """The status of a command, and what it writes, apart from words that it goes on."""
     done = subprocess.run(words, input=text.encode(), stdout=subprocess.PIPE, stderr=subprocess.STDOUT, timeout=1500)
-    return done.returncode, done.stdout.decode('utf-8', 'replace')
+    return done.returncode, GOES_ON.sub('', done.stdout.decode('utf-8', 'replace'))
 
 
 def sources(folder):
@@ -67,15 +73,19 @@ def built(check, room, name, compiler, *options):
 
 
 def script_of(report):
-    """The script of a report: its lines of events, and what comes before them."""
-    lines = report.splitlines(keepends=True)
-    end = next(number for number, line in enumerate(lines) if line.startswith('# expected: '))
-    return ''.join(line for line in lines[:end] if not line.startswith('# Something '))
+    """The script of a report: its header and the lines of its events."""
+    script = report[report.index('fio2070 script '):]
+    return ''.join(line for line in script.splitlines(keepends=True) if not line.startswith('#'))
+
+
+def rules_of(report):
+    """The rules that reports name."""
+    return re.findall('(?m)^%s([^,]*),' % BREAKS, report)
 
 
 def planted_faults(check, program):
     """Each planted fault is found within the events of a run over a wire, most by short scripts."""
-    if not check.wants('planted'):
+    if not check.wants('planted') or not check.whole('planted faults'):
         return
     rows = re.findall(r'^(module|cpu) +(\d+) +(\d+)  (\S+(?: \S+)*?) {2,}(.*)$', run([program])[1], re.M)
     for end in ('module', 'cpu'):
@@ -100,9 +110,10 @@ def other_seeds(check, program):
 
 def right_ends(check, program):
     """Ends without a fault show no difference, and each rule is exercised."""
+    events = check.given.events
     for end in ('module', 'cpu'):
-        status, said = run([program, end, 'none', '--coverage', '1000000'])
-        check.equal('right %s' % end, (0, 'no difference in 1000000 events'), (status, said.splitlines()[-1]))
+        status, said = run([program, end, 'none', '--coverage', str(events)])
+        check.equal('right %s' % end, (0, 'no difference in %d events' % events), (status, said.splitlines()[-1]))
         check.equal('rules that a run leaves out, %s' % end, [], re.findall('not exercised.*', said))
         check.equal('a good run of %s says that alone' % end, (0, 'no difference in %d events\n' % EVENTS),
                     run([program, end, 'none', str(EVENTS)]))
@@ -112,9 +123,11 @@ def right_ends(check, program):
 
 def simulated(report):
     """What is wrong with what `fio2070 simulate` says about a report's script; None if it does what was expected."""
-    text = run([os.path.join(TOP, 'fio2070'), 'simulate'], script_of(report))[1]
-    if report.startswith(FOR_REPLAY):
-        return None if text == 'line 1: bad header\n' else text
+    script = script_of(report)
+    text = run([os.path.join(TOP, 'fio2070'), 'simulate'], script)[1]
+    for number, line in enumerate(script.splitlines(), 1):
+        if FOR_REPLAY.match(line):
+            return None if text == 'line %d: bad line\n' % number else text
     number = re.search('^# expected: (number \\d+) items', report, re.M)
     octets = re.search('^# expected: ([0-9a-f]+)$', report, re.M)
     wanted = '\n%s\n' % number[1] if number else ' %s\n' % octets[1] if octets else '\ncounter '
@@ -126,46 +139,69 @@ def reports(check, program):
     for end, name in REPLAYED:
         if not check.wants(name):
             continue
-        report = run([program, end, name, '--first'])[1].rsplit('\nnot exercised', 1)[0]
-        report = re.sub('(?s)\n(not exercised: |rules that differ: ).*', '\n', report)
-        script = script_of(report)
-        replayed = run([program, end, name, '--replay'], script)[1]
-        check.equal('replay of: ' + name, report.partition('# Something')[2].partition('\n')[2] or report, replayed)
-        check.equal('the right end on: ' + name, (0, 'no difference\n'), run([program, end, 'none', '--replay'], script))
+        written = run([program, end, name, '--first'])[1]
+        report = re.sub('(?s)\nrules that differ: .*', '\n', re.sub('(?m)^# Something .*\n', '', written))
+        for given, text in ('script', script_of(report)), ('report', written):
+            check.equal('replay of the %s of: %s' % (given, name), (1, report), run([program, end, name, '--replay'], text))
+            check.equal('the right end on the %s of: %s' % (given, name), (0, 'no difference\n'),
+                        run([program, end, 'none', '--replay'], text))
         if name in NAMED:
-            check.equal('rule of: ' + name, NAMED[name], re.search('^# rule: ([^,]*),', report, re.M)[1])
-        if HAS_KIT:
+            check.equal('rule of: ' + name, [NAMED[name]], rules_of(report))
+        if can_simulate():
             check.fault('simulate on: ' + name, simulated, report)
+
+
+def long_scripts(check, program):
+    """Scripts that are too long for simulate are for --replay alone, and say so; shorter runs do without them."""
+    for name, rule in TOO_LONG if check.whole('several long scripts') else TOO_LONG[:1]:
+        if not check.wants(name):
+            continue
+        report = run([program, 'module', name, str(LATE), '--first'])[1]
+        report = report[:report.index('rules that differ: ')]
+        check.equal('rule of a long script: ' + name, [rule], rules_of(report))
+        check.holds('a long script says what runs it: ' + name, OF_REPLAY in report, report[:2000])
+        report = report.replace(OF_BOUND, '\n')
+        check.equal('replay of a long script: ' + name, (1, report), run([program, 'module', name, '--replay'], report))
+        check.equal('the right end on a long script: ' + name, (0, 'no difference\n'),
+                    run([program, 'module', 'none', '--replay'], report))
+        check.equal('a shorter run has no long scripts: ' + name, 0, run([program, 'module', name, str(LATE - 1)])[0])
+        if can_simulate():
+            check.equal('simulate on a long script: ' + name, (1, 'input too long\n'),
+                        run([os.path.join(TOP, 'fio2070'), 'simulate'], script_of(report)))
+    name = 'E is not set after 4,096 polls'
+    report = run([program, 'module', name, str(LATE), '--first'])[1]
+    check.holds('shrinking stops at a bound', OF_BOUND in report, report[:2000])
 
 
 def goes_on(check, program):
     """A run finds all rules that differ, leaves out rules of the own profile, and says what survives a reset."""
     several = 'E is not set; filter of 0 acts as 2; F is not set; identification is another octet'
-    found = set(re.findall('^# rule: ([^,]*),', run([program, 'module', several])[1], re.M))
+    found = set(rules_of(run([program, 'module', several])[1]))
     wanted = {'sent-again', 'filter-of-zero', 'lost', 'identification'}
     check.holds('a run goes on after a difference', wanted <= found, found)
     several = 'wide times are the stamp; there are two gap marks; states are turned'
-    found = set(re.findall('^# rule: ([^,]*),', run([program, 'cpu', several])[1], re.M))
+    found = set(rules_of(run([program, 'cpu', several])[1]))
     check.equal("a run of a CPU's end goes on", {'wide-time', 'gap-mark', 'items-in-order'}, found)
     for end, fault, rule in [('module', 'filter of 0 acts as 2', 'filter-of-zero'), ('module', 'identification has two '
                              'octets', 'identification'), ('module', 'counter is 1 at the start', 'counter-at-start'),
                              ('module', 'an absent input is passed over', 'absent-input'),
                              ('module', 'the newest entry is pushed out', 'pushed-out'),
                              ('cpu', 'the second poll for a block raises the number', 'same-until-taken')]:
-        check.equal('except ' + rule, (0, 'no difference in 300000 events'),
+        events = min(check.given.events, 300000)
+        check.equal('except ' + rule, (0, 'no difference in %d events' % events),
                     (lambda done: (done[0], done[1].splitlines()[-1]))(
-                        run([program, end, fault, '--except', rule, '300000'])))
+                        run([program, end, fault, '--except', rule, str(events)])))
     report = run([program, 'module', 'outputs are 1 at the start', '--first'])[1]
     check.holds('equal octets are said to be equal', re.search('(?m)^# got: .*, the same octets: see the field$', report)
                 and '\n# field: the outputs, ' in report, report)
     for end, several in LASTING:
         said = run([program, end, several, str(EVENTS)])[1]
         check.holds('a run goes on to its end: ' + several, said.endswith(' in %d events\n' % EVENTS)
-                    and '# rule: ' in said, said)
+                    and BREAKS in said, said)
     for fault in ('watchdog outlasts a restart', 'flags outlast a restart', 'outputs outlast a restart'):
         report = run([program, 'module', fault, '--first'])[1]
-        check.holds('a dirty start: ' + fault, report.startswith('# Something outlasts a reset')
-                    and '\nrestart\n' in report and '\n# rule: restart, ' in report, report)
+        check.holds('a dirty start: ' + fault, re.search('\n# Something outlasts a reset.*\nfio2070 script ', report)
+                    and '\nrestart\n' in report and rules_of(report) == ['restart'], report)
 
 
 def words(check, program):
@@ -176,18 +212,42 @@ def words(check, program):
                           (['1', '2', '3'], 'usage: ')]:
         status, said = run([program, 'module', 'none', *given])
         check.holds('words %s' % ' '.join(given), status == 2 and said.startswith(wanted), said)
-    for line in ('fio2070 script 1 2', 'to-module 1', 'to-cpu 1', 'scan 00', 'send 3', 'polls',
-                 '# frame to the module: x'):
+    for line in ('fio2070 script 1 2', 'to-module 1', 'to-cpu 1', 'scan 00', 'send 3', 'polls', ' sync', 'frame x',
+                 '# frame to the module: x', '0 lines', 'differences'):
         text = 'fio2070 script 1 2 0\nsync\n%s\n' % line
         check.equal('faulty line ' + line, (2, 'line 3: bad line\n'), run([program, 'module', 'none', '--replay'], text))
     for header in ('fio2070 script 1 9 0', 'fio2070 script 3 2 0 200 1024'):
         status, said = run([program, 'module', 'none', '--replay'], header + '\npoll\nto-module 1\n')
         check.holds('header ' + header, status == 2 and said.startswith('the script is for a module with '), said)
-    kept = (FOR_REPLAY + ': `fio2070 simulate` has no line for the frames that stand as remarks.\n'
-            'fio2070 script 1 2 5\npoll\nto-module 1\n# frame to the module: 3605\npoll\nto-module 2\n'
-            '# frame to the module: 3606\npoll\nto-module 3\n# frame to the module: 33006f\n')
-    replayed = run([program, 'module', 'an octet too many is accepted', '--replay'], kept)[1]
-    check.equal('a script is replayed as it was read', kept, replayed[:len(kept)])
+    script = ('fio2070 script 1 2 5\npoll\nto-module 1\nframe 3605\npoll\nto-module 2\nframe 3606\npoll\nto-module 3\n'
+              'frame 33006f\n')
+    for form, text in ('', script), (' of before', script.replace('frame ', '# frame to the module: ')):
+        replayed = run([program, 'module', 'an octet too many is accepted', '--replay'], text)[1]
+        check.holds('a script%s is replayed as it was read' % form, replayed.endswith('\n' + script), replayed)
+    check.equal('a text without a script', (2, 'line 2: bad line\n'), run([program, 'module', 'none', '--replay'],
+                                                                         '# nothing\n'))
+
+
+def earlier_reports(check, program):
+    """What a run writes is a text of scripts for `--replay`, with its table and its results; other lines are refused."""
+    several = 'E is not set; filter of 0 acts as 2; F is not set; identification is another octet'
+    report = run([program, 'module', several, '--coverage', str(EVENTS)])[1]
+    replayed = run([program, 'module', several, '--replay'], report)
+    # A replay passes over no rule, so a script may show another one first.
+    check.equal('a report of several rules is replayed', (1, len(rules_of(report))), (replayed[0], len(rules_of(replayed[1]))))
+    check.equal('the right end on a report of several rules', (0, 'no difference\n'),
+                run([program, 'module', 'none', '--replay'], report))
+    nothing = run([program, 'module', 'none', '--coverage', str(EVENTS)])[1]
+    check.equal('a report without a script', (0, 'no difference\n'), run([program, 'module', 'none', '--replay'], nothing))
+    end = len(report.splitlines()) + 1
+    check.equal('a faulty line below a report', (2, 'line %d: bad line' % end), (lambda done: (
+        done[0], done[1].splitlines()[-1]))(run([program, 'module', 'none', '--replay'], report + 'polls\n')))
+    before = ('fio2070 script 1 2 0\r\npoll\r\nto-module 1\r\npoll\r\nto-module 2\r\n# expected: b600000200000000\r\n'
+              'not exercised: lost\r\nrules that differ: 1 in 2000 events\r\n')
+    check.equal('a report of before', (1, ['sent-again']), (lambda done: (done[0], rules_of(done[1])))(
+        run([program, 'module', 'E is not set', '--replay'], before)))
+    check.equal('a report of a run that failed', (0, 'no difference\n'), run(
+        [program, 'module', 'none', '--replay'], before + 'the end under test failed\n/dev/ttyUSB0: it ended\n'))
 
 
 def transcripts(check, program):
@@ -224,16 +284,17 @@ def tables(check, program, room):
                 (cases['sent-again'], cases['lost'], cases['load-at-sync']))
     check.equal('JUnit: counts', (len(cases), 1), (int(suite.get('tests')), int(suite.get('failures'))))
     said = suite.find('.//failure').text
-    check.holds('JUnit: the report', said.startswith('fio2070 script 1 2 0\npoll\n') and '\n# field: E of' in said
-                and '\n# rule: sent-again, TEES 2009, docs/PROTOCOL.md, Polls: ' in said, said)
+    check.holds('JUnit: the report', said.startswith('# expected: ') and '\n# field: E of' in said
+                and '\n%ssent-again, TEES 2009, docs/PROTOCOL.md, Polls: ' % BREAKS in said
+                and '\nfio2070 script 1 2 0\npoll\n' in said, said)
 
 
 def page(check, program):
     """The report on the page is the one that the tester writes for its script."""
     with open(os.path.join(TOP, 'tools/conformance/README.md'), encoding='utf-8') as document:
-        blocks = re.findall('(?s)```text\n(fio2070 script.*?)```', document.read())
+        blocks = re.findall('(?s)```text\n(# expected: [^`]*\nfio2070 script.*?)```', document.read())
     check.equal('report of the page', blocks, [
-        run([program, 'module', 'E is not set', '--replay'], script_of(block))[1] for block in blocks[:1]])
+        run([program, 'module', 'E is not set', '--replay'], block)[1] for block in blocks[:1] or ['']])
 
 
 def over(check, name, command, wanted):
@@ -258,10 +319,9 @@ def failing(tester, faulty, fault, asked, said):
     """What is wrong with the report of a module over a wire that ends or hangs at a frame."""
     start = time.monotonic()
     status, text = run([tester, '--deadline', '500', '--command', "%s wire '%s'" % (faulty, fault), str(EVENTS)])
-    report = text[text.find('fio2070 script'):]
-    if status != 1 or '\n# got: %s\n# asked: %s' % (said, asked) not in report or '\n# rule: ' not in report:
+    if status != 1 or '\n# got: %s\n# asked: %s' % (said, asked) not in text or '\n' + BREAKS not in text:
         return '%d: %s' % (status, text)
-    if 'ends' in fault and '\n# standard error: module: bad access\n' not in report:
+    if 'ends' in fault and '\n# standard error: module: bad access\n' not in text:
         return text
     if not text.endswith(' in %d events\n' % EVENTS):
         return text
@@ -272,7 +332,7 @@ def ends_for_good(tester, faulty):
     """What is wrong with the report of a module that ends, and whose socket can't be connected again."""
     port = served(faulty, 'wire', 'it ends at 255 items')
     status, text = run([tester, '--deadline', '500', '--socket', '127.0.0.1:%d' % port, str(EVENTS)])
-    wanted = ["# It can't be asked again: the script is as it was.\n", '\n# asked: frame 33ff', '\n# rule: frame-length, ']
+    wanted = ["# It can't be asked again: the script is as it was.\n", '\n# asked: frame 33ff', '\n%sframe-length, ' % BREAKS]
     return None if status == 3 and all(part in text for part in wanted) else '%d: %s' % (status, text)
 
 
@@ -281,9 +341,39 @@ def now_and_then(tester, adapter):
     command = '%s | %s -c %s' % (adapter, sys.executable, shlex.quote(NOW_AND_THEN))
     status, text = run([tester, '--command', command, str(EVENTS)])
     told = re.findall('(?m)^(# (?:Seen once|It does not come each time).*)$', text)
-    if status != 1 or not told or '\nseen, and not again: sent-again, in ' not in text or '\n# rule: sent-again' not in text:
+    if (status != 1 or not told or '\nseen, and not again: sent-again, in ' not in text
+            or '\n%ssent-again' % BREAKS not in text):
         return '%d: %s' % (status, text)
     return None if ' in %d events\n' % EVENTS in text else text
+
+
+def slow(tester, adapter):
+    """What is wrong with what is said while the script of a slow module is shrunk."""
+    command = '%s | %s -c %s' % (adapter, sys.executable, shlex.quote(SLOW))
+    done = subprocess.run([tester, '--command', command, '1000', '--first'], stdout=subprocess.PIPE, stderr=subprocess.PIPE,
+                          text=True)
+    is_said = re.match('# Shrinking goes on: [0-9]+ events so far, after [0-9]+ s of at most 120.\n', done.stderr)
+    return None if done.returncode == 1 and is_said and rules_of(done.stdout) == ['sent-again'] else done.stderr + done.stdout
+
+
+def wrong_line(tester, command, said):
+    """What is wrong with the report of a CPU's end with a line that is none."""
+    status, text = run([tester, '--cpu', '--command', command, str(EVENTS), '--first'])
+    return None if status == 1 and '\n# got: %s' % said in text and BREAKS in text else '%d: %s' % (status, text)
+
+
+def cpus_end(check, tester, python, faulty):
+    """A CPU's end over a wire, right and wrong."""
+    python, differs = python.replace('/adapter.py', '/cpu_adapter.py'), (1, 'rules that differ: 1 in ')
+    over(check, "wire: a CPU's end in Python", [tester, '--cpu', '--command', python, '5000'], (0, 'no difference in 5000 '))
+    over(check, "wire: a CPU's end", [tester, '--cpu', '--command', faulty + ' wire-cpu none', str(EVENTS)],
+         (0, 'no difference in %d ' % EVENTS))
+    for fault in BY_LINES:
+        over(check, "wire: a CPU's end: " + fault, [tester, '--cpu', '--deadline', '500', '--command', "%s wire-cpu '%s'" % (
+            faulty, fault), str(EVENTS), '--first'], differs)
+    for pattern, said in WRONG_LINES:
+        check.fault("wire: a CPU's end says " + pattern, wrong_line, tester, "%s wire-cpu none | sed -u 's/%s/'" % (
+            faulty, pattern), said)
 
 
 def wires(check, room):
@@ -297,6 +387,7 @@ def wires(check, room):
          os.path.join(room, 'libfio2070.a'), '-o', adapter]))
     python = 'FIO2070_LIBRARY=%s PYTHONPATH=%s PYTHONDONTWRITEBYTECODE=1 %s/adapter.py' % (
         os.path.join(room, 'libfio2070.so'), os.path.join(TOP, 'bindings/python'), folder)
+    faulty = os.path.join(room, 'gcc')
     same, differs = (0, 'no difference in '), (1, 'rules that differ: ')
     over(check, 'wire: adapter in C', [tester, '--command', adapter, '20000'], same)
     over(check, 'wire: adapter in Python', [tester, '--command', python, '5000'], same)
@@ -307,15 +398,16 @@ def wires(check, room):
                                  ('says something else', "sed -u 's/.*/what/'", 'not `done`: what')]:
         over(check, 'wire: a module that ' + name, [tester, '--deadline', '300', '--command', command, '1000'], (3, fault))
     over(check, 'wire: a socket', [tester, '--socket', '127.0.0.1:%d' % served(adapter), '5000'], same)
+    cpus_end(check, tester, python, faulty)
     ours, theirs = pty.openpty()
     tty.setraw(theirs)
     with subprocess.Popen([adapter], stdin=ours, stdout=ours) as process:
         over(check, 'wire: a pseudo-terminal', [tester, '--serial', os.ttyname(theirs), '5000'], same)
         process.kill()
-    faulty = os.path.join(room, 'gcc')
-    for fault, asked, said in FAILING:
+    for fault, asked, said in FAILING if check.whole('wire: planted faults') else ():
         check.fault('wire: ' + fault, failing, tester, faulty, fault, asked, said)
     check.fault('wire: a difference now and then', now_and_then, tester, adapter)
+    check.fault('wire: a slow module', slow, tester, adapter)
     check.fault('wire: a socket that ends', ends_for_good, tester, faulty)
     over(check, 'wire: it hangs at once', [tester, '--deadline', '300', '--command', 'sleep 100', '1000'],
          (3, 'it wrote no line in time'))
@@ -324,11 +416,11 @@ def wires(check, room):
                                            '--first'], differs)
     over(check, 'own clock: adapter in C', [tester, '--own-clock', '--command', adapter + ' clock', '8000'], same)
     with ThreadPoolExecutor(len(BY_BOUNDS)) as threads:
-        for fault in BY_BOUNDS:
+        for fault in BY_BOUNDS if check.whole('own clock: planted faults') else ():
             threads.submit(over, check, 'own clock: ' + fault, [
                 tester, '--own-clock', '--command', "%s wire '%s' clock" % (faulty, fault), '40000', '--first'], differs)
     for end in ('module', 'cpu'):
-        over(check, 'the proved end: ' + end, [tester, '--self', end, '300000'], same)
+        over(check, 'the proved end: ' + end, [tester, '--self', end, str(min(check.given.events, 300000))], same)
     over(check, 'no such end', [tester, '--self', 'x'], (2, "can't open x"))
     late = "sh -c 'exec 2>/dev/null; while read line; do for n in 1 2 3 4 5 6 7 8 9; do printf x; sleep 0.1; done; done'"
     over(check, 'wire: a line that does not end', [tester, '--deadline', '300', '--command', late, '1000'],
@@ -351,7 +443,7 @@ def sanitized(check, room):
 
 
 def main():
-    check = Check()
+    check = Check(events=(100_000, 1_000_000))
     with tempfile.TemporaryDirectory() as room:
         run(['make', '-s', '-C', TOP, room + '/libfio2070.a', 'OUT=' + room])
         program = built(check, room, 'gcc', 'gcc', '-std=c99', '-O2')
@@ -359,7 +451,8 @@ def main():
             built(check, room, 'g++', 'g++', '-x', 'c++', '-std=c++11') if shutil.which('g++') else check.skip(
                 'build by g++', 'it is not installed')
         if program:
-            for part in (right_ends, planted_faults, other_seeds, reports, goes_on, words, transcripts):
+            for part in (right_ends, planted_faults, other_seeds, reports, long_scripts, goes_on, words, earlier_reports,
+                         transcripts):
                 part(check, program)
             tables(check, program, room)
             page(check, program)

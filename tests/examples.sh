@@ -17,10 +17,10 @@ check() {
     judge "$2" $? "$(cat "$3"; echo "status $expected")" "$(cat "$room/got")"
 }
 
-if has_command rt && [ -z "${FIO2070_PROGRAM:-}" ]; then
+if [ -z "${FIO2070_PROGRAM:-}" ] && packaging/program --proved >"$room/program"; then
     for file in examples/*.script; do check simulate "$file" "${file%.script}.report"; done
 else
-    skip 'scripts' 'simulate needs the Rattle kit'
+    skip 'scripts' 'this program has no simulate'
 fi
 for file in examples/*.transcript; do check check "$file" "${file%.transcript}.verdict"; done
 for file in examples/*.record; do check record "${file%.record}.transcript" "$file"; done

@@ -84,12 +84,12 @@ class Frame:
     """A frame as the reader returns it, in a log on the bus."""
 
     def __init__(self, octets):
-        self.octets, self.said, self.text, self.note = bytes.fromhex(octets), '', '', ''
+        self.octets, self.kind, self.said, self.text, self.note = bytes.fromhex(octets), 'frame', '', '', ''
         self.direction = '<' if self.octets[0] >= 128 else '>'
 
 
 def check_judged(check):
-    """What `check` says about a breach of limits, the nine rules alone, and what is not judged after a frame that was
+    """What `check` says about a breach of limits, the rules of transcripts alone, and what is not judged after a frame that was
     lost."""
     block = '> 3605\n< b605%s\n'
     for name, octets, words in [('an input', '014500010000000001', 'an entry is of input 69, above 63'),
@@ -98,12 +98,12 @@ def check_judged(check):
         done = fiolog('check', '-q', text=block % octets)
         check.holds('a breach of limits by ' + name, 'line 2: limits: ' + words in done.out, done.out)
     name = os.path.join(EXAMPLES, 'doubled-entry.transcript')
-    check.equal('--rules nine', (1, 0), (fiolog('check', '-q', name).status, fiolog('check', '-q', '--rules', 'nine', name).status))
+    check.equal('--rules transcript', (1, 0), (fiolog('check', '-q', name).status, fiolog('check', '-q', '--rules', 'transcript', name).status))
     from fiolog.rules import Rules
     rules = Rules('bus')
-    above = [rules.breach(None, Frame(octets)) for octets in ('3605', 'b60500000000000a', '3606')]
+    above = [rules.breach(Frame(octets)) for octets in ('3605', 'b60500000000000a', '3606')]
     rules.lose(Frame('3607'))    # the answer 6 and the poll 7 were lost here
-    below = [rules.breach(None, Frame(octets)) for octets in ('b60700000000001e', '3607', 'b60700020000001e', '3608')]
+    below = [rules.breach(Frame(octets)) for octets in ('b60700000000001e', '3607', 'b60700020000001e', '3608')]
     check.equal('no right link is accused where frames were lost', [None] * 7, above + below)
 
 
@@ -141,13 +141,26 @@ def check_numbers(check):
                 json.loads(fiolog('plan', '--json', '--inputs', str(row[0]), '--filter', str(row[1])).out)}
         check.equal('plan for %d inputs with filters of %d' % tuple(row[:2]), row[2:8], [plan[name] for name in names])
     rounds = fiolog('plan', '--inputs', '64', '--filter', '5', '--outage', '80').out
-    check.equal('a round every 12 ms with 5 of each 100 lost, none later than 75', ['12', '75'],
+    check.equal('a round every 12 ms with 5 of each 100 lost, none later than 71', ['12', '71'],
                 re.findall(r'5 of each 100 rounds lost +(\d+) ms', rounds))
     differing = json.loads(fiolog('plan', '--json', '--group', '60:20', '--group', '4:1').out)
-    check.equal('60 filters of 20 and 4 of 1', [33, 255, 32, 510, 65], [int(str(one['number']).split()[0]) for one in differing])
+    check.equal('60 filters of 20 and 4 of 1', [33, 252, 32, 504, 65], [int(str(one['number']).split()[0]) for one in differing])
+    check_small_rings(check)
     for words in (['--group', '60'], ['--group', '60:20', '--group', '5:1'], ['--group', '8:5', '--every', '5'], ['--inputs', '8'], []):
         check.equal('plan ' + ' '.join(words), 2, fiolog('plan', *words).status)
     check.holds('6 rounds after the longest outage', re.search(r'nothing between the rounds +6 rounds', rounds), rounds)
+
+
+def check_small_rings(check):
+    """`plan` for modules of which few entries may wait."""
+    for words, expected in (('--inputs 8 --filter 5 --block 64 --waiting 71', [40, 64, 39, 20, 64, 39]),
+                            ('--inputs 8 --filter 5 --block 64 --waiting 70', [39, 64, 38, 19, 64, 37]),
+                            ('--inputs 8 --filter 5 --block 64 --waiting 136', [40, 64, 39, 128, 79]),
+                            ('--group 60:20 --group 4:1 --waiting 503', [33, 252, 32, 32, 496, 63]),
+                            ('--group 60:20 --group 4:1 --waiting 251', [32, 248, 31, 16, 248, 31]),
+                            ('--inputs 64 --filter 1 --waiting 63', [0, 0])):
+        plan = json.loads(fiolog('plan', '--json', *words.split()).out)
+        check.equal('plan ' + words, expected, [int(str(one['number']).split()[0]) for one in plan][:len(expected)])
 
 
 def check_convert(check):
@@ -191,10 +204,19 @@ def check_check(check):
     broken = '> 36ff\nnoise\n> 3600\n< b600018000020000000002\n> 3601\n> 3604\n< b6040000000000ff\n'
     done = fiolog('check', text=broken)
     check.equal('every breach', [('3', 'advance', 'block 255 was due, 0 came'), ('6', 'advance', 'block 1 was due, 4 came')],
-                re.findall(r'line (\d+): (\w+): (.*)', done.out))
+                re.findall(r'line (\d+): (\w+): ([^:\n]*)', done.out))
     check.holds('how often, from where to where', 'fiolog: advance: 2 times, first in line 3, last in line 6\n' in done.err, done.err)
     timed_log = '07:15:02.100 TX 36 ff\n07:15:02.200 TX 36 00\n'
     check.holds('since when', 'fiolog: advance: once, in line 2 at 07:15:02.200\n' in fiolog('check', text=timed_log).err)
+    for name, above, number, words in (
+            ('ahead', 13, 15, 'block 14 was due, 15 came: the CPU went on without an answer, and what block 14 had is lost; or the log '
+             'lost a line (own profile; TEES allows it)'),
+            ('behind', 13, 13, 'block 14 was due, 13 came: the CPU asks again for a block that was answered; or it did not hear that '
+             'answer, and the log is not its own (own profile)'),
+            ('ahead, around 255', 255, 1, 'block 0 was due, 1 came: the CPU went on without an answer, and what block 0 had is lost; or the '
+             'log lost a line (own profile; TEES allows it)')):
+        done = fiolog('check', text='> 36%02x\n< b6%02x0000000003e8\n> 36%02x\n' % (above, above, number))
+        check.equal('what a poll %s means' % name, ['line 3: advance: ' + words], re.findall('^line 3.*', done.out, re.M))
     with open(os.path.join(EXAMPLES, 'lost-answer.frames'), encoding='ascii') as file:
         done = fiolog('check', text=file.read())
     check.equal('a log of the bus does not accuse a right CPU', ('', 0, True),

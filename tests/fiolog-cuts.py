@@ -1,6 +1,7 @@
 #!/usr/bin/env python3
 """Damaged logs of the proved ends: one answer in fifty is cut in six ways, and no rule is said to be broken; with as many lines
-of other text between, faults that are planted are still found. Last line: `N passed, M failed`."""
+of other text between, faults that are planted are still found. What is found in a log is the same however its octets come.
+Last line: `N passed, M failed`."""
 
 import random
 import sys
@@ -86,11 +87,42 @@ def fault_of_planted(form):
     return None if content else 'no doubled entry is found: %r' % dict(found.broken)
 
 
+def turned_from(lines, place):
+    """The lines, of which those from a place on say the other direction."""
+    turned = {'TX': 'RX', 'RX': 'TX'}
+    return lines[:place] + [' '.join(turned.get(word, word) for word in line.split(' ')) for line in lines[place:]]
+
+
+def found_in(pieces):
+    """What is found in a log whose octets come in these pieces."""
+    from fiolog.summary import summary_of
+    summary = summary_of(pieces)
+    left_out = {name: count for name, count in summary.left_out.items() if name != 'lines_passed_over'}
+    return dict(summary.broken), summary.first_breach, left_out
+
+
+def fault_of_pieces(place):
+    """A log whose directions are exchanged from a line on, in which a CPU asks again for a block that was answered: at its own end
+    that is a breach, at the module's it may be right. The octets come one by one, in two pieces, and with a long remark below."""
+    lines = ['TX 36 05', 'RX b6 05 00 00 00 00 00 01', 'TX 36 05', 'RX b6 05 00 02 00 00 00 01']
+    for number in range(6, 14):
+        lines += ['TX 36 %02x' % number, 'RX b6 %02x 00 00 00 00 00 %02x' % (number, number)]
+    octets = '\n'.join(turned_from(lines, place)).encode() + b'\n'
+    expected = found_in([octets])
+    ways = {'one by one': [octets[at:at + 1] for at in range(len(octets))], 'below 70,000 octets of text': [octets, b'idle\n' * 14_000]}
+    ways.update(('cut at %d' % at, [octets[:at], octets[at:]]) for at in range(0, len(octets), 7))
+    for name, pieces in ways.items():
+        found = found_in(pieces)
+        if found != expected:
+            return '%s: %r, whole: %r' % (name, found, expected)
+    return None
+
+
 def main():
     check = Check()
     use_library(check, 'damaged logs')
-    import fiolog.summary       # before tests/ is on the path, which has a script of this name
-    assert fiolog.summary
+    for place in (0, 4, 5, 8, 20):
+        check.fault('octets in pieces, directions exchanged from line %d on' % (place + 1), fault_of_pieces, place)
     trials = 12 if check.whole('12 trials of each cut') else 2
     for form in FORMS:
         for kind in CUTS:

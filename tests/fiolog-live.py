@@ -1,7 +1,7 @@
 #!/usr/bin/env python3
 """`fiolog live` on lines that carry traffic: a process, a pseudo-terminal, datagrams and a pipe, with the proved module and
-poller on the other side, with losses, damage, a device that babbles, and entries that break a rule on content; the status
-line of a terminal; a capture in a pipe. Last line: `N passed, M failed`."""
+poller on the other side, with losses, damage, a device that babbles, frames of another module, and entries that break a rule
+on content; the status line of a terminal; a capture in a pipe. Last line: `N passed, M failed`."""
 
 import glob
 import os
@@ -12,12 +12,14 @@ import socket
 import subprocess
 import sys
 import tempfile
+import termios
 import time
 
 sys.dont_write_bytecode = True
 
 from support.check import Check
 from support.fiolog import ENVIRONMENT, fiolog, on_terminal, use_library
+from support.line_model import line_of
 from support.loggers import LOGGERS
 from support.pcapng import frames_of
 from support.sessions import SESSION, timed
@@ -43,6 +45,22 @@ def started(*words):
                             env=ENVIRONMENT)
 
 
+def check_forms(check, folder):
+    """A process may write any form that is read; a transcript is shown line by line."""
+    name = os.path.join(folder, 'log')
+    for form in ('ISO times', 'TX and RX', 'arrows', 'transcript', 'JSON lines', 'Docklight', 'hexdump -C', 'SDLC'):
+        with open(name, 'w', encoding='utf-8') as file:
+            file.write('# connected\n' + LOGGERS[form](timed(SESSION)))
+        done = fiolog('live', '-q', '--exec', 'cat ' + name)
+        check.equal('a process that writes %s' % form, len(SESSION), numbers_of(done.out)['frames'])
+    live = started('--exec', "sh -c 'echo hello; echo \\> 3605; exec sleep 20'")
+    check.holds('a poll of a transcript is shown as it comes', b'> poll block 5' in live.stdout.readline())
+    live.terminate()
+    live.communicate(timeout=20)
+    done = fiolog('live', '-q', '--exec', 'echo hello')
+    check.equal('a process that writes no frame', (1, 1), (numbers_of(done.out)['lines passed over'], done.status))
+
+
 def fault_of_process():
     """A process with the proved ends: 40 rounds, of which every fifth answer is lost."""
     done = fiolog('live', '--exec', TALK, '--quiet')
@@ -54,7 +72,11 @@ def on_serial(write, *words):
     """What a run writes whose serial port is a pseudo-terminal to which this is written, and its status."""
     ours, theirs = pty.openpty()
     command = started('--serial', os.ttyname(theirs), '--quiet', '--seconds', '5', *words)
-    time.sleep(2)
+    for _ in range(200):
+        time.sleep(0.1)
+        if not termios.tcgetattr(theirs)[3] & termios.ICANON:
+            break
+    time.sleep(0.2)     # what comes while it is set is dropped
     write(lambda octets: os.write(ours, octets))
     out = command.communicate(timeout=30)[0].decode()
     os.close(ours)
@@ -65,31 +87,49 @@ def on_serial(write, *words):
 def fault_of_serial():
     """A pseudo-terminal as serial port: frames with checks; an answer that the CPU heard is damaged here, one comes in two
     pieces, then a damaged one, then a device babbles. Nobody is accused."""
-    from support.talking import rounds, stuffed
+    from support.talking import rounds
     frames = [octets for _, octets in rounds(20)]
     lost = next(place for place, octets in enumerate(frames) if octets[0] == 182 and octets[2] and frames[place + 1][1] != octets[1])
 
     def write(put):
         for place, octets in enumerate(frames):
-            put(stuffed(octets)[:-2])
-            put(b'\x00\x7e' if place == lost else stuffed(octets)[-2:])
-        put(stuffed(b'\x36\x05')[:-3] + b'\x00\x00\x7e')
+            put(line_of(octets)[:-2])
+            put(b'\x00\x7e' if place == lost else line_of(octets)[-2:])
+        put(line_of(b'\x36\x05')[:-3] + b'\x00\x00\x7e')
         for _ in range(8):
             put(b'\x55' * 500)
-        put(b'\x7e' + stuffed(b'\x36\x05'))
+        put(b'\x7e' + line_of(b'\x36\x05'))
     out, status = on_serial(write)
     found = numbers_of(out)
     expected = {'frames': len(frames), 'wrong frame checks': 3, 'breaches': 0, 'breaches in content': 0}
     return None if expected == {name: found[name] for name in expected} and status == 0 else out
 
 
-def fault_of_doubled():
-    """A doubled entry at a pseudo-terminal is named as it comes, and counted."""
-    from support.talking import stuffed
+def fault_of_line():
+    """What comes before the first flag is nothing. A frame that is broken off after its check, one that is too long and one without a
+    message are damage; a frame of another address is shown, and is none."""
+    poll, block, other = b'\x36\x05', bytes.fromhex('b6050000000003e8'), b'\x36\x63'
+    frames = [octets for number in range(1, 5) for octets in (bytes([0x36, number]), bytes([0xb6, number]) + block[2:])]
 
     def write(put):
+        put(b'\xff' + line_of(poll)[2:-1] + b''.join(map(line_of, frames)) + line_of(poll))
+        put(line_of(block)[:-1] + b'\x7d\x7e' + line_of(other, 0x15) + line_of(block)[1:])
+        put(line_of(bytes(774)) + b'\xff' * 4 + line_of(b'\x36\x06'))
+    due = {'frames': len(frames) + 3, 'polls': 6, 'wrong frame checks': 3, 'frames of other addresses': 1, 'breaches': 0}
+    out, status = on_serial(write)
+    found = numbers_of(out)
+    if due != {name: found.get(name) for name in due} or status:
+        return out, status
+    out, status = on_serial(write, '--address', '15')
+    found = numbers_of(out)
+    return None if (found['frames'], found['frames of other addresses'], found['breaches']) == (1, len(frames) + 3, 0) else (out, status)
+
+
+def fault_of_doubled():
+    """A doubled entry at a pseudo-terminal is named as it comes, and counted."""
+    def write(put):
         for digits in DOUBLED:
-            put(stuffed(bytes.fromhex(digits)))
+            put(line_of(bytes.fromhex(digits)))
     out, status = on_serial(write)
     found = numbers_of(out)
     fits = out.startswith(REMARK) and (found['breaches'], found['breaches in content'], status) == (0, 1, 1)
@@ -166,7 +206,8 @@ def check_beginning(check, folder):
     """A line that is joined in the middle of traffic, and a log of the bus, accuse nobody."""
     middle = '< b6050000000003e8\n> 3606\n< b6060000000003e9\n'
     out, _, status = heard(folder, middle, '--quiet')
-    check.equal('an answer to what was sent before', (0, 0), (numbers_of(out)['breaches'], status))
+    found = numbers_of(out)
+    check.equal('an answer to what was sent before', (0, 1, 0), (found['breaches'], found['frames above the first command'], status))
     with open(os.path.join(EXAMPLES, 'lost-answer.frames'), encoding='ascii') as file:
         out, err, status = heard(folder, file.read(), '--quiet')
     check.equal('the bus', (0, 0, 0, True), (numbers_of(out)['breaches'], numbers_of(out)['breaches in content'], status, 'not judged' in err))
@@ -278,11 +319,12 @@ def main():
     use_library(check, 'fiolog live')
     check.fault('a process', fault_of_process)
     check.fault('a pseudo-terminal', fault_of_serial)
+    check.fault('damage, and frames of others, at a pseudo-terminal', fault_of_line)
     check.fault('a doubled entry at a pseudo-terminal', fault_of_doubled)
     check.fault('datagrams', fault_of_datagrams)
     with tempfile.TemporaryDirectory() as folder:
         check.fault('a pipe', fault_of_pipe, folder)
-        for part in (check_content, check_beginning, check_passed, check_status_line, check_ended_from_outside):
+        for part in (check_forms, check_content, check_beginning, check_passed, check_status_line, check_ended_from_outside):
             part(check, folder)
     check_process_ends(check)
     check_capture_in_pipe(check)

@@ -16,6 +16,7 @@ import tempfile
 sys.dont_write_bytecode = True
 
 from support.check import Check
+from support.faults import FAULTS, changed
 from support.fiolog import ENVIRONMENT, fiolog, use_library
 from support.tables import TOP, output_of
 
@@ -69,26 +70,6 @@ def blocks_of(text):
     return [bytes.fromhex(digits) for digits in re.findall(r'^< (b6\w+)$', text, re.M)]
 
 
-# What may happen to an entry.
-CHANGES = {
-    'dropped': lambda entries, at: entries[:at] + entries[at + 1:],
-    'doubled': lambda entries, at: entries[:at + 1] + entries[at:],
-    'turned': lambda entries, at: entries[:at] + [bytes([entries[at][0] ^ 128]) + entries[at][1:]] + entries[at + 1:],
-    'swapped': lambda entries, at: entries[:at] + entries[at:at + 2][::-1] + entries[at + 2:]}
-
-
-def changed(text, change, draw):
-    """A transcript in which this happened to an entry of a block."""
-    lines = text.split('\n')
-    places = [place for place, line in enumerate(lines) if line.startswith('< b6') and int(line[6:8], 16) > 1]
-    place = draw.choice(places)
-    octets = bytes.fromhex(lines[place][2:])
-    entries = [octets[at:at + 3] for at in range(3, len(octets) - 5, 3)]
-    entries = CHANGES[change](entries, draw.randrange(len(entries) - 1))
-    lines[place] = '< ' + (octets[:2] + bytes([len(entries)]) + b''.join(entries) + octets[-5:]).hex()
-    return '\n'.join(lines)
-
-
 def written_by(name, *words, text=''):
     """What a tool writes for an input."""
     return subprocess.run([os.path.join(TOP, 'tools', name), *words], input=text, stdout=subprocess.PIPE, check=True,
@@ -106,14 +87,14 @@ def transcript_of_run(folder, seed):
 
 def check_runs(check, folder):
     """Runs of the link are not accused; of those in which something happened to an entry most are."""
-    draw, found = random.Random(32), dict.fromkeys(CHANGES, 0)
+    draw, found = random.Random(32), dict.fromkeys(FAULTS, 0)
     for seed in range(SEEDS):
         text = transcript_of_run(folder, seed)
         check.equal('run %d is not accused' % seed, 0, same_text(check, 'run %d' % seed, text))
-        for change in CHANGES:
-            found[change] += same_text(check, 'run %d with an entry %s' % (seed, change), changed(text, change, draw))
-    for change, count in found.items():
-        check.holds('of %d runs with an entry %s most are accused' % (SEEDS, change), 2 * count > SEEDS, count)
+        for fault in FAULTS:
+            found[fault] += same_text(check, 'run %d with an entry %s' % (seed, fault.__name__), changed(text, fault, draw))
+    for fault, count in found.items():
+        check.holds('of %d runs with an entry %s most are accused' % (SEEDS, fault.__name__), 2 * count > SEEDS, count)
 
 
 # An entry of input 12 twice, after whatever comes before.
@@ -148,11 +129,19 @@ def check_course(check):
     check.equal('--whole of a right log', ([], 0), breaches('--whole', text=START + FIRST))
     done = fiolog('check', '-q', text=START + FIRST + AGAIN)
     check.equal('`check` says what a breach means', (
-        1, 'line 8: alternate: input 12 went to 0 twice: a change between was lost, or this one doubled'),
+        1, 'line 8: alternate: input 12 went to 0 twice, and neither a gap mark nor a configuration that was sent can have hidden a '
+        'change between: one was lost, or this one is doubled, or its state is turned'),
                 (done.status, done.out.splitlines()[0]))
     middle = '< b6050000000003e8\n' + FIRST
-    check.equal('in the middle of traffic', (['line 1 breaks pair'], 1), breaches(text=middle))
+    check.equal('in the middle of traffic', ([], 0), breaches(text=middle))
+    check.equal('the answer to a poll above the log, with --whole', (['line 1 breaks pair'], 1), breaches('--whole', text=middle))
     check.equal('--start-at-poll', ([], 0), breaches('--start-at-poll', text=middle))
+    above = '< b605010c03e700000003e8\n' + '> 3606\n< b606018c03f200000003f3\n'
+    done = fiolog('record', text=above)
+    check.equal('an entry above the first command is recorded, and that is said', (0, [12, 12], True),
+                (done.status, [int(one) for one in re.findall(r'input (\d+)', done.out)], '1 frame above the first command' in done.err))
+    check.equal('as text the record begins at the first command', 'record 1\ninput 12 state 1 stamp 1010 wide 1010\n',
+                fiolog('record', '-q', '--text', text=above).out)
     check.equal('noise in between', (['line 9 input 12 breaks alternate'], 1), breaches(text=START + FIRST + '# restarted\n' + AGAIN))
     turned = (START + FIRST + AGAIN).translate(str.maketrans('<>', '><'))
     check.equal('the log of the module', (['line 8 input 12 breaks alternate'], 1), breaches('--at', 'module', text=turned))

@@ -1,33 +1,40 @@
 #!/usr/bin/env python3
 """The two whole ends of examples/: builds the firmware and the controller, and runs them against each other with
-examples/line/run.py, on the loopback alone. With `--all` on a line that loses, damages, repeats and delays frames, on one
-that is so bad that the module's buffer overflows, with a restart of either end; `fio2070-test` on the running firmware; and
-planted faults, each of which is found. Last line: `N passed, M failed`."""
+examples/line/run.py, on the loopback alone; a controller whose line takes no more, and one for 32 bits, after 24 days and with
+a table of 3 GB. With `--all` on a line that loses, damages, repeats and delays frames, on one that is so bad that the module's
+buffer overflows, with a restart of either end; `fio2070-test` on the running firmware; the recipe for a module that is only
+polled; and planted faults, each of which is found. Last line: `N passed, M failed`."""
 
+import contextlib
+import fcntl
 import functools
+import itertools
 import os
+import pty
 import random
 import re
+import select
 import shutil
 import signal
 import socket
 import subprocess
 import sys
 import tempfile
+import termios
 import threading
 import time
+import tty
 
 sys.dont_write_bytecode = True
 
-from support import cortex, fiolog
+from support import cortex, fiolog, line_model
 from support.check import Check
 from support.tables import TOP
 
 EXAMPLES = os.path.join(TOP, 'examples')
-sys.path[:0] = [os.path.join(EXAMPLES, 'line'), os.path.join(TOP, 'bindings', 'python')]
+sys.path[:0] = [os.path.join(EXAMPLES, 'line')]
 
 import board
-from fiolog import sdlc
 
 STRICT = ['-std=c99', '-Wall', '-Wextra', '-Wpedantic', '-Wconversion', '-Werror']
 SANITIZED = '-g -fsanitize=address,undefined -fno-sanitize-recover=all'
@@ -35,12 +42,23 @@ TESTER = os.path.join(TOP, 'fio2070-test')
 CORTEX = ['-mcpu=cortex-m4', '-mthumb', '-Os']
 # What clang needs to find newlib.
 NEWLIB = ['--target=arm-none-eabi', '-isystem', '/usr/lib/arm-none-eabi/include']
+# A processor of 32 bits under qemu-user.
+LATE = ['arm-linux-gnueabihf-gcc', '-std=c99', '-O1', '-static', '-DFIO2070_NO_LOG', '-fsanitize=undefined',
+        '-fsanitize-undefined-trap-on-error', '-Wl,--wrap=clock_gettime', os.path.join(TOP, 'tests/support/c/late_clock.c')]
+# As uart.h has it; lines whose answers fill a socket that nobody reads.
+RING, HELD = 1024, 40
+SMALL_RING = 8
 # The rows of runs: name, seconds of moves, options of run.py.
 RUNS = [('frames lost, damaged and delayed', 8, []),
         ('a buffer that runs over', 8, ['--lose', '0.8', '--deadline', '40']),
         ('a restart of the module', 6, ['--restart', 'module']),
         ('a restart of the controller', 6, ['--restart', 'controller'])]
 # Faults: name, file, text, replacement.
+FREED_FIRST = ('uart.c', '    uint16_t item = uart->ring[uart->tail % UART_RING];\n    uart->tail++; /* last: from here on the interrupt may write there */\n'
+               '    return item;', '    return uart->ring[uart->tail++ % UART_RING];')
+NOT_MARKED = ('uart.c', '        if (errors != 0) uart->has_loss = 1;\n', '')
+NOT_CLEARED = ('uart.c', '            *part(uart, STATE) = errors;\n', '')
+NOT_REPORTED = ('firmware.c', '    if (item & UART_LOSS) fio2070_wire_lose(&line);\n', '')
 NO_HOLD = ('board.h', '__asm volatile("msr basepri, %0\\n isb" : : "r"(SCANS_PRIORITY) : "memory");', '')
 LOST_TICKS = ('firmware.c', 'for (; due > 0; due--, scanned_to += SCAN_US) {',
               'for (scanned_to += due * SCAN_US, due = due > 0; due > 0; due--) {')
@@ -49,6 +67,7 @@ NEVER_CUT = ('tables.c', 'if (tables->may_be_written_before && is_again) {', 'if
 # No fault of the link: the first controller ends after a block is written, and before its number is kept.
 ENDS_BETWEEN = ('tables.c', '    keep(tables, next_number);', '    if (next_number > 77 && !tables->was_kept && '
                 'flushed(tables->csv) > tables->csv_kept) _exit(9);\n    keep(tables, next_number);')
+STATE_STUCK = ('firmware.c', '    LAMPS = ', '    if (answer[0] == 182 && answer[2] > 0) answer[3] |= 0x80;\n    LAMPS = ')
 UNSEEN_RESTART = ('controller_link.c', 'if (link->step == CONTROLLER_LOOK && (answer->flags & FIO2070_BIT_WAS_RESET)) {', 'if (0) {')
 
 check = Check()
@@ -112,54 +131,41 @@ def sources(*folders):
             for name in sorted(os.listdir(os.path.join(EXAMPLES, folder))) if name.endswith('.c')]
 
 
+def takes():
+    """The flash and the RAM of the firmware are those of the page; another compiler may take a tenth more or less."""
+    with open(os.path.join(TOP, 'docs', 'FIRMWARE.md'), encoding='utf-8') as file:
+        shown = re.search(r'([\d,]+) octets of flash and ([\d,]+) of RAM', file.read())
+    code, data, empty = map(int, run('arm-none-eabi-size', os.path.join(built(), 'firmware.elf')).stdout.splitlines()[1].split()[:3])
+    pairs = [(int(shown[1].replace(',', '')), code + data), (int(shown[2].replace(',', '')), data + empty)]
+    return None if all(abs(one - other) <= other // 10 for one, other in pairs) else pairs
+
+
 def warns(compiler, options, *folders):
     """Compiles each file by itself. Returns what the compiler warns about."""
-    include = ['-I', library(), '-I', os.path.join(EXAMPLES, 'hdlc')]
+    include = ['-I', library()]
     made = os.path.join(room, 'warns.o')
     return next(filter(None, (fault_of(compiler, *STRICT, *options, *include, '-c', path, '-o', made)
                               for path in sources(*folders))), None)
 
 
-# ---- Frames ----
+# ---- A device ----
 
-def lines_of(kind, octets):
-    """What `hdlc.c` writes for lines of octets."""
-    program = os.path.join(room, 'hdlc')
-    failed = fault_of('cc', *STRICT, '-fsanitize=address,undefined', '-I', os.path.join(EXAMPLES, 'hdlc'), *sources('hdlc'),
-                      os.path.join(TOP, 'tests/support/c/hdlc.c'), '-o', program)
+def marked_line():
+    """A controller loses the octets that a serial device marks: FF 00 and an octet; FF FF is an FF."""
+    program, dice = os.path.join(room, 'marked'), random.Random(1)
+    failed = fault_of('cc', *STRICT, '-g', '-fsanitize=address,undefined', '-I', library(), '-I', os.path.join(EXAMPLES, 'controller'), '-DFIO2070_NO_LOG',
+                      *(os.path.join(TOP, name) for name in ('examples/controller/line.c', 'tests/support/c/marked_line.c')),
+                      os.path.join(library(), 'fio2070.c'), '-o', program)
     if failed:
-        raise cortex.Failed(failed)
-    return run(program, input=''.join('%s %s\n' % (kind, one.hex()) for one in octets)).stdout.split('\n')[:-1]
-
-
-def meaning(line):
-    """What fiolog's reader of frames says about the octets of a line, in the words of tests/support/c/hdlc.c."""
-    said = ''
-    for piece in line.split(b'\x7e')[1:-1]:
-        octets, is_open = sdlc.unstuffed(piece), piece.endswith(b'\x7d') and not piece.endswith(b'\x7d\x7d')
-        if piece:
-            is_good = not is_open and len(octets) <= 777 and sdlc.has_check(octets)
-            said += (sdlc.message(octets).hex() or '-' if is_good else 'damaged') + ' '
-    return said
-
-
-def frames_differ():
-    """`hdlc.c` writes frames as fiolog does, and reads whole, damaged and cut ones as it does."""
-    dice = random.Random(1)
-    messages = [dice.choices((0x7d, 0x7e, 0x5d, 0x36, 0, 255), k=dice.choice((0, 1, 2, 8, 772, 773))) for _ in range(1000)]
-    messages = [bytes(one) for one in messages]
-    due = [sdlc.stuffed(sdlc.with_check(b'\x14\x83' + one)) for one in messages]
-    if lines_of('write', messages) != [one.hex() for one in due]:
-        return 'frames are written another way'
-    lines = []
-    for _ in range(1000):
-        line = bytearray(b''.join(dice.choices(due, k=3)))
-        for _ in range(dice.choice((0, 0, 1, 3))):
-            place = dice.randrange(len(line))
-            line[place:place + dice.choice((0, 1, 1, 5))] = dice.choice((b'', b'\x7d', b'\x7e', b'\x7d\x7e', b'\x00'))
-        lines.append(bytes(line))
-    got = lines_of('read', lines)
-    return next((line.hex() for line, words in zip(lines, got) if words != meaning(line)), None)
+        return failed
+    line = [octet for _ in range(3000) for octet in line_model.line_of(bytes(dice.choices((0, 0x36, 0x7d, 0x7e, 0xff), k=8)))]
+    line = [line_model.LOST if dice.random() < 0.02 else octet for octet in line]
+    marks = {line_model.LOST: b'\xff\x00\x55', 0xff: b'\xff\xff'}
+    octets = b''.join(marks.get(octet) or bytes([octet]) for octet in line)
+    said = line_model.said(line)
+    due = ''.join(one.message.hex() + ' ' for one in said if one.kind == line_model.MESSAGE)
+    got = subprocess.run([program], input=octets, capture_output=True, check=False).stdout.decode()
+    return None if got == due + 'damaged %d\n' % sum(one.kind == line_model.DAMAGED for one in said) else (got, due)
 
 
 # ---- Runs ----
@@ -192,16 +198,297 @@ def is_missed(seconds, words, *changes):
     return None if 'WRONG: ' in last else text
 
 
-# ---- Polls that race scans ----
+# ---- What the firmware receives ----
+
+@contextlib.contextmanager
+def begun(*changes):
+    """The running firmware: its link and its lines."""
+    port, path = board.free_port(), os.path.join(tempfile.mkdtemp(dir=room), 'lines')
+    words = board.board_words(os.path.join(built(*changes), 'firmware.elf'), port, 0)
+    words[-3] = 'unix:%s,server=on,wait=off' % path
+    with board.running(words, signal.SIGTERM, stderr=subprocess.DEVNULL):
+        lines = UnreadLines(path)
+        with socket.create_connection(('127.0.0.1', port), board.ANSWER_S) as link:
+            link.setsockopt(socket.IPPROTO_TCP, socket.TCP_NODELAY, 1)
+            yield link, lines
+        lines.close()
+
+
+class UnreadLines(board.Lines):
+    """The lines over a socket that takes some hundred octets: while nobody reads them, the main loop waits."""
+
+    def __init__(self, path):
+        self.socket = socket.socket(socket.AF_UNIX)
+        self.socket.settimeout(board.ANSWER_S)
+        ends_at = time.monotonic() + board.ANSWER_S
+        while self.socket.connect_ex(path) and time.monotonic() < ends_at:
+            time.sleep(0.05)
+        self.file = self.socket.makefile('rw', newline='\n')
+
+    def hold(self):
+        """Asks until the main loop waits."""
+        self.socket.sendall(HELD * b'counts\n')
+        unread = before = 0
+        while unread == 0 or unread != before:
+            time.sleep(1)
+            before, unread = unread, int.from_bytes(fcntl.ioctl(self.socket, termios.FIONREAD, bytes(4)), 'little')
+
+    def release(self):
+        """Reads the answers."""
+        for _ in range(HELD):
+            self.file.readline()
+
+
+def answers(link, count):
+    """The next answers on the link, this many."""
+    line = b''
+    while len(line_model.said(line)) < count:
+        line += link.recv(4096)
+    return [one.message for one in line_model.said(line)]
+
 
 def asked(link, message):
     """The answer to a message on the link."""
-    link.sendall(sdlc.stuffed(sdlc.with_check(b'\x14\x83' + message)))
-    frame = b''
-    while len(frame) < 2 or frame[-1:] != b'\x7e':
-        frame += link.recv(4096)
-    return sdlc.message(sdlc.unstuffed(frame.strip(b'\x7e')))
+    link.sendall(line_model.line_of(message))
+    return answers(link, 1)[0]
 
+
+def poll(number):
+    return line_model.line_of(bytes([54, number]))
+
+
+def events():
+    """What a UART and the main loop do: octets come, counted up, some of them over others, and items are taken, at changing rates.
+    At the end all are taken."""
+    dice, number = random.Random(1), 0
+    for _ in range(200):
+        rate = dice.choice((0.2, 0.5, 0.8))
+        for _ in range(100):
+            if dice.random() < rate:
+                yield 't', None
+            else:
+                yield dice.choice('r' * 30 + 'eo'), number % 256
+                number += 1
+    yield from [('t', None)] * SMALL_RING
+
+
+def ring_loses(*changes):
+    """An octet is dropped if the ring is full, and never else; the next one is marked, as are one that overran another and the one
+    after it; all else comes once, in order, without a mark."""
+    folder = tempfile.mkdtemp(dir=room)
+    for name in ('examples/firmware/uart.c', 'examples/firmware/uart.h', 'tests/support/c/ring/board.h', 'tests/support/c/ring/ring.c'):
+        shutil.copy2(os.path.join(TOP, name), folder)
+    for name, old, new in (('uart.h', 'UART_RING = %d' % RING, 'UART_RING = %d' % SMALL_RING), *changes):
+        change(os.path.join(folder, name), old, new)
+    program = os.path.join(folder, 'ring')
+    failed = fault_of('cc', *STRICT, '-g', '-O1', '-fsanitize=address,undefined', *(os.path.join(folder, name) for name in ('uart.c', 'ring.c')), '-o', program)
+    if failed:
+        return failed
+    done = list(events())
+    words = run(program, input=''.join('%s %s\n' % (kind, '' if octet is None else '%x' % octet) for kind, octet in done)).stdout.split()
+    held, lost, has_loss, due = 0, 0, False, []
+    for kind, octet in done:
+        if kind == 't':
+            held = max(held - 1, 0)
+            continue
+        is_over, is_dropped = kind != 'r', held == SMALL_RING
+        if not is_dropped:
+            due.append(octet | (has_loss or is_over) << 8)
+            held += 1
+        lost, has_loss = lost + is_over + is_dropped, is_over or is_dropped
+    return None if words == [str(item) for item in (*due, lost)] and lost > 1000 else (due[:20], words[:20], lost)
+
+
+def frees_early(*changes):
+    """The main loop reads an item before it frees its place in the ring, where the interrupt may write then."""
+    done = run('arm-none-eabi-objdump', '-d', '--disassemble=uart_take', os.path.join(built(*changes), 'firmware.elf'))
+    steps = re.findall(r'\t(ldrh|ldrb|str)\S*\t', done.stdout)
+    return None if steps[:1] == ['ldrh'] and 'str' in steps else done.stdout
+
+
+def struck():
+    """A frame without an answer, in three pieces: without the one in the middle, it is a poll that nobody sent, and its frame check
+    is right."""
+    dice, head, rest = random.Random(1), b'\x14\x83', b'\x36\x63'
+    gone = next(gone for gone in (bytes([59, *dice.choices(range(0x7d), k=5)]) for _ in itertools.count())
+                if line_model.frame_check(head + gone) == line_model.frame_check(head))
+    whole, cut = line_model.with_check(head + gone + rest), line_model.with_check(head + rest)
+    return b'\x7e' + head, gone, line_model.stuffed(cut[2:]) + b'\x7e', whole[-4:] == cut[-4:]
+
+
+def ring_is_wrong(*changes):
+    """The ring is full within a frame: the frames before it and after it are answered, and what is left of it is damage."""
+    first, gone, last, is_right = struck()
+    polls = b''.join(map(poll, range(3)))
+    with begun(*changes) as (link, lines):
+        lines.hold()
+        link.sendall(b'\x7e' * (RING - len(polls + first)) + polls + first + gone)
+        time.sleep(1)
+        lines.release()
+        heard = answers(link, 3)
+        link.sendall(last + poll(3))
+        heard += answers(link, 1)
+        counts = lines.counts()
+    got = [(octets[0], octets[1]) for octets in heard], counts['octets-lost'], counts['receive-errors']
+    return None if is_right and got == ([(182, number) for number in range(4)], len(gone), 1) else (is_right, got)
+
+
+def stations_are_mixed():
+    """Frames of other stations are neither answered nor counted, damaged ones are counted; it goes on in and after a flood."""
+    dice = random.Random(1)
+    flood = bytes(dice.choice((0x7e, 0x7d)) if dice.random() < 0.05 else dice.randrange(256) for _ in range(20000))
+    with begun() as (link, lines):
+        others = [line_model.line_of(b'\x36\x01', *station) for station in ((0x99, 0x83), (0x14, 0x03), (0xff, 0xff), (0, 0))]
+        link.sendall(b''.join(others) + poll(2))
+        heard, before = answers(link, 1), lines.counts()
+        link.sendall(poll(3)[:-2] + b'\x7e' + poll(4))
+        heard, damaged = heard + answers(link, 1), lines.counts()
+        link.sendall(flood + b'\x7e' + poll(5))
+        link.settimeout(100)
+        heard, flooded = heard + answers(link, 1), lines.counts()
+    errors = [counts['receive-errors'] for counts in (before, damaged, flooded)]
+    is_right = ([octets[1] for octets in heard], errors) == ([2, 4, 5], [0, 1, 255]) and flooded['scans'] > damaged['scans']
+    return None if is_right else (heard, before, damaged, flooded)
+
+
+# ---- A line that takes no more ----
+
+def answer_flags(master, flags):
+    """Answers the controller's first command, which asks for the flags, on a terminal. Its FF comes as two, as errors are marked."""
+    os.read(master, 4096)
+    os.write(master, line_model.line_of(bytes([177, flags, 0, 0, 0, 0, 0, 255])))
+
+
+def fill(master, slave):
+    """Reads nothing more after the first command until the terminal takes no more. The commands with the configuration fill it
+    in seconds."""
+    answer_flags(master, 0)
+    ends_at = time.monotonic() + 30
+    while select.select([], [slave], [], 0)[1]:
+        if time.monotonic() > ends_at:
+            raise cortex.Failed('the terminal is not full after 30 s')
+        time.sleep(0.1)
+
+
+def is_held(*words, ending=None):
+    """A controller on a terminal that nobody reads ends, by a signal or by its time. Returns what it does otherwise."""
+    master, slave = pty.openpty()
+    tty.setraw(slave)
+    words = [os.path.join(built(), 'controller'), '--deadline', '1', *words, os.ttyname(slave), os.path.join(room, 'held.csv')]
+    try:
+        with subprocess.Popen(words, stderr=subprocess.PIPE, text=True) as program:
+            try:
+                fill(master, slave)
+                if ending:
+                    time.sleep(0.5)
+                    program.send_signal(ending)
+                said = program.communicate(timeout=3 if ending else 30)[1]
+            except subprocess.TimeoutExpired:
+                return 'it goes on'
+            finally:
+                program.kill()
+        unsent = re.search(r' unsent (\d+) ', said)
+        return None if unsent and int(unsent[1]) > 0 and program.returncode == 1 else (said, program.returncode)
+    finally:
+        os.close(master)
+        os.close(slave)
+
+
+def held_rows():
+    for word, ending in (('SIGTERM', signal.SIGTERM), ('SIGINT', signal.SIGINT)):
+        check.fault('a controller ends on a line that takes no more: ' + word, lambda it=ending: is_held(ending=it))
+    check.fault('a controller ends on a line that takes no more: its time', is_held, '--seconds', '15')
+
+
+# ---- A processor of 32 bits whose milliseconds need more ----
+
+@functools.cache
+def late_object():
+    """The portable library for this processor."""
+    made = os.path.join(room, 'late.o')
+    failed = fault_of(LATE[0], '-std=c99', '-O1', '-DFIO2070_NO_LOG', '-c', os.path.join(library(), 'fio2070.c'), '-o', made)
+    if failed:
+        raise cortex.Failed(failed)
+    return made
+
+
+def late(name, *paths):
+    """Builds a program whose clock soon needs more than 31 bits; undefined behaviour ends it."""
+    made = os.path.join(room, name)
+    failed = fault_of(*LATE, '-I', library(), *paths, late_object(), '-o', made)
+    if failed:
+        raise cortex.Failed(failed)
+    return made
+
+
+def late_run(seconds, *words, flags=None):
+    """A controller of this processor. Returns its status, how long it ran, and what it said."""
+    program = late('late-controller', *sources('controller'))
+    master, slave = pty.openpty()
+    tty.setraw(slave)
+    reader = threading.Thread(target=drain, args=(master, flags))
+    reader.start()
+    begun = time.monotonic()
+    done = run('qemu-arm', program, '--seconds', str(seconds), *words[:-1], os.ttyname(slave), words[-1], timeout=60)
+    took = time.monotonic() - begun
+    os.close(slave)
+    reader.join()
+    return done.returncode, took, done.stderr
+
+
+def late_controller():
+    """A controller that nobody answers ends after its time, and the two seconds in which it waits for an answer."""
+    status, took, said = late_run(4, os.path.join(room, 'late.csv'))
+    return None if status == 1 and 5.5 < took < 15 else (status, took, said)
+
+
+def large_table():
+    """A restart of the module is written at the end of a table of 3 GB, and its length is kept."""
+    table, keep, length = os.path.join(room, 'large.csv'), os.path.join(room, 'large.number'), 3 << 30
+    with open(table, 'wb') as file:
+        file.truncate(length)
+    with open(keep, 'w', encoding='ascii') as file:
+        file.write('005 %020d %020d\n' % (length, 0))
+    said = late_run(2, '--keep', keep, table, flags=128)
+    with open(table, 'rb') as file, open(keep, encoding='ascii') as kept:
+        file.seek(length)
+        row, number, now = file.read(99), *kept.read().split()[:2]
+    os.remove(table)
+    is_right = re.fullmatch(rb'\d+\.\d+,restart,,\n', row) and (int(number), int(now)) == (5, length + len(row))
+    return None if is_right else (said, row, number, now)
+
+
+def drain(master, flags=None):
+    """Reads a terminal until its other end is closed; answers the first command if there are flags."""
+    try:
+        if flags is not None:
+            answer_flags(master, flags)
+        while os.read(master, 4096):
+            pass
+    except OSError:
+        os.close(master)
+
+
+def late_tester():
+    """The tester and the adapter in C, by their own clocks."""
+    folder = os.path.join(TOP, 'tools', 'conformance')
+    names = sorted(name for name in os.listdir(folder) if name.endswith('.c') and name != 'shared.c')
+    tester = late('late-tester', *(os.path.join(folder, name) for name in names))
+    adapter = late('late-adapter', os.path.join(folder, 'adapters', 'adapter.c'))
+    return fault_of('qemu-arm', tester, '--own-clock', '--command', 'qemu-arm %s clock' % adapter, '4000')
+
+
+def late_rows():
+    missing = next((it for it in (LATE[0], 'qemu-arm') if not shutil.which(it)), None)
+    for name, row in (('the controller after 24 days', late_controller), ('the tester after 24 days', late_tester),
+                      ('a table of 3 GB', large_table)):
+        if missing:
+            check.skip('32 bits: ' + name, 'no %s here (Debian packages gcc-arm-linux-gnueabihf, qemu-user)' % missing)
+        else:
+            check.fault('32 bits: ' + name, row)
+
+
+# ---- Polls that race scans ----
 
 def toggle(lines, ended):
     """Moves all inputs, again and again."""
@@ -262,7 +549,7 @@ def differs(image, events, *options):
 def is_not_found(events, *changes):
     """A planted fault: the tester finds a difference."""
     done = tested(built(*changes), 'firmware.elf', events, ['--own-clock'], '--first')
-    return None if done.returncode == 1 and '# rule: ' in done.stdout else (done.returncode, done.stdout[-300:], done.stderr[-300:])
+    return None if done.returncode == 1 and '# the first rule that this breaks: ' in done.stdout else (done.returncode, done.stdout[-300:], done.stderr[-300:])
 
 
 def tester_rows():
@@ -274,18 +561,69 @@ def tester_rows():
     check.fault('found: ticks that are not made up for', is_not_found, 20000, LOST_TICKS)
 
 
+# ---- A module that can't be changed ----
+
+def recipe(folder, port, seconds):
+    """The command of tools/conformance/README.md, for the controller of a folder and a module at this port."""
+    with open(os.path.join(TOP, 'tools/conformance/README.md'), encoding='utf-8') as page:
+        command = re.search("(?m)^    fiolog live (.*) --exec '(.*)'$", page.read())
+    controller = re.sub('examples/out', folder, re.sub('--seconds [0-9]+', '--seconds %d' % seconds, command[2]))
+    return ['live', *command[1].split(), '--exec', re.sub('[0-9.]+:2070', '127.0.0.1:%d' % port, controller)]
+
+
+def judged(seconds, *changes):
+    """What `fiolog live` says of a running firmware whose inputs move, by the recipe."""
+    link, lines, folder, ended = board.free_port(), board.free_port(), built(*changes), threading.Event()
+    with board.running(board.board_words(os.path.join(folder, 'firmware.elf'), link, lines), signal.SIGTERM, stderr=subprocess.DEVNULL):
+        mover = threading.Thread(target=toggle, args=(board.Lines(lines), ended))
+        mover.start()
+        try:
+            return subprocess.run([os.path.join(TOP, 'tools/fiolog'), *recipe(folder, link, seconds)], capture_output=True, text=True,
+                                  timeout=120, cwd=folder, env=fiolog.ENVIRONMENT)
+        finally:
+            ended.set()
+            mover.join()
+
+
+def recipe_rows():
+    """A right module is not accused, and its transitions are recorded; a wrong one is."""
+    if not os.path.exists(fiolog.LIBRARY):
+        check.skip('the recipe for a module that is only polled', 'no libfio2070.so here (make library)')
+        return
+    good = judged(3)
+    check.holds('the recipe for a module that is only polled', good.returncode == 0 and re.search(
+        r'polls \d\d+, .* breaches 0, breaches in content 0', good.stdout) and re.search(r'transitions \d\d\d', good.stderr), good)
+    if check.whole('found: a state that is always 1'):
+        wrong = judged(3, STATE_STUCK)
+        check.holds('found: a state that is always 1', wrong.returncode == 1 and ': alternate: ' in wrong.stdout, wrong)
+
+
 def main():
-    check.fault('frames as fiolog has them', frames_differ)
+    check.fault('a serial device that marks errors', marked_line)
+    check.fault('a ring keeps the place of what it loses', ring_loses)
+    check.fault('found: a ring without a mark after an overrun', lambda: None if ring_loses(NOT_MARKED) else 'it is right')
+    check.fault('found: an overrun that is not cleared', lambda: None if ring_loses(NOT_CLEARED) else 'it is right')
     if cortex.missing():
         check.skip('firmware and controller', cortex.missing())
         check.end()
     for compiler, options in (('gcc', []), ('clang', [])):
         if shutil.which(compiler):
-            check.fault('no warning by %s: controller' % compiler, warns, compiler, options, 'controller', 'hdlc')
-    check.fault('no warning by arm-none-eabi-gcc: firmware', warns, 'arm-none-eabi-gcc', CORTEX, 'firmware', 'hdlc')
+            check.fault('no warning by %s: controller' % compiler, warns, compiler, options, 'controller')
+    check.fault('no warning by arm-none-eabi-gcc: firmware', warns, 'arm-none-eabi-gcc', CORTEX, 'firmware')
     if shutil.which('clang'):
-        check.fault('no warning by clang: firmware', warns, 'clang', [*NEWLIB, *CORTEX], 'firmware', 'hdlc')
+        check.fault('no warning by clang: firmware', warns, 'clang', [*NEWLIB, *CORTEX], 'firmware')
+    check.fault('what the firmware takes, as the page says', takes)
     check.fault('a short run', is_wrong, 2, [])
+    check.fault('frames of other stations, and a flood', stations_are_mixed)
+    check.fault('a ring that is full within a frame', ring_is_wrong)
+    check.fault('an item is read before its place is free', frees_early)
+    if check.whole('found: a loss that is not reported, a place that is freed first'):
+        check.fault('found: a loss that is not reported', lambda: None if ring_is_wrong(NOT_REPORTED) else 'it is right')
+        check.fault('found: a place that is freed first', lambda: None if frees_early(FREED_FIRST) else 'it is right')
+    held_rows()
+    late_rows()
+    if check.wants('the recipe for a module that is only polled') or check.wants('found: a state that is always 1'):
+        recipe_rows()
     if check.whole('runs of firmware and controller'):
         for name, seconds, words in RUNS:
             check.fault('run: ' + name, is_wrong, seconds, words)

@@ -1,7 +1,8 @@
 #!/bin/sh
 # Installs with `make install` into a new folder, runs what is installed, looks for its manual pages and its completions, and
-# removes it with `make uninstall`. Without the Rattle kit the program is not installed. The last line is `N passed, M
-# failed`.
+# removes it with `make uninstall`. Also from a tree whose name has a blank, that can only be read and that only its owner can
+# read, and with two makes at once; and what is compiled is hardened. The program is not installed where no proved one runs. The
+# last line is `N passed, M failed`.
 
 . "$(dirname -- "$(readlink -f -- "$0")")/support/check.sh"
 
@@ -42,10 +43,27 @@ is_empty_of() {
     done
 }
 
-# is_empty FOLDER: there is no file below it.
-is_empty() {
-    find "$1" ! -type d
-    [ -z "$(find "$1" ! -type d)" ]
+# is_gone FOLDER: it is not there; if it is, says what is in it.
+is_gone() {
+    [ ! -e "$1" ] || { find "$1"; return 1; }
+}
+
+# says_ldconfig WORD..: installing the library with these words of make says that ldconfig is to be run. The loader reads the
+# libraries of $room/loader/lib.
+says_ldconfig() {
+    printf '#!/bin/sh\necho "%s: (from /etc/ld.so.conf.d/local.conf:1)"\n' "$room/loader/lib" >ldconfig && chmod +x ldconfig &&
+        run_make install-library LDCONFIG="$room/ldconfig" "$@" >said && grep -q 'once you have run ldconfig' said
+}
+
+# says_nothing WORD..: it does not say so.
+says_nothing() { ! says_ldconfig "$@"; }
+
+# keeps_others: files and folders that others have put into the prefix stay.
+keeps_others() {
+    mkdir -p "$room/shared/share/man/man7" "$room/shared/share/fio2070-other" && echo other >"$room/shared/share/man/man7/other.7" &&
+        run_make install PREFIX="$room/shared" >said && run_make uninstall PREFIX="$room/shared" >said || return 1
+    [ "$(cd "$room/shared" && find . | sort | tr '\n' ' ')" = '. ./share ./share/fio2070-other ./share/man ./share/man/man7 ./share/man/man7/other.7 ' ] ||
+        { find "$room/shared"; return 1; }
 }
 
 # has_pages PREFIX: each command has a manual page, or is one of fio2070-tools.1, and each page belongs to a command.
@@ -80,13 +98,75 @@ without_library() {
         [ ! -e "$room/bare/share/man/man1/fiolog.1" ] && grep -q 'fiolog is not installed' said
 }
 
+# copy_tree FOLDER: copies the sources, as a user has them whose files nobody else can read. The program of dist/ runs there: whether
+# it is of the present sources is asked by tests/release-files.sh.
+copy_tree() {
+    mkdir -p "$1" && (cd "$top" && tar -c --exclude=./.git --exclude=out --exclude='./libfio2070*' --exclude=./release .) | tar -x -C "$1" &&
+        "$1/packaging/program" --sources >listed && cp listed "$1/dist/fio2070-x86_64-linux-gnu.sources" && chmod -R go-rwx "$1"
+}
+
+# as_nobody COMMAND..: runs a command as nobody if this runs as root, who can write everywhere.
+as_nobody() {
+    if [ "$(id -u)" -ne 0 ]; then "$@"; else setpriv --reuid=65534 --regid=65534 --clear-groups "$@"; fi
+}
+
+# make_in FOLDER WORD..: runs make there, with the library that is compiled from dist/, by a user whose files nobody else can read.
+make_in() {
+    folder=$1
+    shift
+    # shellcheck disable=SC2016
+    as_nobody env -u MAKEFLAGS -u MAKELEVEL sh -c 'umask 077; folder=$1; shift; make -s -C "$folder" kit= CFLAGS=-O1 "$@"' sh "$folder" "$@"
+}
+
+# installs_from_reading: from a tree that can only be read, and whose name has a blank. Nothing is made in it.
+installs_from_reading() {
+    copy_tree "$room/a tree" && mkdir -m 777 "$room/others" && chmod 755 "$room" && find "$room/a tree" | sort >before || return 1
+    [ "$(id -u)" -ne 0 ] || chown -R 65534:65534 "$room/a tree"
+    chmod -R a-w "$room/a tree"
+    make_in "$room/a tree" install OUT="$room/others/out" PREFIX="$room/others/installed" || return 1
+    find "$room/a tree" | sort | diff before -
+}
+
+# is_for_all FOLDER: everyone can read all files of a folder, enter its folders, and run its programs.
+is_for_all() {
+    [ -d "$1" ] || return 1
+    find "$1" -type d ! -perm -005 -print -o -type f ! -perm -004 -print -o -type f -perm -100 ! -perm -001 -print >found
+    cat found
+    [ ! -s found ]
+}
+
+# at_once: two makes in one tree both make the library, of which a program is linked.
+at_once() {
+    for number in 1 2; do
+        (make_in "$room/a tree" library OUT="$room/others/twice" CFLAGS=-O0 >"$room/at.$number" 2>&1; echo $? >>"$room/at.$number") &
+    done
+    wait
+    cat at.1 at.2
+    [ "$(cat at.1 at.2)" = "0
+0" ] && is_tidy "$room/others/twice" && printf '%s\n' '#include <fio2070.h>' \
+        'int main(void) { return fio2070_version() != FIO2070_VERSION; }' >linked.c &&
+        cc -I "$top/dist" linked.c "$room/others/twice/libfio2070.a" -o linked && ./linked
+}
+
+# is_tidy FOLDER: no temporary file is left in it.
+is_tidy() { ! find "$1" -name 'make.*' | grep .; }
+
+# is_hardened FILE: it has what packaging/hardening asks of the compiler here.
+is_hardened() {
+    flags="$("$top/packaging/hardening" cc -O1) $("$top/packaging/hardening" --link cc)"
+    readelf -W -d -l --dyn-syms "$1" >headers || return 1
+    for pair in stack-protector:__stack_chk_fail FORTIFY:_chk@ relro:GNU_RELRO now:NOW; do
+        case $flags in *"${pair%:*}"*) grep -q "${pair#*:}" headers || { echo "no ${pair#*:} in $1"; return 1; } ;; esac
+    done
+}
+
 # For a folder whose name has a blank, with PREFIX alone.
 prefix="$room/a folder"
 first 'make install' run_make install PREFIX="$prefix"
 cp "$room/log" "$room/installing"
 page=$top/man/fio2070.1
 tools=$prefix/share/fio2070/tools
-if has_command rt; then
+if "$top/packaging/program" --proved >"$room/program"; then
     page=$prefix/share/man/man1/fio2070.1
     holds 'the installed program' shows "$prefix"
     holds 'the manual page' cmp "$page" "$top/man/fio2070.1"
@@ -105,7 +185,7 @@ end
         skip 'words that bash completes' 'no bash here'
     fi
 else
-    holds 'no program without the kit' [ ! -e "$prefix/bin/fio2070" ]
+    holds 'no program' [ ! -e "$prefix/bin/fio2070" ]
 fi
 if has_command groff; then
     holds 'the manual page is set' formats "$page" LINESYNC
@@ -136,13 +216,38 @@ holds 'the page names the tools' sh -c 'cd "$1" && for file in lossy-script tran
 holds 'installing says how Wireshark finds the dissector' sh -c 'grep -q "ln -sf .*/fio2070.lua" "$1"' sh "$room/installing"
 
 first 'make uninstall' run_make uninstall PREFIX="$prefix"
-holds 'nothing is left' is_empty "$prefix"
+holds 'nothing is left' is_gone "$prefix"
 first 'make uninstall where nothing is' run_make uninstall PREFIX="$prefix"
+holds 'what others installed is left' keeps_others
+
+if [ "$(id -u)" = 0 ]; then
+    holds 'root is told of ldconfig' says_ldconfig PREFIX="$room/loader"
+    holds 'not of another folder' says_nothing PREFIX="$room/other"
+    holds 'not for a package' says_nothing PREFIX="$room/loader" DESTDIR="$room/below"
+else
+    skip 'root is told of ldconfig' 'the check is not run by root'
+fi
 
 # For a package, whose files are put below DESTDIR.
 first 'make install for a package' run_make install DESTDIR="$room/package" PREFIX=/usr
 holds 'fiolog of the package' runs_alone "$room/package/usr" "$room/package/usr/bin/fiolog"
 first 'make uninstall of a package' run_make uninstall DESTDIR="$room/package" PREFIX=/usr
-holds 'nothing of the package is left' is_empty "$room/package"
+holds 'nothing of the package is left' is_gone "$room/package/usr"
+
+# From another user's tree.
+if ! has_command cc || { [ "$(id -u)" -eq 0 ] && ! as_nobody true 2>"$room/log"; }; then
+    skip 'a tree that can only be read' 'no cc here, or nothing can be run as nobody'
+else
+    first 'make install from a tree with a blank that can only be read' installs_from_reading
+    holds 'everyone can read what is installed' is_for_all "$room/others/installed"
+    holds 'fiolog of that tree' runs_alone "$room/others/installed" "$room/others/installed/bin/fiolog"
+    [ ! -e "$room/others/installed/bin/fio2070" ] || holds 'the program of that tree' shows "$room/others/installed"
+    holds 'two makes at once' at_once
+    if has_command readelf; then
+        for file in libfio2070.so.1 fio2070-test; do holds "$file is hardened" is_hardened "$room/others/out/$file"; done
+    else
+        skip 'what is compiled is hardened' 'no readelf here (Debian package binutils)'
+    fi
+fi
 
 end

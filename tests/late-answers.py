@@ -31,7 +31,7 @@ def breaches_of(log):
 
     counts = Counts()
     rules = LateRules('cpu', (255, 1024), counts)
-    return [found.rule for found in (rules.breach(None, Event(*line)) for line in log) if found], counts.late_answers
+    return [found.rule for found in (rules.breach(Event(*line)) for line in log) if found], counts.late_answers
 
 
 def fault_of_right_runs(runs):
@@ -62,7 +62,7 @@ def fault_of_command():
     text = ''.join('%s %s\n' % (direction, octets.hex()) for direction, octets in log)
     plain, late = fiolog('check', text=text), fiolog('check', '--late-answers', text=text)
     number = re.search(r'late answers (\d+)', late.out)
-    fits = plain.status == 1 and ': pair: ' in plain.out and late.status == 0 and number and int(number[1]) == breaches_of(log)[1]
+    fits = plain.status == 1 and ': pair: ' in plain.out and 'try --late-answers' in plain.err and late.status == 0 and number and int(number[1]) == breaches_of(log)[1]
     return None if fits else (plain.out[-300:], late)
 
 

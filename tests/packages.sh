@@ -34,6 +34,15 @@ shows() { [ "$(echo 3605 | "$@" show)" = 'poll block 5' ]; }
 # runs_example PROGRAM DOCUMENTS: for an example the program writes what is beside it.
 runs_example() { "$1" simulate <"$2/examples/overflow.script" | cmp - "$2/examples/overflow.report"; }
 
+# is_of_dist PROGRAM: it is the program of dist/.
+is_of_dist() { cmp "$1" "$top/dist/fio2070-x86_64-linux-gnu"; }
+
+# says_which TEXT: the text says which library is packed.
+says_which() {
+    if has_command rt; then wanted='compiled by the Rattle kit'; else wanted='compiled from dist/fio2070\.c'; fi
+    printf '%s\n' "$1" | tr -s '\n ' ' ' | grep -q "$wanted"
+}
+
 # is_linked DOCUMENTS: each document that README.md links exists.
 is_linked() {
     grep -o '](docs/[A-Z-]*\.md' "$1/README.md" | sed 's/^](//' | sort -u >"$room/links"
@@ -189,6 +198,12 @@ first 'the archive is unpacked' tar -C unpacked -xf "$(echo dist.1/fio2070-*-x86
 place=$(echo "$room"/unpacked/fio2070-*)
 documents=$place/share/doc/fio2070
 holds 'the program of the archive' shows "$place/bin/fio2070"
+if "$top/packaging/program" --sources | cmp -s - "$top/dist/fio2070-x86_64-linux-gnu.sources"; then
+    holds 'the program of the archive is that of dist/' is_of_dist "$place/bin/fio2070"
+else
+    skip 'the program of the archive is that of dist/' 'dist/ is of other sources now'
+fi
+holds 'INSTALL says which library it is' says_which "$(cat "$place/INSTALL")"
 holds 'an example of the archive' runs_example "$place/bin/fio2070" "$documents"
 holds 'the files of the archive' has "$place" share/man/man1/fio2070.1 share/bash-completion/completions/fio2070 \
     share/zsh/site-functions/_fio2070 share/fish/vendor_completions.d/fio2070.fish bin/fio2070-test \
@@ -220,7 +235,9 @@ else
     skip 'the wheel' 'python3 has no module venv here (Debian package python3-venv)'
 fi
 
-if has_command aarch64-linux-gnu-gcc && has_command qemu-aarch64; then
+if ! has_command rt; then
+    skip 'the library for AArch64' 'no rt here (the Rattle kit)'
+elif has_command aarch64-linux-gnu-gcc && has_command qemu-aarch64; then
     holds 'the library for AArch64 in an archive and in a package' for_aarch64
 else
     skip 'the library for AArch64' 'no aarch64-linux-gnu-gcc or no qemu-aarch64 here (Debian packages gcc-aarch64-linux-gnu,
@@ -234,6 +251,9 @@ else
     holds 'two packages are one' same deb
     holds 'it depends on the C library alone' matches 'libc6 \(>= 2\.[0-9]+\)' "$(field Depends)"
     holds 'it says what processor it needs' matches '.* SSE4\.2.*' "$(field Description | tr '\n' ' ')"
+    for name in libfio2070-1 libfio2070-dev; do
+        holds "$name says which library it is" says_which "$(dpkg-deb -f "$room/deb.1/${name}"_*.deb Description)"
+    done
     first 'the packages are unpacked' unpacks deb.1/*.deb
     documents=$room/root/usr/share/doc/fio2070
     holds 'the program of the package' shows "$room/root/usr/bin/fio2070"

@@ -14,7 +14,7 @@ sys.dont_write_bytecode = True
 
 from support.browsers import ELEMENT, browsers, running
 from support.check import Check
-from support.opened import PAGE
+from support.opened import PAGE, address, started
 from support.tables import TOP
 
 VIEWS = ('open', 'messages', 'inputs', 'plan', 'play')
@@ -38,8 +38,7 @@ UNNUMBERED = 'return [...document.querySelectorAll("[data-stop]")].filter((it) =
 
 def opened(browser, query=''):
     """The page with an example that breaks a rule, and a message of it that is selected."""
-    browser.open('file://' + PAGE + query)
-    browser.wait('return document.documentElement.dataset.bits')
+    started(browser, address(query))
     show_near_entries(browser)
     browser.click('#row-5')
 
@@ -113,7 +112,7 @@ NO_NUMBERS_64 = '''{ const real = WebAssembly.instantiate; WebAssembly.instantia
   for (const [name, it] of Object.entries(made.instance.exports)) exports[name] = typeof it === 'function' ? refuse(it) : it;
   return { instance: { exports } }; }; }'''
 SEEN = 'const it = document.getElementById("trouble"); return it.offsetHeight > 0 ? it.textContent.replace(/\\s+/g, " ") : ""'
-VERSIONS = ('too old', 'Chromium', '97', 'Firefox', '102', 'Safari', '16')
+VERSIONS = ('too old', 'Chromium', '97', 'Firefox', '113', 'Safari', '16.4')
 
 
 def older(browser, folder, script, query=''):

@@ -16,10 +16,10 @@ import time
 
 sys.dont_write_bytecode = True
 
-from support import page_logs, page_views
+from support import page_lines, page_logs, page_views
 from support.browsers import KEYS, Chromium, browsers, running
 from support.check import Check
-from support.opened import CELLS, PAGE, RANGE, TROUBLE, address, example, opened, saved, text_of
+from support.opened import CELLS, PAGE, RANGE, TROUBLE, address, example, opened, saved, started, text_of
 from support.tables import TOP, output_of
 
 PICTURES = os.path.join(TOP, 'tools', 'page')
@@ -51,7 +51,7 @@ def check_file(check):
     check.holds('the page has less than %d octets' % MOST_OCTETS, len(page.encode()) < MOST_OCTETS, len(page.encode()))
     asked = re.findall(r'<(?:link|img|script|iframe)[^>]*(?:src|href)="(?!data:)', page)
     check.equal('the page names no other file', [], asked)
-    check.holds('the page may not ask for one', "default-src 'none'" in page)
+    check.holds('the page may not ask for one, nor send a form', all(words in page for words in ("default-src 'none'", "form-action 'none'", "base-uri 'none'")))
     check_contrast(check, page)
 
 
@@ -287,20 +287,25 @@ def check_old(check, browser, name, folder):
             file.write(page.replace(begin, new))
         browser.open('file://' + path)
         seen = browser.run('const it = document.getElementById("trouble"); return it.offsetHeight > 0 ? it.textContent.replace(/\\s+/g, " ") : ""')
-        check.holds('%s in %s' % (title, name), all(word in seen for word in ('too old', 'Chromium', '97', 'Firefox', '102', 'Safari', '16')), seen)
+        check.holds('%s in %s' % (title, name), all(word in seen for word in ('too old', 'Chromium', '97', 'Firefox', '113', 'Safari', '16.4')), seen)
 
 
 def check_plan(check, browser, name):
-    """The rows of docs/PLANNING.md."""
+    """The rows of docs/PLANNING.md; and how often to poll 8 inputs with filters of 5, if few entries may wait."""
     browser.click('#tab-plan')
     with open(os.path.join(TOP, 'docs', 'PLANNING.md'), encoding='utf-8') as page:
         rows = [[cell.strip() for cell in line.strip('|\n ').split('|')] for line in page if re.match(r'\| \d', line)]
-    move = '''arguments[0].forEach((value, place) => { const it = document.getElementById(["plan-inputs", "plan-filter"][place]);
-        it.value = value; it.dispatchEvent(new Event("input")); });
-        return [...document.querySelectorAll("#plan-row td")].map((it) => it.textContent)'''
+    move = '''["plan-inputs", "plan-filter", "plan-waiting", "plan-lost"].forEach((id, place) => {
+        const it = document.getElementById(id);
+        it.value = arguments[0][place] ?? it.value; it.dispatchEvent(new Event("input")); });
+        return [...document.querySelectorAll(arguments[1])].map((it) => it.textContent)'''
     for row in rows:
-        check.equal('the row of %s inputs with filters of %s in %s' % (row[0], row[1], name), row, browser.run(move, row[:2]))
+        check.equal('the row of %s inputs with filters of %s in %s' % (row[0], row[1], name), row,
+                    browser.run(move, row[:2], '#plan-row td'))
     check.equal('the number of rows', 24, len(rows))
+    for waiting, lost, every in ((1024, 0, 159), (71, 0, 40), (70, 0, 39), (71, 1, 10), (7, 0, 0)):
+        check.equal('the pace if %d may wait, with %d lost, in %s' % (waiting, lost, name), '%d ms' % every,
+                    browser.run(move, [8, 5, waiting, lost], '.answers td.mono')[0])
 
 
 # What the clicks of `check_play` do, and what the profile says of it: input 5 goes to 0 at the second of two samples; the
@@ -311,7 +316,7 @@ PLAYED_END = ['counter 2', 'number 1', 'waiting 0', 'record 1', 'input 5 state 0
 
 def check_play(check, browser, name):
     """Both ends by clicks, and the link to the run."""
-    browser.open(address())
+    started(browser)
     browser.click('#tab-play')
     for selector in ('[data-input="5"]', '#scan', '#scan', '#poll', '#to-module li:first-child button:last-child', '#poll',
                      '#to-module li:first-child button', '#to-cpu li:first-child button', '#to-cpu li:first-child button'):
@@ -323,7 +328,7 @@ def check_play(check, browser, name):
     browser.click('#link')
     link = browser.run('return location.href')
     browser.open('about:blank')
-    browser.open(link)
+    started(browser, link)
     check.equal('the link holds the run in %s' % name, script, browser.run('return document.getElementById("script").value'))
     faulty = {'fio2070 script 9 2 0\n': 'line 1: bad header', 'fio2070 script 1 2 0\nrestart\n': 'line 2: bad line',
               'fio2070 script 1 2 0\nsend 33\n': 'line 2: bad frame wrong length needed 2 got 1',
@@ -344,8 +349,8 @@ def check_browser(check, kind, folder):
     with running(kind) as browser:
         for bits in (32, 64) if shutil.which('wasm-opt') else (64,):
             browser.open(address('?bits=%d' % bits))
-            started = browser.wait('return document.documentElement.dataset.bits')
-            check.equal('%d-bit addresses in %s' % (bits, kind.name), (str(bits), ''), (started, browser.run(TROUBLE)))
+            used = browser.wait('return document.documentElement.dataset.bits')
+            check.equal('%d-bit addresses in %s' % (bits, kind.name), (str(bits), ''), (used, browser.run(TROUBLE)))
             page_logs.check_captures(check, browser, '%s with %d bits' % (kind.name, bits))
         check_examples(check, browser, kind.name)
         page_logs.rows(check, browser, kind.name)
@@ -358,6 +363,7 @@ def check_browser(check, kind, folder):
         check_play(check, browser, kind.name)
         check_access(check, browser, kind.name)
         page_views.rows(check, browser, kind.name, folder)
+        page_lines.check_lines(check, browser, kind.name, folder)
         check_old(check, browser, kind.name, folder)
     print('%s: %.0f s' % (kind.name, time.monotonic() - begun))
 
@@ -366,7 +372,7 @@ def take_pictures(folder):
     """The pictures of the page, by Chromium."""
     with running(Chromium) as browser:
         browser.size(1280, 800)
-        browser.open(address())
+        started(browser)
         example(browser, 'serial-log.txt')
         browser.click('#row-2')
         browser.point('.detail .grid span:nth-child(4)')

@@ -93,7 +93,7 @@ def is_found(wrong):
     shutil.rmtree(path('wrong'), ignore_errors=True)
     changed(TRANSLATOR, path('wrong'), wrong)
     functions, due = cases.TAKEN + cases.OUTSIDE, {**wanted, **{name: 'trap' for name, _ in cases.OUTSIDE}}
-    found = translated(functions, ['-O0', '-w'] + ['-DFIO2070_FAST'] * wrong.is_fast, path('wrong'))
+    found = translated(functions, ['-O0', '-w'] + ['-DPLAIN'] * wrong.is_plain, path('wrong'))
     if not found or 'compiler' in found:
         return 'it was not run: %s' % found.get('compiler')
     return None if found != due else 'all is the same'

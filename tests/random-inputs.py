@@ -15,9 +15,9 @@ sys.dont_write_bytecode = True
 
 from support.check import Check
 from support.messages import LENGTHS
-from support.tables import HAS_KIT, MOST_WAITING, program, program_of, TOP
+from support.tables import MOST_WAITING, TOP, can_simulate, program, program_of
 
-TOOLS = ('show', 'simulate', 'check', 'record') if HAS_KIT else ('show', 'check', 'record')
+TOOLS = ('show', 'simulate', 'check', 'record') if can_simulate() else ('show', 'check', 'record')
 SECONDS = 10
 
 

@@ -1,7 +1,7 @@
 #!/usr/bin/env python3
 """`record` by the rules on content: worked transcripts, each with what docs/FORMATS.md requires; random transcripts, and
-runs of `simulate`, as they are, from a later command on, and with an entry dropped, doubled, turned or swapped, against an
-independent model in `support/content.py`. A run that nobody changed breaks no rule, whole or from any command on; most of
+runs of `simulate`, as they are, from a later line on, and with an entry dropped, doubled, turned or swapped, against an
+independent model in `support/content.py`. A run that nobody changed breaks no rule, whole or from any line on; most of
 the changed ones are found. Last line: `N passed, M failed`."""
 
 import os
@@ -14,6 +14,7 @@ sys.dont_write_bytecode = True
 
 from support.check import Check
 from support.content import Record
+from support.faults import FAULTS, changed
 from support.tables import MOST_OCTETS, TOP, in_short, lines_that_fit, output_of, row
 
 SEEDS = 30
@@ -83,11 +84,14 @@ WORKED = [
                               for place in range(255)) + 'input 12 state 0 stamp 301 wide 301\n' * 2),
     ('a load does not lift it', LOST + LOAD + block(2, 31, entry(12, 0, 30)),
      'record 1\n' + ONE + 'line 10 input 12 breaks alternate\n'),
-    # Only a configuration that ignores the input lifts it: one sent since the clear block before the older entry.
+    # Only a configuration that ignores the input and, below it, one that opens it lift it: both sent since the clear block
+    # before the older entry.
     ('ignored between', LOST + configuration((12 | 128, 5, 3)) + configuration((12, 5, 3)) + block(2, 31, entry(12, 0, 30)),
      'record 2\n' + ONE + 'input 12 state 0 stamp 30 wide 30\n'),
-    ('ignored between, no answer', LOST + '> 33018c0505\n' + block(2, 31, entry(12, 0, 30)),
+    ('ignored between, no answer', LOST + '> 33018c0505\n' + configuration((12, 5, 3)) + block(2, 31, entry(12, 0, 30)),
      'record 2\n' + ONE + 'input 12 state 0 stamp 30 wide 30\n'),
+    ('ignored and not opened', LOST + '> 33018c0505\n' + block(2, 31, entry(12, 0, 30)),
+     'record 1\n' + ONE + 'line 9 input 12 breaks alternate\n'),
     ('another input ignored between', LOST + configuration((13 | 128, 5, 3)) + block(2, 31, entry(12, 0, 30)),
      'record 1\n' + ONE + 'line 10 input 12 breaks alternate\n'),
     ('configured between', LOST + configuration((12, 5, 3)) + block(2, 31, entry(12, 0, 30)),
@@ -95,9 +99,20 @@ WORKED = [
     ('ignored above the clear block', START + configuration((12 | 128, 1, 1)) + configuration((12, 1, 1)) + block(1, 1) +
      block(2, 11, entry(12, 0, 10)) + block(3, 31, entry(12, 0, 30)),
      'record 1\n' + ONE + 'line 14 input 12 breaks alternate\n'),
+    # Below a clear block, one that is sent again settles an input of which no item was sent since the first poll for it.
+    ('ignored above the first poll', START + configuration((12 | 128, 1, 1)) + configuration((12, 1, 1)) + '> 3601\n' +
+     block(1, 1, status=2) + block(2, 11, entry(12, 0, 10)) + block(3, 31, entry(12, 0, 30)),
+     'record 1\n' + ONE + 'line 15 input 12 breaks alternate\n'),
+    ('ignored below the first poll', START + '> 3601\n' + configuration((12 | 128, 1, 1)) + configuration((12, 1, 1)) +
+     block(1, 1, status=2) + block(2, 11, entry(12, 0, 10)) + block(3, 31, entry(12, 0, 30)),
+     'record 2\n' + ONE + 'input 12 state 0 stamp 30 wide 30\n'),
     # Ignored: at the clear block the item was taken, and none has opened the input since.
     ('an ignored input', configuration((12 | 128, 5, 3)) + block(0, 0) + block(1, 11, entry(12, 0, 10)),
      'record 0\nline 6 input 12 breaks ignored\n'),
+    ('an ignored input, at a block that is sent again', START + configuration((12 | 128, 5, 3)) + '> 3601\n' +
+     block(1, 1, status=2) + block(2, 11, entry(12, 0, 10)), 'record 0\nline 11 input 12 breaks ignored\n'),
+    ('an ignored input, no clear block above', configuration((12 | 128, 5, 3)) + '> 3600\n' + block(0, 0, status=2) +
+     block(1, 11, entry(12, 0, 10)), 'record 1\n' + ONE),
     ('an ignored input, no answer', '> 33018c0503\n' + block(0, 0) + block(1, 11, entry(12, 0, 10)), 'record 1\n' + ONE),
     ('an ignored input, opened', configuration((12 | 128, 5, 3)) + block(0, 0) + '> 33010c0503\n' +
      block(1, 11, entry(12, 0, 10)), 'record 1\n' + ONE),
@@ -114,6 +129,13 @@ WORKED = [
     ('a flag that is left', '> 3180\n< b18000000000000c\n', 'record 0\nline 2 breaks cleared\n'),
     ('a watchdog that was not set', '> 3a32\n< ba00\n> 3a32\n< ba00\n', 'record 0\nline 4 breaks watchdog\n'),
     ('a refusal of an absent input', configuration((64, 1, 1), status=1), 'record 0\n'),
+    # Nothing that is heard above the first command is judged or kept: neither a refusal, nor a stamp, nor that a watchdog is
+    # set, nor a block.
+    ('answers above the first command', '< b301\n< b5ffffffffffffffff00001000\n< ba00\n' + START, 'record 0\n'),
+    ('a watchdog above the first command', '< ba00\n> 3a32\n< ba00\n', 'record 0\n'),
+    ('a block above the first command', block(0, 11, entry(12, 0, 10))[7:] + block(1, 11, entry(12, 0, 10)), 'record 1\n' + ONE),
+    ('answers alone', '< b301\n< b201\n', 'record 0\n'),
+    ('a refusal below the first command', '< b301\n> 33010c0503\n< b301\n', 'record 0\nline 3 breaks accepted\n'),
     # Apart: the filter for the change; 0 acts as 1; the last item of an input counts.
     ('as far as the filter', START + block(1, 14, entry(12, 0, 10), entry(12, 1, 13)),
      'record 2\n' + ONE + 'input 12 state 1 stamp 13 wide 13\n'),
@@ -138,6 +160,19 @@ WORKED = [
      'record 2\n' + ONE + 'input 12 state 1 stamp 12 wide 12\n'),
     ('a later configuration of another input', configuration((12, 5, 3)) + configuration((13, 5, 3)) + block(0, 0) +
      block(1, 14, entry(12, 0, 10), entry(12, 1, 12)), 'record 1\n' + ONE + 'line 8 input 12 breaks apart\n'),
+    # Each load excuses one breach; then times are forgotten till the end of a clear block that is heard below.
+    ('a load excuses one breach alone', START + LOAD + block(1, 30, entry(12, 0, 10), entry(12, 1, 12), entry(13, 0, 11)) + block(2, 31) +
+     block(3, 50, entry(12, 0, 40), entry(12, 1, 42)),
+     'record 4\n' + ONE + 'input 12 state 1 stamp 12 wide 12\ninput 13 state 0 stamp 11 wide 11\n' +
+     'input 12 state 0 stamp 40 wide 40\nline 12 input 12 breaks apart\n'),
+    ('two loads excuse two breaches', START + LOAD + LOAD + block(1, 30, entry(12, 0, 10), entry(12, 1, 12)) + block(2, 31) +
+     block(3, 50, entry(12, 0, 40), entry(12, 1, 42)),
+     'record 4\n' + ONE + 'input 12 state 1 stamp 12 wide 12\ninput 12 state 0 stamp 40 wide 40\ninput 12 state 1 stamp 42 wide 42\n'),
+    ('the block of an excused breach tells no times', START + LOAD + block(1, 30, entry(12, 0, 10), entry(12, 1, 12)) +
+     block(2, 50, entry(12, 0, 40), entry(12, 1, 42)),
+     'record 4\n' + ONE + 'input 12 state 1 stamp 12 wide 12\ninput 12 state 0 stamp 40 wide 40\ninput 12 state 1 stamp 42 wide 42\n'),
+    ('a load excuses no breach of another rule', START + LOAD + block(1, 11, entry(12, 0, 10)) + block(2, 31, entry(12, 0, 30)),
+     'record 1\n' + ONE + 'line 10 input 12 breaks alternate\n'),
     ('a load lifts apart', START + LOAD + block(1, 14, entry(12, 0, 10), entry(12, 1, 12)),
      'record 2\n' + ONE + 'input 12 state 1 stamp 12 wide 12\n'),
     # A gap mark between them lifts alternate and state.
@@ -151,13 +186,32 @@ WORKED = [
      'record 2\ninput 0 state 0 stamp 6 wide 6\ninput 0 state 0 stamp 8 wide 8\n'),
     ('a late opening, from a later poll on', LATE_OPENING,
      'record 2\ninput 0 state 0 stamp 6 wide 6\ninput 0 state 0 stamp 8 wide 8\n'),
-    # Right links that PROMISES leaves out: a load that was sent before the log takes effect in it; an entry waits for 65,536
-    # scans or more; an input changes after 2^32 scans or more.
+    # Of each input the last item of a command counts: an item that is overridden hides no change.
+    ('an item that another one overrides', configuration((12, 5, 3)) + block(0, 0) + block(1, 11, entry(12, 0, 10)) +
+     '> 33028c05030c0503\n< b300\n' + block(2, 31, entry(12, 0, 30)), 'record 1\n' + ONE + 'line 10 input 12 breaks alternate\n'),
+    # An input that is ignored, and not opened again, has no entry that a change was hidden before.
+    ('an input that is ignored and not opened', configuration((12, 5, 3)) + block(0, 0) + block(1, 11, entry(12, 0, 10)) +
+     '> 33018c0503\n< b300\n' + block(2, 31, entry(12, 0, 30)), 'record 1\n' + ONE + 'line 10 input 12 breaks alternate\n'),
+    ('an input that is ignored and opened again', configuration((12, 5, 3)) + block(0, 0) + block(1, 11, entry(12, 0, 10)) +
+     '> 33018c0503\n< b300\n> 33010c0503\n< b300\n' + block(2, 31, entry(12, 0, 30)),
+     'record 2\n' + ONE + 'input 12 state 0 stamp 30 wide 30\n'),
+    # The states of a 181 are what the next entry is compared with; two that differ say that the input is not logged.
+    ('an entry with the state that was told', configuration((12, 5, 3)) + block(0, 0) + '> 35\n< b5ffffffffffffffff0000000a\n' +
+     block(1, 20) + block(2, 31, entry(12, 1, 30)), 'record 0\nline 10 input 12 breaks state\n'),
+    ('an entry of an input that is not logged', block(0, 0) + '> 35\n< b5ffffffffffffffff0000000a\n' + block(1, 20) +
+     '> 35\n< b5ffefffffffffffff00000019\n' + block(2, 30) + block(3, 41, entry(12, 1, 40)), 'record 0\nline 12 input 12 breaks state\n'),
+    # A right link whose CPU pauses: entries wait for 65,536 scans or more, and no time of their block is judged.
+    ('an entry that waits for long', '> 3302000101010101\n< b300\n' + block(0, 0) + block(1, 66_002, entry(0, 0, 401), entry(1, 1, 1002)),
+     'record 2\ninput 0 state 0 stamp 401 wide 65937\ninput 1 state 1 stamp 1002 wide 1002\n'),
+    ('a pause of two minutes', block(7, 1000) + block(8, 121_000, entry(5, 0, 2000), entry(6, 1, 60_000)) + block(9, 121_020),
+     'record 2\ninput 5 state 0 stamp 2000 wide 67536\ninput 6 state 1 stamp 60000 wide 60000\n'),
+    ('a pause of two minutes, and then a doubled entry', block(7, 1000) + block(8, 121_000, entry(5, 0, 2000)) + block(9, 121_020, entry(6, 0, 55_480), entry(6, 0, 55_480)),
+     'record 2\ninput 5 state 0 stamp 2000 wide 67536\ninput 6 state 0 stamp 55480 wide 121016\nline 6 input 6 breaks order\n'),
+    # Right links that PROMISES leaves out: a load that was sent before the log takes effect in it; an input changes after 2^32
+    # scans or more.
     ('a late load, from the start', '> 3301000101\n< b300\n> 320000000a\n< b200\n' + LATE_LOAD,
      'record 2\ninput 0 state 0 stamp 5001 wide 5001\ninput 0 state 1 stamp 11 wide 11\n'),
     ('a late load, from a later poll on', LATE_LOAD, 'record 1\ninput 0 state 0 stamp 5001 wide 5001\nline 6 breaks clock\n'),
-    ('an entry that waits for long', '> 3302000101010101\n< b300\n' + block(0, 0) + block(1, 66_002, entry(0, 0, 401), entry(1, 1, 1002)),
-     'record 1\ninput 0 state 0 stamp 401 wide 65937\nline 6 input 1 breaks order\n'),
     ('an input that changes after long', configuration((0, 10, 10), (1, 1, 1)) + block(0, 0) + block(1, 20, entry(0, 0, 10)) +
      block(2, 0x4000_000c, entry(1, 0, 12)) + block(3, 0x8000_0004, entry(1, 1, 4)) + block(4, 0xbfff_fffc, entry(1, 0, 65_532)) +
      block(5, 0xffff_fff4, entry(1, 1, 65_524)) + block(6, 15, entry(0, 1, 15)),
@@ -292,42 +346,11 @@ def run_of_link(script):
         return written_by([os.path.join(TOP, 'tools', 'transcript'), file.name], report)
 
 
-def dropped(entries, at):
-    del entries[at]
-
-
-def doubled(entries, at):
-    entries.insert(at, entries[at])
-
-
-def turned(entries, at):
-    entries[at] = bytes((entries[at][0] ^ 128,)) + entries[at][1:]
-
-
-def swapped(entries, at):
-    entries[at:at + 2] = reversed(entries[at:at + 2])
-
-
-def changed(text, change, draw):
-    """A transcript with one entry of a block changed: any, or to be swapped one with another stamp than the next one."""
-    lines, found = text.split('\n'), []
-    for place, line in enumerate(lines):
-        octets = bytes.fromhex(line[2:]) if line.startswith('< b6') else b''
-        entries = [octets[at:at + 3] for at in range(3, len(octets) - 5, 3)]
-        found += [(place, octets, entries, at) for at in range(len(entries))
-                  if change is not swapped or at + 1 < len(entries) and entries[at][1:] != entries[at + 1][1:]]
-    if not found:
-        return text
-    place, octets, entries, at = draw.choice(found)
-    change(entries, at)
-    lines[place] = '< ' + (octets[:2] + bytes((len(entries),)) + b''.join(entries) + octets[-5:]).hex()
-    return '\n'.join(lines)
-
-
 def from_later(text, draw):
-    """The transcript from a command after the first on."""
+    """The transcript from a line after the first on, as often an answer as a command."""
     lines = text.rstrip('\n').split('\n')
-    places = [place for place, line in enumerate(lines) if line.startswith('>')][1:]
+    mark = draw.choice('><')
+    places = [place for place, line in enumerate(lines) if line.startswith(mark)][1:]
     return '\n'.join(lines[draw.choice(places):]) + '\n'
 
 
@@ -356,22 +379,21 @@ kept = 0
 for turn in range(TRANSCRIPTS):
     kept += agrees(check, 'random transcript %d' % turn, random_transcript(draw))
 check.holds('of the random transcripts some are broken and some are not', 20 < kept < TRANSCRIPTS - 20, kept)
-CHANGES = (dropped, doubled, turned, swapped)
-few, many = ({change: 0 for change in CHANGES} for _ in range(2))
+few, many = ({change: 0 for change in FAULTS} for _ in range(2))
 for seed in range(SEEDS):
     text = run_of_link(lossy_script(seed))
     check.holds('a run that nobody changed is not accused: seed %d' % seed, agrees(check, 'run %d' % seed, text))
-    check.holds('from a later command on it is not accused: seed %d' % seed,
-                agrees(check, 'run %d from a later command on' % seed, from_later(text, draw)))
-    for change in CHANGES:
+    check.holds('from a later line on it is not accused: seed %d' % seed,
+                agrees(check, 'run %d from a later line on' % seed, from_later(text, draw)))
+    for change in FAULTS:
         few[change] += not agrees(check, 'run %d with an entry %s' % (seed, change.__name__), changed(text, change, draw))
 for turn in range(LATE_RUNS):
     text = run_of_link(late_script(draw))
     check.holds('a run with late commands is not accused: %d' % turn, agrees(check, 'late run %d' % turn, text) and 'b6' in text)
     if '> 32' not in text:
-        check.holds('from a later command on it is not accused: late run %d' % turn,
-                    agrees(check, 'late run %d from a later command on' % turn, from_later(text, draw)))
-    for change in CHANGES:
+        check.holds('from a later line on it is not accused: late run %d' % turn,
+                    agrees(check, 'late run %d from a later line on' % turn, from_later(text, draw)))
+    for change in FAULTS:
         many[change] += not agrees(check, 'late run %d with an entry %s' % (turn, change.__name__), changed(text, change, draw))
 for runs, found, share, words in ((SEEDS, few, 3 / 4, 'runs'), (LATE_RUNS, many, 2 / 3, 'late runs')):
     for change, count in found.items():

@@ -1,10 +1,10 @@
 #!/usr/bin/env python3
 """Refuses each growth of memory in turn: to `fio_allocations`, which makes calls that can run out of memory once each and
-reports their answers, and to the built program, which makes the others, at some inputs. Growth 1 is refused to a first run,
+reports their answers, and to the program, which makes the others, at some inputs. Growth 1 is refused to a first run,
 growth 2 to a second one, until a run meets no refusal. The number of growths of each call and of each input, and how many
 octets they ask for, are compared with the table `tests/support/growths`, so that room that a call requests and never uses is
 found too; `tests/refused-memory.py --counts` writes the table anew. A C compiler (`$CC`, otherwise `cc`) makes the library
-that refuses; `fio_allocations` is proved and built first if it is not yet. Last line: `N passed, M failed`, where each run
+that refuses; `fio_allocations` is proved and built first if it is not yet, and left out without the kit. Last line: `N passed, M failed`, where each run
 that met a refusal and each row of the table counts."""
 
 import glob
@@ -18,7 +18,7 @@ import tempfile
 sys.dont_write_bytecode = True
 
 from support.check import Check
-from support.tables import TOP, program
+from support.tables import CAN_PROVE, TOP, program
 
 LIBRARY = os.path.join(TOP, 'tests', 'support', 'refuse.c')
 ALLOCATIONS = os.path.join(TOP, 'crates', 'fio_allocations')
@@ -138,12 +138,13 @@ class Sweep:
 
     def run(self, words, text, growth):
         """What a program writes, on standard error too, and its status. Growth 0 is none. The input is a file: from a pipe
-        each read takes what has arrived, and the growths differ each time."""
+        each read takes what has arrived, and the growths differ each time. Each program is called by one name, since it copies
+        it, and that of dist/ has a longer one."""
         environment = dict(os.environ, LD_PRELOAD=self.library, REFUSED_GROWTH=str(growth))
         with tempfile.TemporaryFile() as file:
             file.write(text)
             file.seek(0)
-            done = subprocess.run(words, stdin=file, env=environment, stdout=subprocess.PIPE,
+            done = subprocess.run(['fio2070', *words[1:]], executable=words[0], stdin=file, env=environment, stdout=subprocess.PIPE,
                                   stderr=subprocess.STDOUT, timeout=60)
         return done.stdout.decode('latin-1'), done.returncode
 
@@ -247,12 +248,12 @@ def table_of(sweep):
 
 
 def compare(sweep):
-    """Each row of the table is that of this sweep."""
+    """Each row of the table is that of this sweep, without the kit those of the program."""
     with open(TABLE, encoding='utf-8') as file:
         pinned = file.read().splitlines()
     found = table_of(sweep).splitlines()
     rows = [{row[HEADING.index('call'):]: row for row in table} for table in (pinned, found)]
-    for name in sorted(rows[0].keys() | rows[1].keys()):
+    for name in sorted(rows[0].keys() | rows[1].keys() if CAN_PROVE else rows[1].keys()):
         sweep.check.equal('growths of %s, as they are pinned' % name, *(table.get(name) for table in rows))
 
 
@@ -270,7 +271,10 @@ def main():
         try:
             made(compiler + ['-shared', '-fPIC', '-O1', '-o', library, LIBRARY], folder, 'a C compiler')
             sweep = Sweep(check, library)
-            sweep_calls(sweep)
+            if CAN_PROVE:
+                sweep_calls(sweep)
+            else:
+                check.skip('fio_allocations', 'no rt here (the Rattle kit)')
             sweep_program(sweep)
         except (Failed, subprocess.TimeoutExpired) as fault:
             check.equal('the library and the programs are made', None, str(fault))

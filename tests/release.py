@@ -12,7 +12,7 @@ sys.dont_write_bytecode = True
 
 from support import roots
 from support.check import Check
-from support.tables import HAS_KIT, TOP
+from support.tables import CAN_PROVE, TOP
 
 C = '''#include <fio2070.h>
 int main(void) { return fio2070_version() != FIO2070_VERSION; }
@@ -105,7 +105,7 @@ def second_half(root):
 
 
 def main():
-    if not HAS_KIT:
+    if not CAN_PROVE:
         check.skip('packages', 'they need the Rattle kit')
         check.end()
     if not shutil.which('cargo'):

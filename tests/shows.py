@@ -107,7 +107,7 @@ LARGEST = [
     ('34\n' * lines_that_fit('34\n'), 'raw inputs\n' * lines_that_fit('34\n'), 0),
     # One line.
     ('38' * (MOST_OCTETS // 2), 'line 1: too long got 524288\n', 1),
-    ('z' * MOST_OCTETS, 'line 1: bad line\n', 1),
+    ('?' * MOST_OCTETS, 'line 1: bad line\n', 1),
     (LONGEST_BODY * BODIES, ('other 56 body ' + '07' * 772 + '\n') * BODIES, 0),
     (LONGEST_BLOCK * BLOCKS, ('block 5 entries 255 status 08 stamp 1000\n'
                               + '  input 12 state 1 stamp 999 wide 999\n' * 255) * BLOCKS, 0),

@@ -73,7 +73,7 @@ def main():
     text = done.stdout.decode('utf-8', 'replace')
     for number, (path, _, _) in enumerate(found, 1):
         check.holds('the example of %s' % path, re.search(r'^test .*block_%d\b.* \.\.\. ok$' % number, text, re.M), text)
-    check.holds('ten crates have an example', len(found) == 10, found)
+    check.holds('eleven crates have an example', len(found) == 11, found)
     check.equal('the status of all examples', 0, done.returncode)
     check.end()
 

@@ -171,7 +171,7 @@ TWO_RULES = [
 ]
 
 
-# What `record` writes: the record of a good transcript, otherwise what `check` writes.
+# What `record` writes: the record of a transcript that is good from its first command on, otherwise the breach as `check` does.
 RECORDS = [
     ('', 'record 0'),
     ('> 3c\n< bc02', 'record 0'),
@@ -189,6 +189,13 @@ RECORDS = [
     ('> 3605\n< b605018c03e700000003e8\n> 3605', 'line 3 breaks advance'),
     ('# a remark\n> 3605\n\n< b6060000000003e8\n', 'line 4 breaks number'),
     ('> 3605\n< b605018c03e700000003e8\n> zz', 'line 3: bad line'),
+    # What is heard above the first command is passed over, whatever it is; lines count from the first of the input.
+    ('< b301\n> 3605\n< b605018c03e700000003e8', 'record 1\ninput 12 state 1 stamp 999 wide 999'),
+    ('< b606\n< b605018c03e700000003e8\n< b605018c03e700000003e8', 'record 0'),
+    ('< b301\n> 3605\n< b605018c03e700000003e8\n> 3605', 'line 4 breaks advance'),
+    ('< b301\n> 3605\n< b301', 'line 3 breaks pair'),
+    ('< b301\n> 36\n< b301', 'line 2 breaks readable'),
+    ('< b301\n< zz\n> 3605', 'line 2: bad line'),
     ('\n' * (MOST_OCTETS + 1), 'input too long'),
 ]
 
@@ -213,7 +220,7 @@ LARGEST = [
     ('> 34\n' * lines_that_fit('> 34\n'), 'good 209715 frames'),
     # One line.
     ('> ' + '38' * (MOST_OCTETS // 2 - 1), 'line 1 breaks readable'),
-    ('z' * MOST_OCTETS, 'line 1: bad line'),
+    ('?' * MOST_OCTETS, 'line 1: bad line'),
     # The longest frames.
     (''.join(block(turn % 256) for turn in range(BLOCKS)), 'good %d frames' % (2 * BLOCKS)),
     (''.join(block(turn % 256) for turn in range(BLOCKS)) + '> 3600', 'line %d breaks advance' % (2 * BLOCKS + 1)),
@@ -249,8 +256,9 @@ for text, expected in RECORDS:
     row(check, 'record %s' % in_short(text), 'record', text, expected + '\n',
         0 if expected.startswith('record ') else 1)
 for text, expected in DEEP:
+    kept = expected.startswith('good ') or '>' not in text
     row(check, 'record, deep: %s, %s, %d octets' % (expected, in_short(text), len(text)), 'record', text,
-        'record 0\n' if expected.startswith('good ') else expected + '\n', 0 if expected.startswith('good ') else 1)
+        'record 0\n' if kept else expected + '\n', 0 if kept else 1)
 for number, line, expected in CHANGES:
     row(check, 'line %d changed: %s, %s' % (number, expected, line[:40]), 'check', changed(number, line),
         expected + '\n', 0 if expected.startswith('good ') else 1)

@@ -1,8 +1,8 @@
 #!/usr/bin/env python3
 """Compares the Wireshark dissector, as tshark runs it, with `show`: frames of the protocol's tables and random ones in each
 way in which a capture carries them; the links between commands and answers of transcripts; frames for which `show` has no
-line; and the captures of hex2pcap. With `--all` ten times the number of random frames, and wrong dissectors, each of which
-has to be caught by the comparison that is named with it. `tests/wireshark.py SEED COUNT` takes another seed and another
+line; the captures of hex2pcap; and what is between the flags of 2,000 hostile lines with the library. With `--all` ten times
+the number of random frames and of lines, and wrong dissectors, each of which has to be caught by the comparison that is named with it. `tests/wireshark.py SEED COUNT` takes another seed and another
 number of random frames. Last line: `N passed, M failed`."""
 
 import concurrent.futures
@@ -16,9 +16,12 @@ import tempfile
 sys.dont_write_bytecode = True
 
 from support.check import Check
+from support.dissected_lines import fault_of_hostile_lines
 from support.dissection import ENTRY, ITEM, fault_of_frame, fault_of_links, shown, spelled_element, values
-from support.frames import example_transcripts, frame_check, random_frames, random_transcripts, table_frames
-from support.tables import HAS_KIT, TOP, output_of
+from support.fiolog import may_use_library
+from support.frames import example_transcripts, random_frames, random_transcripts, table_frames
+from support.line_model import frame_check
+from support.tables import TOP, can_simulate, output_of
 from support.tshark import BARE, DISSECTOR, SDLC, WAYS, Tshark
 from support.wrong_dissectors import WRONG_DISSECTORS
 
@@ -238,6 +241,7 @@ def short_comparisons(cases):
         'stations': fault_of_stations,
         'frame checks': fault_of_checks,
         'ends': fault_of_ends,
+        'hostile lines': lambda tshark: fault_of_hostile_lines(tshark, 300),
     }
 
 
@@ -273,9 +277,12 @@ def comparisons(check, cases):
             yield 'hex2pcap of ' + name, over(fault_of_hex2pcap, name)
     yield 'hex2pcap with times', over(fault_of_times)
     yield 'hex2pcap of other texts', over(fault_of_others)
-    if HAS_KIT:
+    if can_simulate():
         yield 'a simulated run', over(fault_of_simulated_run)
     yield 'filters', over(fault_of_filters)
+    lines = 20_000 if check.given.all else 2_000
+    if may_use_library(check, 'hostile lines'):
+        yield '%d hostile lines' % lines, over(fault_of_hostile_lines, lines)
     by_name = short_comparisons(cases)
     for wrong in WRONG_DISSECTORS if check.whole('wrong dissectors') else ():
         yield 'wrong: ' + wrong[0], lambda folder, wrong=wrong: fault_of_wrong(folder, by_name, *wrong)

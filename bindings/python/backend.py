@@ -8,6 +8,7 @@ import gzip
 import hashlib
 import io
 import os
+import re
 import shlex
 import shutil
 import subprocess
@@ -19,21 +20,32 @@ import zipfile
 
 HERE = os.path.dirname(os.path.abspath(__file__))
 TOP = os.path.join(HERE, '..', '..')
-NAME = 'fio2070-1.0.0'
-METADATA = """Metadata-Version: 2.1
-Name: fio2070
-Version: 1.0.0
-Summary: Field I/O transition link of the Model 2070, proved
-License: MIT
-Requires-Python: >=3.9
-Requires-Dist: rich; extra == "tools"
-Requires-Dist: pyserial; extra == "tools"
-Requires-Dist: matplotlib; extra == "tools"
-Provides-Extra: tools
-"""
-COMMANDS = """[console_scripts]
-fiolog = fiolog.__main__:main
-"""
+
+
+def content(path):
+    with open(path, 'rb') as file:
+        return file.read()
+
+
+def setting(name):
+    """What a line of pyproject.toml sets. Only the forms of that file are read: Python has a reader of TOML since 3.11."""
+    lines = content(os.path.join(HERE, 'pyproject.toml')).decode().splitlines()
+    value = next(line.partition(' = ')[2] for line in lines if line.startswith(name + ' = '))
+    texts = re.findall('"(.*?)"', value)
+    return texts if value.startswith('[') else texts[0]
+
+
+def metadata():
+    """The lines about the package, and its page."""
+    fields = [('Metadata-Version', '2.1'), ('Name', setting('name')), ('Version', setting('version')),
+              ('Summary', setting('description')), ('License', setting('license')), ('License-File', 'LICENSE'),
+              ('Requires-Python', setting('requires-python')), ('Description-Content-Type', 'text/markdown'),
+              *(('Requires-Dist', name + '; extra == "tools"') for name in setting('tools')), ('Provides-Extra', 'tools')]
+    return ''.join('%s: %s\n' % field for field in fields).encode() + b'\n' + content(os.path.join(HERE, setting('readme')))
+
+
+NAME = '%s-%s' % (setting('name'), setting('version'))
+COMMANDS = '[console_scripts]\nfiolog = %s\n' % setting('fiolog')
 WHEEL = """Wheel-Version: 1.0
 Generator: fio2070
 Root-Is-Purelib: false
@@ -41,17 +53,13 @@ Tag: %s
 """
 PACKAGES = ['fio2070/*.py', 'fio2070/py.typed', 'fiolog/*.py']
 # What the shared library is made of, in the repository.
-SOURCES = ['dist/fio2070.[ch]', 'tools/conformance/conformance*.[ch]', 'tools/conformance/shared.c', 'tools/conformance/exports.map']
+SOURCES = ['dist/fio2070.[ch]', 'tools/conformance/conformance*.[ch]', 'tools/conformance/shared.c', 'tools/conformance/exports.map',
+           'packaging/hardening']
 # Its name, and the options that make it, on each system. That of Windows has no tester, which needs POSIX.
 LIBRARIES = {'win32': ('fio2070.dll', ['-shared']),
              'darwin': ('libfio2070.1.dylib', ['-dynamiclib', '-fPIC', '-Wl,-exported_symbol,_fio2070_*']),
              'linux': ('libfio2070.so.1', ['-shared', '-fPIC', '-Wl,-soname,libfio2070.so.1'])}
 LIBRARY, SHARED = LIBRARIES.get(sys.platform, LIBRARIES['linux'])
-
-
-def content(path):
-    with open(path, 'rb') as file:
-        return file.read()
 
 
 def found(folder, forms):
@@ -60,10 +68,23 @@ def found(folder, forms):
     return {os.path.relpath(path, folder).replace(os.sep, '/'): path for path in paths}
 
 
+def licence():
+    """The text of the licence: that of the repository, or of a source distribution."""
+    return content(next(path for path in (os.path.join(HERE, 'LICENSE'), os.path.join(TOP, 'LICENSE')) if os.path.exists(path)))
+
+
 def sources():
     """What the shared library is made of, by name."""
     packed = found(os.path.join(HERE, 'c'), ['*'])
     return packed or {name.rpartition('/')[2]: path for name, path in found(TOP, SOURCES).items()}
+
+
+def hardening(script, words):
+    """The flags of packaging/hardening that a compiler takes beside its own; none where there is no sh."""
+    if not shutil.which('sh'):
+        return []
+    said = [subprocess.run(['sh', script, *kind, *words], stdout=subprocess.PIPE, check=False).stdout.decode() for kind in ([], ['--link'])]
+    return ' '.join(said).split()
 
 
 def compiled(room):
@@ -79,6 +100,7 @@ def compiled(room):
         flags.append('-Wl,--version-script=' + files['exports.map'])
     code = [file for name, file in files.items() if name.endswith('.c') and (name == 'fio2070.c' or sys.platform != 'win32')]
     folders = {os.path.dirname(file) for file in files.values()}
+    flags += hardening(files['hardening'], compiler + shlex.split(os.environ.get('CFLAGS', '-O2')))
     words = compiler + flags + ['-I' + folder for folder in sorted(folders)] + code + ['-o', path]
     if subprocess.run(words + shlex.split(os.environ.get('LDFLAGS', '')), check=False).returncode:
         sys.exit('fio2070: its shared library could not be compiled by %s' % compiler[0])
@@ -94,7 +116,8 @@ def wheel_contents(tag):
     else:
         with tempfile.TemporaryDirectory() as room:
             contents['fio2070/' + LIBRARY] = content(compiled(room))
-    contents[NAME + '.dist-info/METADATA'] = METADATA.encode()
+    contents[NAME + '.dist-info/METADATA'] = metadata()
+    contents[NAME + '.dist-info/LICENSE'] = licence()
     contents[NAME + '.dist-info/WHEEL'] = (WHEEL % tag).encode()
     contents[NAME + '.dist-info/entry_points.txt'] = COMMANDS.encode()
     return contents
@@ -120,9 +143,10 @@ def build_wheel(wheel_directory, config_settings=None, metadata_directory=None):
 
 def build_sdist(sdist_directory, config_settings=None):
     """What `pip` and `build` call: writes the source distribution, and returns its name. The same files give the same octets."""
-    contents = {name: content(path) for name, path in found(HERE, ['pyproject.toml', 'backend.py'] + PACKAGES).items()}
+    contents = {name: content(path) for name, path in found(HERE, ['pyproject.toml', 'README.md', 'backend.py'] + PACKAGES).items()}
     contents.update(('c/' + name, content(path)) for name, path in sources().items())
-    contents['PKG-INFO'] = METADATA.encode()
+    contents['PKG-INFO'] = metadata()
+    contents['LICENSE'] = licence()
     name = NAME + '.tar.gz'
     with open(os.path.join(sdist_directory, name), 'wb') as file, \
             gzip.GzipFile(filename='', mode='wb', fileobj=file, mtime=0) as packed, \

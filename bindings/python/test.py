@@ -6,37 +6,114 @@ import os
 import pickle
 import random
 import re
+import sys
 import unittest
+from unittest import mock
 
 import fio2070
 from fio2070 import ConfigurationItem, Entry, encode, tester
 
+sys.path.append(os.path.join(os.path.dirname(os.path.abspath(__file__)), '../../tests/support'))
+
+from rows import read_rows
+
 BLOCK = bytes.fromhex('b605018c03e700000003e8')
 
-MESSAGES = [
-    (encode.status(0x80), '3180'),
-    (encode.load_counter(65536), '3200010000'),
-    (encode.configure_inputs([ConfigurationItem(12, False, 5, 3), ConfigurationItem(3, True, 0, 0)]),
-     '33020c0503830000'),
-    (encode.raw_inputs(), '34'),
-    (encode.filtered_inputs(), '35'),
-    (encode.poll(5), '3605'),
-    (encode.set_outputs(bytes(7) + b'\1', bytes(8)), '3700000000000000010000000000000000'),
-    (encode.other_command(56, b''), '38'),
-    (encode.watchdog(200), '3ac8'),
-    (encode.identify(), '3c'),
-    (encode.status_answer(0x80, 0, 1, 1000), 'b1800001000003e8'),
-    (encode.load_counter_answer(0xfe), 'b2fe'),
-    (encode.configure_inputs_answer(1), 'b301'),
-    (encode.raw_inputs_answer(2**64 - 2, 1), 'b4feffffffffffffff00000001'),
-    (encode.filtered_inputs_answer(2**64 - 2, 1), 'b5feffffffffffffff00000001'),
-    (encode.block_answer(5, [Entry(12, 1, 999)], 0, 1000), BLOCK.hex()),
-    (encode.watchdog_answer(1), 'ba01'),
-    (encode.other_answer(188, b'\2'), 'bc02'),
-]
-
-
 LOG = b'07:15:02.000 RX b6 05 01 8c 03 e7 00 00 00 03 e8\nno octets\n\n'
+
+
+def list_of(kind, text):
+    """The items or the entries of a text."""
+    return [kind(*map(int, one.split())) for one in text.split(', ')] if text else []
+
+
+def fields_of(message, structure):
+    """The fields of a message that are not 0, in the order of the library's struct."""
+    values = {**message._asdict(), 'body': len(message.body)}
+    values['count'] = len(values.get('items', values.get('entries')))
+    shown = [(name, values[name]) for name, _ in structure._fields_ if name != 'reserved']
+    return ' '.join('%s %s' % (name, value.hex() if isinstance(value, bytes) else value)
+                    for name, value in shown if (any(value) if isinstance(value, bytes) else value))
+
+
+def breaches(checker, text):
+    """What a checker says of frames: the rule that each breaks, with what was due, or the input and the number of items."""
+    said = []
+    for side, octets in (frame.split(' ') for frame in text.split(', ')):
+        breach = (checker.sent if side == '>' else checker.heard)(bytes.fromhex(octets))
+        words = [] if breach is None else [breach.rule]
+        if isinstance(breach, fio2070.Breach):
+            words += ['due', breach.due, 'got', breach.got] if breach.has_due else []
+        elif breach is not None:
+            words += ['input', breach.input] if breach.input is not None else []
+            words += ['items', breach.items] if breach.items else []
+        said.append(' '.join(map(str, words)) or '0')
+    return ', '.join(said)
+
+
+def parts_of(decode, code, octets, name):
+    """The items of a configuration, or the entries of a block."""
+    try:
+        message = decode(octets)
+    except fio2070.Fault:
+        return 'no message'
+    return ', '.join(' '.join(str(int(one)) for one in part) for part in getattr(message, name)) if message.code == code else 'no message'
+
+
+def encoded(name, numbers, text):
+    """What a call of `encode` writes."""
+    if name in ('configure_inputs', 'block_answer'):
+        kind = Entry if name == 'block_answer' else ConfigurationItem
+        numbers = [*numbers[:1], list_of(kind, text), *numbers[1:]]
+    elif name == 'set_outputs':
+        numbers = bytes.fromhex(text)[:8], bytes.fromhex(text)[8:]
+    elif name.startswith('other_'):
+        numbers = [*numbers, bytes.fromhex(text)]
+    try:
+        return getattr(encode, name)(*numbers).hex()
+    except ValueError as error:
+        return 'no message' if str(error) == 'there is no such message' else repr(error)
+
+
+def said_by(call, numbers, text):
+    """The result of a row, or its error."""
+    if call.startswith('encode_'):
+        return encoded(call[7:], numbers, text)
+    if call in ('widen', 'rule_text', 'content_rule_text'):
+        return str(getattr(fio2070, call)(*numbers))
+    if call.startswith('content'):
+        return breaches(fio2070.ContentChecker(begun=call == 'content_begun'), text)
+    octets = b'' if call.startswith('checker') else bytes.fromhex(text)
+    try:
+        if call.startswith('checker'):
+            return breaches(fio2070.Checker(*numbers, anywhere=call == 'checker_anywhere'), text)
+        if call == 'wire_frame':
+            return fio2070.wire_frame(octets, *numbers).hex()
+        if call == 'command_items':
+            return parts_of(fio2070.decode_command, 51, octets, 'items')
+        if call == 'block_entries':
+            return parts_of(fio2070.decode_answer, 182, octets, 'entries')
+        if call == 'decode_command':
+            return fields_of(fio2070.decode_command(octets), fio2070._library.CCommand)
+        if call == 'decode_answer':
+            return fields_of(fio2070.decode_answer(octets), fio2070._library.CAnswer)
+        if call == 'heard_text':
+            return fio2070.Poller(*numbers).hear(octets).text
+        return str(getattr(fio2070, call)(octets))
+    except fio2070.Fault as fault:
+        return str(fault)
+    except ValueError:
+        return {'wire_frame': 'no message'}.get(call, 'refused')
+
+
+class Rows(unittest.TestCase):
+    def test_each_row(self):
+        count = 0
+        for call, numbers, text, _, expected in read_rows():
+            with self.subTest(call=call, numbers=numbers, text=text):
+                self.assertEqual(said_by(call, numbers, text), expected + '\n' * (call == 'show'))
+            count += 1
+        self.assertGreater(count, 150)
 
 
 class Logs(unittest.TestCase):
@@ -63,6 +140,27 @@ class Logs(unittest.TestCase):
         reader = fio2070.LogReader()
         verdicts = reader.read(b'\n' * 10000) + reader.end()
         self.assertEqual([one.line for one in verdicts], list(range(1, 10001)))
+
+    def test_large_piece(self):
+        # The library gets a few times the octets of a piece, however large it is.
+        text, counts, read = b'\n' * 2**18, [], fio2070.logs.c.library.fio2070_log_read
+
+        def counted(reader, octets, length, batch):
+            counts.append(length)
+            return read(reader, octets, length, batch)
+        with mock.patch.object(fio2070.logs.c.library, 'fio2070_log_read', counted):
+            self.assertEqual(len(fio2070.LogReader().read(text)), len(text))
+        self.assertLess(sum(counts), 10 * len(text))
+
+    def test_next_log(self):
+        # After the end octets begin a log of the same form.
+        for form, text in (('auto', LOG + b'last'), ('frames', b'3605\n36'), ('transcript', b'> 3605\n3605')):
+            reader = fio2070.LogReader(form)
+            first = reader.read(text) + reader.end()
+            for _ in range(3):
+                self.assertEqual(reader.end(), [])
+                self.assertEqual(reader.read(b''), [])
+                self.assertEqual(reader.read(text) + reader.end(), first)
 
     def test_forms(self):
         self.assertRaises(ValueError, fio2070.LogReader, 'other')
@@ -103,34 +201,98 @@ class Logs(unittest.TestCase):
             self.assertEqual(reader.read(first * 70000 + b'\n'), [(1, *verdict, (), (), None, '')])
 
 
-class Rules(unittest.TestCase):
-    def test_each_breach(self):
-        checker = fio2070.Checker()
-        self.assertIsNone(checker.sent(encode.poll(255)))
-        self.assertEqual(checker.sent(encode.poll(0)), (4, True, 255, 0))
-        self.assertIsNone(checker.heard(BLOCK))
-        self.assertIsNone(checker.sent(encode.poll(6)))
-        self.assertEqual(checker.heard(BLOCK), (3, True, 6, 5))
-        breach = fio2070.Checker().heard(b'\xb3\0')
-        self.assertEqual(breach, (2, False, 0, 0))
-        self.assertIs(breach.has_due, False)
+def link_with_restarts(draw, polls=80, inputs=4):
+    """What a CPU's end sends and hears of a module that restarts, as (whether it is sent, octets), and the place of the last
+    restart."""
+    module, poller, log, commands, reached, restart = fio2070.Module(2), fio2070.Poller(draw.randrange(256)), [], [], 0, 0
+    levels = 2**64 - 1
+    for _ in range(polls):
+        for _ in range(draw.randrange(6)):
+            levels ^= draw.getrandbits(inputs) & draw.getrandbits(inputs)
+            module.scan(levels)
+        items = [ConfigurationItem(number, draw.random() < 0.2, draw.randrange(4), draw.randrange(4)) for number in range(inputs)]
+        other = draw.choice((encode.configure_inputs(items), encode.filtered_inputs(), encode.status(255), encode.watchdog(9)))
+        commands.append(poller.poll() if draw.random() < 0.7 else other)
+        log.append((True, commands[-1]))
+        while reached < len(commands) - 1 and draw.random() < 0.4:
+            module.receive(commands[reached])
+            reached += 1
+        answer = None
+        if draw.random() < 0.75:
+            reached, answer = len(commands), module.receive(commands[-1])
+        if draw.random() < 0.05:
+            module.restart()
+            restart = len(log)
+        if answer and draw.random() < 0.8:
+            log.append((False, answer))
+            poller.hear(answer)
+    return log, restart
 
-    def test_limits(self):
-        # F without C: where no more may wait than a block takes, a block that takes all can still say that entries are lost.
-        lost = encode.block_answer(5, [Entry(12, 0, 10)], fio2070.constants.BIT_LOST, 11)
-        for limits, rule in (((255, 1024), 7), ((255, 255), None), ((1, 1), None)):
-            checker = fio2070.Checker(*limits)
-            checker.sent(encode.poll(5))
-            found = checker.heard(lost)
-            self.assertEqual(found and found.rule, rule, limits)
-        # C: exactly as many as a block takes.
-        for entries, rule in ((1, None), (2, 7)):
-            checker = fio2070.Checker(1, 8)
-            checker.sent(encode.poll(5))
-            found = checker.heard(encode.block_answer(5, [Entry(12, 0, 10)] * entries, fio2070.constants.BIT_MORE, 11))
-            self.assertEqual(found and found.rule, rule)
-        with self.assertRaises(ValueError):
-            fio2070.Checker(0)
+
+class Wires(unittest.TestCase):
+    FRAME = bytes.fromhex('7e14833605c41b7e')
+    POLL = fio2070.WireHeard('message', 0x14, 0x83, b'\x36\5')
+    DAMAGED = fio2070.WireHeard('damaged')
+
+    def test_frames(self):
+        self.assertEqual(fio2070.wire_frame(encode.poll(5)), self.FRAME)
+        self.assertEqual(fio2070.wire_check(memoryview(b'123456789')), 0x906e)
+        self.assertGreater(len(fio2070.wire_frame(b'\x7e' * 773)), 1550)
+        for message in (b'', bytes(774)):
+            self.assertRaises(ValueError, fio2070.wire_frame, message)
+
+    def test_settings(self):
+        for address, control, kind in ((None, None, 'message'), (0x14, None, 'message'), (None, 0x83, 'message'),
+                                       (0x14, 0x83, 'message'), (0x15, 0x83, 'other'), (0x14, 0, 'other'), (0, None, 'other')):
+            with self.subTest(address=address, control=control):
+                self.assertEqual(fio2070.Wire(address, control).read(self.FRAME), [self.POLL._replace(kind=kind)])
+        for kind in (fio2070.Wire, fio2070.WireBits):
+            for number in (-1, 256):
+                self.assertRaises(ValueError, kind, address=number)
+                self.assertRaises(ValueError, kind, control=number)
+        for number in (-1, 256):
+            self.assertRaises(ValueError, fio2070.wire_frame, b'\x36\5', address=number)
+            self.assertRaises(ValueError, fio2070.wire_frame, b'\x36\5', control=number)
+
+    def test_pieces(self):
+        # Two frames share a flag, one is broken off after its check, one has a right check and no message.
+        line = self.FRAME + self.FRAME[1:] + self.FRAME[1:-1] + b'\x7d\x7e' + b'\xff\xff\xff\xff\x7e'
+        for size in (1, 3, 1000):
+            wire = fio2070.Wire(0x14, 0x83)
+            heard = [one for start in range(0, len(line), size) for one in wire.read(line[start:start + size])]
+            self.assertEqual(heard, [self.POLL, self.POLL, self.DAMAGED, self.DAMAGED])
+        # A piece that is longer than what the library gets at a time.
+        self.assertEqual(fio2070.Wire().read(2000 * self.FRAME), 2000 * [self.POLL])
+        self.assertEqual(fio2070.Wire().read(b''), [])
+
+    def test_losses(self):
+        for place in range(len(self.FRAME) + 1):
+            wire = fio2070.Wire()
+            heard = wire.read(self.FRAME[:place])
+            wire.lose()
+            heard += wire.read(self.FRAME[place:] + self.FRAME)
+            self.assertEqual(heard, [self.POLL] * (place in (0, 8)) + [self.DAMAGED] * (place > 0) + [self.POLL])
+
+    def test_bits(self):
+        flag, poll = '01111110', ''.join(format(octet, '08b')[::-1] for octet in self.FRAME[1:-1])
+        for line, heard in ((flag + poll + flag, [self.POLL]), ('11' + flag + poll + flag + flag[1:], [self.POLL]),
+                            (flag + poll + flag[:-1] + flag + poll + flag, [self.POLL, self.POLL]),
+                            (flag + poll + '1' * 7 + flag + '1' * 20 + flag, [self.DAMAGED]),
+                            (flag + poll + '0' + flag, [self.DAMAGED]), (poll + flag, [])):
+            with self.subTest(line=line):
+                self.assertEqual(fio2070.WireBits(0x14, 0x83).read(line.encode()), heard)
+                bits = fio2070.WireBits()
+                self.assertEqual([one for bit in line for one in bits.read(bytes([int(bit)]))], heard)
+
+
+class Rules(unittest.TestCase):
+    def test_types(self):
+        # What the table does not say of a breach: a number that was not due is False, an input that is none is None.
+        breach = fio2070.Checker().heard(b'\xb3\0')
+        self.assertEqual(breach, (fio2070.constants.RULE_PAIR, False, 0, 0))
+        self.assertIs(breach.has_due, False)
+        self.assertIs(fio2070.ContentChecker(begun=True).heard(b'\xb3\1').input, None)
+        self.assertRaises(ValueError, fio2070.Checker, 0)
 
     def test_right_modules(self):
         # Modules with rings and blocks of their own, which overflow now and then: no checker with their limits accuses one.
@@ -154,57 +316,31 @@ class Rules(unittest.TestCase):
                     poller.hear(answer)
             self.assertEqual(accused == 0, (per_block, waiting) == (255, 1024))
 
-    def test_an_entry_that_comes_twice(self):
-        content, again = fio2070.ContentChecker(), encode.block_answer(2, [Entry(13, 0, 12), Entry(12, 0, 13)], 0, 21)
-        content.sent(encode.poll(0))
-        self.assertIsNone(content.heard(encode.block_answer(0, [], 0, 0)))
-        content.sent(encode.poll(1))
-        self.assertIsNone(content.heard(encode.block_answer(1, [Entry(12, 0, 10)], 0, 11)))
-        content.sent(encode.poll(2))
-        self.assertEqual(content.heard(again), (fio2070.constants.CONTENT_ALTERNATE, 12, 1))
-        self.assertIsNone(content.heard(again))
-
-    def test_an_answer_that_breaks_a_rule_on_content(self):
-        self.assertEqual(fio2070.ContentChecker().heard(b'\xb2\1'), (fio2070.constants.CONTENT_DONE, None, 0))
-
-    def test_a_log_that_begins_with_both_ends(self):
-        # Inputs are ignored until they are configured, which only such a log says.
-        for begun, breach in ((False, None), (True, (fio2070.constants.CONTENT_IGNORED, 12, 0))):
-            content = fio2070.ContentChecker(begun=begun)
-            content.sent(encode.poll(0))
-            self.assertEqual(content.heard(encode.block_answer(0, [Entry(12, 0, 10)], 0, 11)), breach)
+    def test_logs_after_a_restart(self):
+        # Commands are lost or late, and an answer comes directly after its command or never; the module restarts whatever is
+        # under way. Checkers that start anywhere below the last restart accuse nobody.
+        draw = random.Random(11)
+        for turn in range(60):
+            log, restart = link_with_restarts(draw)
+            for start in (restart, draw.randrange(restart, len(log) + 1)):
+                checker, content = fio2070.Checker(anywhere=True), fio2070.ContentChecker()
+                for is_sent, octets in log[start:]:
+                    self.assertIsNone((checker.sent if is_sent else checker.heard)(octets), (turn, start))
+                    self.assertIsNone((content.sent if is_sent else content.heard)(octets), (turn, start))
 
 
 class Messages(unittest.TestCase):
-    def test_octets(self):
-        for octets, expected in MESSAGES:
-            self.assertEqual(octets.hex(), expected)
-
     def test_commands(self):
         command = fio2070.decode_command(bytes.fromhex('33020c0503830000'))
         self.assertEqual(command.items, [(12, False, 5, 3), (3, True, 0, 0)])
-        self.assertEqual(fio2070.decode_command(b'\x36\5').block, 5)
         self.assertEqual(fio2070.decode_command(b'\x3b\0\2').body, b'\0\2')
-        self.assertEqual(fio2070.decode_command(bytes.fromhex('3200010000')).load, 65536)
 
     def test_answers(self):
-        self.assertEqual(fio2070.show(bytes.fromhex('3605')), 'poll block 5\n')
-        self.assertEqual(fio2070.show(b'\7'), 'unknown type 7\n')
         answer = fio2070.decode_answer(BLOCK)
-        self.assertEqual((answer.code, answer.block, answer.status, answer.stamp), (182, 5, 0, 1000))
         self.assertEqual(answer.entries, [(12, 1, 999)])
-        self.assertEqual(fio2070.decode_answer(bytes.fromhex('b4feffffffffffffff00000001')).inputs, 2**64 - 2)
-        self.assertEqual(fio2070.widen(0x10002, 0xfffe), 0xfffe)
 
     def test_faults(self):
-        for octets, text in [('', 'empty'), ('30' * 774, 'too long got 774'), ('30', 'unknown type 48'),
-                             ('33', 'wrong length needed 2 got 1')]:
-            with self.assertRaises(fio2070.Fault) as caught:
-                fio2070.decode_command(bytes.fromhex(octets))
-            self.assertEqual(str(caught.exception), text)
-        for call in [lambda: encode.poll(256), lambda: encode.other_command(54, b''),
-                     lambda: encode.configure_inputs([ConfigurationItem(128, False, 1, 1)]),
-                     lambda: encode.set_outputs(b'', b''), lambda: fio2070.Module(per_block=0)]:
+        for call in [lambda: encode.poll(256), lambda: encode.set_outputs(b'', b''), lambda: fio2070.Module(per_block=0)]:
             self.assertRaises(ValueError, call)
 
     def test_kinds_of_octets(self):
@@ -218,22 +354,42 @@ class Messages(unittest.TestCase):
         self.assertEqual(encode.other_command(59, memoryview(b'\1\2')), b'\x3b\1\2')
         self.assertEqual(encode.set_outputs(bytearray(8), memoryview(bytes(8))), b'\x37' + bytes(16))
 
-    def test_words(self):
-        self.assertEqual([fio2070.rule_text(rule) for rule in (0, 1, 9, 10)], ['', 'readable', 'refusal', ''])
-        self.assertEqual([fio2070.content_rule_text(rule) for rule in (0, 1, 11, 12)], ['', 'order', 'watchdog', ''])
-        for octets, text in [(BLOCK, 'block entries 1 status 00'), (b'\xb3\0', 'other 179'), (BLOCK[:1] + b'\7' + BLOCK[2:], 'stale 7'),
-                             (b'', 'unreadable empty'), (BLOCK[:-1], 'unreadable wrong length needed 11 got 10')]:
-            self.assertEqual(fio2070.Poller(5).hear(octets).text, text)
+    def test_what_is_no_octets(self):
+        # A number is not octets, of which `bytes` would make as many zeros.
+        calls = [fio2070.show, fio2070.decode_command, fio2070.decode_answer, fio2070.read_outputs_answer,
+                 fio2070.read_identification, fio2070.Poller(5).hear, fio2070.Checker().sent, fio2070.Checker().heard,
+                 fio2070.ContentChecker().sent, fio2070.ContentChecker().heard, fio2070.Module().receive,
+                 fio2070.LogReader().read, fio2070.Wire().read, fio2070.WireBits().read, fio2070.wire_frame, fio2070.wire_check,
+                 lambda octets: encode.set_outputs(octets, bytes(8)),
+                 lambda octets: encode.set_outputs(bytes(8), octets), lambda octets: encode.other_command(56, octets),
+                 lambda octets: encode.other_answer(183, octets)]
+        for call in calls:
+            for given in (0, 5, 8, 2**31, 2**70, True, 1.5, None, '3605'):
+                with self.subTest(call=call, given=given):
+                    self.assertRaises(TypeError, call, given)
 
-    def test_answers_of_one_number(self):
-        self.assertEqual(fio2070.read_outputs_answer(bytearray(b'\xb7\0\1\2\3\4')), 0x01020304)
-        self.assertEqual(fio2070.read_identification(b'\xbc\xfe'), 0xfe)
-        for call, octets, text in [(fio2070.read_outputs_answer, b'\xb7\0', 'wrong length needed 6 got 2'),
-                                   (fio2070.read_outputs_answer, b'\xbc\2', 'unknown type 188'),
-                                   (fio2070.read_identification, b'', 'empty')]:
-            with self.assertRaises(fio2070.Fault) as caught:
-                call(octets)
-            self.assertEqual(str(caught.exception), text)
+    def test_what_is_no_list(self):
+        calls = [encode.configure_inputs, fio2070.Filters().configure, lambda entries: encode.block_answer(5, entries, 0, 0)]
+        for call in calls:
+            for given in ([300], [None], 'ab', 5, None, [(1, 2)], [ConfigurationItem('a', False, 0, 0)], [Entry(1, 1.5, 0)]):
+                with self.subTest(call=call, given=given):
+                    self.assertRaises(TypeError, call, given)
+
+    def test_what_is_no_number(self):
+        calls = [encode.poll, encode.status, encode.load_counter, encode.watchdog, encode.watchdog_answer,
+                 encode.load_counter_answer, encode.configure_inputs_answer, fio2070.Poller, fio2070.rule_text,
+                 fio2070.content_rule_text, fio2070.Counter().ask_load, fio2070.Filters().scan, fio2070.Module().scan,
+                 fio2070.Module().raise_flags, lambda number: encode.raw_inputs_answer(0, number),
+                 lambda number: fio2070.widen(number, 0), lambda number: fio2070.Module(waiting=number),
+                 lambda number: fio2070.Checker(number), lambda number: fio2070.Module(id=number),
+                 lambda number: fio2070.wire_frame(b'5', number), lambda number: fio2070.wire_frame(b'5', 0, number)]
+        for call in calls:
+            for given in (1.5, '5', None, b'5', [5]):
+                with self.subTest(call=call, given=given):
+                    self.assertRaises(TypeError, call, given)
+        for given in (1.5, '5', b'5', [5]):
+            self.assertRaises(TypeError, fio2070.Wire, given)
+            self.assertRaises(TypeError, fio2070.WireBits, None, given)
 
     def test_texts_of_objects(self):
         checker, counter = fio2070.Checker(), fio2070.Counter()
@@ -260,8 +416,8 @@ class Messages(unittest.TestCase):
         header = os.path.join(os.path.dirname(os.path.abspath(__file__)), '../../include/fio2070.h')
         with open(header, encoding='ascii') as text:
             declared = text.read()
-        given = {name: int(number) for name, number in re.findall(
-            r'^(?: +|enum \{ |#define )FIO2070_([A-Z0-9_]+)(?: =)? (\d+)\b', declared, re.M)}
+        given = {name: int(number, 0) for name, number in re.findall(
+            r'^(?: +|enum \{ |#define )FIO2070_([A-Z0-9_]+)(?: =)? (0x[0-9a-f]+|\d+)\b', declared, re.M)}
         self.assertGreater(len(given), 30)
         given['NO_MESSAGE'] = ctypes.c_size_t(-1).value
         ours = {name: number for name, number in vars(fio2070.constants).items() if name.isupper()}
@@ -309,7 +465,7 @@ class Ends(unittest.TestCase):
     def answer_a_poller(self, module):
         poller = fio2070.Poller(5)
         self.assertEqual(module.receive(encode.identify()), b'\xbc\2')
-        self.assertIsNone(module.receive(b'\x38'))
+        self.assertEqual(module.receive(b'\x38'), b'')
         self.assertEqual(module.receive(encode.configure_inputs([ConfigurationItem(12, False, 1, 1)])), b'\xb3\0')
         module.receive(encode.load_counter(998))
         module.line_sync()
@@ -396,7 +552,7 @@ class Forgetful(Proved):
 
     def exchange(self, octets):
         answer = super().exchange(octets)
-        if answer is None or answer[0] != 182:
+        if not answer or answer[0] != 182:
             return answer
         return answer[:-5] + bytes([answer[-5] & ~2]) + answer[-4:]
 
@@ -432,12 +588,25 @@ class Deaf(ProvedCpu):
         raise NotImplementedError('hear')
 
 
+class Package(unittest.TestCase):
+    def test_version(self):
+        with open(os.path.join(os.path.dirname(__file__), 'pyproject.toml'), encoding='utf-8') as file:
+            self.assertIn('\nversion = "%s"\n' % fio2070.__version__, file.read())
+        self.assertEqual(fio2070.version(), fio2070.constants.VERSION)
+
+    def test_public_names(self):
+        names = {}
+        exec('from fio2070 import *', names)
+        self.assertEqual(set(fio2070.__all__), set(names) - {'__builtins__'})
+        self.assertIs(names['tester'], tester)
+
+
 class Tester(unittest.TestCase):
     def test_rules(self):
         self.assertIsNone(tester.run(TwoIds(), events=20_000, excepted=['identification']))
         report = tester.run(TwoIds(), events=20_000, goes_on=True)
-        self.assertIn('# rule: identification, own profile', report)
-        self.assertIn('# rule: watchdog-timeout, TEES 2009', tester.run(Slow(), events=20_000))
+        self.assertIn('# the first rule that this breaks: identification, own profile', report)
+        self.assertIn('# the first rule that this breaks: watchdog-timeout, TEES 2009', tester.run(Slow(), events=20_000))
         for name in ('sent-again', 'none-such'):
             self.assertRaises(ValueError, tester.run, Proved(), excepted=[name])
 
@@ -449,9 +618,13 @@ class Tester(unittest.TestCase):
 
     def test_modules(self):
         self.assertIsNone(tester.run(Proved(), events=20_000))
-        script = tester.run(Forgetful(), events=20_000)
-        self.assertIn('\npoll\nto-module 1\npoll\nto-module 2\n# expected: ', script)
-        self.assertIn('sent again with E set', script)
+        report = tester.run(Forgetful(), events=20_000)
+        self.assertRegex(report, '(?s)^# expected: .*sent again with E set.*\nfio2070 script 1 2 0\npoll\nto-module 1\npoll\n')
+
+    def test_settings_by_name(self):
+        for run, maker in ((tester.run, Proved()), (tester.run_cpu, ProvedCpu())):
+            with self.assertRaises(TypeError):
+                run(maker, 20_000)
 
     def test_cpu(self):
         self.assertIsNone(tester.run_cpu(ProvedCpu(), events=20_000))
@@ -461,4 +634,6 @@ class Tester(unittest.TestCase):
 
 
 if __name__ == '__main__':
-    unittest.main()
+    ran = unittest.main(exit=False).result
+    # With a word after `-k` that no test has, nothing ran.
+    sys.exit(0 if ran.wasSuccessful() and ran.testsRun else 1)

@@ -2,7 +2,7 @@
  * happened to the inputs. The decisions are in controller_link.c, the line in line.c, the files in tables.c.
  *
  * It ends at SIGINT, SIGTERM or after a time, once no command is under way: an answer that nobody hears may be the only one that
- * has its entries. */
+ * has its entries. It ends at once at a second signal, and if the line takes no more, since then no answer comes. */
 #define _DEFAULT_SOURCE
 #include "controller_link.h"
 #include "line.h"
@@ -47,18 +47,18 @@ static void fail(const char *what, const char *why) {
     exit(1);
 }
 
-static long milliseconds(void) {
+static int64_t milliseconds(void) {
     struct timespec now;
     clock_gettime(CLOCK_MONOTONIC, &now);
-    return (long)now.tv_sec * 1000 + now.tv_nsec / 1000000;
+    return (int64_t)now.tv_sec * 1000 + now.tv_nsec / 1000000;
 }
 
 static void show_counts(const char *end) {
     fprintf(stderr,
-            "commands %lu again %lu answers %lu useless %lu damaged %lu slots-missed %lu restarts %lu gaps %lu transitions %lu "
-            "number %u%s",
-            counts.commands, counts.again, counts.answers, counts.useless, line.damaged, counts.slots_missed, counts.restarts,
-            counts.gaps, counts.transitions, cpu.poller.number, end);
+            "commands %lu again %lu unsent %lu answers %lu useless %lu damaged %lu slots-missed %lu restarts %lu gaps %lu "
+            "transitions %lu number %u%s",
+            counts.commands, counts.again, line.unsent, counts.answers, counts.useless, line.damaged, counts.slots_missed,
+            counts.restarts, counts.gaps, counts.transitions, cpu.poller.number, end);
 }
 
 /* ---- The link ---- */
@@ -124,7 +124,15 @@ static int opened_signals(void) {
     sigaddset(&ending, SIGTERM);
     sigprocmask(SIG_BLOCK, &ending, NULL);
     signal(SIGPIPE, SIG_IGN);
-    return signalfd(-1, &ending, SFD_CLOEXEC);
+    return signalfd(-1, &ending, SFD_CLOEXEC | SFD_NONBLOCK);
+}
+
+/* Returns how many signals have come that end the controller. */
+static int signals_taken(int signals) {
+    struct signalfd_siginfo taken;
+    int count = 0;
+    while (read(signals, &taken, sizeof taken) == sizeof taken) count++;
+    return count;
 }
 
 /* A slot begins; where the machine was too busy for some, they are counted. */
@@ -137,18 +145,18 @@ static void take_slots(int timer, int is_ending) {
     if (++slots % SHOW_SLOTS == 0 && isatty(STDERR_FILENO)) show_counts("\r");
 }
 
-static void run(long seconds) {
+static void run(int64_t seconds) {
     struct pollfd ready[] = {{line.file, POLLIN, 0}, {opened_timer(), POLLIN, 0}, {opened_signals(), POLLIN, 0}};
-    long ends_at = milliseconds() + seconds * 1000;
-    int is_ending = 0;
-    while (!is_ending || (cpu.length > 0 && milliseconds() < ends_at)) {
+    int64_t until = milliseconds() + seconds * 1000;
+    int ends = 0, was_ending = 0;
+    while (ends == 0 || (ends == 1 && cpu.length > 0 && !line.is_full && milliseconds() < until)) {
         if (poll(ready, 3, -1) < 0 && errno != EINTR) fail("poll", strerror(errno));
         if (ready[0].revents != 0 && line_receive(&line, hear) != 0) fail("the line", errno ? strerror(errno) : "it has ended");
-        if (ready[1].revents != 0) take_slots(ready[1].fd, is_ending);
-        if (!is_ending && (ready[2].revents != 0 || (seconds > 0 && milliseconds() >= ends_at))) {
-            is_ending = 1;
-            ends_at = milliseconds() + END_MS;
-        }
+        if (ready[1].revents != 0) take_slots(ready[1].fd, ends > 0);
+        ends += signals_taken(ready[2].fd);
+        if (ends == 0 && seconds > 0 && milliseconds() >= until) ends = 1;
+        if (ends > 0 && !was_ending) until = milliseconds() + END_MS;
+        was_ending = ends > 0;
     }
 }
 
@@ -216,6 +224,7 @@ int main(int count, char **words) {
     if (tables_open(&tables, words[optind + 1], events, transcript, keep) != 0) fail("its files", strerror(errno));
     if (controller_link_start(&cpu, settings_with((uint32_t)deadline), tables.number) != 0) fail("configuration", "it is none");
     run(seconds);
+    line_close(&line);
     show_counts("\n");
     if (tables_close(&tables) != 0) fail("its files", strerror(errno));
     return cpu.length > 0;

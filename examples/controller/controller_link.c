@@ -64,7 +64,8 @@ static void hear_flags(struct controller_link *link, const struct fio2070_answer
 static void hear_configured(struct controller_link *link, const struct fio2070_answer *answer, struct controller_heard *heard) {
     if (answer->status & FIO2070_BIT_ERROR) heard->kind = CONTROLLER_REFUSED;
     link->is_configured = 1;
-    link->step = CONTROLLER_POLL;
+    /* The module may have restarted since the look before: now its inputs are reported, and the mark has to come first. */
+    link->step = CONTROLLER_LOOK;
 }
 
 /* A block. With another number than the present one it is an answer to an earlier poll, and the poll is still under way. */

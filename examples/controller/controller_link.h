@@ -5,9 +5,10 @@
  * One command is under way at a time. If no answer to it comes by the deadline it is sent again, the same octets: a poll keeps
  * its number until its block is taken, so no block is given up. Answers that no command waits for change nothing.
  *
- *     LOOK (at the flags) --> CLEAR (P) if P is up, the module was reset --> CONFIGURE --> POLL, POLL, ..
- *     LOOK (at the flags) --> CONFIGURE if not: the configuration may be another than that of the run before
- *     POLL, now and then LOOK: P is up --> CLEAR --> CONFIGURE --> POLL ..; else POLL .. */
+ *     LOOK (at the flags) --> CLEAR (P) if P is up, the module was reset --> CONFIGURE --> LOOK ..
+ *     LOOK at the start --> CONFIGURE if not: the configuration may be another than that of the run before
+ *     CONFIGURE --> LOOK: the module may have been reset before its inputs were configured --> POLL, POLL, ..
+ *     POLL, now and then LOOK: P is up --> CLEAR --> CONFIGURE --> LOOK ..; else POLL .. */
 #ifndef CONTROLLER_LINK_H
 #define CONTROLLER_LINK_H
 

@@ -36,47 +36,83 @@ static int opened_socket(const char *name, const char *colon) {
     }
     for (one = found; one != NULL && file < 0; one = one->ai_next) file = connected(one);
     freeaddrinfo(found);
+    if (file >= 0) fcntl(file, F_SETFL, O_NONBLOCK);
     return file;
 }
 
-static int opened_device(const char *name) {
+/* Octets with a wrong parity or stop bit are marked. */
+static int opened_device(const char *name, int *is_marked) {
     struct termios settings;
-    int file = open(name, O_RDWR | O_NOCTTY);
+    int file = open(name, O_RDWR | O_NOCTTY | O_NONBLOCK);
     if (file >= 0 && tcgetattr(file, &settings) == 0) {
         cfmakeraw(&settings);
-        tcsetattr(file, TCSAFLUSH, &settings);
+        settings.c_iflag = (settings.c_iflag & ~(tcflag_t)IGNPAR) | INPCK | PARMRK;
+        tcflush(file, TCIOFLUSH);
+        *is_marked = tcsetattr(file, TCSANOW, &settings) == 0;
     }
     return file;
 }
 
 int line_open(struct line *line, const char *name) {
     const char *colon = strrchr(name, ':');
-    line->damaged = 0;
-    hdlc_start(&line->reader);
-    line->file = colon != NULL && name[0] != '/' ? opened_socket(name, colon) : opened_device(name);
+    line->damaged = line->unsent = 0;
+    line->is_full = line->is_marked = line->marked = 0;
+    fio2070_wire_start(&line->heard, FIO2070_WIRE_ADDRESS, FIO2070_WIRE_CONTROL);
+    line->file = colon != NULL && name[0] != '/' ? opened_socket(name, colon) : opened_device(name, &line->is_marked);
     return line->file < 0 ? -1 : 0;
 }
 
+/* Whether a call failed only because the line was not ready for it. */
+static int is_not_ready(void) {
+    return errno == EAGAIN || errno == EWOULDBLOCK || errno == EINTR;
+}
+
 int line_send(struct line *line, const uint8_t *message, size_t length) {
-    uint8_t frame[HDLC_LONGEST_FRAME];
-    size_t count = hdlc_write(message, length, frame), sent = 0;
-    while (sent < count) {
-        ssize_t written = write(line->file, frame + sent, count - sent);
-        if (written < 0 && errno != EINTR) return -1;
-        if (written > 0) sent += (size_t)written;
-    }
+    uint8_t frame[FIO2070_WIRE_LONGEST];
+    size_t count = fio2070_wire_write(FIO2070_WIRE_ADDRESS, FIO2070_WIRE_CONTROL, message, length, frame, sizeof frame);
+    ssize_t written = write(line->file, frame, count);
+    if (written < 0 && !is_not_ready()) return -1;
+    line->is_full = written < (ssize_t)count;
+    line->unsent += (unsigned long)line->is_full;
     return 0;
 }
 
-int line_receive(struct line *line, void (*hear)(const uint8_t *message, size_t length)) {
+static void take(struct line *line, const uint8_t *octets, size_t count, hearer hear) {
+    size_t place = 0;
+    uint8_t heard;
+    while (place < count) {
+        place += fio2070_wire_read_many(&line->heard, octets + place, count - place, &heard);
+        if (heard == FIO2070_WIRE_DAMAGED) line->damaged++;
+        if (heard == FIO2070_WIRE_MESSAGE) hear(line->heard.octets + 2, fio2070_wire_message_length(&line->heard));
+    }
+}
+
+/* An octet that came with an error is lost. */
+static void take_marked(struct line *line, uint8_t octet, hearer hear) {
+    if ((line->marked == 0 && octet == 0xff) || (line->marked == 1 && octet == 0)) {
+        line->marked++;
+        return;
+    }
+    if (line->marked == 2) {
+        fio2070_wire_lose(&line->heard);
+    } else {
+        take(line, &octet, 1, hear);
+    }
+    line->marked = 0;
+}
+
+int line_receive(struct line *line, hearer hear) {
     uint8_t octets[4096];
     ssize_t count = read(line->file, octets, sizeof octets), place;
+    if (count < 0 && is_not_ready()) return 0;
     if (count == 0) errno = 0;
     if (count <= 0) return -1;
-    for (place = 0; place < count; place++) {
-        enum hdlc_result result = hdlc_read(&line->reader, octets[place]);
-        if (result == HDLC_DAMAGED) line->damaged++;
-        if (result == HDLC_MESSAGE) hear(line->reader.message, line->reader.length);
-    }
+    if (!line->is_marked) take(line, octets, (size_t)count, hear);
+    for (place = 0; line->is_marked && place < count; place++) take_marked(line, octets[place], hear);
     return 0;
+}
+
+void line_close(struct line *line) {
+    if (line->is_full) tcflush(line->file, TCOFLUSH);
+    close(line->file);
 }

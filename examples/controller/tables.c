@@ -1,4 +1,7 @@
 #define _DEFAULT_SOURCE
+/* Files above 2 GB, and times after 2038, on processors of 32 bits too. */
+#define _FILE_OFFSET_BITS 64
+#define _TIME_BITS 64
 #include "tables.h"
 
 #include <errno.h>
@@ -23,7 +26,7 @@ static void read_kept(struct tables *tables) {
     char line[64] = "";
     unsigned number = 0;
     if (read(tables->keep, line, sizeof line - 1) <= 0) return;
-    if (sscanf(line, "%u %ld %ld", &number, &tables->csv_kept, &tables->events_kept) != 3 || number > 255) return;
+    if (sscanf(line, "%u %lld %lld", &number, &tables->csv_kept, &tables->events_kept) != 3 || number > 255) return;
     tables->number = (uint8_t)number;
     tables->was_kept = 1;
 }
@@ -34,10 +37,10 @@ static void fail(const char *what) {
 }
 
 /* Writes what is held back. Returns the length of the file, 0 if there is none. */
-static long flushed(FILE *file) {
+static long long flushed(FILE *file) {
     if (file == NULL) return 0;
     if (fflush(file) != 0) fail("its tables");
-    return ftell(file);
+    return ftello(file);
 }
 
 /* Keeps a number, by one write. */
@@ -49,13 +52,13 @@ static void keep(struct tables *tables, uint8_t number) {
     flushed(tables->transcript);
     tables->may_be_written_before = 0;
     if (tables->keep < 0) return;
-    count = snprintf(line, sizeof line, "%03u %020ld %020ld\n", number, tables->csv_kept, tables->events_kept);
+    count = snprintf(line, sizeof line, "%03u %020lld %020lld\n", number, tables->csv_kept, tables->events_kept);
     if (pwrite(tables->keep, line, (size_t)count, 0) != count) fail("the number that it keeps");
 }
 
-static void cut(FILE *file, long length) {
+static void cut(FILE *file, long long length) {
     if (flushed(file) <= length) return;
-    if (ftruncate(fileno(file), length) != 0 || fseek(file, 0, SEEK_END) != 0) fail("its tables");
+    if (ftruncate(fileno(file), length) != 0 || fseeko(file, 0, SEEK_END) != 0) fail("its tables");
 }
 
 /* ---- Files ---- */
@@ -65,8 +68,8 @@ static FILE *opened(const char *name, int goes_on, const char *first) {
     FILE *file = fopen(name, goes_on ? "r+" : "w");
     if (file == NULL && goes_on) file = fopen(name, "w");
     if (file == NULL) return NULL;
-    fseek(file, 0, SEEK_END);
-    if (ftell(file) == 0) fputs(first, file);
+    fseeko(file, 0, SEEK_END);
+    if (ftello(file) == 0) fputs(first, file);
     return file;
 }
 

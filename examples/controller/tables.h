@@ -19,8 +19,8 @@ struct tables {
     int keep;                        /* a file, or -1 */
     int was_kept;                    /* a run before has kept its number, which is `number` */
     uint8_t number;
-    long csv_kept, events_kept; /* their lengths in octets when the number was kept */
-    int may_be_written_before;  /* the next block may be in the tables already */
+    long long csv_kept, events_kept; /* their lengths in octets when the number was kept */
+    int may_be_written_before;       /* the next block may be in the tables already */
     int on;                     /* the state of an input that is a detector's on, 0 or 1 */
     int channels[TABLES_INPUTS];
     long long clock_ms; /* the time of day when the module's counter was `stamp` */

@@ -11,7 +11,6 @@
 #include "firmware.h"
 
 #include "board.h"
-#include "hdlc.h"
 
 enum { ID = 2, LINK_RATE = 153600, TESTER_RATE = 115200, SCAN_US = 1000 };
 
@@ -26,7 +25,7 @@ struct firmware_counts counts;
 uint8_t answer[FIO2070_LONGEST_FRAME];
 
 static struct fio2070_module module;
-static struct hdlc_reader reader;      /* of the link */
+static struct fio2070_wire line;       /* what the link's UART receives */
 static uint64_t levels = ~(uint64_t)0; /* of the inputs */
 static uint32_t scanned_to;            /* the microsecond up to which scans are done: the handler's alone */
 
@@ -115,17 +114,25 @@ void link_interrupt(void) { uart_interrupt(&link_uart); }
 
 void tester_interrupt(void) { uart_interrupt(&tester_uart); }
 
-/* An octet of the link. A damaged frame is an error in receiving, and so is a frame that is no command. */
-static void link_octet(uint8_t octet) {
-    static uint8_t frame[HDLC_LONGEST_FRAME];
+static void send_answer(size_t count) {
+    static uint8_t frame[FIO2070_WIRE_LONGEST];
+    size_t length = fio2070_wire_write(FIO2070_WIRE_ADDRESS, FIO2070_WIRE_CONTROL, answer, count, frame, sizeof frame);
+    uart_send(&link_uart, frame, length);
+}
+
+/* An item of the link's ring. Damage is an error in receiving, and so is a message that is no command. A frame for another
+ * station is neither. */
+static void link_item(uint16_t item) {
     size_t count = FIO2070_NO_MESSAGE;
-    enum hdlc_result result = hdlc_read(&reader, octet);
-    if (result == HDLC_NOTHING) return;
-    if (result == HDLC_MESSAGE) count = receive(reader.message, reader.length);
+    uint8_t heard;
+    if (item & UART_LOSS) fio2070_wire_lose(&line);
+    heard = fio2070_wire_read(&line, (uint8_t)item);
+    if (heard == FIO2070_WIRE_NOTHING || heard == FIO2070_WIRE_OTHER) return;
+    if (heard == FIO2070_WIRE_MESSAGE) count = receive(line.octets + 2, fio2070_wire_message_length(&line));
     if (count == FIO2070_NO_MESSAGE) {
         count_receive_error();
     } else if (count > 0) {
-        uart_send(&link_uart, frame, hdlc_write(answer, count, frame));
+        send_answer(count);
     }
 }
 
@@ -139,14 +146,14 @@ static void sleep_until_octet(void) {
 int main(void) {
     const struct fio2070_limits limits = FIO2070_STANDARD_LIMITS;
     if (fio2070_module_start(&module, ID, limits) != FIO2070_STARTED) return 1;
-    hdlc_start(&reader);
+    fio2070_wire_start(&line, FIO2070_WIRE_ADDRESS, FIO2070_WIRE_CONTROL);
     uart_start(&link_uart, UART_LINK, LINK_RATE);
     uart_start(&tester_uart, UART_TESTER, TESTER_RATE);
     start_clock();
     scanned_to = MICROSECONDS - SCAN_US / 2; /* in the middle of two ticks: a tick is never counted as none or as two */
     for (;;) {
-        if (uart_has_octet(&link_uart)) link_octet(uart_take(&link_uart));
-        if (uart_has_octet(&tester_uart)) tester_octet(uart_take(&tester_uart));
+        if (uart_has_octet(&link_uart)) link_item(uart_take(&link_uart));
+        if (uart_has_octet(&tester_uart)) tester_item(uart_take(&tester_uart));
         sleep_until_octet();
     }
 }

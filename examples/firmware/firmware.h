@@ -41,7 +41,7 @@ uint32_t stack_used(void);
 
 /* ---- tester_lines.c ---- */
 
-/* Takes an octet of the second UART. */
-void tester_octet(uint8_t octet);
+/* Takes an item of the second UART's ring. */
+void tester_item(uint16_t item);
 
 #endif

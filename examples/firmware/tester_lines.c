@@ -91,15 +91,17 @@ static void answer_line(char *line) {
     }
 }
 
-void tester_octet(uint8_t octet) {
+void tester_item(uint16_t item) {
     static char line[LONGEST_LINE + 1];
     static size_t length;
+    char octet = (char)item;
+    if (item & UART_LOSS) length = LONGEST_LINE + 1;
     if (octet == '\r') return;
     if (octet != '\n') {
-        if (length <= LONGEST_LINE) line[length++] = (char)octet;
+        if (length <= LONGEST_LINE) line[length++] = octet;
         return;
     }
-    line[length <= LONGEST_LINE ? length : 0] = '\0'; /* a line that is too long is none */
+    line[length <= LONGEST_LINE ? length : 0] = '\0'; /* a line that is too long, or lost an octet, is none */
     length = 0;
     answer_line(line);
 }

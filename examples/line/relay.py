@@ -1,10 +1,12 @@
 #!/usr/bin/env python3
-"""A bad line between a controller and a module: it loses, damages, repeats and delays whole frames, each direction by itself.
+"""A bad line between a controller and a module: it loses, damages, repeats and delays frames, each direction by itself.
 
     relay.py [--lose P] [--damage P] [--repeat P] [--delay MS] [--seed N] PORT HOST:PORT
 
 It keeps what docs/PROTOCOL.md assumes of the bus: no frame overtakes another of its direction, and a repeat comes directly after
-its frame. A damaged frame has a wrong check, so it is lost too. At its end, by SIGINT or SIGTERM, it writes what it did."""
+its frame. Damage is of octets, wherever they are: bits turn, an octet is lost, a flag or an escape is broken or made, a frame is
+joined with the next one; and noise comes before the first frame. With octets lost or made, one damaged frame in 65,536 has a
+right check, so the dice have a seed. At its end, by SIGINT or SIGTERM, it writes what it did."""
 
 import argparse
 import asyncio
@@ -12,26 +14,74 @@ import collections
 import random
 import signal
 
-FLAG = b'\x7e'
+FLAG, ESCAPE = 0x7e, 0x7d
 FATES = 'lose', 'damage', 'repeat'
+MOST_NOISE = 100
+
+
+def turn(octets, dice):
+    """Turns one to three bits."""
+    for bit in dice.sample(range(8 * len(octets)), dice.randint(1, 3)):
+        octets[bit // 8] ^= 1 << bit % 8
+
+
+def drop(octets, dice):
+    """Loses an octet: not the flag at the end, since the next one would end the frame instead, late."""
+    del octets[dice.randrange(len(octets) - 1)]
+
+
+def make(octets, dice):
+    """Makes an octet a flag or an escape."""
+    octets[dice.randrange(len(octets))] = dice.choice((FLAG, ESCAPE))
+
+
+def spoil(octets, dice):
+    """Makes a flag or an escape another octet."""
+    octets[dice.choice([place for place, octet in enumerate(octets) if octet in (FLAG, ESCAPE)])] = dice.randrange(ESCAPE)
+
+
+def join(octets, _dice):
+    """Loses the flag at the end; the next frame comes without its first one."""
+    del octets[-1]
+
+
+DAMAGES = turn, drop, make, spoil, join
+
+
+class Damager:
+    """Damages some of the frames of one direction. A frame comes as its octets between two flags."""
+
+    def __init__(self, dice):
+        self.dice, self.is_joined = dice, False
+
+    def sent(self, frame, is_damaged):
+        """What is sent of a frame, and the name of its damage."""
+        octets = bytearray([FLAG] * (not self.is_joined)) + frame + bytes([FLAG])
+        damage = self.dice.choice(DAMAGES) if is_damaged else None
+        self.is_joined = damage is join
+        if damage:
+            damage(octets, self.dice)
+        return bytes(octets), damage and damage.__name__
 
 
 async def take(reader, queue, option, dice, counts):
     """Reads frames, and queues what becomes of each with the time when it is due."""
-    due = 0.0
+    due, damager = 0.0, Damager(dice)
+    if option.damage:
+        queue.put_nowait((due, dice.randbytes(dice.randrange(MOST_NOISE))))
     while True:
-        frame = (await reader.readuntil(FLAG))[:-1]
+        frame = (await reader.readuntil(bytes([FLAG])))[:-1]
         if not frame:
             continue
         fate = {kind: dice.random() < getattr(option, kind) for kind in FATES}
         counts.update(['frames', *(kind for kind in FATES if fate[kind])])
         if fate['lose']:
             continue
-        if fate['damage']:
-            frame = frame[:-1] + bytes([frame[-1] ^ 1])
+        octets, damage = damager.sent(frame, fate['damage'])
+        counts.update([damage] if damage else [])
         for _ in range(1 + fate['repeat']):
             due = max(due, asyncio.get_running_loop().time() + dice.uniform(0, option.delay / 1000))
-            queue.put_nowait((due, FLAG + frame + FLAG))
+            queue.put_nowait((due, octets))
 
 
 async def give(queue, writer):

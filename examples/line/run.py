@@ -36,7 +36,7 @@ def options():
     parser.add_argument('--rough', action='store_true', help='one frame in ten comes twice, and answers come up to 80 ms late')
     parser.add_argument('--restart', choices=('module', 'controller'), help='half way through, an end is ended and begun anew')
     parser.add_argument('--deadline', type=int, metavar='MS', help='how long the controller waits for an answer')
-    for name, default in ('lose', 0.1), ('damage', 0.02), ('repeat', 0.0):
+    for name, default in ('lose', 0.1), ('damage', 0.05), ('repeat', 0.0):
         parser.add_argument('--' + name, type=float, default=default, metavar='P', help='the part of frames, %s by default' % default)
     parser.add_argument('--delay', type=float, default=8.0, metavar='MS', help='the most that a frame is delayed')
     parser.add_argument('--seed', type=int, default=1)
@@ -156,9 +156,9 @@ def whole_run(option):
 
 
 def program_of(option):
-    """The command fio2070: the one that is named, the one of this tree if it is built, or that of the path."""
-    built = os.path.join(TOP, 'crates', 'fio2070', 'out', 'fio2070')
-    return option.program or (built if os.path.exists(built) else shutil.which('fio2070'))
+    """The command fio2070: the one that is named, the one of this tree, or that of the path."""
+    here = os.path.join(TOP, 'fio2070')
+    return option.program or (here if os.path.exists(here) else shutil.which('fio2070'))
 
 
 def said(program, tool, path):

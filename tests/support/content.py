@@ -5,6 +5,10 @@ import struct
 
 WIDE = 1 << 32
 ALL = frozenset(range(64))
+# Rules that the program does not have yet; each is switched on with it.
+# In a log that begins with both ends Y says that an earlier 58 came, so one was sent above the one that is answered; and P is
+# set at the start, and left while no 49 that was sent clears it.
+BEGUN = False
 BLOCK_END = 64                                 # in place of an input, above each of them
 
 
@@ -22,20 +26,28 @@ def is_before(time, other):
 
 class Record:
     """The record of a transcript's CPU, and the first breach of a rule on content. With `begun`, both ends begin with the
-    first line."""
+    first line; without it what is heard above the first command is passed over."""
 
     def __init__(self, text, begun=False):
         self.items, self.breach, self.number = [], None, None
-        self.command, self.loaded, self.watchdog = b'', False, False
-        self.clock, self.floor, self.seen = None, None, None
-        self.levels, self.times, self.watched, self.open = {}, {}, set(), set()
+        self.command, self.watchdog = b'', False
+        self.begun, self.excuses, self.watchdogs, self.left_p = begun, 0, 0, True
+        self.asked, self.since = False, set()
+        self.clock, self.floor, self.full, self.seen = None, None, None, None
+        self.levels, self.times, self.watched, self.shaded = {}, {}, set(), set()
+        self.clear, self.timely, self.hidden, self.reopened, self.touched = False, False, set(), set(), set()
+        self.told, self.unlogged, self.heard = {}, set(), begun
         self.last, self.taken, self.shut = {}, set(), set()
         self.least = {named: (1, 1) for named in ALL}
         if begun:
-            self.clock, self.floor, self.open, self.taken, self.shut = 0, (0, BLOCK_END), set(ALL), set(ALL), set(ALL)
+            self.clock, self.floor, self.full, self.taken, self.shut = 0, (0, BLOCK_END), 0, set(ALL), set(ALL)
+            self.clear = self.timely = True
             self.last = {named: (True, 5, 5) for named in ALL}
             self.least = {named: (5, 5) for named in ALL}
         for self.line, sent, octets in lines_of(text):
+            begun = begun or sent
+            if not begun:
+                continue
             (self.send if sent else self.hear)(octets)
             if self.breach:
                 break
@@ -45,16 +57,37 @@ class Record:
         self.command = octets
         if octets[0] == 54 and self.number is None:
             self.number = octets[1]
+        if octets[0] == 54 and not self.asked:
+            self.asked, self.since = True, set()
         if octets[0] == 50:
-            self.loaded, self.seen = True, None
-        for at in range(2, len(octets), 3) if octets[0] == 51 else ():
-            named, ignore = octets[at] & 127, octets[at] > 127
+            self.excuses = min(255, self.excuses + 1)
+        if octets[0] == 58:
+            self.watchdogs += 1
+        if octets[0] == 49 and octets[1] & 128:
+            self.left_p = False
+        items = {octets[at] & 127: octets[at:at + 3] for at in range(2, len(octets), 3)} if octets[0] == 51 else {}
+        for named, item in items.items():          # of each input the last one counts
             if named in ALL:
-                self.last[named] = ignore, octets[at + 1], octets[at + 2]
-                self.least[named] = min(self.least[named][0], octets[at + 1]), min(self.least[named][1], octets[at + 2])
-                self.taken.discard(named)
-                for hidden in (self.watched, self.open) if ignore else (self.shut,):
-                    hidden.discard(named)
+                self.configure(named, item[0] > 127, item[1], item[2])
+
+    def configure(self, named, ignore, leading, trailing):
+        """Takes the item of an input that counts."""
+        self.last[named] = ignore, leading, trailing
+        self.least[named] = min(self.least[named][0], leading), min(self.least[named][1], trailing)
+        self.taken.discard(named)
+        self.touched.add(named)
+        self.since.add(named)
+        self.told.pop(named, None)
+        self.unlogged.discard(named)
+        if ignore:
+            self.hidden.add(named)
+            self.shaded.add(named)
+            return
+        self.shut.discard(named)
+        if named in self.hidden:
+            self.reopened.add(named)
+        if named in self.shaded:
+            self.watched.discard(named)
 
     def hear(self, octets):
         """Takes an answer; a block answer only if it has the CPU's number."""
@@ -65,31 +98,38 @@ class Record:
             return self.breaks('done')
         if kind == 179 and status & 1 and not any(named & 127 > 63 for named in self.command[2::3]):
             return self.breaks('accepted')
-        if kind == 177 and octets[1] & self.command[1]:
+        if kind == 177 and (octets[1] & self.command[1] or self.knows_begin() and self.left_p and not octets[1] & 128):
             return self.breaks('cleared')
-        if kind == 186 and self.watchdog and not status & 1:
+        if kind == 186 and (self.watchdog and not status & 1 or self.knows_begin() and self.watchdogs < 2 and status & 1):
             return self.breaks('watchdog')
+        self.heard = self.heard or kind == 182
         timed = kind in (177, 180, 181) or kind == 182 and not octets[-5] & 2
         stamp = int.from_bytes(octets[-4:], 'big') if kind in (177, 180, 181, 182) else None
-        if timed and not self.loaded and self.clock is not None and is_before(stamp, self.clock):
-            return self.breaks('clock')
-        self.clock = stamp if timed else self.clock
+        if timed and self.clock is not None and is_before(stamp, self.clock):
+            if self.accuses('clock'):
+                return None
+        elif timed:
+            self.clock = stamp
         if kind == 182:
             self.take(octets, octets[-5], stamp)
         elif kind == 179 and not status & 1:
             self.taken |= {named & 127 for named in self.command[2::3]} & ALL
         elif kind == 186:
             self.watchdog = True
-        elif kind == 181 and not self.loaded:
+        elif kind == 181 and self.timely:
             self.seen = stamp, int.from_bytes(octets[1:9], 'little')
         return None
 
     def take(self, octets, status, stamp):
-        """Records a block, and settles what a clear block shows."""
+        """Records a block, and settles the inputs that it shows."""
+        self.asked = False
         self.number = (octets[1] + 1) % 256
+        self.late = self.full is not None and (stamp - self.full) % WIDE >= 65_536
+        if self.late:
+            self.seen = None
         if status & 4:
             self.items.append(None)
-            self.watched = set()
+            self.watched, self.seen, self.told = set(), None, {}
         for at in range(3, len(octets) - 5, 3):
             named, low = struct.unpack('>BH', octets[at:at + 3])
             wide = (stamp - (stamp - low) % 65_536) % WIDE
@@ -99,43 +139,78 @@ class Record:
             self.items.append((named & 127, named >> 7, low, wide))
         if status & 8:
             return
-        self.floor = (stamp, BLOCK_END) if self.floor or not status & 2 else None
         if self.seen and not is_before(stamp, self.seen[0]) and self.differs():
             return
-        if not status & 2:
-            self.open = set(ALL)
-            for named in self.taken:
-                ignore, *self.least[named] = self.last[named]
-                (self.shut.add if ignore else self.shut.discard)(named)
+        since = self.since if self.clear else ALL
+        self.clear, self.timely = self.clear or not status & 2, self.timely or self.heard and not status & 2
+        self.floor, self.full = ((stamp, BLOCK_END), stamp) if self.timely else (None, None)
+        # One that is sent again was made at an earlier poll for it, and took all entries that waited. So it settles what was sent
+        # above the first poll for it. That one is in the log if a clear block is above.
+        self.settle(ALL - since if status & 2 else ALL)
+
+    def settle(self, inputs):
+        """What was sent of these inputs was received, or is lost."""
+        for pending in (self.hidden, self.reopened, self.touched):
+            pending -= inputs
+        for named in self.taken & inputs:
+            ignore, *self.least[named] = self.last[named]
+            (self.shut.add if ignore else self.shut.discard)(named)
 
     def enter(self, named, state, wide):
         """Judges an entry, and keeps it."""
         if self.seen and wide != self.seen[0] and not is_before(wide, self.seen[0]) and self.differs():
             return None
-        if self.floor and not self.loaded:
+        known = self.timely and not self.late
+        if self.floor and known:
             time, above = self.floor
-            if is_before(wide, time) or wide == time and named <= above:
-                return self.breaks('fresh' if above == BLOCK_END else 'order', named)
+            if (is_before(wide, time) or wide == time and named <= above) and self.accuses(
+                    'fresh' if above == BLOCK_END else 'order', named):
+                return None
         if named in self.watched and self.levels[named] == state:
             return self.breaks('alternate', named)
-        if named in self.times and not self.loaded and \
-                (wide - self.times[named]) % WIDE < max(1, self.least[named][state]):
-            return self.breaks('apart', named)
+        if named in self.times and known and (wide - self.times[named]) % WIDE < max(1, self.least[named][state]) and self.accuses(
+                'apart', named):
+            return None
         if named in self.shut:
             return self.breaks('ignored', named)
-        if self.floor:
-            self.floor, self.times[named] = (wide, named), wide
+        if (self.told.pop(named, None) == state or named in self.unlogged) and self.accuses('state', named):
+            return None
+        self.floor = (wide, named) if self.timely and not self.late else None
+        self.times.pop(named, None)
+        if self.timely and not self.late:
+            self.times[named] = wide
         self.levels[named] = state
-        (self.watched.add if named in self.open else self.watched.discard)(named)
+        (self.watched.add if self.clear and named not in self.reopened else self.watched.discard)(named)
+        (self.shaded.add if named in self.hidden else self.shaded.discard)(named)
         return None
 
     def differs(self):
-        """The record has come to the states of the latest 181: an input has another one."""
-        others = [named for named in self.watched if self.levels[named] != self.seen[1] >> named & 1]
+        """The record has come to the states of the latest 181: an input has another one. What it says of each input is told of
+        its next entry."""
+        states = {named: self.seen[1] >> named & 1 for named in ALL}
+        others = [named for named in self.watched - self.shaded if self.levels[named] != states[named]]
+        for named in ALL - self.touched:
+            if self.told.get(named, states[named]) != states[named]:
+                self.unlogged.add(named)
+        self.told = {named: states[named] for named in ALL - self.touched}
         self.seen = None
-        if others:
-            self.breaks('state', min(others))
-        return others
+        return bool(others) and self.accuses('state', min(others))
+
+    def knows_begin(self):
+        """Whether it is known how the ends began."""
+        return BEGUN and self.begun
+
+    def accuses(self, rule, named=None):
+        """A rule on time is broken. Returns whether nothing excuses it. A load that was sent excuses one breach, since the counter
+        may have jumped: all that is known of times is forgotten, till the end of a clear block that is heard below. 255 excuses
+        are never used up."""
+        if not self.excuses:
+            self.breaks(rule, named)
+            return True
+        self.excuses -= self.excuses < 255
+        self.timely, self.heard, self.clock, self.floor, self.full, self.seen = False, False, None, None, None, None
+        self.times, self.told, self.unlogged = {}, {}, set()
+        return False
 
     def breaks(self, rule, named=None):
         """Keeps the first breach."""

@@ -7,14 +7,16 @@ import re
 import shutil
 import subprocess
 
-from support.tables import TOP
+from support.tables import CAN_PROVE, TOP
 
 SOURCES = os.path.join(TOP, 'tests/support/c')
 FLAGS = ['-std=c99', '-mcpu=cortex-m4', '-mthumb', '-ffunction-sections', '-fdata-sections']
 COMPILER, QEMU = 'arm-none-eabi-gcc', 'qemu-system-arm'
-# The parts of the library, each with the names of its calls; `all` has every call of the header.
+# The parts of the library, each with the names of its calls; `all` has every call of the header but those on logs, and `with
+# logs` has these too.
 PARTS = {'module': r'sized_module_', 'poller': r'poller_',
-         'codec': r'(en|de)code_|command_items|read_block|block_entries|widen|fault_text', 'all': ''}
+         'codec': r'(en|de)code_|command_items|read_block|block_entries|widen|fault_text', 'all': '(?!log_)',
+         'with logs': ''}
 
 
 class Failed(Exception):
@@ -34,6 +36,15 @@ def run(*words):
     if done.returncode:
         raise Failed('%s: status %d %s' % (words[0], done.returncode, done.stderr[-500:]))
     return done.stdout
+
+
+@functools.cache
+def library():
+    """The folder of the portable library: without the kit dist/, else what `make portable` makes of the sources."""
+    if not CAN_PROVE:
+        return os.path.join(TOP, 'dist')
+    run('make', '-s', '-C', TOP, 'portable')
+    return os.path.join(TOP, 'portable')
 
 
 @functools.cache
@@ -64,3 +75,13 @@ def code_of(folder, options, library, part):
     run(COMPILER, *FLAGS, '-nostdlib', '-Wl,--gc-sections,--unresolved-symbols=ignore-all,-e,0', *roots,
         compiled(folder, library, *options), '-o', made)
     return sum(int(number) for number in run('arm-none-eabi-size', made).splitlines()[1].split()[:2])
+
+
+def measured(folder, options, library):
+    """What is counted of the library with these options: kind -> name -> number."""
+    found = {'code': {part: code_of(folder, options, library, part) for part in PARTS}, 'instructions': {}, 'stack': {}}
+    for line in output_of(folder, options, library, 'cortex_m/counts.c', ['counts']).splitlines():
+        kind, rest = line.split(' ', 1)
+        name, number = rest.rsplit(' ', 1)
+        found[kind][name] = int(number)
+    return found

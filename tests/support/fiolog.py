@@ -24,13 +24,20 @@ class Done(NamedTuple):
 
 def use_library(check, name):
     """Lets this process import the packages. If there is no library, skips the rows of this name, and ends."""
+    if not may_use_library(check, name):
+        check.end()
+
+
+def may_use_library(check, name):
+    """Lets this process import the packages. If there is no library, skips the rows of this name."""
     if not os.path.exists(LIBRARY):
         check.skip(name, 'no libfio2070.so here (make library)')
-        check.end()
+        return False
     os.environ['FIO2070_LIBRARY'] = LIBRARY
     sys.path.insert(0, PACKAGES)
     from support.standin.sitecustomize import stand_in
     stand_in()
+    return True
 
 
 def fiolog(*words, text='', is_text=True):

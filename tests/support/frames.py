@@ -1,7 +1,6 @@
 """Frames and transcripts for the checks of the tools outside the proof: those of the protocol's tables, those of
 `examples/`, and random ones."""
 
-import binascii
 import glob
 import os
 import random
@@ -21,15 +20,6 @@ b606020c0001bf00020f000000ff b60701ffffff04ffffffff b60801400000f000000000
 '''.split()
 LONG_MESSAGES = ['b605ff' + '8c03e7' * 255 + '08000003e8', '33ff' + '0c0503' * 255, '38' + '5a' * 772, '30' * 773,
                  '30' * 774, 'b6' * 900, 'bb' + '00' * 773]
-
-
-def frame_check(octets):
-    """FCS-16, low octet first, by the CRC of the standard library, whose bits run the other way."""
-    def turned(number, bits):
-        return int(format(number, '0%db' % bits)[::-1], 2)
-
-    check = binascii.crc_hqx(bytes(turned(octet, 8) for octet in octets), 0xffff)
-    return (turned(check, 16) ^ 0xffff).to_bytes(2, 'little')
 
 
 def table_frames():

@@ -100,7 +100,14 @@ STRUCTURES = {
     'branch_out': START + 'block (result i64) block (result i64) i64.const 12 br 1 end i64.const 1 i64.add end',
     'early_return': START + 'i32.const 1 if i64.const 31 return end i64.const 5',
     'nothing': 'nop i64.const 3 nop',
-    'calls': START + loop('$a', 1, 9, 'i32.const 7 local.get $a call $combined ' + MIX) + 'local.get $all',
+    'calls': START + loop('$a', 1, 9, 'i32.const 7 local.get $a call $far ' + MIX) + 'local.get $all',
+    'small_functions': START + loop('$a', 1, 9, 'i32.const 7 local.get $a call $combined ' + MIX) + 'local.get $all',
+    'locals_of_a_small_function': START + loop('$a', 1, 9, 'local.get $a call $sum ' + MIX) + 'local.get $all',
+    'return_of_a_small_function': START + loop('$a', 1, 9, 'local.get $a call $least ' + MIX) + 'local.get $all',
+    'small_functions_of_two_ways': START + loop('$a', 1, 9, 'local.get $a i64.const 3 i64.and i64.eqz if (result i64) local.get $a call '
+                                                '$sum else local.get $a call $least end ' + MIX) + 'local.get $all',
+    'store_of_a_small_function': START + loop('$a', 8, 800, 'local.get $a i64.const 8 i64.add local.get $a call $put local.get $a i64.load '
+                                              + MIX) + all_memory(),
     'globals': 'i64.const 900 global.set $other global.get $other i64.const 1 i64.add global.set $other global.get $other',
     'tees': START + 'i64.const 5 local.tee $a local.get $a i64.mul local.tee $b local.get $b i64.add',
     'copies': START + loop('$a', 1, 64, 'local.get $a local.get $a i64.const 3 i64.mul i64.store8 ')
@@ -132,6 +139,8 @@ STRUCTURES = {
     'short_remainder_by_zero': 'i32.const 4 i32.const 0 i32.rem_u i64.extend_i32_u',
     'far_load': 'i64.const 200000 i64.load8_u',
     'farther_load': 'i64.const 0x500000000 i64.load8_u',
+    'load_from_an_object_beyond_the_last': 'i64.const 0x100000000 i64.load8_u',
+    'load_whose_end_wraps': 'i64.const 0xFFFFFFFC i64.load',
     'farthest_load': 'i64.const -8 i64.load8_u',
     'far_store': 'i64.const 200000 i64.const 1 i64.store8 i64.const 1',
     'far_copy': 'i64.const 0 i64.const 200000 i64.const 1 memory.copy i64.const 1',
@@ -197,9 +206,14 @@ STRUCTURES.update({
     + 'local.get $all',
 })
 
-# Their result, their frame; the position of the last eight octets of the stack.
+# Small functions, one that is not, one with a frame; the position of the last eight octets of the stack.
 FUNCTIONS = '''(func $combined (param $w i32) (param $n i64) (result i64)
   local.get $n local.get $w i64.extend_i32_u i64.mul local.get $n i64.const 3 i64.add i64.xor)
+(func $far (param $w i32) (param $n i64) (result i64)
+  global.get $other drop local.get $n local.get $w i64.extend_i32_u i64.mul local.get $n i64.const 3 i64.add i64.xor)
+(func $sum (param $n i64) (result i64) (local $all i64) local.get $all local.get $n i64.add local.tee $all)
+(func $least (param $n i64) (result i64) local.get $n i64.const 4 i64.lt_u if i64.const 4 return end local.get $n)
+(func $put (param $at i64) (param $n i64) local.get $at local.get $n i64.store)
 (func $end (result i64) i64.const 1016)
 (func $with_frame (result i64) (local $at i64)
   global.get 0 i64.const 48 i64.sub local.tee $at global.set 0
@@ -231,7 +245,8 @@ OUTSIDE = [(name, START + text) for name, text in {
     'run_past_the_data': 'i32.const %d i64.extend_i32_u local.set $a local.get $a i64.load8_u local.get $a i64.load offset=1 '
     'i64.add' % (END - 8),
     'run_past_the_stack': 'call $end local.tee $a i64.const 1 i64.store8 local.get $a i64.const 1 i64.store16 offset=7 i64.const 1',
-    'across_stack_and_data': 'i64.const %d i64.load' % (DATA - 4),
+    'store_across_stack_and_data': 'i64.const %d i64.const 1 i64.store i64.const 1' % (DATA - 4),
+    'store_of_a_small_function_past_the_stack': 'i64.const %d i64.const 1 call $put i64.const 1' % (DATA - 7),
     'store_to_the_data': 'i64.const %d i64.const 1 i64.store8 i64.const 1' % DATA,
     'loop_past_the_stack': straight('i64.const 4 local.set $n i64.const %d local.set $a ' % (DATA - 24), 'local.get $a local.get $n '
                                     'i64.store ' + stepped('$a', 8), COUNTED_DOWN)[len(START):] + 'i64.const 1',
@@ -257,13 +272,14 @@ REFUSED = [(name, '(result i64) %s i64.const 0' % text) for name, text in {
     'f32.add': 'f32.const 1 f32.const 1 f32.add drop', 'i32.trunc_f32_s': 'f32.const 1 i32.trunc_f32_s drop',
     'i64.trunc_sat_f64_u': 'f64.const 1 i64.trunc_sat_f64_u drop', 'memory.size': 'memory.size drop',
     'memory.grow': 'i64.const 1 memory.grow drop', 'v128.const': 'v128.const i32x4 1 1 1 1 drop',
+    'call_indirect': 'i32.const 0 call_indirect (result i64) drop',
     'i32.reinterpret_f32': 'f32.const 1 i32.reinterpret_f32 drop', 'select with a type': 'i64.const 1 i64.const 1 i32.const 1 '
     'select (result i64) drop', 'a loop with a parameter': 'i64.const 1 loop (param i64) drop end'}.items()]
 
 
 def module_text(functions):
-    """A module with these functions, each exported, and with the numbers after its memory that is written."""
+    """A module with these functions, each exported, with the numbers after its memory that is written, and with a table."""
     data = ''.join('\\%02x' % octet for number in NUMBERS for octet in number.to_bytes(8, 'little'))
-    return ('(module (memory i64 2)\n(global (mut i64) (i64.const %d))\n(global $other (mut i64) (i64.const 5))\n'
+    return ('(module (memory i64 2)\n(table 1 funcref)\n(elem (i32.const 0) $end)\n(global (mut i64) (i64.const %d))\n(global $other (mut i64) (i64.const 5))\n'
             '(data (i64.const %d) "%s")\n%s%s)' % (DATA, DATA, data, FUNCTIONS, ''.join(
                 '(func (export "%s") %s)\n' % function for function in functions)))

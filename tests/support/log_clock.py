@@ -1,14 +1,17 @@
-"""The independent model of the reader of logs, its times: the first in a line. They are reported with a frame; they find none."""
+"""The reference model of the reader of logs, its times: the first in a line. They are reported with a frame; they find none."""
+
+import re
 
 DIGITS, MONTHS = set('0123456789'), ['jan', 'feb', 'mar', 'apr', 'may', 'jun', 'jul', 'aug', 'sep', 'oct', 'nov', 'dec']
 HEX = set('0123456789abcdefABCDEF')
+UNIT = re.compile(' (m|u|n|\u00b5|\u03bc)s(?!\\w)')
 
 
 def is_word(char):
     return char.isalnum() or char == '_'
 
 
-FORMS = ['Y-M-D_h:m:s', 'Y/M/D_h:m:s', 'D.M.Y_h:m:s', 'M/D/Y_h:m:s', 'N_D_h:m:s', 'h:m:s', 'E', 'F']
+FORMS = ['Y-M-D_h:m:s', 'Y/M/D_h:m:s', 'Y.M.D_h:m:s', 'D.M.Y_h:m:s', 'M/D/Y_h:m:s', 'N_D_h:m:s', 'h:m:s', 'E', 'F']
 
 
 def field(text, place, most):
@@ -58,9 +61,13 @@ def time_at(text, start, form):
             place = end
     if place < len(text) and (is_word(text[place]) and text[place] != 'Z' or text[place] == ':' and text[place + 1:place + 2] in HEX):
         return None
-    half = text[place:].lstrip(' ')[:2].upper()
-    if half in ('AM', 'PM'):
+    if text[place:place + 1] == '.' and text[place + 1:place + 2] in DIGITS and text[place + 1:place + 2] or UNIT.match(text, place):
+        return None
+    blanks = len(text[place:]) - len(text[place:].lstrip(' '))
+    half, behind = text[place + blanks:place + blanks + 2].upper(), text[place + blanks + 2:place + blanks + 3]
+    if half in ('AM', 'PM') and not is_word(behind):
         parts['h'] = parts.get('h', 0) % 12 + 12 * (half == 'PM')
+        place += blanks + 2
     return (place, parts) if parts.get('h', 0) < 24 and parts.get('m', 0) < 60 and parts.get('M', 1) < 13 else None
 
 

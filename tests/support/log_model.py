@@ -1,12 +1,13 @@
-"""The independent model of the reader of logs, line by line, as docs/CAPTURES.md defines it. `LogReader` has the interface of
+"""The reference model of the reader of logs, line by line, as docs/CAPTURES.md defines it. `LogReader` has the interface of
 `fio2070.LogReader`: the tests of the library compare the two, and `fiolog` runs on it where the library has no such class."""
 
 import re
 from typing import NamedTuple, Optional, Tuple
 
 from support.log_clock import DIGITS, HEX, MONTHS, without_time
+from support.log_sources import Sources, numbers_in
 from support.log_runs import (BLANK, HELD, LATER, LINE, LOOSE, MOST, ROW, SHAPES, WORD, YOUNG, frames_of, hex_runs, is_pair, lacks,
-                              remark_of, runs, spells)
+                              length_of, remark_of, runs, spells)
 
 NO_OCTETS, NO_MESSAGE, SHORT, SEVERAL, LONGER, TOO_LONG, BAD_LINE = (
     'no octets', 'no message', 'short message', 'several messages', 'may be longer', 'too long', 'bad line')
@@ -82,8 +83,8 @@ def beginning(text, heads):
 def rest_of(text, octets):
     """What stands behind octets, without a column of their characters, and without separators."""
     if text[:2] in ('  ', ' |') or text[:1] in ('\t', '|'):
-        column = iter(text)
-        if len(text.strip(' \t|')) <= len(octets) + 1 and all(chr(one) in column for one in octets if 32 < one < 127):
+        shown, column = text.strip(' \t|'), ''.join(chr(one) if 32 <= one < 127 else '.' for one in octets.strip(b' |'))
+        if shown == column or abs(len(shown) - len(octets)) <= 1 and not re.search('[0-9A-Za-z]{2}', text):
             return ''
     return text.strip(' \t,;\\')
 
@@ -117,15 +118,27 @@ def said_in(text, start):
 class Said:
     """A run with what stands around it."""
     def __init__(self, run, line, number, text):
-        self.run, self.octets, self.frames, self.sure = run, run.octets, run.frames, run.sure
+        self.run, self.octets, self.frames, self.sure, self.certain = run, run.octets, run.frames, run.sure, run.sure
         self.before, self.tail = masked(line[:run.start]), text[run.end:].strip(' \t,;')
+        self.letters = masked(line[:run.start], True)
         self.after = rest_of(text[run.end:], run.octets)
         self.shape, self.ways = (self.before, run.mark, masked(self.after)), run.ways
-        self.places, self.key = [(number, run.start, run.end)], self.shape[:2]
+        self.places, self.key, self.is_column = [(number, run.start, run.end)], self.shape[:2], False
+        self.numbers, self.side = numbers_in(line[:run.start], run.octets), said_in(text, run.start)
+
+    def is_whole(self):
+        """Whether it is all of its line, without marks."""
+        return not self.before and not self.tail and self.run.mark == ('', '')
+
+    def may_pair(self):
+        """Whether it may be of a pair: one octet beside words that are not for the direction may be any number."""
+        has_words = self.before != self.letters
+        return len(self.octets) > 1 or (not has_words or direction_of(self.before) != '') and not self.tail
 
     def is_bare(self):
         """Whether a line is nothing but a message, perhaps behind a number, a time and its right direction."""
-        is_directed = direction_of(self.before) == '<>'[self.octets[0] < 128] and len(self.octets) > 1 and self.octets[0] not in LOOSE
+        first = self.frames[0]
+        is_directed = not self.is_column and direction_of(self.before) == '<>'[first[0] < 128] and len(first) > 1 and first[0] not in LOOSE
         return (is_directed or not self.before) and not self.tail and (
             self.run.mark[0] not in ('literal', 'numbers') and not (self.ways and all(way[0] == 0 for way in self.ways)))
 
@@ -137,6 +150,9 @@ class Line:
         self.time, self.masked, place = (None, '', 0) if self.is_long else without_time(text)
         self.said = [Said(run, self.masked, number, text) for run in runs(self.masked)]
         self.fits = [one for one in self.said if one.frames]
+        # One octet beside a longer message is a number.
+        longest = max((len(one.octets) for one in self.fits), default=0)
+        self.fits = [one for one in self.fits if len(one.octets) > 1 or longest == 1]
         self.time = None if any(len(one.octets) > 1 and one.run.start < place for one in self.said) else self.time
 
 
@@ -145,7 +161,7 @@ class Line:
 class Entry:
     """Lines that stand or fall together. `kind` is None while it waits."""
     def __init__(self, line, said, join=None, heading=None):
-        self.numbers, self.said, self.fits, self.join = [line.number], said, [one for one in said if one.frames], join
+        self.numbers, self.said, self.fits, self.join = [line.number], said, line.fits if said else [], join
         self.time, self.kind, self.reason, self.frames, self.until, self.places = line.time, None, '', [], None, []
         self.text, self.whole = line.masked, line.text
         self.time = heading if self.time is None else self.time
@@ -176,7 +192,9 @@ class Reader:
         self.shapes, self.widths, self.tallies, self.queue, self.open, self.step = {}, {}, {}, [], None, None
         # The marks and separators of frames, what is before their octets, and the words after them.
         self.ways, self.heads, self.tails = set(), set(), set()
-        self.count, self.others, self.above, self.heading = 0, 0, None, None
+        # The marks of messages that have an octet with a zero first.
+        self.filled = set()
+        self.count, self.others, self.above, self.heading, self.sources = 0, 0, None, None, Sources()
 
     def feed(self, number, text):
         line = Line(number, cleaned(text))
@@ -201,7 +219,8 @@ class Reader:
         if entry.kind is None:
             one = entry.fits[0]
             others = self.tallies.get(one.key, (0, 1))[1] if one.before else self.others or self.shapes
-            one.sure = len(entry.fits) == 1 and one.is_bare() and not others
+            one.sure = len(entry.fits) == 1 and one.is_bare() and not others and not (one.shape in self.shapes and self.sources.is_another(one)) and not (
+                self.sources.is_against(one))
             self.take(entry, one) if one.sure else self.pass_over(entry)
 
     def begin(self, line):
@@ -220,9 +239,12 @@ class Reader:
         elif not any(one.sure for one in line.fits):
             tails = {one.octets: one for one in line.said if not one.after and len(one.octets) >= ROW
                      and (lacks(one.octets) or one.frames and one.octets[0] in LOOSE)}
-            last = last_run(line)
+            last, only = last_run(line), line.said[0] if len(line.said) == 1 else None
             if len(tails) == 1:
                 self.open = Entry(line, line.said, Join('wrap', *tails.values(), line), heading)
+            elif only and only.is_whole() and len(only.octets) >= ROW and not only.frames and not lacks(only.octets) and (
+                    0 < (length_of(only.octets) or 0) < len(only.octets)):
+                self.open = Entry(line, line.said, Join('stream', only, line), heading)
             elif last and len(last.octets) == 1 and not any(len(one.octets) > 1 for one in line.fits) and (
                     last.before, last.run.mark) not in self.tallies:
                 self.open = Entry(line, line.said, Join('burst', last, line))
@@ -236,7 +258,7 @@ class Reader:
 
     def goes_on(self, line):
         entry, join = self.open, self.open.join
-        way = {'wrap': self.wraps, 'dump': self.dumps, 'burst': self.bursts}[join.way](join, line)
+        way = {'wrap': self.wraps, 'dump': self.dumps, 'burst': self.bursts, 'stream': self.streams}[join.way](join, line)
         if way:
             entry.numbers.append(line.number)
             if way != 'more':
@@ -266,29 +288,41 @@ class Reader:
             return ''
         if not (spells(total) or lacks(total) or frames_of(total, False)[0]):
             return ''
-        if not hangs and self.widths.get(first.shape[:2]) != join.width:
-            fits = any(one.frames for one in line.said if one is row)
-            if is_loose and fits:
-                return ''
-            if is_loose or fits:
-                join.bad = LONGER
-        elif not hangs and is_loose and row.sure:
+        is_open, is_last = not (spells(total) or frames_of(total, False)[0]), len(row.octets) < join.width
+        if not hangs and row.sure and (is_loose or is_open):
             return ''
+        if not hangs and self.widths.get(first.shape[:2]) != join.width:
+            may_be_other = row.frames and (is_last or first.before)
+            if row.frames and is_loose or may_be_other and not is_loose and is_open and not is_last:
+                return ''
+            if not row.frames if is_loose else may_be_other:
+                join.bad = LONGER
         join.add(row, line)
         join.same |= not hangs
         over = not lacks(join.octets) and (not is_loose or len(row.octets) < join.width) or join.bad
         return 'end' if over else 'more'
 
+    def streams(self, join, line):
+        """Whether a line is the next row of messages, one after another."""
+        row = line.said[0] if len(line.said) == 1 else None
+        first = join.first
+        if not row or row.run.mark != first.run.mark or not row.is_whole() or row.sure or not join.last == join.width >= len(row.octets) or (
+                row.ways and first.ways and not row.ways & first.ways) or len(join.octets) > MOST:
+            return ''
+        join.add(row, line)
+        return 'more' if len(row.octets) == join.width else 'end'
+
     def bursts(self, join, line):
         row = last_run(line)
-        if not row or row.run.mark != join.first.run.mark or len(row.octets) > (2 if len(join.octets) > 2 else 1) or (
-                len(join.octets) > MOST):
+        if not row or row.run.mark != join.first.run.mark or len(join.octets) > MOST or any(
+                len(one.octets) > len(row.octets) for one in line.fits) or not (
+                len(row.octets) == 2 and len(join.octets) > 2 or len(row.octets) == 1 and row.key not in self.tallies):
             return ''
         if line.time is None or join.time is None:
             if row.before != join.first.before:
                 return ''
         else:
-            if masked(row.before, True) != masked(join.first.before, True):
+            if masked(row.before, True) != masked(join.first.before, True) or row.side != join.first.side:
                 return ''
             step = line.time - join.time
             if self.step is not None and step > 2.5 * self.step:
@@ -303,16 +337,19 @@ class Reader:
         entry, self.open = self.open, None
         join = entry.join
         one = join.first
-        if len(entry.numbers) == 1 and join.way != 'dump' and (join.way == 'wrap' or (masked(one.before, True), one.run.mark,
+        if len(entry.numbers) == 1 and join.way != 'dump' and (join.way in ('wrap', 'stream') or (masked(one.before, True), one.run.mark,
                                                                                      'burst') not in self.shapes):
             self.decide(entry)
             return
-        one.octets, one.places = join.octets, join.places
+        one.octets, one.places, one.is_column = join.octets, join.places, join.way == 'burst' and one.run.mark == ('', '')
         one.frames, one.sure = frames_of(join.octets, join.way != 'wrap')
-        one.shape = (masked(one.before, True) if join.way == 'burst' else one.before, one.run.mark, join.way) if join.way != 'wrap' else one.shape
-        one.ways = one.ways if join.way == 'wrap' else None
-        one.key = one.shape if join.way != 'wrap' else one.key
+        one.certain = one.sure
+        one.shape = (masked(one.before, True) if join.way == 'burst' else one.before, one.run.mark, join.way) if join.way not in ('wrap', 'stream') else one.shape
+        one.ways = one.ways if join.way in ('wrap', 'stream') else None
+        one.key = one.shape if join.way not in ('wrap', 'stream') else one.key
         entry.said, entry.fits = [one], [one] if one.frames and not join.bad else []
+        if join.way == 'dump' and one.frames:
+            self.filled.add(one.run.mark)
         if join.same and one.sure and not join.bad:
             self.widths[one.shape[:2]] = join.width
         if join.bad:
@@ -330,10 +367,12 @@ class Reader:
             return
         self.tally(entry.fits, 0)
         self.others += not (len(entry.fits) == 1 and entry.fits[0].is_bare())
-        above, self.above = self.above, entry
+        above = self.above
+        if any(one.may_pair() for one in entry.fits):
+            self.above = entry
         if above:
-            pairs = [(a, b) for a in above.fits for b in entry.fits if is_pair(a, b) and above.chosen in (None, a)
-                     and self.is_mostly_good(a) and self.is_mostly_good(b)]
+            pairs = [(a, b) for a in above.fits for b in entry.fits if is_pair(a, b) and a.may_pair() and above.chosen in (None, a)
+                     and self.is_mostly_good(a) and self.is_mostly_good(b) and not self.sources.is_against(a) and not self.sources.is_against(b)]
             if len({(a.octets, b.octets) for a, b in pairs}) == 1:
                 for a, b in pairs:
                     a.sure = b.sure = True
@@ -341,12 +380,14 @@ class Reader:
                     self.judge(above)
         self.judge(entry)
         if entry.kind is None:
-            entry.until = max(self.count + LATER, YOUNG)
+            strange = [one for one in entry.said if len(one.octets) > 1][-1:]
+            strange = any(one.shape in self.shapes and self.sources.is_another(one) for one in strange)
+            entry.until = float('inf') if strange else max(self.count + LATER, YOUNG)
 
     def judge(self, entry):
         """Takes the one message that a line says surely, or in a shape that is known; or a command and its answer."""
         known = [one for one in entry.fits if self.is_known(one)]
-        sure = [one for one in entry.fits if one.sure and not self.lost_a_digit(one) or one in known]
+        sure = [one for one in entry.fits if one.certain or one.sure and not self.lost_a_digit(one) or one in known]
         pairs = [(a, b) for a in entry.fits for b in entry.fits if a.run.end <= b.run.start and is_pair(a, b)]
         if len({(a.octets, b.octets) for a, b in pairs}) == 1:
             self.take(entry, *pairs[0])
@@ -362,24 +403,30 @@ class Reader:
         for shape in {one.key for one in said if len(one.octets) > 1}:
             if shape in self.tallies or len(self.tallies) < SHAPES:
                 self.tallies.setdefault(shape, [0, 0])[place] += 1
+                one = next(one for one in said if one.key == shape and len(one.octets) > 1)
+                (self.sources.add_bad if place else self.sources.add_good)(one)
+                if not place and any(way[0] == 2 and (0, way[1]) not in one.ways for way in one.ways or () if way != 'word' and len(way) == 2):
+                    self.filled.add(one.run.mark)
 
     def is_known(self, one):
         ways = self.shapes.get(one.shape)
-        return ways is not None and self.is_mostly_good(one) and (one.ways is None or bool(ways & one.ways))
+        return ways is not None and self.is_mostly_good(one) and not self.lost_a_digit(one) and (one.ways is None or bool(ways & one.ways)) and not (
+            self.sources.is_another(one) or one.frames and self.sources.is_against(one))
 
     def is_mostly_good(self, one):
         """Whether at least half of the lines that have before a run what this one has say messages."""
         good, bad = self.tallies.get(one.key, (1, 0))
-        return good >= bad
+        return self.sources.is_mostly_good(one, good >= bad)
 
     def lost_a_digit(self, one):
-        """Whether it has octets of one digit where the others of its shape have two."""
-        ways = self.shapes.get(one.shape, ())
-        return bool(one.ways) and all(way[0] == 0 and (2, way[1]) in ways for way in one.ways)
+        """Whether it has an octet of one digit, and a message with its marks has one with a zero first."""
+        return bool(one.ways) and all(way[0] == 0 for way in one.ways) and one.run.mark in self.filled
 
     def take(self, entry, *found):
         entry.settle('frames', '', found)
         entry.chosen, new = found[-1], False
+        for one in found:
+            self.sources.agree(one)
         self.count += 1
         for same in entry.fits:
             if same.sure and len(same.octets) > 1 and any(same.frames == one.frames for one in found) and (
@@ -389,8 +436,8 @@ class Reader:
                 self.tails.add(tuple(words_of(masked(same.after))))
                 ways = self.shapes.setdefault(same.shape, set())
                 size = len(ways)
-                ways |= {(2, way[1]) if (2, way[1]) in same.ways else way for way in same.ways or ()}
-                new |= len(ways) > size or not size
+                ways |= set(same.ways or ())
+                new |= self.sources.learn(same) or len(ways) > size or not size
         for other in self.queue if new else ():
             if other.kind is None and other is not self.open:
                 self.judge(other)
@@ -470,9 +517,13 @@ def offset_row(line):
         {int(digits, 8)} if set(digits) <= set('01234567') else set())
     found = [run for run in hex_runs(text, place) if run.start == place]
     best = max(found, key=lambda run: run.end, default=None)
-    if not best and place < len(text):
+    # A word of one digit may have lost one.
+    if place < len(text) and (not best or best.ways and all(way[0] == 0 for way in best.ways)):
         return None
-    return values, Said(best, text, line.number, text) if best else None
+    row = Said(best, text, line.number, text) if best else None
+    if row:
+        row.numbers = []
+    return values, row
 
 
 # 3. Its interface -------------------------------------------------------------------------------------------------------

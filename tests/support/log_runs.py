@@ -1,6 +1,7 @@
-"""The independent model of the reader of logs: what octets say, and the runs of octets of a line. docs/CAPTURES.md has the
+"""The reference model of the reader of logs: what octets say, and the runs of octets of a line. docs/CAPTURES.md has the
 definition; each function is a scanner without regular expressions."""
 
+from support.line_model import frame_check
 from support.log_clock import DIGITS, HEX, is_word
 
 LENGTHS = {49: 2, 50: 5, 52: 1, 53: 1, 54: 2, 55: 17, 58: 2, 60: 1, 177: 8, 178: 2, 179: 2, 180: 13, 181: 13, 186: 2}
@@ -31,17 +32,8 @@ def lacks(octets):
     return length is None or length > len(octets) or octets[:1] == b'\x7e' and len(octets) < LONGEST + 8
 
 
-def check_of(octets):
-    check = 0xffff
-    for octet in octets:
-        check ^= octet
-        for _ in range(8):
-            check = check >> 1 ^ (0x8408 if check & 1 else 0)
-    return check ^ 0xffff
-
-
 def is_checked(octets):
-    return len(octets) > 4 and check_of(octets[:-2]) == int.from_bytes(octets[-2:], 'little')
+    return len(octets) > 4 and frame_check(octets[:-2]) == octets[-2:]
 
 
 def frames_of(octets, may_chain):
@@ -105,8 +97,7 @@ class Run:
         self.frames, self.sure = frames_of(octets, False) if octets else ([], False)
 
 
-MARKS = [('', ''), ('0x', ''), ('0X', ''), ('\\x', ''), ('$', ''), ('%', ''), ('', 'h'), ('', 'H'), ('[', ']'), ('<', '>'),
-         ('{', '}'), ("'0x", "'"), ('"0x', '"'), ("'", "'"), ('"', '"')]
+MARKS = [('', ''), ('0x', ''), ('\\x', ''), ('$', ''), ('', 'h'), ('[', ']'), ('<', '>'), ('{', '}'), ("'0x", "'")]
 
 
 def tokens(line, mark, begin):
@@ -135,7 +126,7 @@ def separator(text, octets):
     if text == '  ' and octets == 8:
         return ' '
     bare = text.strip(' ')
-    return text if len(text) <= 3 and (bare in ('', ',', ';', ':', '-', '|', '\t', '\u00a0') and text not in ('  ', '   ')) else None
+    return text if len(text) <= 3 and (bare in ('', ',', ';', ':', '-', '\t', '\u00a0') and text not in ('  ', '   ')) else None
 
 
 def hex_runs(line, begin=0):

@@ -6,7 +6,7 @@ import io
 import json
 import time
 
-from support.frames import frame_check
+from support.line_model import frame_check, with_check
 
 START = 1795331702      # 2026-11-22 07:15:02 UTC
 
@@ -112,8 +112,7 @@ def c_arrays(frames):
 
 
 def sdlc(octets):
-    octets = b'\x14\x83' + octets
-    return b'\x7e' + octets + frame_check(octets) + b'\x7e'
+    return b'\x7e' + with_check(b'\x14\x83' + octets) + b'\x7e'
 
 
 def putty(frames):

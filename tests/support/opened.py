@@ -3,9 +3,9 @@
 import os
 import re
 
-from support.tables import HAS_KIT, TOP
+from support.tables import CAN_PROVE, TOP
 
-PAGE = os.path.join(TOP, 'fio2070.html' if HAS_KIT else 'dist/fio2070.html')
+PAGE = os.path.join(TOP, 'fio2070.html' if CAN_PROVE else 'dist/fio2070.html')
 TROUBLE = 'return document.getElementById("trouble").textContent'
 CLOSE = 'delete document.documentElement.dataset.opened'
 OPENED = 'return document.documentElement.dataset.opened === arguments[0]'
@@ -34,6 +34,12 @@ RANGE = 'return document.getElementById("range").textContent.match(/-?\\d+/g).sl
 
 def address(query=''):
     return 'file://' + PAGE + query
+
+
+def started(browser, at=''):
+    """Opens the page, or this address of it, and waits until it has started."""
+    browser.open(at or address())
+    browser.wait('return document.documentElement.dataset.bits')
 
 
 def text_of(name):

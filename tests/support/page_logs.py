@@ -1,4 +1,4 @@
-"""What the page shows of the lines of logs, beside the independent model of the reader: frames with their octets, messages that are
+"""What the page shows of the lines of logs, beside the reference model of the reader: frames with their octets, messages that are
 only possible, damaged lines, times, and how many lines are passed over."""
 
 import glob
@@ -18,6 +18,8 @@ SHOWN_OCTETS = 40
 # The rows of the log that is open, and what is said below the verdict.
 SEEN = '''const rows = () => { %s }; return { rows: rows(), note: document.getElementById("note").textContent };''' % CELLS
 POSSIBLE, BAD_LINE = 'possible: nothing makes it sure', 'damaged: bad line'
+# Lines that give the library no frame, each by itself; the page has a row for each.
+IN_TWO_LINES = 'part of a message in two lines'
 
 # What is captured, and the messages that it has, by docs/CAPTURES.md.
 CAPTURES = {
@@ -60,10 +62,15 @@ def row_of(verdict, octets):
     return [verdict.line, verdict.time is not None, arrow, verdict.kind == 'possible', digits]
 
 
-def by_model(text):
-    """The rows of a log, and how many lines are passed over, by the model."""
+def parts_in(seen):
+    """The numbers of the lines with parts of messages."""
+    return {int(row[0]) for row in seen['rows'] if IN_TWO_LINES in row[4]}
+
+
+def by_model(text, parts=frozenset()):
+    """The rows of a log, and how many lines are passed over, by the model, without these lines."""
     model, rows = LogReader(), []
-    verdicts = model.read(text.encode()) + model.end()
+    verdicts = [one for one in model.read(text.encode()) + model.end() if one.line not in parts]
     for verdict in verdicts:
         rows += [row_of(verdict, octets) for octets in verdict.frames]
         rows += [[verdict.line, False, '', False, '']] * (verdict.kind == 'damaged')
@@ -71,9 +78,10 @@ def by_model(text):
 
 
 def by_page(seen):
-    """The same by the page."""
+    """The same by the page, without lines with parts of messages."""
     passed = re.search(r'([\d,]+) lines? passed over', seen['note'])
-    return ([[int(row[0]), row[1] != '', row[2], POSSIBLE in row[4], row[5]] for row in seen['rows']],
+    rows = [row for row in seen['rows'] if int(row[0]) not in parts_in(seen)]
+    return ([[int(row[0]), row[1] != '', row[2], POSSIBLE in row[4], row[5]] for row in rows],
             int(passed[1].replace(',', '')) if passed else 0)
 
 
@@ -83,7 +91,7 @@ def check_lines(check, browser, name):
     browser.run(OPEN_ALL.replace(CELLS, SEEN), [text for _, text in wanted])
     browser.wait('return window.tables !== null')
     for (title, text), seen in zip(wanted, browser.run('return window.tables')):
-        check.equal('the log %s in %s' % (title, name), by_model(text), by_page(seen))
+        check.equal('the log %s in %s' % (title, name), by_model(text, parts_in(seen)), by_page(seen))
 
 
 def verdict_on(browser, text):

@@ -9,7 +9,7 @@ from xml.etree import ElementTree
 
 from support.browsers import KEYS
 from support.fiolog import LIBRARY, fiolog
-from support.opened import CELLS, OPEN_ALL, RANGE, address, example, is_message, opened, pasted, saved, text_of
+from support.opened import CELLS, OPEN_ALL, RANGE, example, is_message, opened, pasted, saved, started, text_of
 from support.strangers import READ
 from support.tables import TOP
 
@@ -30,18 +30,53 @@ def check_verdict(check, browser, name):
             ('a log with a bad line', '> 36ff\n> 36f\n< b6ff010000010200000001\n', 'partly', '1 line could not be read as a message and is not judged'),
             ('a log of the bus', '3605\nb605000000000001\n3605\n', 'partly', '1 message is not judged, since this log was not taken at the CPU'),
             ('answers below a breach', '> 36ff\n< b605000000000001\n< b605000000000001\n', 'broken', '1 message below a breach, up to the next poll, is not judged'),
-            ('an answer alone', 'b605018c4121000000416a\n', 'broken', 'The log has no poll'),
-            ('a log that begins in the middle', '< b605000000000001\n> 3606\n< b606000000000002\n', 'broken', 'in the middle of traffic'),
+            ('an answer alone', 'b605018c4121000000416a\n', 'unjudged', '1 message above the first command is not judged'),
+            ('a log that begins with an answer', '< b605000000000001\n> 3606\n< b606000000000002\n', 'partly', '1 message above the first command is not judged'),
+            ('a breach above the first poll', '> 34\n< b605000000000001\n> 3606\n< b606000000000002\n', 'broken', 'in the middle of traffic'),
+            ('one poll, over and over', '> 3605\n' * 4, 'partly', 'No answer came: the module is silent, or its direction was not logged'),
+            ('an answer in two lines', '10:00:00.000 TX 36 05\n10:00:00.100 RX B6 05 00 00\n10:00:00.105 RX 00 00 00 01\n10:00:00.200 TX 36 05\n'
+             '10:00:00.300 RX B6 05 00 02 00 00 00 01\n10:00:00.400 TX 36 06\n', 'partly', '1 message in two lines each is not read'),
+            ('a log of which less than half is judged', '> 3605\n' + '> 36f\n' * 3 + '< b605000000000001\n', 'unjudged', '3 lines could not be read'),
             ('a log of the other end', '07:15:02.100 RX 36 05\n07:15:02.106 TX B6 05 00 00 00 00 00 01\n', 'good', '')]:
         pasted(browser, text)
         got = browser.run('const it = document.getElementById("not-judged"); return [document.getElementById("verdict").dataset.kind, it ? it.textContent : ""]')
         check.equal('the verdict on %s in %s' % (title, name), (kind, True), (got[0], words in got[1]))
+    for missing, text in [('commands', ''.join('> 36%02x\n' % number for number in range(5))),
+                          ('answers', ''.join('< b6%02x000000000001\n' % number for number in range(5)))]:
+        pasted(browser, text)
+        got = browser.run('return [document.getElementById("verdict").dataset.kind, document.getElementById("verdict-text").textContent]')
+        check.equal('the verdict on a log of the %s alone in %s' % (missing, name), ('unjudged', True, []),
+                    (got[0], 'this log has the %s alone' % missing in got[1].lower(), browser.run(BROKEN)))
+    pasted(browser, ''.join('10.%d RX 14 83 B6 05 00 00 00 00 00 0%d\n' % (number, number) for number in range(4)))
+    check.holds('a reason names the choice that helps in %s' % name, 'choose SDLC frames, without their check' in browser.run(SEEN_TEXT, '#no-log-passed'))
     pasted(browser, 'poll 36 05 now\n')
     check.equal('if nothing is judged the page does not say how in %s' % name, '1 message is possible and not judged: nothing in the log makes '
                 'sure that the octets are a message.', browser.run('return document.getElementById("not-judged").textContent'))
     pasted(browser, '> 3605\n< b60501400001' + '0000000001\n')
     note = browser.run('return [...document.querySelectorAll(".line.broken .rule")].map((it) => it.textContent)')
     check.holds('a breach of the limits says which in %s' % name, any('an entry is of input 64, above 63' in words for words in note), note)
+
+
+# Logs of which the reader says how they are written: how, an expression, the log, and its messages.
+POLL_AND_BLOCK = ['poll block 5', 'block 5 entries 0 status 00 stamp 1']
+WAYS = [
+    ('unchecked', '', b'TX 7e 14 83 36 05 7e\nRX 7e 14 83 b6 05 00 00 00 00 00 01 7e\n', POLL_AND_BLOCK),
+    ('pattern', r'/(?P<dir>\w+)/(?P<octets>\w+)$', b'17/tx/3605\n17/rx/b605000000000001\n', POLL_AND_BLOCK),
+    ('octets', '', bytes.fromhex('b605000000000001'), POLL_AND_BLOCK[1:]),
+]
+
+
+def check_ways(check, browser, name, folder):
+    """A log is read in the way that is chosen."""
+    path = os.path.join(folder, 'chosen.bin')
+    for way, expression, octets, words in WAYS:
+        with open(path, 'wb') as file:
+            file.write(octets)
+        browser.run("""for (const [id, value] of [["form", arguments[0]], ["pattern", arguments[1]]]) {
+            const it = document.getElementById(id); it.value = value; it.dispatchEvent(new Event("change")); }""", way, expression)
+        opened(browser, path)
+        check.equal('a log that is read as %s in %s' % (way, name), words, [row[3] for row in browser.run(CELLS) if is_message(row)])
+    browser.run('const it = document.getElementById("form"); it.value = "auto"; it.dispatchEvent(new Event("change"))')
 
 
 def check_as_fiolog(check, browser, name):
@@ -63,8 +98,8 @@ def check_as_fiolog(check, browser, name):
 def check_order(check, browser, name, folder):
     """Rows are in the document in their order, all of a short log; a copy has them as lines; a repeat says so."""
     example(browser, 'serial-log.txt')
-    check.equal('a repeat says so in its row in %s' % name, ['no answer', '', 'E: sent again', '', '', 'advance: block 1 was due, 0 came', 'E: sent again'],
-                [row[4] for row in browser.run(CELLS)])
+    check.equal('a repeat says so in its row in %s' % name, ['no answer', '', 'E: sent again', '', '', 'advance: block 1 was due, 0 came: the CPU asks again', 'E: sent again'],
+                [row[4].split(' for a block')[0] for row in browser.run(CELLS)])
     copied = browser.run("""const rows = document.querySelector(".rows"), data = new DataTransfer();
         getSelection().selectAllChildren(rows.querySelector(".canvas"));
         rows.dispatchEvent(Object.defineProperty(new Event("copy", { bubbles: true, cancelable: true }), "clipboardData", { value: data }));
@@ -109,7 +144,7 @@ def check_no_log(check, browser, name, folder):
 
 def check_stories(check, browser, name):
     """Three examples with a story are seen; the others are folded; each has a sentence."""
-    browser.open(address())
+    started(browser)
     seen = 'return [...document.querySelectorAll("[data-example]")].filter((it) => it.checkVisibility()).map((it) => it.querySelector("span").textContent)'
     stories = browser.run(seen)
     check.equal('examples that are seen first in %s' % name, 3, len(stories))
@@ -201,7 +236,7 @@ def check_times(check, browser, name):
 
 def check_ladder(check, browser, name):
     """The run as a picture: which messages are lost, and what each end does; saved as a file of its own."""
-    browser.open(address())
+    started(browser)
     browser.click('#tab-play')
     browser.click('[data-story="lost-answer.script"]')
     drawn = browser.run("""return [".lad-whole", ".lad-lost", ".lad-again"].map((it) => document.querySelectorAll("#ladder line" + it).length)
@@ -228,6 +263,7 @@ def rows(check, browser, name, folder):
     check_as_fiolog(check, browser, name)
     check_order(check, browser, name, folder)
     check_no_log(check, browser, name, folder)
+    check_ways(check, browser, name, folder)
     check_stories(check, browser, name)
     check_labels(check, browser, name)
     check_inputs(check, browser, name, folder)

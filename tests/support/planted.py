@@ -62,6 +62,28 @@ BY_BOUNDS = ['E is not set', 'a repeat has a new stamp', 'state of an entry is t
              'stamp of a block has 16 bits', 'answer 183 has a stamp of 0', 'ignored inputs are reported',
              'load happens at once', 'first of two loads holds', 'input 63 is not sampled']
 
+# Faults of a module that come late, with their rules, the events of a run that finds them, and words of the report on its
+# script.
+LATE = 200000
+TOO_LONG = [('a millisecond is lost each 65,536 scans', 'block-stamp'), ('the flag P is lost after 60,000 ms', 'flags-at-start')]
+OF_BOUND = '\n# A shorter script may show it too: shrinking stopped at its bound.\n'
+OF_REPLAY = '\n# Only --replay runs this script: simulate reads at most 1,048,576 octets.\n'
+
+# Answers the lines of a module slowly, and sets E in no block of more than 60 entries.
+SLOW = """import sys, time
+for line in sys.stdin:
+    time.sleep(0.004)
+    if line.startswith('answer b6') and len(line) > 380:
+        line = line[:-10] + '%x' % (int(line[-10], 16) & 13) + line[-9:]
+    print(line, end='', flush=True)"""
+
+# Faults that are found over a wire in a CPU's end, and lines of one that are none, with what is said of them.
+BY_LINES = ['states are turned', 'there are two gap marks', 'wide times are the stamp', 'stamps have 15 bits', 'polls have no number',
+            'the number that it says is the next one', 'after exactly 14 lost answers a block is recorded twice',
+            'the CPU ends at the 120th poll for a block']
+WRONG_LINES = [('^frame/answer', 'neither octets nor `none`: answer 3600, '), ('^record/x', 'no `record`: x 0'),
+               ('gap/x', 'no `record`: record 01 x'), ('^\\(record .* .*\\)....$/\\1', 'no `record`: record 01 ')]
+
 # Faults that recur after their rule was passed over.
 LASTING = [('module', 'a status drops waiting entries'), ('module', 'the 1,025th entry is dropped'),
            ('module', 'entries carry the high half of the counter; filters are 0 at the start'),

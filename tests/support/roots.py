@@ -1,5 +1,5 @@
 """New Debian systems in folders, made by debootstrap: what a user has who has neither the kit nor the repository.
-FIO2070_ROOT names a folder with one that was made before, with only gcc, make and python3."""
+FIO2070_ROOT names a folder with one that was made before, with only gcc, git, make and python3."""
 
 import os
 import shutil
@@ -36,11 +36,11 @@ def succeeds(words, seconds):
         return False
 
 
-def made(room):
-    """The folder of a new system in a room; None if it cannot be made, as without a network."""
+def made(room, packages=USUAL, release=RELEASE):
+    """The folder of a new system in a room, with these packages; None if it cannot be made, as without a network."""
     root = os.path.join(room, 'root')
     kept = os.environ.get('FIO2070_ROOT')
-    words = ['cp', '-a', kept, root] if kept else ['debootstrap', '--variant=minbase', '--include=' + ','.join(USUAL), RELEASE, root, MIRROR]
+    words = ['cp', '-a', kept, root] if kept else ['debootstrap', '--variant=minbase', '--include=' + ','.join(packages), release, root, MIRROR]
     return root if succeeds(words, MOST_SECONDS) else None
 
 

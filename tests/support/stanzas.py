@@ -7,8 +7,8 @@ stanzas with a blank line between them, and in `crates/CRATE/must-fail/*.edit`, 
     new: the text that replaces it
     refused-by: Poller::hear_block, taken
 
-Successive lines `old:` or `new:` are one text of several lines. Lines `control:` have the new text of the right statement
-that goes with a wrong one."""
+Successive lines `old:` or `new:` are one text of several lines. Lines `control:` have the new text of what goes with a wrong
+statement or body and must be proved: the right statement, or the same edit of the body without the bug."""
 
 import glob
 import os
@@ -41,12 +41,16 @@ class Stanza:
         """The files that it changes, below its crate."""
         return sorted({file for file, _, _, _ in self.changes})
 
+    def is_of_code(self):
+        """Whether it changes no definition: only code, with its contracts."""
+        return all(file.startswith('src/') for file in self.files())
+
     def named(self):
-        """The functions and laws that its line `refused-by:` names: those that its control proves."""
+        """The functions and laws that its line `refused-by:` names: those that must be proved with its control."""
         return {part.split(', ')[0] for part in (self.refused_by or '').split('; ')} - {''}
 
     def control(self):
-        """The right statement that goes with a wrong one, as a stanza of its own, or None if there is none."""
+        """The right statement or body that goes with a wrong one, as a stanza of its own, or None if there is none."""
         has_one = any(control is not None for _, _, _, control in self.changes)
         return Stanza(self.crate, self.path, self.name, self.lines, True) if has_one else None
 

@@ -33,6 +33,10 @@ READ = [
     ('PulseView', each('10-17 UART: TX data:', '90-97 UART: RX data:', '%s %s\n'), BOTH),
     ('Saleae, an octet a line', 'Time [s],Analyzer Name,Decoded Protocol Result\n0.100,TX,0x36\n0.10001,TX,0x05\n0.2,RX,0xB3\n0.20001,RX,0x00\n',
      ['>' + POLL, '<b300']),
+    ('xxd -p', '3605b6050000000000013606b6060000000000013607b607000000000001\n3608b608000000000001\n',
+     [one % number for number in range(5, 9) for one in ('>36%02x', '<b6%02x000000000001')]),
+    ('od -An -t x1', ' 36 05 b6 05 00 00 00 00 00 01 36 06 b6 06 00 00\n 00 00 00 01 36 07\n',
+     ['>3605', '<b605000000000001', '>3606', '<b606000000000001', '>3607']),
     ('strace -xx', 'write(3, "\\x36\\x05", 2) = 2\nread(3, "\\xb6\\x05\\x00\\x00\\x00\\x00\\x00\\x01", 4096) = 8\n', ['>' + POLL, '<' + EMPTY]),
     ('strace -x', 'write(3, "\\x36\\x05", 2) = 2\nwrite(3, "\\x36\\x06", 2) = 2\nwrite(3, "6\\n", 2) = 2\n', ['>3605', '>3606', '>360a']),
     ('tshark -T json', '[\n' + ','.join('''  {

@@ -19,21 +19,27 @@ def lines_that_fit(line, above=''):
     return (MOST_OCTETS - len(above)) // len(line)
 
 
-# Whether the Rattle kit is installed. Without it a program of dist/ takes the place of the proved one, without `simulate`.
-HAS_KIT = shutil.which('rt') is not None
+# Whether the Rattle kit is installed, without which nothing is proved and built of the sources.
+CAN_PROVE = shutil.which('rt') is not None
 
 
 @functools.cache
 def program():
-    """The path of the program, which the script `fio2070` proves and builds first, or compiles if there is no kit."""
-    subprocess.run([os.path.join(TOP, 'fio2070'), '--version'], stdout=subprocess.DEVNULL, check=True)
-    return os.path.join(TOP, *(['crates', 'fio2070', 'out', 'fio2070'] if HAS_KIT else ['out', 'fio2070']))
+    """The path of the program, which packaging/program makes first if need be."""
+    return subprocess.run([os.path.join(TOP, 'packaging', 'program')], stdout=subprocess.PIPE, check=True).stdout.decode().rstrip('\n')
 
 
 def program_of(tool):
     """The path of the program, or of the one that FIO2070_PROGRAM names, which has no `simulate`."""
     named = os.environ.get('FIO2070_PROGRAM')
     return named if named and tool != 'simulate' else program()
+
+
+@functools.cache
+def can_simulate():
+    """Whether the program is a proved one: what a compiler makes of dist/ has no `simulate`."""
+    words = [os.path.join(TOP, 'packaging', 'program'), '--proved']
+    return subprocess.run(words, stdout=subprocess.DEVNULL, stderr=subprocess.DEVNULL, check=False).returncode == 0
 
 
 def output_of(tool, text):

@@ -1,12 +1,5 @@
 """The proved module and the proved poller, talking to each other: `talking.py` writes what the CPU's end sends and hears."""
 
-import os
-import sys
-
-sys.path.insert(0, os.path.dirname(os.path.dirname(os.path.realpath(__file__))))
-
-from support.frames import frame_check
-
 ALL_ONES = 2 ** 64 - 1
 LOSSES = 5      # one answer in this many is lost
 
@@ -27,13 +20,6 @@ def rounds(count):
         if number % LOSSES:
             poller.hear(answer)
             yield '<', answer
-
-
-def stuffed(octets):
-    """A frame with address, control and frame check, stuffed and between flags."""
-    frame = b'\x14\x83' + octets
-    frame += frame_check(frame)
-    return b'\x7e' + frame.replace(b'\x7d', b'\x7d\x5d').replace(b'\x7e', b'\x7d\x5e') + b'\x7e'
 
 
 def main():

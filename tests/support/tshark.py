@@ -6,7 +6,7 @@ import re
 import struct
 import subprocess
 
-from support.frames import frame_check
+from support.line_model import ADDRESS, CONTROL, with_check
 from support.tables import TOP
 
 DISSECTOR = os.path.join(TOP, 'tools', 'wireshark', 'fio2070.lua')
@@ -31,8 +31,7 @@ def over_udp(octets):
 
 def in_sdlc(octets):
     """A frame preceded by an address and a control octet and followed by two octets of frame check."""
-    framed = b'\x14\x83' + octets
-    return framed + frame_check(framed)
+    return with_check(bytes((ADDRESS, CONTROL)) + octets)
 
 
 class Way:

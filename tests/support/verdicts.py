@@ -80,6 +80,16 @@ def left_of_laws(said):
     return {} if any(LOST_NAME.search(line) for line in said.splitlines() if re.match(r'(?:\./)?proofs/\S+: error', line)) else left
 
 
+def right_but_for_callees(said):
+    """The functions, by their whole names, that are not proved only because they call some that are not: all their goals are
+    tried, and none is left."""
+    lines = said.splitlines()
+    faulty = {found[1].replace('/', '::') for found in map(IN_PROOF.match, lines) if found}
+    waiting = set(re.findall(r'`search` has not tried the goals of `(\S+)`', said))
+    calling = {found[1] for found in map(VERDICT.match, lines) if found and found[2].startswith('not proved; it calls ')}
+    return {name for name in calling - waiting if name.partition('::')[2] not in faulty and not refusals(said).get(name)}
+
+
 def proved(said):
     """The functions that are proved, by their whole names."""
     return [verdict[1] for verdict in map(VERDICT.match, said.splitlines()) if verdict and verdict[2] == 'proved']

@@ -7,32 +7,38 @@
 /* The first EARLY scripts of a run have at most SHORT random events, so that all edges come early. */
 enum { EARLY = 32, SHORT = 1200 };
 
-/* In turn two scripts of edges and a random one, until there was each edge; later every 16th is an edge. A mix of the
- * maker's own has random scripts alone. Returns the number of the edge, `count` for none. */
-static unsigned edge_of(unsigned turn, unsigned count, int is_usual, uint64_t *state) {
+enum { NO_EDGE = 10000 };
+
+/* In turn two scripts of edges and a random one, until there was each edge and, if there is room for them, each long
+ * script; later every 16th is an edge. A mix of the maker's own has random scripts alone. Returns the number of the edge or
+ * of the long script, which has one above those; NO_EDGE for none. */
+static unsigned edge_of(unsigned turn, unsigned count, unsigned longs, int is_usual, uint64_t *state) {
     unsigned edge = turn - turn / 3;
-    if (!is_usual) return count;
-    if (edge < count) return turn % 3 == 2 ? count : edge;
-    return turn % 16 == 0 ? conformance_below(state, count) : count;
+    if (!is_usual) return NO_EDGE;
+    if (edge < count + longs) return turn % 3 == 2 ? (unsigned)NO_EDGE : edge;
+    return turn % 16 == 0 ? conformance_below(state, count) : (unsigned)NO_EDGE;
 }
 
 void conformance_make_script(const struct run *run, struct script *filled, const struct origin *origin, uint64_t *state) {
     const struct options *options = run->options;
     size_t most = origin->turn < EARLY && origin->most > SHORT ? (size_t)SHORT : origin->most;
+    int has_long = options->events >= CONFORMANCE_LONG_EVENTS;
     unsigned edge;
     *state = origin->state;
     filled->length = 0;
     if (run->ends.module != NULL) {
-        edge = edge_of(origin->turn, CONFORMANCE_EDGES, options->mix == &CONFORMANCE_MIX, state);
-        if (edge < CONFORMANCE_EDGES) {
+        edge = edge_of(origin->turn, CONFORMANCE_EDGES, has_long ? CONFORMANCE_LONG : 0,
+                       options->mix == &CONFORMANCE_MIX, state);
+        if (edge != NO_EDGE) {
             conformance_edge(filled, run->ends.module, edge, origin->most, state);
         } else {
             conformance_random(filled, run->ends.module, options->mix, most, state);
         }
         return;
     }
-    edge = edge_of(origin->turn, CONFORMANCE_CPU_EDGES, options->cpu_mix == &CONFORMANCE_CPU_MIX, state);
-    if (edge < CONFORMANCE_CPU_EDGES) {
+    edge = edge_of(origin->turn, CONFORMANCE_CPU_EDGES, has_long ? CONFORMANCE_CPU_LONG : 0,
+                   options->cpu_mix == &CONFORMANCE_CPU_MIX, state);
+    if (edge != NO_EDGE) {
         conformance_cpu_edge(filled, edge, origin->most, state);
     } else {
         conformance_cpu_random(filled, options->cpu_mix, most, state);

@@ -231,10 +231,11 @@ void conformance_cpu_random(struct script *script, const struct cpu_mix *mix, si
 size_t conformance_compare(const struct ends *ends, const struct script *script, struct difference *difference);
 
 /* Leaves out of a script what its difference does not need; if `fresh` is not NULL, what it does not need in a new
- * process. The difference is then that of the last trial that showed one. */
+ * process. The difference is then that of the last trial that showed one. Says on standard error that it goes on, if it takes
+ * long. Returns 0 if it stopped at a bound of events or of time. */
 struct fresh;
-void conformance_shrink(const struct ends *ends, struct fresh *fresh, struct script *script,
-                        struct difference *difference);
+int conformance_shrink(const struct ends *ends, struct fresh *fresh, struct script *script,
+                       struct difference *difference);
 
 /* The rule that the difference at the end of a script is about. */
 enum rule conformance_judge(const struct ends *ends, const struct script *script, const struct difference *difference);
@@ -243,20 +244,31 @@ enum rule conformance_judge(const struct ends *ends, const struct script *script
 void conformance_simulate(const struct ends *ends, struct fresh *fresh, struct script *script);
 
 /* Writes a script in the format of `fio2070 simulate`, a line for each event. A frame that simulate's own ends
- * do not send is a remark, and then the first line is one too, so that simulate refuses the script. */
+ * do not send has a line that simulate refuses. */
 void conformance_write(const struct script *script, FILE *out);
 
-/* Reads a script that conformance_write wrote. Returns 0, or the number of the first faulty line. */
-unsigned long conformance_read(struct script *script, FILE *in);
+/* A text with scripts, such as what a run wrote. All but `in` is 0 before the first is read. */
+struct script_text {
+    FILE *in;
+    unsigned long lines; /* that were read */
+    int is_report, has_failed; /* a script or a result was read; the run ended there, since it failed */
+    int is_faulty;             /* the last line that was read has no form, or there is neither script nor result */
+    char line[2 * CONFORMANCE_LONGEST_FRAME + 64];
+};
+
+/* Reads the next script of a text. It passes over blank lines, remarks, and the lines of a run's results (the table of
+ * --coverage and those after the last report); each other line has to be of a script. Returns 0 at the end of the text,
+ * or at a faulty line. */
+int conformance_read(struct script *script, struct script_text *text);
 
 /* Writes the frames of a script as the CPU's end under test logs them, in the format of `fio2070 check`,
  * each line after `head`. The last line is its next poll. */
 void conformance_transcript(const struct ends *ends, const struct script *script, const char *head, FILE *out);
 
-/* Writes a script, the difference at its last event, field by field, and the rule that it is about; of a CPU's
- * end the transcript too. */
+/* Writes the difference at the last event of a script, field by field, the first rule that this breaks, what is `said`
+ * of the script, if it is not NULL, and the script; of a CPU's end the transcript too. */
 void conformance_report(const struct ends *ends, const struct script *script, const struct difference *difference,
-                        FILE *out);
+                        const char *said, FILE *out);
 
 /* ---- Results ---- */
 

@@ -13,10 +13,10 @@ enum {
     LONGEST_MS = 30000 /* times between entries of less than half of what 16 bits can say */
 };
 
-long conformance_now_ms(void) {
+int64_t conformance_now_ms(void) {
     struct timespec now;
     clock_gettime(CLOCK_MONOTONIC, &now);
-    return (long)now.tv_sec * 1000 + now.tv_nsec / 1000000;
+    return (int64_t)now.tv_sec * 1000 + now.tv_nsec / 1000000;
 }
 
 /* ---- What happens to the module ---- */
@@ -34,7 +34,7 @@ void conformance_clock_reset(struct observer *observer, struct span span) {
 
 void conformance_clock_levels(struct observer *observer, uint64_t levels) {
     uint64_t changed = observer->levels ^ levels;
-    long now = conformance_now_ms();
+    int64_t now = conformance_now_ms();
     int input;
     for (input = 0; input < 64; input++) {
         if (changed >> input & 1) observer->steady_since[input] = now;
@@ -50,7 +50,7 @@ void conformance_clock_load(struct observer *observer, uint32_t number, struct s
 }
 
 static void configure(struct observer *observer, const uint8_t *octets) {
-    long now = conformance_now_ms();
+    int64_t now = conformance_now_ms();
     unsigned place;
     for (place = 0; place < octets[1]; place++) {
         const uint8_t *item = octets + 2 + 3 * place;
@@ -78,9 +78,9 @@ static uint32_t because(struct difference *difference, uint32_t field, const cha
 }
 
 /* Whether the level of an input has lasted long enough at this time to be its filtered state. */
-static int is_settled(const struct observer *observer, int input, long time) {
+static int is_settled(const struct observer *observer, int input, int64_t time) {
     int is_high = (int)(observer->levels >> input & 1);
-    long filter = is_high ? observer->trailing[input] : observer->leading[input];
+    int64_t filter = is_high ? observer->trailing[input] : observer->leading[input];
     return time - observer->steady_since[input] > filter + filter / 100 + SLACK_MS;
 }
 
@@ -89,19 +89,19 @@ static uint32_t read_stamp(const uint8_t *octets) {
 }
 
 /* The most milliseconds that the module can have counted since the reset or the load. */
-static long most_counted(const struct observer *observer, struct span span) {
-    long most = span.last - observer->counted_from.first;
+static int64_t most_counted(const struct observer *observer, struct span span) {
+    int64_t most = span.last - observer->counted_from.first;
     return most + most / 100 + SLACK_MS;
 }
 
 static uint32_t stamp_field(const struct observer *observer, struct span span, const uint8_t *octets, uint32_t field,
                             struct difference *difference) {
-    long least = span.first - observer->counted_from.last, most = most_counted(observer, span);
+    int64_t least = span.first - observer->counted_from.last, most = most_counted(observer, span);
     uint32_t counted = read_stamp(octets) - observer->base;
     least -= least / 100 + SLACK_MS;
     if (counted <= (uint32_t)most && (least <= 0 || counted >= (uint32_t)least)) return 0;
     return because(difference, field, "the stamp: got %lu, %ld to %ld ms after %lu", (unsigned long)read_stamp(octets),
-                   least > 0 ? least : 0, most, (unsigned long)observer->base);
+                   least > 0 ? (long)least : 0L, (long)most, (unsigned long)observer->base);
 }
 
 /* 180 and 181: the levels of inputs that have lasted long enough. */
@@ -114,7 +114,7 @@ static uint32_t inputs_field(const struct observer *observer, struct span span, 
                                  : span.first - observer->steady_since[input] > SLACK_MS;
         if (!is_due || got == level) continue;
         return because(difference, FIELD_BIT(INPUTS), "input %d: got %u, its level is %u for %ld ms", input, got, level,
-                       span.first - observer->steady_since[input]);
+                       (long)(span.first - observer->steady_since[input]));
     }
     return 0;
 }
@@ -137,7 +137,7 @@ static uint32_t repeat_field(const struct observer *observer, struct difference 
 }
 
 /* An entry after those before it. */
-static uint32_t entry_field(struct observer *observer, const uint8_t *octets, uint16_t block_stamp, long most,
+static uint32_t entry_field(struct observer *observer, const uint8_t *octets, uint16_t block_stamp, int64_t most,
                             struct difference *difference) {
     unsigned input = octets[0] & 127u, state = octets[0] >> 7;
     uint16_t stamp = (uint16_t)(octets[1] * 256u + octets[2]), since = (uint16_t)(stamp - observer->last_stamp);
@@ -177,7 +177,7 @@ static uint32_t drained_field(struct observer *observer, struct span span, struc
         if (!is_settled(observer, input, span.first)) continue;
         if (observer->states[input] != UNKNOWN && observer->states[input] != level) {
             return because(difference, FIELD_BIT(COUNT), "no entry of input %d, whose level is %u for %ld ms", input,
-                           level, span.first - observer->steady_since[input]);
+                           level, (long)(span.first - observer->steady_since[input]));
         }
         observer->states[input] = (uint8_t)level;
     }

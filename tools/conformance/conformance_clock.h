@@ -6,7 +6,7 @@
 
 /* Two times of the tester in milliseconds, between which something happened. */
 struct span {
-    long first, last;
+    int64_t first, last;
 };
 
 /* What is known of such a module. */
@@ -15,7 +15,7 @@ struct observer {
     uint32_t base;
     uint64_t levels, ignored, reported; /* as set, as configured, and ever reported since the reset */
     uint8_t leading[64], trailing[64];
-    long steady_since[64];
+    int64_t steady_since[64];
     uint8_t states[64];      /* after the last entry of the input, or UNKNOWN */
     uint64_t hazy;           /* inputs whose waiting entries may be of before they were last configured */
     int is_loaded;           /* waiting entries may have stamps of before a load */
@@ -31,7 +31,8 @@ struct observer {
     (FIELD_BIT(STAMP) | FIELD_BIT(INPUTS) | FIELD_BIT(COUNT) | FIELD_BIT(ENTRY) | FIELD_BIT(MORE) | FIELD_BIT(LOST) | \
      FIELD_BIT(BLOCK_STAMP) | FIELD_BIT(REPEAT))
 
-long conformance_now_ms(void);
+/* Milliseconds of a clock that goes on evenly. They have 64 bits, since in 32 they would end after 24 days. */
+int64_t conformance_now_ms(void);
 
 void conformance_clock_reset(struct observer *observer, struct span span);
 void conformance_clock_levels(struct observer *observer, uint64_t levels);

@@ -104,6 +104,16 @@ static void fill_outage(struct edge *edge, unsigned outage) {
     stay_out(edge, (enum outage)outage, 6 + conformance_below(edge->state, 8));
 }
 
+/* Each number of lost answers up to this one. */
+static void lose_each(struct edge *edge, unsigned most) {
+    unsigned polls;
+    open(edge);
+    for (polls = 1; polls <= most; polls++) {
+        conformance_edge_change(edge, ALL);
+        stay_out(edge, LOST_ANSWERS, polls);
+    }
+}
+
 /* Before any answer. */
 static void begin_out(struct edge *edge, unsigned polls) { stay_out(edge, LOST_POLLS, polls); }
 
@@ -111,13 +121,14 @@ static void lose_answers(struct edge *edge, unsigned polls) { stay_out(edge, LOS
 
 /* ---- Blocks ---- */
 
-/* Each number, each status and each count of entries, and then more than 65,536 items in all. */
+/* Each number, each status and each count of entries, then more than 65,536 items in all, and more than 1,024 blocks. */
 static void hear_all_blocks(struct edge *edge, unsigned given) {
     unsigned block;
     for (block = 0; block < 256; block++) {
         hear_due(edge, (uint8_t)(block * 37 + given), block % 2 == 0 ? block : 256 - block);
     }
     for (block = 0; block < 264; block++) hear_due(edge, 0, 128);
+    for (block = 0; block < 510; block++) hear_due(edge, 0, 1);
 }
 
 /* Statuses with few entries and with none, one after the other. */
@@ -272,13 +283,14 @@ static const struct edge_row ROWS[] = {
     {hear_stamps, 0}, {hear_same, 0}, {hear_counts, 0}, {hear_statuses, 0},         {fill_outage, LOST_POLLS},
     {hear_lengths, 0},          {begin_out, 33},  {lose_answers, 33},         {fill_outage, UNREADABLE},
     {fill_outage, STALE},       {hear_types, 0},  {send_commands, 0},         {fill_outage, OTHER},
-    {fill_outage, LOST_ANSWERS}, {hear_strangers, 0}, {repeat_frames, 300},   {hear_all_blocks, 0},
-    {begin_out, 300},           {lose_answers, 300}};
+    {fill_outage, LOST_ANSWERS}, {hear_strangers, 0}, {repeat_frames, 300},   {lose_each, 20},
+    {hear_all_blocks, 0},       {begin_out, 300}, {lose_answers, 300}};
 
 const unsigned CONFORMANCE_CPU_EDGES = COUNT(ROWS);
 
 void conformance_cpu_edge(struct script *script, unsigned number, size_t most, uint64_t *state) {
     struct edge edge;
+    const struct edge_row *row;
     memset(&edge, 0, sizeof edge);
     edge.script = script;
     edge.most = most < CONFORMANCE_LONGEST ? most : (size_t)CONFORMANCE_LONGEST;
@@ -288,5 +300,6 @@ void conformance_cpu_edge(struct script *script, unsigned number, size_t most, u
     script->id = 2;
     script->per_block = FIO2070_MOST_ENTRIES;
     script->number = edge.number;
-    ROWS[number].fill(&edge, ROWS[number].given);
+    row = number < CONFORMANCE_CPU_EDGES ? &ROWS[number] : &CONFORMANCE_CPU_LONG_ROWS[number - CONFORMANCE_CPU_EDGES];
+    row->fill(&edge, row->given);
 }

@@ -165,7 +165,7 @@ static void stay_silent(struct edge *edge, unsigned scans) {
     conformance_edge_poll(edge, 1);
 }
 
-/* More than 65,536 entries, in more than 256 blocks, and then more polls than 512. */
+/* More than 65,536 entries, in more than 256 blocks, and then more blocks than 1,024. */
 static void go_on(struct edge *edge, unsigned rounds) {
     unsigned left;
     conformance_edge_open(edge, 1, 1);
@@ -175,7 +175,7 @@ static void go_on(struct edge *edge, unsigned rounds) {
         conformance_edge_change(edge, ALL);
         conformance_edge_poll(edge, 1);
     }
-    for (left = 0; left < 200; left++) conformance_edge_poll(edge, 1);
+    for (left = 0; left < 690; left++) conformance_edge_poll(edge, 1);
 }
 
 /* ---- All ---- */
@@ -200,6 +200,8 @@ void conformance_edge(struct script *script, const struct maker *maker, unsigned
     edge.number = conformance_block_number(state);
     script->id = maker->id;
     script->per_block = maker->per_block;
-    row = number < CONFORMANCE_EDGE_FRAMES ? &CONFORMANCE_EDGE_FRAME_ROWS[number] : &ROWS[number - CONFORMANCE_EDGE_FRAMES];
+    row = number < CONFORMANCE_EDGE_FRAMES ? &CONFORMANCE_EDGE_FRAME_ROWS[number]
+          : number < CONFORMANCE_EDGES     ? &ROWS[number - CONFORMANCE_EDGE_FRAMES]
+                                           : &CONFORMANCE_LONG_ROWS[number - CONFORMANCE_EDGES];
     row->fill(&edge, row->given);
 }

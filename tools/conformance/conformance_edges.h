@@ -7,6 +7,9 @@
 /* How many scripts of edges there are of each end, the cheapest first. */
 extern const unsigned CONFORMANCE_EDGES, CONFORMANCE_CPU_EDGES;
 
+/* Long scripts, which have the numbers after these. A run of at least CONFORMANCE_LONG_EVENTS has each of them once. */
+enum { CONFORMANCE_LONG = 3, CONFORMANCE_CPU_LONG = 1, CONFORMANCE_LONG_EVENTS = 200000 };
+
 /* Fills an empty script with the edge of this number, at most this many events. */
 void conformance_edge(struct script *script, const struct maker *maker, unsigned number, size_t most, uint64_t *state);
 void conformance_cpu_edge(struct script *script, unsigned number, size_t most, uint64_t *state);
@@ -36,6 +39,8 @@ struct edge_row {
 /* Those of frames that come to a module; they are the shorter ones. */
 enum { CONFORMANCE_EDGE_FRAMES = 13 };
 extern const struct edge_row CONFORMANCE_EDGE_FRAME_ROWS[CONFORMANCE_EDGE_FRAMES];
+
+extern const struct edge_row CONFORMANCE_LONG_ROWS[CONFORMANCE_LONG], CONFORMANCE_CPU_LONG_ROWS[CONFORMANCE_CPU_LONG];
 
 void conformance_edge_event(struct edge *edge, enum event_kind kind);
 void conformance_edge_octets(struct edge *edge, enum event_kind kind, const uint8_t *octets, size_t length);

@@ -39,14 +39,16 @@ static int reads(int file, void *octets, size_t length) {
 /* In the last process: reads the script, and writes the event's number and the difference. */
 static void answer(const struct fresh *fresh, const struct ends *given, const struct request *request) {
     static struct script script;
+    static struct script_text text;
     static struct difference difference;
     struct ends ends = *given;
     size_t event = 0;
+    text.in = fresh->text;
     ends.masked = request->masked;
     ends.left_out = request->left_out;
     ends.guard_ms = request->guard_ms;
     rewind(fresh->text);
-    if (conformance_read(&script, fresh->text) == 0) event = conformance_compare(&ends, &script, &difference);
+    if (conformance_read(&script, &text)) event = conformance_compare(&ends, &script, &difference);
     if (!writes(fresh->from, &event, sizeof event) || !writes(fresh->from, &difference, sizeof difference)) _exit(1);
     _exit(0);
 }

@@ -122,7 +122,7 @@ static int read_errors(struct wire *wire) {
 
 /* Reads what has come, and what comes in this many milliseconds. */
 static void drain_errors(struct wire *wire, int ms) {
-    long end = conformance_now_ms() + ms, left;
+    int64_t end = conformance_now_ms() + ms, left;
     while (wire->errors >= 0 && (left = end - conformance_now_ms()) >= 0) {
         struct pollfd ready = {wire->errors, POLLIN, 0};
         if (poll(&ready, 1, (int)left) <= 0 || !read_errors(wire)) return;
@@ -135,7 +135,7 @@ static void drain_errors(struct wire *wire, int ms) {
  * was killed. */
 static int end_process(struct wire *wire, int ms) {
     static const struct timespec pause = {0, 2000000};
-    long end = conformance_now_ms() + ms;
+    int64_t end = conformance_now_ms() + ms;
     pid_t process = (pid_t)wire->process;
     int status = 0;
     wire->process = 0;
@@ -197,17 +197,17 @@ static int take_line(struct wire *wire, char line[WIRE_LONGEST_LINE]) {
     return 1;
 }
 
-static long deadline_of(const struct wire *wire) {
-    long hurried = HURRIED_TIMES * wire->slowest_ms;
+static int64_t deadline_of(const struct wire *wire) {
+    int64_t hurried = HURRIED_TIMES * wire->slowest_ms;
     if (hurried < HURRIED_MS) hurried = HURRIED_MS;
     return wire->hurry == HURRIED_TRIAL && !wire->is_new && hurried < wire->deadline_ms ? hurried : wire->deadline_ms;
 }
 
 /* Waits until octets of a line come. Returns 0 if none do by then. */
-static int wait_for_octets(struct wire *wire, long end) {
+static int wait_for_octets(struct wire *wire, int64_t end) {
     for (;;) {
         struct pollfd ready[2] = {{wire->file, POLLIN, 0}, {wire->errors, POLLIN, 0}};
-        long left = end - conformance_now_ms();
+        int64_t left = end - conformance_now_ms();
         if (left <= 0 || poll(ready, wire->errors < 0 ? 1 : 2, (int)left) <= 0) return 0;
         if (ready[0].revents != 0) return 1;
         if (read_errors(wire)) continue;
@@ -218,7 +218,7 @@ static int wait_for_octets(struct wire *wire, long end) {
 
 /* The deadline is that of the whole line, so that a device that goes on writing does not hold the run. */
 static int read_line(struct wire *wire, char line[WIRE_LONGEST_LINE]) {
-    long begun = conformance_now_ms(), taken;
+    int64_t begun = conformance_now_ms(), taken;
     while (!take_line(wire, line)) {
         ssize_t count;
         if (wire->kept == sizeof wire->octets) return conformance_wire_fail(wire, "its line is too long", "");

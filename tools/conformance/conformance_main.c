@@ -1,5 +1,5 @@
 /* The words of a tester. */
-#include "conformance.h"
+#include "conformance_results.h"
 
 #include <stdlib.h>
 #include <string.h>
@@ -8,9 +8,9 @@ static const char HELP[] =
     "Runs random scripts, writes each rule in which this end differs from the proved one, with a short script that\n"
     "shows it, and goes on without what exercises that rule.\n"
     "\n"
-    "  EVENTS         how many events, 1000000 if not given\n"
+    "  EVENTS         how many events, 1000000 if not given; from 200000 on with scripts that find faults that come late\n"
     "  SEED           another number gives other scripts, 1 if not given\n"
-    "  --replay       runs the script on standard input instead\n"
+    "  --replay       runs the scripts on standard input instead, such as the reports of an earlier run\n"
     "  --first        stops at the first difference\n"
     "  --except RULE  does not ask this rule of the project's own profile; may be given again\n"
     "  --coverage     writes how many events exercised each rule, and fails where one was not\n"
@@ -18,7 +18,7 @@ static const char HELP[] =
     "  --rules        writes the rules, with their sources\n"
     "\n"
     "The status is 0 where there is no difference, 1 where there is one, 2 where the words or the script are faulty,\n"
-    "3 where the end under test can't be asked any more.\n";
+    "or a file can't be written, 3 where the end under test can't be asked any more.\n";
 
 /* A call of this process that does not return in one to two seconds hangs. */
 enum { GUARD_MS = 1000 };
@@ -95,32 +95,42 @@ static int read_words(struct words *words, const struct ends *ends, int count, c
 /* ---- Doing ---- */
 
 static int fail(void) {
-    puts("the end under test failed");
+    puts(RESULT_FAILED);
     return 3;
 }
 
-/* Runs the script of standard input. */
-static int replay(const struct ends *ends) {
-    static struct script script;
+/* Runs a script, and reports what differs. Returns the status. */
+static int replay_script(const struct ends *ends, struct script *script) {
     static struct difference difference;
-    unsigned long fault = conformance_read(&script, stdin);
-    if (fault != 0) {
-        printf("line %lu: bad line\n", fault);
-        return 2;
-    }
-    if (ends->module != NULL && (script.id != ends->module->id || script.per_block != ends->module->per_block)) {
+    if (ends->module != NULL && (script->id != ends->module->id || script->per_block != ends->module->per_block)) {
         printf("the script is for a module with the id %u and at most %u entries a block, this one has %u and %u\n",
-               script.id, script.per_block, ends->module->id, ends->module->per_block);
+               script->id, script->per_block, ends->module->id, ends->module->per_block);
         return 2;
     }
-    script.length = conformance_compare(ends, &script, &difference);
-    if (script.length == 0) {
-        puts("no difference");
-        return 0;
-    }
+    script->length = conformance_compare(ends, script, &difference);
+    if (script->length == 0) return 0;
     if (difference.has_failed) return fail();
-    conformance_report(ends, &script, &difference, stdout);
+    conformance_report(ends, script, &difference, NULL, stdout);
     return 1;
+}
+
+/* Runs the scripts of standard input, up to one that can't be run. */
+static int replay(const struct ends *ends) {
+    static struct script_text text;
+    static struct script script;
+    int differs = 0;
+    text.in = stdin;
+    while (conformance_read(&script, &text)) {
+        int status = replay_script(ends, &script);
+        if (status > 1) return status;
+        differs |= status;
+    }
+    if (text.is_faulty) {
+        printf("line %lu: bad line\n", text.lines);
+        return 2;
+    }
+    if (!differs) puts(RESULT_SAME);
+    return differs;
 }
 
 static void write_rules(enum rule_end end) {
@@ -141,7 +151,7 @@ static unsigned write_missing(const struct result *result, enum rule_end end, co
         if (CONFORMANCE_RULE_ROWS[rule].end != end || result->exercised[rule] > 0) continue;
         if (conformance_has(excepted, (enum rule)rule) || result->shortest[rule] > 0) continue;
         if (CONFORMANCE_RULE_ROWS[rule].source == CASE && !has_cases) continue;
-        printf("not exercised: %s\n", CONFORMANCE_RULE_ROWS[rule].name);
+        printf(RESULT_MISSING "%s\n", CONFORMANCE_RULE_ROWS[rule].name);
         missing++;
     }
     return missing;
@@ -156,7 +166,9 @@ static int write_junit(const char *name, const struct result *result, enum rule_
         return 0;
     }
     conformance_junit(result, end, &options->excepted, options->kept, file);
-    return fclose(file) == 0;
+    if (fclose(file) == 0) return 1;
+    printf("can't write %s\n", name);
+    return 0;
 }
 
 /* Writes what was seen now and then, and what was not asked to the end. */
@@ -164,17 +176,17 @@ static void write_left_out(const struct result *result) {
     int rule;
     for (rule = 0; rule < RULES; rule++) {
         if (result->once[rule] == 0) continue;
-        printf("seen, and not again: %s, in %lu scripts\n", CONFORMANCE_RULE_ROWS[rule].name, result->once[rule]);
+        printf(RESULT_ONCE "%s, in %lu scripts\n", CONFORMANCE_RULE_ROWS[rule].name, result->once[rule]);
     }
     for (rule = 0; rule < RULES; rule++) {
         if (!conformance_has(&result->also_left_out, (enum rule)rule)) continue;
-        printf("left out too, to go on after a difference: %s\n", CONFORMANCE_RULE_ROWS[rule].name);
+        printf(RESULT_LEFT_OUT "%s\n", CONFORMANCE_RULE_ROWS[rule].name);
     }
     for (rule = 0; rule < RULES; rule++) {
         if (!conformance_has(&result->untold, (enum rule)rule)) continue;
-        printf("could not be told from those above: %s\n", CONFORMANCE_RULE_ROWS[rule].name);
+        printf(RESULT_UNTOLD "%s\n", CONFORMANCE_RULE_ROWS[rule].name);
     }
-    if (result->untold_count > 0) printf("differences that could not be told from others: %lu\n", result->untold_count);
+    if (result->untold_count > 0) printf(RESULT_UNTOLD_COUNT "%lu\n", result->untold_count);
 }
 
 static int run(const struct ends *ends, struct words *words) {
@@ -190,8 +202,8 @@ static int run(const struct ends *ends, struct words *words) {
                   ? 0
                   : write_missing(&result, end_of(ends), excepted, words->shows_coverage);
     write_left_out(&result);
-    if (result.differences == 0) printf("no difference in %lu events\n", result.events);
-    if (result.differences > 0) printf("rules that differ: %u in %lu events\n", result.differences, result.events);
+    if (result.differences == 0) printf(RESULT_SAME " in %lu events\n", result.events);
+    if (result.differences > 0) printf(RESULT_DIFFERS "%u in %lu events\n", result.differences, result.events);
     return result.differences > 0 || (words->shows_coverage && missing > 0);
 }
 

@@ -1,9 +1,9 @@
-/* The script that shows a difference, field by field what both ends did, and the rule that it is about. */
+/* Field by field what both ends did, the first rule that this breaks, and the script that shows it. */
 #include "conformance_link.h"
 
 #include <string.h>
 
-enum { SHOWN = 48 /* octets of an answer */ };
+enum { SHOWN = 48 /* octets of an answer */, SIMULATED = 1048576 /* octets of a script that simulate reads */ };
 
 /* Octets, all of them if they are few, otherwise from shortly before the first that differs; then what is said about them. */
 static void write_octets(const char *who, const uint8_t *octets, size_t length, size_t other, const char *said,
@@ -49,23 +49,53 @@ static void write_numbers(const char *who, uint8_t number, size_t items, FILE *o
 
 static void write_rule(enum rule rule, FILE *out) {
     const struct rule_row *row = &CONFORMANCE_RULE_ROWS[rule];
-    fprintf(out, "# rule: %s, %s, docs/PROTOCOL.md, %s: %s\n", row->name, conformance_source(rule), row->section,
+    fprintf(out, "# the first rule that this breaks: %s, %s, docs/PROTOCOL.md, %s: %s\n", row->name, conformance_source(rule), row->section,
             row->sentence);
 }
 
-void conformance_report(const struct ends *ends, const struct script *script, const struct difference *difference,
-                        FILE *out) {
-    conformance_write(script, out);
+static void write_difference(const struct ends *ends, const struct difference *difference, FILE *out) {
     if (difference->failure[0] != '\0') {
         write_failure(difference, out);
-    } else if (ends->cpu == NULL || difference->expected_length > 0) {
+        return;
+    }
+    if (ends->cpu == NULL || difference->expected_length > 0) {
         write_frames(difference, out);
     } else {
         write_numbers("expected", difference->expected_number, difference->expected_items, out);
         write_numbers("got", difference->got_number, difference->got_items, out);
     }
-    if (difference->failure[0] == '\0') conformance_write_fields(difference, out);
+    conformance_write_fields(difference, out);
+}
+
+/* Whether simulate refuses a script for its length. */
+static int is_too_long(const struct script *script) {
+    FILE *file = tmpfile();
+    long length;
+    if (file == NULL) return 0;
+    conformance_write(script, file);
+    length = ftell(file);
+    fclose(file);
+    return length > SIMULATED;
+}
+
+/* Says of a script that simulate refuses what runs it. */
+static void write_runner(const struct script *script, FILE *out) {
+    size_t place = 0;
+    while (place < script->length && script->events[place].kind != EVENT_FRAME && script->events[place].kind != EVENT_HEAR) place++;
+    if (place < script->length) {
+        fputs("# Only --replay runs this script: simulate has no line `frame` or `answer`.\n", out);
+    } else if (is_too_long(script)) {
+        fputs("# Only --replay runs this script: simulate reads at most 1,048,576 octets.\n", out);
+    }
+}
+
+void conformance_report(const struct ends *ends, const struct script *script, const struct difference *difference,
+                        const char *said, FILE *out) {
+    write_difference(ends, difference, out);
     write_rule(conformance_judge(ends, script, difference), out);
+    write_runner(script, out);
+    if (said != NULL) fputs(said, out);
+    conformance_write(script, out);
     if (ends->cpu != NULL) {
         fputs("# transcript:\n", out);
         conformance_transcript(ends, script, "# ", out);

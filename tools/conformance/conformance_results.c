@@ -1,5 +1,27 @@
 /* What a run came to, rule by rule: as a table, and as JUnit XML. */
-#include "conformance.h"
+#include "conformance_results.h"
+
+#include <ctype.h>
+#include <string.h>
+
+static const char TABLE_HEAD[] = "    events  result        source      rule";
+
+/* A row of the table: a number that ends where `events` does in its head, and the name of a rule below `rule`. */
+static int is_row(const char *line) {
+    static const size_t number_end = sizeof "    events" - 1, name = sizeof TABLE_HEAD - sizeof "rule";
+    return strlen(line) > name && isdigit((unsigned char)line[number_end - 1]) &&
+           strspn(line, " 0123456789") >= number_end && conformance_rule_named(line + name) != RULES;
+}
+
+int conformance_is_result(const char *line) {
+    static const char *const beginnings[] = {RESULT_SAME,     RESULT_DIFFERS, RESULT_MISSING,      RESULT_ONCE,
+                                             RESULT_LEFT_OUT, RESULT_UNTOLD,  RESULT_UNTOLD_COUNT, RESULT_FAILED};
+    size_t row;
+    for (row = 0; row < sizeof beginnings / sizeof beginnings[0]; row++) {
+        if (strncmp(line, beginnings[row], strlen(beginnings[row])) == 0) return 1;
+    }
+    return strcmp(line, TABLE_HEAD) == 0 || is_row(line);
+}
 
 /* What became of a rule. */
 static const char *state_of(const struct result *result, enum rule rule, const struct rule_set *excepted) {
@@ -10,7 +32,7 @@ static const char *state_of(const struct result *result, enum rule rule, const s
 
 void conformance_coverage(const struct result *result, enum rule_end end, const struct rule_set *excepted, FILE *out) {
     int rule;
-    fprintf(out, "%10s  %-13s %-11s %s\n", "events", "result", "source", "rule");
+    fprintf(out, "%s\n", TABLE_HEAD);
     for (rule = 0; rule < RULES; rule++) {
         const struct rule_row *row = &CONFORMANCE_RULE_ROWS[rule];
         if (row->end != end) continue;

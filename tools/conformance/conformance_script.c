@@ -1,37 +1,34 @@
-/* Scripts as texts, in the format of `fio2070 simulate` (docs/FORMATS.md). A frame that simulate's own
- * ends do not send is written as a remark: a poll with another number than the CPU's, octets that spell no
- * command, and octets that no module sent. Such a text begins with a remark, which simulate refuses. */
+/* Scripts as texts, in the format of `fio2070 simulate` (docs/FORMATS.md). A frame that simulate's own ends do not send
+ * has a line that simulate refuses, with the word of the wire: `frame HEX` for a poll with another number than the
+ * CPU's, or octets that spell no command, `answer HEX` for octets that no module sent. */
 #include "conformance_link.h"
+#include "conformance_results.h"
 
 #include <string.h>
 
-static const char TO_MODULE[] = "# frame to the module: ", TO_CPU[] = "# frame to the CPU: ";
-static const char FOR_REPLAY[] =
-    "# For --replay alone: `fio2070 simulate` has no line for the frames that stand as remarks.\n";
+static const char HEADER[] = "fio2070 script ";
+static const char TO_MODULE[] = "frame ", TO_CPU[] = "answer ";
+
+/* How reports of before have these frames. */
+static const char REMARK_TO_MODULE[] = "# frame to the module: ", REMARK_TO_CPU[] = "# frame to the CPU: ";
 
 /* ---- Writing ---- */
 
 /* A text that is written, and the proved ends after its lines. */
 struct text {
-    FILE *out; /* NULL: the remarks are counted, and nothing is written */
-    int remarks;
+    FILE *out;
     struct link link;
 };
 
 static void write_octets(const struct text *text, const char *word, const uint8_t *octets, size_t length) {
     size_t place;
-    if (text->out == NULL) return;
     fputs(word, text->out);
     for (place = 0; place < length; place++) fprintf(text->out, "%02x", octets[place]);
     fputs("\n", text->out);
 }
 
-static void write_word(const struct text *text, const char *word) {
-    if (text->out != NULL) fputs(word, text->out);
-}
-
 static void write_number(const struct text *text, const char *word, unsigned long number) {
-    if (text->out != NULL && number > 0) fprintf(text->out, "%s %lu\n", word, number);
+    if (number > 0) fprintf(text->out, "%s %lu\n", word, number);
 }
 
 static void write_levels(const struct text *text, uint64_t inputs) {
@@ -46,20 +43,14 @@ static void write_event(struct text *text, const struct event *event) {
     static struct difference ignored;
     switch (event->kind) {
     case EVENT_SCAN: write_levels(text, event->inputs); break;
-    case EVENT_SYNC: write_word(text, "sync\n"); break;
-    case EVENT_RESTART: write_word(text, "restart\n"); break;
-    case EVENT_POLL: write_word(text, "poll\n"); break;
+    case EVENT_SYNC: fputs("sync\n", text->out); break;
+    case EVENT_RESTART: fputs("restart\n", text->out); break;
+    case EVENT_POLL: fputs("poll\n", text->out); break;
     case EVENT_COMMAND: write_octets(text, "send ", event->octets, event->length); break;
     case EVENT_DELIVER: write_number(text, "to-module", text->link.sent); break;
     case EVENT_ANSWER: write_number(text, "to-cpu", conformance_link_answer(&text->link, event)); break;
-    case EVENT_FRAME:
-        text->remarks++;
-        write_octets(text, TO_MODULE, event->octets, event->length);
-        break;
-    case EVENT_HEAR:
-        text->remarks++;
-        write_octets(text, TO_CPU, event->octets, event->length);
-        break;
+    case EVENT_FRAME: write_octets(text, TO_MODULE, event->octets, event->length); break;
+    case EVENT_HEAR: write_octets(text, TO_CPU, event->octets, event->length); break;
     }
     conformance_link_step(&text->link, event, &ignored);
 }
@@ -69,7 +60,6 @@ static void write_events(struct text *text, const struct script *script, FILE *o
     size_t place;
     memset(&none, 0, sizeof none);
     text->out = out;
-    text->remarks = 0;
     conformance_link_start(&text->link, &none, script);
     for (place = 0; place < script->length; place++) write_event(text, &script->events[place]);
 }
@@ -81,15 +71,13 @@ static void write_header(const struct script *script, FILE *out) {
         if (script->events[place].kind == EVENT_RESTART) version = 2;
     }
     if (script->per_block != FIO2070_MOST_ENTRIES) version = 3;
-    fprintf(out, "fio2070 script %d %u %u", version, script->id, script->number);
+    fprintf(out, "%s%d %u %u", HEADER, version, script->id, script->number);
     if (version == 3) fprintf(out, " %u %u", script->per_block, FIO2070_STANDARD_WAITING);
     fputs("\n", out);
 }
 
 void conformance_write(const struct script *script, FILE *out) {
     static struct text text;
-    write_events(&text, script, NULL);
-    if (text.remarks > 0) fputs(FOR_REPLAY, out);
     write_header(script, out);
     write_events(&text, script, out);
 }
@@ -152,8 +140,9 @@ static int read_event(const char *line, const struct link *link, struct event *e
     static const struct {
         const char *words;
         enum event_kind kind;
-    } forms[] = {{"sync", EVENT_SYNC},  {"restart", EVENT_RESTART}, {"poll", EVENT_POLL}, {"send ", EVENT_COMMAND},
-                 {"scan ", EVENT_SCAN}, {TO_MODULE, EVENT_FRAME},   {TO_CPU, EVENT_HEAR}};
+    } forms[] = {{"sync", EVENT_SYNC},      {"restart", EVENT_RESTART}, {"poll", EVENT_POLL},
+                 {"send ", EVENT_COMMAND},  {"scan ", EVENT_SCAN},      {TO_MODULE, EVENT_FRAME},
+                 {TO_CPU, EVENT_HEAR},      {REMARK_TO_MODULE, EVENT_FRAME}, {REMARK_TO_CPU, EVENT_HEAR}};
     size_t place;
     for (place = 0; place < sizeof forms / sizeof forms[0]; place++) {
         const char *rest = after(line, forms[place].words);
@@ -168,7 +157,8 @@ static int read_event(const char *line, const struct link *link, struct event *e
 /* Reads the header. Returns 0 if the line is not one. */
 static int read_header(const char *line, struct script *script) {
     unsigned version, id, number, per_block = FIO2070_MOST_ENTRIES, waiting = FIO2070_STANDARD_WAITING;
-    int count = sscanf(line, "fio2070 script %u %u %u %u %u", &version, &id, &number, &per_block, &waiting);
+    const char *words = after(line, HEADER);
+    int count = words == NULL ? 0 : sscanf(words, "%u %u %u %u %u", &version, &id, &number, &per_block, &waiting);
     if (count < 3 || (version == 3 ? count != 5 : count != 3)) return 0;
     if (id > 255 || number > 255 || per_block == 0 || per_block > 255 || waiting != FIO2070_STANDARD_WAITING) return 0;
     script->id = (uint8_t)id;
@@ -177,8 +167,13 @@ static int read_header(const char *line, struct script *script) {
     return 1;
 }
 
-static int is_remark(const char *line) {
-    return *line == '\0' || (*line == '#' && after(line, TO_MODULE) == NULL && after(line, TO_CPU) == NULL);
+/* Whether a line is passed over: a blank one, a remark, or one of a run's results. */
+static int is_passed_over(struct script_text *text) {
+    const char *line = text->line;
+    if (after(line, REMARK_TO_MODULE) != NULL || after(line, REMARK_TO_CPU) != NULL) return 0;
+    if (*line == '\0' || *line == '#') return 1;
+    if (!conformance_is_result(line)) return 0;
+    return text->is_report = 1;
 }
 
 /* Adds the event of a line. Returns 0 if it is of no form, or one too many. */
@@ -188,27 +183,36 @@ static int add_line(struct script *script, const char *line, const struct link *
     return read_event(line, link, &event) && conformance_add(script, &event) != NULL;
 }
 
-unsigned long conformance_read(struct script *script, FILE *in) {
-    static char line[2 * CONFORMANCE_LONGEST_FRAME + 64];
+/* Goes to the next line that is not passed over. Returns 0 at the end of the text, and after the line of a run that
+ * failed, below which there is only why. */
+static int next_line(struct script_text *text) {
+    while (!text->has_failed && fgets(text->line, sizeof text->line, text->in) != NULL) {
+        text->lines++;
+        text->line[strcspn(text->line, "\r\n")] = '\0';
+        text->has_failed = after(text->line, RESULT_FAILED) != NULL;
+        if (!is_passed_over(text)) return 1;
+    }
+    text->line[0] = '\0';
+    return 0;
+}
+
+int conformance_read(struct script *script, struct script_text *text) {
     static struct link link;
     static struct difference ignored;
     struct ends none;
-    unsigned long number = 0;
-    int has_header = 0;
     memset(&none, 0, sizeof none);
     conformance_clear(script);
-    while (fgets(line, sizeof line, in) != NULL) {
-        number++;
-        line[strcspn(line, "\n")] = '\0';
-        if (is_remark(line)) continue;
-        if (!has_header) {
-            if (!read_header(line, script)) return number;
-            conformance_link_start(&link, &none, script);
-            has_header = 1;
-            continue;
-        }
-        if (!add_line(script, line, &link)) return number;
-        conformance_link_step(&link, &script->events[script->length - 1], &ignored);
+    if (text->line[0] == '\0' && !next_line(text)) {
+        text->lines++;
+        text->is_faulty = !text->is_report;
+        return 0;
     }
-    return has_header ? 0 : number + 1;
+    text->is_faulty = !read_header(text->line, script);
+    text->is_report = 1;
+    conformance_link_start(&link, &none, script);
+    while (!text->is_faulty && next_line(text) && after(text->line, HEADER) == NULL) {
+        text->is_faulty = !add_line(script, text->line, &link);
+        if (!text->is_faulty) conformance_link_step(&link, &script->events[script->length - 1], &ignored);
+    }
+    return !text->is_faulty;
 }

@@ -50,7 +50,7 @@ static int has_restart(const struct script *script) {
 
 static void make_short(struct run *run) {
     struct fresh *fresh = run->is_anew ? &run->fresh : NULL;
-    conformance_shrink(&run->ends, fresh, &run->script, &run->difference);
+    run->is_cut = !conformance_shrink(&run->ends, fresh, &run->script, &run->difference);
     conformance_simulate(&run->ends, fresh, &run->script);
 }
 
@@ -151,24 +151,20 @@ static void hurry(const struct run *run, enum hurry hurry) {
 
 /* ---- Reports ---- */
 
-static void write_remarked(struct run *run, remark said, FILE *out) {
-    if (said != NULL) fputs(said, out);
-    conformance_report(&run->ends, &run->script, &run->difference, out);
-}
-
 /* Writes a report, and keeps it if that is wanted. */
 static void write_report(struct run *run, enum rule rule, remark said) {
     struct result *result = run->result;
     FILE *kept = run->options->kept;
+    if (said == NULL && run->is_cut) said = "# A shorter script may show it too: shrinking stopped at its bound.\n";
     if (run->out != NULL) {
         if (result->reports > 0) fputs("\n", run->out);
-        write_remarked(run, said, run->out);
+        conformance_report(&run->ends, &run->script, &run->difference, said, run->out);
         fflush(run->out);
     }
     result->reports++;
     if (kept == NULL) return;
     result->begins[rule] = ftell(kept);
-    write_remarked(run, said, kept);
+    conformance_report(&run->ends, &run->script, &run->difference, said, kept);
     result->ends[rule] = ftell(kept);
 }
 
@@ -268,6 +264,7 @@ void conformance_settle(struct run *run) {
         result->untold_count++;
         return;
     }
+    run->is_cut = 0;
     hurry(run, TRIAL);
     said = shrink(run);
     hurry(run, NO_TRIAL);

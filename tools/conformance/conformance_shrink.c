@@ -4,8 +4,14 @@
 
 #include <string.h>
 
-/* A script of this many events is worth another look. */
-enum { LONG = 40 };
+/* A script of this many events is worth another look; one that is many times longer than MANY is not tried without each scan
+ * alone. */
+enum { LONG = 40, MANY = 512 };
+
+/* Whether there is an event at this place, and time for more trials. */
+static int goes_on(const struct shrinking *shrinking, size_t place) {
+    return place < shrinking->script->length && !conformance_is_over(shrinking);
+}
 
 /* ---- Events ---- */
 
@@ -28,10 +34,24 @@ static int begin_at(struct shrinking *shrinking, size_t first) {
 /* Leaves out the first events of a CPU's script. Returns 1 if some could be. */
 static int begin_later(struct shrinking *shrinking) {
     size_t last, length = shrinking->script->length;
-    for (last = 1; last < length; last += 1 + last / 16) {
+    for (last = 1; last < length && goes_on(shrinking, 0); last += 1 + last / 16) {
         if (begin_at(shrinking, length - last)) return 1;
     }
     return 0;
+}
+
+/* Whether a run is not worth a trial: a few of very many scans. */
+static int is_slight(const struct script *script, size_t first, size_t run) {
+    return run < script->length / MANY && script->events[first].kind == EVENT_SCAN;
+}
+
+/* Leaves out a run of events. Returns 1 if it could. */
+static int drop_run_of_events(struct shrinking *shrinking, size_t first, size_t run) {
+    conformance_begin_trial(shrinking);
+    memmove(&conformance_trial.events[first], &conformance_trial.events[first + run],
+            (conformance_trial.length - first - run) * sizeof conformance_trial.events[0]);
+    conformance_trial.length -= run;
+    return conformance_take_trial(shrinking);
 }
 
 /* Leaves out events, in runs of half the script down to one. Returns 1 if some could be. */
@@ -39,12 +59,8 @@ static int drop_events(struct shrinking *shrinking) {
     size_t run, first;
     int dropped = 0;
     for (run = shrinking->script->length / 2 + 1; run > 0; run /= 2) {
-        for (first = 0; first + run <= shrinking->script->length;) {
-            conformance_begin_trial(shrinking);
-            memmove(&conformance_trial.events[first], &conformance_trial.events[first + run],
-                    (conformance_trial.length - first - run) * sizeof conformance_trial.events[0]);
-            conformance_trial.length -= run;
-            if (conformance_take_trial(shrinking)) {
+        for (first = 0; first + run <= shrinking->script->length && goes_on(shrinking, first);) {
+            if (!is_slight(shrinking->script, first, run) && drop_run_of_events(shrinking, first, run)) {
                 dropped = 1;
             } else {
                 first += run;
@@ -54,6 +70,17 @@ static int drop_events(struct shrinking *shrinking) {
     return dropped;
 }
 
+/* Leaves out the few events of a very long script that are no scans, each alone. */
+static void drop_frames(struct shrinking *shrinking) {
+    const struct script *script = shrinking->script;
+    size_t place, frames = 0;
+    for (place = 0; place < script->length; place++) frames += script->events[place].kind != EVENT_SCAN;
+    if (frames > script->length / MANY) return;
+    for (place = 0; goes_on(shrinking, place);) {
+        if (script->events[place].kind == EVENT_SCAN || !drop_run_of_events(shrinking, place, 1)) place++;
+    }
+}
+
 /* ---- Inputs ---- */
 
 /* Lets a scan change all inputs, so that fewer scans give as many entries. */
@@ -61,7 +88,7 @@ static int change_all_inputs(struct shrinking *shrinking) {
     uint64_t levels = ~(uint64_t)0;
     size_t place;
     int changed = 0;
-    for (place = 0; place < shrinking->script->length; place++) {
+    for (place = 0; goes_on(shrinking, place); place++) {
         if (shrinking->script->events[place].kind != EVENT_SCAN) continue;
         levels = ~levels;
         if (shrinking->script->events[place].inputs == levels) continue;
@@ -77,7 +104,7 @@ static int change_all_inputs(struct shrinking *shrinking) {
 static void calm_scans(struct shrinking *shrinking) {
     size_t place;
     unsigned width, first;
-    for (place = 0; place < shrinking->script->length; place++) {
+    for (place = 0; goes_on(shrinking, place); place++) {
         if (shrinking->script->events[place].kind != EVENT_SCAN) continue;
         for (width = 64; width > 0; width /= 2) {
             for (first = 0; first < 64 && place < shrinking->script->length; first += width) {
@@ -250,17 +277,18 @@ static int has_octets(const struct event *event) {
 static void shrink(struct shrinking *shrinking) {
     const struct script *script = shrinking->script;
     size_t place;
+    drop_frames(shrinking);
     while ((shrinking->ends.cpu != NULL && begin_later(shrinking)) || drop_events(shrinking) ||
            change_all_inputs(shrinking)) {
     }
-    for (place = 0; place < script->length; place++) {
+    for (place = 0; goes_on(shrinking, place); place++) {
         if (has_octets(&script->events[place])) raise_load(shrinking, place);
     }
     drop_events(shrinking);
-    for (place = 0; place < script->length; place++) drop_items(shrinking, place);
+    for (place = 0; goes_on(shrinking, place); place++) drop_items(shrinking, place);
     calm_scans(shrinking);
     shift_numbers(shrinking, first_number(shrinking));
-    for (place = 0; place < script->length; place++) {
+    for (place = 0; goes_on(shrinking, place); place++) {
         if (has_octets(&script->events[place])) lower_frame(shrinking, place);
     }
     drop_events(shrinking);
@@ -271,10 +299,11 @@ static void shrink(struct shrinking *shrinking) {
     calm_scans(shrinking);
 }
 
-void conformance_shrink(const struct ends *ends, struct fresh *fresh, struct script *script,
-                        struct difference *difference) {
+int conformance_shrink(const struct ends *ends, struct fresh *fresh, struct script *script,
+                       struct difference *difference) {
     struct shrinking shrinking;
     conformance_begin_trials(&shrinking, ends, fresh, script, difference);
     shrink(&shrinking);
     conformance_end_trials(&shrinking);
+    return !conformance_is_over(&shrinking);
 }

@@ -7,7 +7,9 @@
 
 enum {
     MOST_TRIED = 20000000, /* after this many events of trials a script is short enough */
-    MOST_MS = 15000,       /* and after this time, if each trial that fails takes time */
+    MOST_MS = 120000,      /* and after this time */
+    FAILING_MS = 15000,    /* or this one, if each trial that fails takes time */
+    SAYING_MS = 5000,      /* how often it is said that trials go on */
     HURRIED_MS = 100,      /* a trial that goes on for so long without a return is one that hangs */
     MOST_MISSED = 20       /* after this many trials that show nothing the script is tried again */
 };
@@ -23,8 +25,9 @@ void conformance_begin_trials(struct shrinking *shrinking, const struct ends *en
     shrinking->difference = difference;
     shrinking->most = ends->most_tried > 0 ? ends->most_tried : (unsigned long)MOST_TRIED;
     shrinking->fails = difference->failure[0] != '\0';
+    shrinking->began_ms = shrinking->said_ms = conformance_now_ms();
+    shrinking->until_ms = shrinking->began_ms + (shrinking->fails ? FAILING_MS : MOST_MS);
     if (!shrinking->fails) return;
-    shrinking->until_ms = conformance_now_ms() + MOST_MS;
     if (ends->guard_ms > HURRIED_MS) shrinking->ends.guard_ms = HURRIED_MS;
     if (ends->outside != NULL) ends->outside->hurry(ends->outside->context, HURRIED_TRIAL);
 }
@@ -36,9 +39,18 @@ void conformance_end_trials(struct shrinking *shrinking) {
 
 void conformance_begin_trial(const struct shrinking *shrinking) { conformance_copy(&conformance_trial, shrinking->script); }
 
-static int is_over(const struct shrinking *shrinking) {
-    return shrinking->tried > shrinking->most ||
-           (shrinking->until_ms != 0 && conformance_now_ms() > shrinking->until_ms);
+int conformance_is_over(const struct shrinking *shrinking) {
+    return shrinking->tried > shrinking->most || conformance_now_ms() > shrinking->until_ms;
+}
+
+/* Says now and then how far it is. */
+static void say_progress(struct shrinking *shrinking) {
+    int64_t now = conformance_now_ms();
+    if (now < shrinking->said_ms + SAYING_MS) return;
+    shrinking->said_ms = now;
+    fprintf(stderr, "# Shrinking goes on: %lu events so far, after %ld s of at most %ld.\n",
+            (unsigned long)shrinking->script->length, (long)((now - shrinking->began_ms) / 1000),
+            (long)((shrinking->until_ms - shrinking->began_ms) / 1000));
 }
 
 /* Runs a script. Returns its event with a difference of the same kind, 0 if there is none. */
@@ -66,7 +78,8 @@ static int miss(struct shrinking *shrinking, struct difference *ignored) {
 int conformance_take_trial(struct shrinking *shrinking) {
     static struct difference difference;
     size_t length;
-    if (is_over(shrinking)) return 0;
+    if (conformance_is_over(shrinking)) return 0;
+    say_progress(shrinking);
     length = try_script(shrinking, &conformance_trial, &difference);
     if (length == 0) return miss(shrinking, &difference);
     shrinking->missed = 0;

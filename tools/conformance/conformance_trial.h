@@ -14,7 +14,7 @@ struct shrinking {
     int fails;                     /* at its last event the end under test crashes or hangs */
     unsigned long tried, most;     /* events of trials */
     unsigned missed;               /* successive trials that showed nothing */
-    long until_ms;                 /* of the clock; 0 if there is time enough */
+    int64_t began_ms, said_ms, until_ms; /* of the clock: also when it was last said that trials go on */
 };
 
 /* The script that is tried in its place. */
@@ -23,6 +23,9 @@ extern struct script conformance_trial;
 void conformance_begin_trials(struct shrinking *shrinking, const struct ends *ends, struct fresh *fresh,
                               struct script *script, struct difference *difference);
 void conformance_end_trials(struct shrinking *shrinking);
+
+/* Whether the script is short enough, since trials took too long: there are no more of them. */
+int conformance_is_over(const struct shrinking *shrinking);
 
 /* Makes the trial a copy of the script. */
 void conformance_begin_trial(const struct shrinking *shrinking);

@@ -5,17 +5,17 @@
 #include <string.h>
 #include <time.h>
 
-static void ask_done(void *context, const char *line) {
+void conformance_wire_ask_done(void *context, const char *line) {
     struct wire *wire = (struct wire *)context;
     char said[WIRE_LONGEST_LINE];
     if (conformance_wire_ask(wire, line, said) && strcmp(said, "done") != 0) conformance_wire_fail(wire, "not `done`: ", said);
 }
 
-static void reset(void *context) { ask_done(context, "reset\n"); }
+static void reset(void *context) { conformance_wire_ask_done(context, "reset\n"); }
 
-static void line_sync(void *context) { ask_done(context, "sync\n"); }
+static void line_sync(void *context) { conformance_wire_ask_done(context, "sync\n"); }
 
-static void write_octets(char *line, const uint8_t *octets, size_t length) {
+void conformance_wire_put_octets(char *line, const uint8_t *octets, size_t length) {
     while (length-- > 0) line += sprintf(line, "%02x", *octets++);
     strcpy(line, "\n");
 }
@@ -25,8 +25,8 @@ static void set_levels(struct wire *wire, uint64_t inputs) {
     uint8_t octets[8];
     int octet;
     for (octet = 0; octet < 8; octet++, inputs >>= 8) octets[octet] = (uint8_t)inputs;
-    write_octets(line + strlen(line), octets, 8);
-    ask_done(wire, line);
+    conformance_wire_put_octets(line + strlen(line), octets, 8);
+    conformance_wire_ask_done(wire, line);
 }
 
 static void step(void *context, uint64_t inputs) {
@@ -38,8 +38,7 @@ static void step(void *context, uint64_t inputs) {
     if (wire->has_own_clock && !wire->has_failed) nanosleep(&millisecond, NULL);
 }
 
-/* Reads pairs of hexadecimal digits. Returns how many, at most `most`; FAILED if the words are anything else. */
-static size_t read_octets(const char *words, uint8_t *octets, size_t most) {
+size_t conformance_wire_octets(const char *words, uint8_t *octets, size_t most) {
     size_t length = 0;
     int taken = 0;
     for (; *words != '\0' && length < most; words += 2) {
@@ -52,20 +51,23 @@ static size_t read_octets(const char *words, uint8_t *octets, size_t most) {
     return *words == '\0' && length > 0 ? length : CONFORMANCE_FAILED;
 }
 
-static size_t exchange(void *context, const uint8_t *octets, size_t length, uint8_t answer[FIO2070_LONGEST_FRAME]) {
-    struct wire *wire = (struct wire *)context;
-    char line[WIRE_LONGEST_LINE] = "frame ", said[WIRE_LONGEST_LINE];
-    size_t count;
-    write_octets(line + strlen(line), octets, length);
+size_t conformance_wire_ask_octets(struct wire *wire, const char *line, const char *word,
+                                   uint8_t octets[FIO2070_LONGEST_FRAME]) {
+    char said[WIRE_LONGEST_LINE];
+    size_t count = CONFORMANCE_FAILED;
     if (!conformance_wire_ask(wire, line, said)) return CONFORMANCE_FAILED;
     if (strcmp(said, "none") == 0) return 0;
-    if (strncmp(said, "answer ", 7) != 0) {
-        conformance_wire_fail(wire, "neither `answer` nor `none`: ", said);
-        return CONFORMANCE_FAILED;
+    if (strncmp(said, word, strlen(word)) == 0) {
+        count = conformance_wire_octets(said + strlen(word), octets, FIO2070_LONGEST_FRAME);
     }
-    count = read_octets(said + 7, answer, FIO2070_LONGEST_FRAME);
-    if (count == CONFORMANCE_FAILED) conformance_wire_fail(wire, "not octets: ", said);
+    if (count == CONFORMANCE_FAILED) conformance_wire_fail(wire, "neither octets nor `none`: ", said);
     return count;
+}
+
+static size_t exchange(void *context, const uint8_t *octets, size_t length, uint8_t answer[FIO2070_LONGEST_FRAME]) {
+    char line[WIRE_LONGEST_LINE] = "frame ";
+    conformance_wire_put_octets(line + strlen(line), octets, length);
+    return conformance_wire_ask_octets((struct wire *)context, line, "answer ", answer);
 }
 
 void conformance_wire_maker(struct wire *wire, uint8_t id, uint8_t per_block, struct maker *maker) {

@@ -1,11 +1,13 @@
-/* The command fio2070-test: holds a module that is asked by lines against the proved one. */
+/* The command fio2070-test: holds a module, or a CPU's end, that is asked by lines against the proved one. */
 #include "conformance_wire.h"
 
+#include <errno.h>
 #include <stdlib.h>
 #include <string.h>
 
 static const char HELP[] =
     "Usage: fio2070-test [--id N] [--per-block N] [--deadline MS] [--own-clock] WIRE [WORD..]\n"
+    "       fio2070-test --cpu [--deadline MS] WIRE [WORD..]\n"
     "       fio2070-test --self module|cpu [WORD..]\n"
     "\n"
     "Holds a module against the proved one, by random scripts. It is asked by lines, each of which it answers with one:\n"
@@ -13,6 +15,11 @@ static const char HELP[] =
     "  inputs H16     done          the levels of the 64 inputs, and one step of a millisecond\n"
     "  sync           done          LINESYNC goes from 0 to 1\n"
     "  frame HEX      answer HEX    or none; HEX may have no digits\n"
+    "With --cpu it is a CPU's end, with these lines:\n"
+    "  reset H2       done          as at its start; its first poll asks for this block\n"
+    "  poll           frame HEX     its next poll, also if the one before had no answer; or none\n"
+    "  hear HEX       record H2 ITEM..   the next number, and what the frame adds to the record: ITEM is gap, or H16:\n"
+    "                               the input, the state, the stamp (4 digits) and the wide time (8)\n"
     "\n"
     "WIRE is one of these:\n"
     "  --command LINE      a program that reads and writes the lines, as sh begins it\n"
@@ -24,6 +31,7 @@ static const char HELP[] =
     "  --deadline MS   for each line of the module, 2000 if not given\n"
     "  --own-clock     it samples by a clock of its own: inputs sets the levels alone, and what depends on that clock\n"
     "                  is judged by bounds\n"
+    "  --cpu           it is a CPU's end\n"
     "  --self END      the proved module, or the proved CPU's end, against itself\n"
     "\n"
     "Each other WORD is the tester's: fio2070-test WIRE --help writes them.\n";
@@ -31,13 +39,14 @@ static const char HELP[] =
 /* What comes before the words of the tester. */
 struct setup {
     struct wire wire;
-    int id, per_block, is_open;
+    int id, per_block, is_cpu, is_open;
     const char *opened, *self; /* the end of --self, NULL if there is none */
 };
 
 /* Reads an option and its word. Returns how many words it took, 0 if it is none of these. */
 static int read_option(struct setup *setup, const char *name, const char *word) {
     if (strcmp(name, "--own-clock") == 0) return setup->wire.has_own_clock = 1;
+    if (strcmp(name, "--cpu") == 0) return setup->is_cpu = 1;
     if (strcmp(name, "--self") == 0) {
         setup->self = setup->opened = word;
         setup->is_open = strcmp(word, "module") == 0 || strcmp(word, "cpu") == 0;
@@ -61,6 +70,7 @@ static int read_option(struct setup *setup, const char *name, const char *word) 
 
 static int run(struct setup *setup, int count, char **words) {
     struct maker maker;
+    struct cpu_maker cpu;
     struct outside outside;
     struct ends ends;
     int status;
@@ -71,10 +81,12 @@ static int run(struct setup *setup, int count, char **words) {
         return conformance_words(&ends, 0, count, words);
     }
     conformance_wire_maker(&setup->wire, (uint8_t)setup->id, (uint8_t)setup->per_block, &maker);
+    conformance_wire_cpu_maker(&setup->wire, &cpu);
     conformance_wire_outside(&setup->wire, &outside);
-    ends.module = &maker;
+    if (setup->is_cpu) ends.cpu = &cpu;
+    if (!setup->is_cpu) ends.module = &maker;
     ends.outside = &outside;
-    ends.has_own_clock = setup->wire.has_own_clock;
+    ends.has_own_clock = !setup->is_cpu && setup->wire.has_own_clock;
     ends.most_tried = ends.has_own_clock ? 10000 : 500000;
     status = conformance_words(&ends, 1, count, words);
     if (status == 3) printf("%s: %s\n", setup->opened, setup->wire.fault);
@@ -95,6 +107,14 @@ static int refuse(int count, char **words, int place, int taken) {
     return is_help ? 0 : 2;
 }
 
+/* The status of a run whose text is written; 2, with a word, if it can't be written. */
+static int written(int status) {
+    int is_full = fflush(stdout) != 0 || ferror(stdout);
+    if (!is_full) return status;
+    fprintf(stderr, "fio2070-test: standard output: %s\n", errno != 0 ? strerror(errno) : "it can't be written");
+    return 2;
+}
+
 int main(int count, char **words) {
     static struct setup setup;
     int place = 1, taken = 1;
@@ -106,11 +126,11 @@ int main(int count, char **words) {
         taken = read_option(&setup, words[place], words[place + 1]);
         place += taken;
     }
-    if (setup.opened == NULL) return refuse(count, words, place, taken);
+    if (setup.opened == NULL) return written(refuse(count, words, place, taken));
     if (!setup.is_open || setup.id < 0 || setup.id > 255 || setup.per_block < 1 || setup.per_block > 255) {
         printf(setup.is_open ? "a number is out of its range\n" : "can't open %s\n", setup.opened);
         return 2;
     }
     words[place - 1] = words[0];
-    return run(&setup, count - place + 1, words + place - 1);
+    return written(run(&setup, count - place + 1, words + place - 1));
 }

@@ -24,8 +24,6 @@ class Access(NamedTuple):
     depth: int
     # What the instruction adds to its address.
     offset: int
-    # Whether it is in a loop.
-    is_repeated: bool
 
     def start(self):
         return self.place.distance + self.offset
@@ -57,24 +55,15 @@ class Accesses:
     def __init__(self):
         self.bases, self.sums, self.pointers = 0, {}, 0
         self.waiting, self.tested = [], []
-        # The local that each base comes from, and the variable for the object of (local, size, writes).
-        self.locals, self.objects = {}, {}
 
-    def fresh(self, local=None):
-        """Returns a number of which nothing is known, except perhaps that it is in this local."""
+    def fresh(self):
+        """Returns a number of which nothing is known."""
         self.bases += 1
-        self.locals[self.bases] = local
         return Place(self.bases, 0)
-
-    def named(self, place, local):
-        """Puts a number into a local."""
-        if place.base != NOTHING and self.locals[place.base] is None:
-            self.locals[place.base] = local
 
     def sum_of(self, one, other):
         if NOTHING not in (one.base, other.base):
-            local = self.locals[one.base]
-            return self.sums.setdefault((one, other), self.fresh(self.locals[other.base] if local is None else local))
+            return self.sums.setdefault((one, other), self.fresh())
         whole = (one.distance + other.distance + 2 ** 63) % 2 ** 64 - 2 ** 63
         return Place(one.base or other.base, whole)
 
@@ -85,10 +74,10 @@ class Accesses:
         self.pointers += 1
         return self.names()[-1]
 
-    def add(self, line, address, place, size, writes, depth, offset, is_repeated):
+    def add(self, line, address, place, size, writes, depth, offset):
         """Adds an access. Returns the mark that its line has for the pointer."""
         mark = '@%d@' % len(self.waiting)
-        self.waiting.append(Access(line, mark, address, place, size, writes, depth, offset, is_repeated))
+        self.waiting.append(Access(line, mark, address, place, size, writes, depth, offset))
         return mark
 
     def frame(self, place, size, depth):
@@ -136,16 +125,9 @@ class Accesses:
         address = first.address
         if start != first.place.distance:
             address += ' + UINT64_C(%d)' % ((start - first.place.distance) % 2 ** 64)
-        call = 'write' if writes else 'read'
-        call += '_near(&%s, ' % self.object_of(first, size, writes) if first.is_repeated else '_at('
-        test = '%s = %s%s, m, %du);' % (found.pointer, call, address, size)
+        test = '%s = %s(%s, m, %du);' % (found.pointer, 'write_at' if writes else 'read_at', address, size)
         lines[first.line] = test + '\n' + lines[first.line]
         return found
-
-    def object_of(self, first, size, writes):
-        """Returns the variable for the object that a loop's accesses were in, whose bounds are then known for the next ones.
-        It is only a guess that those from one local are in one object: a miss is looked up."""
-        return self.objects.setdefault((self.locals.get(first.place.base), size, writes), 'n%d' % (len(self.objects) + 1))
 
     def leave(self, depth, is_joined):
         """Ends a block that is open at this depth. If branches reach its end too, what was tested in it is not tested

@@ -1,15 +1,39 @@
 """Instructions that are read and not translated."""
 
 from instructions import LOADS, STORES
-from module import Octets
 
 # Instructions with one number after them.
 ONE_NUMBER = (0x0C, 0x0D, 0x10, 0x20, 0x21, 0x22, 0x23, 0x24)
+# A loop, a call, globals, and operations on many octets.
+NOT_SMALL = (0x03, 0x10, 0x23, 0x24, 0xFC)
+# The most octets of a small function.
+SMALL = 100
+
+
+def is_small(it):
+    """Returns whether a function is short and plain."""
+    ahead, depth = it.copy(), 0
+    if it.end - it.place > SMALL:
+        return False
+    for _ in range(ahead.number()):
+        ahead.number(), ahead.octet()
+    while depth >= 0:
+        op = ahead.octet()
+        if op in NOT_SMALL:
+            return False
+        if op in (0x02, 0x04):
+            ahead.number(signed=True)
+            depth += 1
+        elif op == 0x0B:
+            depth -= 1
+        else:
+            pass_over(ahead, op)
+    return True
 
 
 def assigned_in(it):
     """Returns the locals that a loop sets, read ahead to its end."""
-    ahead, depth, found = Octets(it.octets, it.place), 0, set()
+    ahead, depth, found = it.copy(), 0, set()
     while depth >= 0:
         op = ahead.octet()
         if op in (0x02, 0x03, 0x04):

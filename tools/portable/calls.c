@@ -1,13 +1,15 @@
+/* SPDX-License-Identifier: MIT
+ * Copyright (c) 2026 Wapukiro maintainers */
 /* The calls of fio2070.h over the translated module. Arguments lie where the caller has them; structs with numbers of
  * several octets are put into little-endian octets before a call, and taken from them after it. */
 #include <string.h>
 
 #include "fio2070.h"
 
-enum { WINDOWS = 4 };
+/* The data of a call, its stack, and four arguments. */
+enum { WINDOWS = 6 };
 
-/* The stack of a call, or an argument: the low half of the first octet's address, how many octets there are, and how many
- * of them may be written. */
+/* One of these: the low half of the first octet's address, how many octets there are, and how many of them may be written. */
 struct window {
     uint8_t *octets;
     uint32_t first, length, writable;
@@ -15,28 +17,37 @@ struct window {
 
 #define MACHINE_FIELDS             \
     uint32_t count;                \
-    struct window windows[WINDOWS + 1];
+    struct window windows[WINDOWS];
 
 @TRANSLATED@
 
-/* Begins a call: its stack and its machine. */
-#define MACHINE(call)                            \
-    struct machine machine;                      \
-    uint8_t stack[STACK_##call + 16];            \
-    machine_globals(&machine);                   \
-    begin(&machine, stack, sizeof stack - 16)
+/* Begins a call: its stack, and the data that it may read. */
+#define MACHINE(call)                                   \
+    struct machine machine;                             \
+    uint8_t stack[STACK_##call > 0 ? STACK_##call : 1]; \
+    machine_globals(&machine);                          \
+    begin(&machine, stack, sizeof stack, TABLE_##call); \
+    machine.count = 1;                                  \
+    machine.g0 = ((uint64_t)1 << 32) + sizeof stack
 
-static void begin(struct machine *m, uint8_t *stack, uint32_t size) {
-    m->windows[0].octets = stack;
-    m->windows[0].first = STACK_TOP - size;
-    m->windows[0].length = m->windows[0].writable = size;
-    m->count = 0;
+static void begin(struct machine *m, uint8_t *stack, uint32_t size, const uint8_t *table) {
+    struct window *data = &m->windows[0], *own = &m->windows[1];
+    data->octets = own->octets = stack;
+    data->first = data->length = data->writable = own->first = 0;
+    own->length = own->writable = size;
+    if (table != NO_TABLE) {
+        data->octets = (uint8_t *)(uintptr_t)(table + 8);
+        data->first = load32(table);
+        data->length = load32(table + 4);
+    }
 }
 
 /* Gives the machine an argument, and returns its address there. */
 static uint64_t window(struct machine *m, const void *octets, size_t length, uint8_t is_mutable) {
     struct window *it = &m->windows[++m->count];
-    if (sizeof(size_t) > 4 && length > 0xFFFFFFFFu) length = 0xFFFFFFFFu;
+#if SIZE_MAX > 0xFFFFFFFFu
+    if (length > 0xFFFFFFFFu) length = 0xFFFFFFFFu;
+#endif
     it->octets = (uint8_t *)(uintptr_t)octets;
     it->first = 0;
     it->length = (uint32_t)length;
@@ -50,7 +61,7 @@ static uint64_t window(struct machine *m, const void *octets, size_t length, uin
 static const uint16_t one = 1;
 #define IS_LITTLE (*(const uint8_t *)&one)
 
-static uint16_t get16(const uint8_t *p) { return (uint16_t)(p[0] | p[1] << 8); }
+static uint16_t get16(const uint8_t *p) { return (uint16_t)(p[0] | (uint16_t)p[1] << 8); }
 static uint32_t get32(const uint8_t *p) { return get16(p) | (uint32_t)get16(p + 2) << 16; }
 static uint64_t get64(const uint8_t *p) { return get32(p) | (uint64_t)get32(p + 4) << 32; }
 static void put16(uint8_t *p, uint16_t v) { p[0] = (uint8_t)v; p[1] = (uint8_t)(v >> 8); }
@@ -59,17 +70,18 @@ static void put64(uint8_t *p, uint64_t v) { put32(p, (uint32_t)v); put32(p + 4, 
 
 /* What the library alone writes is the same octets everywhere; see fio2070.h. */
 #define SAME(name, is, expected) typedef char name[(is) == (expected) ? 1 : -1]
-SAME(size_of_content_checker, sizeof(struct fio2070_content_checker), 632);
+SAME(size_of_content_checker, sizeof(struct fio2070_content_checker), 696);
 SAME(size_of_counter, sizeof(struct fio2070_counter), 12);
 SAME(size_of_filters, sizeof(struct fio2070_filters), 216);
 SAME(size_of_sized_module, sizeof(struct fio2070_sized_module), 1056);
-SAME(size_of_log_batch, sizeof(struct fio2070_log_batch), 565264);
 SAME(size_of_slot, sizeof(struct fio2070_slot), 3);
 SAME(size_of_outputs, sizeof(struct fio2070_outputs), 16);
 SAME(size_of_item, sizeof(struct fio2070_configuration_item), 4);
 SAME(size_of_entry, sizeof(struct fio2070_entry), 4);
 SAME(size_of_poller, sizeof(struct fio2070_poller), 1);
 SAME(size_of_record_item, sizeof(struct fio2070_record_item), 12);
+SAME(size_of_wire, sizeof(struct fio2070_wire), 786);
+SAME(size_of_wire_bits, sizeof(struct fio2070_wire_bits), 792);
 
 static struct fio2070_fault fault_in(const uint8_t *p) {
     struct fio2070_fault fault;
@@ -381,6 +393,17 @@ uint8_t fio2070_checker_start_within(struct fio2070_checker *checker, struct fio
     }
 }
 
+uint8_t fio2070_checker_start_anywhere(struct fio2070_checker *checker, struct fio2070_limits limits) {
+    uint8_t octets[4] = {0};
+    MACHINE(fio2070_checker_start_anywhere);
+    put16(octets, limits.waiting);
+    octets[2] = limits.per_block;
+    {
+        uint64_t a = WRITES(checker, sizeof *checker), b = READS(octets, 4);
+        return (uint8_t)call_fio2070_checker_start_anywhere(&machine, a, b);
+    }
+}
+
 OVER(checker, sent, 1, uint8_t, return (uint8_t),
      (struct fio2070_checker * checker, const uint8_t *octets, size_t length, struct fio2070_breach *breach), it,
      READS(octets, length), length, WRITES(breach, sizeof *breach))
@@ -405,6 +428,37 @@ uint8_t fio2070_content_heard(struct fio2070_content_checker *content, const uin
     breach->items = get16((const uint8_t *)&breach->items);
     return rule;
 }
+
+/* ---- Frames on a line ---- */
+
+OVER(wire, start, 1, void, , (struct fio2070_wire * wire, uint16_t address, uint16_t control), it, address, control)
+OVER(wire, read, 1, uint8_t, return (uint8_t), (struct fio2070_wire * wire, uint8_t octet), it, octet)
+OVER(wire, read_many, 1, size_t, return (size_t),
+     (struct fio2070_wire * wire, const uint8_t *octets, size_t length, uint8_t *heard), it, READS(octets, length), length,
+     WRITES(heard, 1))
+OVER(wire, lose, 1, void, , (struct fio2070_wire * wire), it)
+OVER(wire, message_length, 0, size_t, return (size_t), (const struct fio2070_wire *wire), it)
+OVER(wire_bits, start, 1, void, , (struct fio2070_wire_bits * wire_bits, uint16_t address, uint16_t control), it, address,
+     control)
+OVER(wire_bits, read, 1, uint8_t, return (uint8_t), (struct fio2070_wire_bits * wire_bits, uint8_t bit), it, bit)
+OVER(wire_bits, read_many, 1, size_t, return (size_t),
+     (struct fio2070_wire_bits * wire_bits, const uint8_t *line, size_t length, uint8_t *heard), it, READS(line, length),
+     length, WRITES(heard, 1))
+OVER(wire_bits, message_length, 0, size_t, return (size_t), (const struct fio2070_wire_bits *wire_bits), it)
+
+ENCODES(wire_write,
+        (uint8_t address, uint8_t control, const uint8_t *message, size_t length, uint8_t *out, size_t room), address,
+        control, READS(message, length), length, to, room)
+
+uint16_t fio2070_wire_check(const uint8_t *octets, size_t length) {
+    MACHINE(fio2070_wire_check);
+    return (uint16_t)call_fio2070_wire_check(&machine, READS(octets, length), length);
+}
+
+/* ---- Logs ---- */
+
+#ifndef FIO2070_NO_LOG
+SAME(size_of_log_batch, sizeof(struct fio2070_log_batch), 565264);
 
 OVER(log, start, 1, void, , (struct fio2070_log_reader * log, uint8_t form), it, form)
 OVER(log, end, 1, void, , (struct fio2070_log_reader * log), it)
@@ -443,6 +497,7 @@ size_t fio2070_log_read(struct fio2070_log_reader *reader, const uint8_t *octets
     if (!IS_LITTLE) settle_batch(batch);
     return taken;
 }
+#endif
 
 OVER(filters, start, 1, void, , (struct fio2070_filters * filters), it)
 OVER(filters, scan, 1, uint64_t, return, (struct fio2070_filters * filters, uint64_t raw), it, raw)

@@ -2,8 +2,10 @@
 and width: `i3` has 32 bits, `j3` has 64. Locals are v0, v1, ..; blocks end in labels; p1, p2, .. lead to octets that were
 tested."""
 
+import re
+
 from accesses import NOTHING, Accesses, Place
-from ahead import assigned_in, skip
+from ahead import assigned_in, is_small, skip
 from instructions import I32, I64, LETTER, LOADS, NUMERIC, STORES, TYPES
 from loops import Comparison, Loop, is_straight
 from module import Refused
@@ -21,13 +23,18 @@ class Function:
         self.locals = list(self.takes)
         self.lines, self.stack, self.variables = [], [], {}
         self.blocks, self.labels, self.used = [], 0, set()
-        self.frame, self.calls = 0, set()
+        # The first local of the function whose body is read, and the number of its outermost block: of this function, or of a
+        # small one that it calls.
+        self.first, self.outermost = 0, 0
+        # Its greatest frame, the functions that it calls, and the numbers in its instructions: addresses may be among them.
+        self.frame, self.calls, self.numbers = 0, set(), set()
         self.accesses = Accesses()
         # What is known of the numbers in the locals, and of the stack pointer as long as nothing changes it.
-        self.places = [self.accesses.fresh(index) for index, _ in enumerate(self.takes)]
+        self.places = [self.accesses.fresh() for _ in self.takes]
         self.stack_pointer, self.is_moved = self.accesses.fresh(), False
         self.frame_test = None
-        self.read(module.codes[index])
+        self.begin('function', self.gives)
+        self.read(module.codes[index].copy())
 
     def say(self, text):
         self.lines.append(text)
@@ -59,7 +66,7 @@ class Function:
     def begin(self, kind, results):
         self.labels += 1
         self.blocks.append({'kind': kind, 'results': results, 'height': len(self.stack), 'label': self.labels,
-                            'assigned': set(), 'places': list(self.places), 'bases': self.accesses.bases})
+                            'assigned': set(), 'places': list(self.places)})
 
     def settle(self):
         """Settles the accesses: what follows is not always done after what comes before."""
@@ -68,7 +75,7 @@ class Function:
     def forget(self, assigned):
         """Forgets what is known of these locals."""
         for index in assigned:
-            self.places[index] = self.accesses.fresh(index)
+            self.places[index] = self.accesses.fresh()
 
     def branch(self, depth):
         self.settle()
@@ -131,7 +138,7 @@ class Function:
         block = self.blocks[-1]
         self.settle()
         self.accesses.leave(len(self.blocks), True)
-        self.places = list(block['places'])
+        self.places[:len(block['places'])] = block['places']
         if reachable:
             self.move(block)
         self.used.add(block['label'])
@@ -142,16 +149,23 @@ class Function:
 
     # ---- Reading ----
 
-    def read(self, it):
+    def read_locals(self, it):
+        """Reads the locals of a function after its parameters. Returns them."""
+        known = len(self.locals)
         for _ in range(it.number()):
             count, kind = it.number(), it.octet()
             if kind not in TYPES:
                 raise Refused('a local that is no integer in function %d' % self.index)
             self.locals += [kind] * count
             self.places += [Place(NOTHING, 0)] * count
-        self.begin('function', self.gives)
-        reachable = True
-        while self.blocks:
+        return range(known, len(self.locals))
+
+    def read(self, it):
+        """Reads a function's locals, which are 0 at first, and its body, whose block has begun."""
+        added, reachable = self.read_locals(it), True
+        for index in added if self.outermost else ():
+            self.say('v%d = 0;' % index)
+        while len(self.blocks) > self.outermost:
             op = it.octet()
             if op == 0x0B:
                 self.end_block(reachable)
@@ -212,12 +226,12 @@ class Function:
 
     def access(self, address, place, size, offset, writes):
         """Returns the mark of a pointer to these octets, which the next line has."""
-        moves = place.base > max([it['bases'] for it in self.blocks if it['kind'] == 'loop'], default=place.base)
-        return self.accesses.add(len(self.lines), address, place, size, writes, len(self.blocks), offset, moves)
+        return self.accesses.add(len(self.lines), address, place, size, writes, len(self.blocks), offset)
 
     def load(self, size, sign, kind, it):
         it.number()
         offset, (address, place) = it.number(), self.pop_entry(I64)
+        self.numbers.add(offset)
         text = 'load%d(%s)' % (8 * size, self.access(address, place, size, offset, False))
         if sign:
             text = '(%s)extend(%s, %d)' % (TYPES[kind], text, sign)
@@ -227,6 +241,7 @@ class Function:
     def store(self, size, kind, it):
         it.number()
         offset, value, (address, place) = it.number(), self.pop(kind), self.pop_entry(I64)
+        self.numbers.add(offset)
         self.say('store%d(%s, %s);' % (8 * size, self.access(address, place, size, offset, True), value))
         return True
 
@@ -286,18 +301,33 @@ class Function:
         return False
 
     def leave(self, op, it):
-        self.say(self.branch(len(self.blocks) - 1))
+        self.say(self.branch(len(self.blocks) - 1 - self.outermost))
         return False
 
     def call(self, op, it):
         index = it.number()
         takes, gives = self.module.types[self.module.functions[index]]
+        if is_small(self.module.codes[index]):
+            return self.read_here(self.module.codes[index], takes, gives)
         text = '%s(%s)' % (self.module.name_of(index), ', '.join(['m'] + self.pops(takes)))
         self.calls.add(index)
         if gives:
             self.push(gives[0], text)
         else:
             self.say(text + ';')
+
+    def read_here(self, code, takes, gives):
+        """Translates a small function as a block where it is called, so that its accesses are tested with those here."""
+        outer, first = (self.first, self.outermost), len(self.locals)
+        given = [self.pop_entry(kind) for kind in reversed(takes)][::-1]
+        self.locals += takes
+        self.places += [Place(NOTHING, 0)] * len(takes)
+        for place, entry in enumerate(given):
+            self.put(first + place, *entry)
+        self.first, self.outermost = first, len(self.blocks)
+        self.begin('block', gives)
+        self.read(code.copy())
+        self.first, self.outermost = outer
 
     def drop(self, op, it):
         self.say('(void)%s;' % self.pop())
@@ -308,22 +338,21 @@ class Function:
         self.push(kind, '%s ? %s : %s' % (condition, self.pop(kind), second))
 
     def get_local(self, op, it):
-        index = it.number()
+        index = self.first + it.number()
         self.push(self.locals[index], 'v%d' % index, self.places[index])
 
     def put(self, index, name, place):
         """Puts a number into a local."""
         self.places[index] = place if isinstance(place, Place) else self.accesses.fresh()
-        self.accesses.named(self.places[index], index)
         self.blocks[-1]['assigned'].add(index)
         self.say('v%d = %s;' % (index, name))
 
     def set_local(self, op, it):
-        index = it.number()
+        index = self.first + it.number()
         self.put(index, *self.pop_entry(self.locals[index]))
 
     def tee_local(self, op, it):
-        self.put(it.number(), *self.stack[-1][1:])
+        self.put(self.first + it.number(), *self.stack[-1][1:])
 
     def get_global(self, op, it):
         index = it.number()
@@ -340,6 +369,8 @@ class Function:
         if op == 0x41:
             self.push(I32, 'UINT32_C(%d)' % (value & 0xFFFFFFFF))
         else:
+            # An address has 64 bits.
+            self.numbers.add(value)
             self.push(I64, 'UINT64_C(%d)' % (value & 0xFFFFFFFFFFFFFFFF), Place(NOTHING, value))
 
     def many_octets(self, op, it):
@@ -373,8 +404,9 @@ class Function:
                 lines.append('uint8_t *%s;' % pointer)
             else:
                 del self.lines[self.frame_test]
-        lines += ['OBJECT(%s)' % name for name in self.accesses.objects.values()]
         unused = [name for name in ['m'] + ['v%d' % n for n in range(len(self.locals))] if not uses(words, name)]
+        # An address for which a pointer stands is read nowhere.
+        unused += [name for name in self.variables if not re.search(r'\b%s\b(?! = )' % name, words)]
         return '\n'.join(lines + ['(void)%s;' % name for name in unused] + self.lines + ['}'])
 
 

@@ -6,7 +6,6 @@ from typing import NamedTuple
 
 from accesses import NOTHING, Place
 from ahead import pass_over
-from module import Octets
 
 BRANCH_IF, END = 0x0D, 0x0B
 # Instructions that lead elsewhere, and those that change more than locals and the octets that they name.
@@ -25,7 +24,7 @@ class Comparison(NamedTuple):
 
 def is_straight(it):
     """Returns whether the loop that begins here ends in a branch to its beginning, and has no other branch and no call."""
-    ahead = Octets(it.octets, it.place)
+    ahead = it.copy()
     while True:
         op = ahead.octet()
         if op in LEAVE or op == END:

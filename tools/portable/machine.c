@@ -1,18 +1,15 @@
 /* What the translated functions call: memory, and the integer operations that C lacks.
  *
- * A memory of 64 bits is mostly empty, so it only holds what a call needs. Addresses below 2^32 are the module's
- * own: its stack, which is an array of the C function that makes the call, and its read-only data. Argument k of a call
- * has the addresses from k * 2^32 on, in the caller's own memory, read and written in place. Each access is tested against
- * the object's length; a store to a const argument, and any other access, ends in FIO2070_TRAP.
+ * A memory of 64 bits is mostly empty, so it only holds what a call needs, each object from a multiple of 2^32 on: number 0
+ * is that part of the module's read-only data which the call may read, number 1 its stack, an array of the C function that
+ * makes the call, and the next ones are its arguments, in the caller's own memory, read and written in place. Each access is
+ * tested against the object's length; a store to what is const, and any other access, ends in FIO2070_TRAP.
  *
- * Memory is little-endian by WebAssembly's definition, whatever the processor is: numbers are put together from octets,
- * which compilers turn into one load if the processor allows it. */
+ * Memory is little-endian by WebAssembly's definition, whatever the processor is. */
 
 #if defined(__GNUC__)
-#define HOT static inline __attribute__((always_inline))
+#define HOT static inline __attribute__((always_inline, unused))
 #define COLD __attribute__((noinline, cold, noreturn))
-#define COLD_PLACE __attribute__((noinline, cold))
-#define LOOKED_UP __attribute__((noinline))
 #else
 #define HOT static inline
 #if defined(_MSC_VER)
@@ -20,8 +17,6 @@
 #else
 #define COLD
 #endif
-#define COLD_PLACE
-#define LOOKED_UP
 #endif
 
 /* The module is proved not to come here. A watchdog finds a call that never returns. */
@@ -34,97 +29,44 @@ COLD static void trap(void) {
     }
 }
 
-/* Accesses below 2^32 are always tested, since that is how constants are told from the stack. */
 #ifdef FIO2070_UNCHECKED
-#define HOLDS(test) (number > 0 || (test))
+#define HOLDS(test) (1 || (test))
 #else
 #define HOLDS(test) (test)
 #endif
 
-/* With FIO2070_FAST each access has its own copy of the test: on a Cortex-M4 1.4 times the code, and from a third of the time. */
+/* With FIO2070_FAST each access has its own copy of the test: on a Cortex-M4 1.35 times the code, and from a quarter of the time. */
 #ifdef FIO2070_FAST
 #define PLACE HOT
 #else
 #define PLACE static
 #endif
 
-/* The read-only data of the module. Anything else that is neither an argument nor the stack is not valid. */
-COLD_PLACE static uint8_t *data_at(uint64_t address, uint32_t size) {
-    uint64_t place = address - STACK_TOP;
-    if (address < STACK_TOP || place > DATA_LENGTH || size > DATA_LENGTH - (uint32_t)place) trap();
-    return (uint8_t *)(uintptr_t)(data_octets + (uint32_t)place);
-}
-
-/* Where these octets are, which are read. */
-PLACE uint8_t *read_at(uint64_t address, const struct machine *m, uint32_t size) {
-    uint32_t number = (uint32_t)(address >> 32);
-    if (number <= WINDOWS) {
-        const struct window *it = &m->windows[number];
-        uint32_t place = (uint32_t)address - it->first;
-        if (HOLDS(place <= it->length && size <= it->length - place)) return it->octets + place;
-    }
-    return data_at(address, size);
-}
-
-/* Where these octets are, which are written. */
-PLACE uint8_t *write_at(uint64_t address, const struct machine *m, uint32_t size) {
-    uint32_t number = (uint32_t)(address >> 32);
-    if (number <= WINDOWS) {
-        const struct window *it = &m->windows[number];
-        uint32_t place = (uint32_t)address - it->first;
-        if (HOLDS(place <= it->writable && size <= it->writable - place)) return it->octets + place;
-    }
-    trap();
-    return m->windows[0].octets;
-}
-
-/* How many turns a loop takes until a number has reached another, by steps of this size. If it would take 2^64, it is 0. */
-HOT uint64_t turns(uint64_t to, uint64_t from, uint32_t step) { if ((to - from) % step) trap(); return (to - from) / step; }
-/* How many octets this many turns reach, each some octets beyond the one before. */
-HOT uint32_t run(uint32_t size, uint32_t step, uint64_t turns) { if (turns - 1 > 0xFFFFFFFFu || (turns - 1) * step > 0xFFFFFFFFu - size) trap(); return size + step * (uint32_t)(turns - 1); }
-
-/* An object, and how many places of it some octets may begin at. A loop has it in a variable for its accesses. */
-#if defined(FIO2070_FAST) && !defined(FIO2070_UNCHECKED) && UINTPTR_MAX > 0xFFFFFFFFu
-struct object {
-    uint8_t *octets;
-    uint64_t first, places;
-};
-#define OBJECT(name) struct object name = {0, 0, 0};
-
-/* The object that these octets are in, which are read, or which are written. */
-LOOKED_UP static struct object object_at(uint64_t address, const struct machine *m, uint32_t size, int writes) {
-    struct object found;
-    uint32_t number = (uint32_t)(address >> 32);
-    const struct window *it = &m->windows[number <= WINDOWS ? number : 0];
-    uint32_t length = writes ? it->writable : it->length;
-    found.octets = it->octets;
-    found.first = ((uint64_t)number << 32) + it->first;
-    if (number > WINDOWS || (uint32_t)address - it->first > length || size > length - ((uint32_t)address - it->first)) {
-        if (writes) trap();
-        found.octets = data_at(address, size);
-        found.first = address;
-        length = size;
-    }
-    found.places = (uint64_t)length - size + 1;
-    return found;
-}
-HOT uint8_t *read_near(struct object *it, uint64_t address, const struct machine *m, uint32_t size) {
-    if (address - it->first >= it->places) *it = object_at(address, m, size, 0);
-    return it->octets + (size_t)(address - it->first);
-}
-HOT uint8_t *write_near(struct object *it, uint64_t address, const struct machine *m, uint32_t size) {
-    if (address - it->first >= it->places) *it = object_at(address, m, size, 1);
-    return it->octets + (size_t)(address - it->first);
-}
-#else
-#define OBJECT(name)
-#define read_near(it, address, m, size) read_at(address, m, size)
-#define write_near(it, address, m, size) write_at(address, m, size)
-#endif
-
 HOT uint32_t load8(const uint8_t *p) {
     return *p;
 }
+HOT void store8(uint8_t *p, uint64_t value) {
+    *p = (uint8_t)value;
+}
+
+/* Numbers of several octets: whole, where a processor has the module's order of octets and needs no alignment, since compilers
+ * then follow a number from its store to its load; else put together from octets. */
+#if defined(__GNUC__) && (defined(__x86_64__) || defined(__i386__) || defined(__ARM_FEATURE_UNALIGNED)) \
+    && __BYTE_ORDER__ == __ORDER_LITTLE_ENDIAN__
+#define WHOLE(bits, result)                                   \
+    HOT result load##bits(const uint8_t *p) {                 \
+        uint##bits##_t number;                                \
+        memcpy(&number, p, sizeof number);                    \
+        return number;                                        \
+    }                                                         \
+    HOT void store##bits(uint8_t *p, uint64_t value) {        \
+        uint##bits##_t number = (uint##bits##_t)value;        \
+        memcpy(p, &number, sizeof number);                    \
+    }
+WHOLE(16, uint32_t)
+WHOLE(32, uint32_t)
+WHOLE(64, uint64_t)
+#else
 HOT uint32_t load16(const uint8_t *p) {
     return p[0] | (uint32_t)p[1] << 8;
 }
@@ -134,9 +76,6 @@ HOT uint32_t load32(const uint8_t *p) {
 HOT uint64_t load64(const uint8_t *p) {
     return p[0] | (uint32_t)p[1] << 8 | (uint32_t)p[2] << 16 | (uint32_t)p[3] << 24
         | (uint64_t)(p[4] | (uint32_t)p[5] << 8 | (uint32_t)p[6] << 16 | (uint32_t)p[7] << 24) << 32;
-}
-HOT void store8(uint8_t *p, uint64_t value) {
-    *p = (uint8_t)value;
 }
 HOT void store16(uint8_t *p, uint64_t value) {
     p[0] = (uint8_t)value;
@@ -160,6 +99,31 @@ HOT void store64(uint8_t *p, uint64_t value) {
     p[6] = (uint8_t)(w >> 16);
     p[7] = (uint8_t)(w >> 24);
 }
+#endif
+
+/* The data of a call: a table of its first address and its length, of 4 octets each, and then its octets. */
+#define NO_TABLE ((const uint8_t *)0)
+
+/* Where these octets are, which are read, or which are written. Their place is below 2^32, so its sum with their number does
+ * not wrap. An address before the first one becomes a place after the last one, since constants end below 2^32. */
+#define PLACE_IN(name, most)                                                                      \
+    PLACE uint8_t *name(uint64_t address, const struct machine *m, uint32_t size) {               \
+        uint32_t number = (uint32_t)(address >> 32);                                              \
+        if (HOLDS(number <= m->count)) {                                                          \
+            const struct window *it = &m->windows[number];                                        \
+            uint32_t place = (uint32_t)address - it->first;                                       \
+            if (HOLDS((uint64_t)place + size <= it->most)) return it->octets + place;             \
+        }                                                                                         \
+        trap();                                                                                   \
+        return m->windows[0].octets;                                                              \
+    }
+PLACE_IN(read_at, length)
+PLACE_IN(write_at, writable)
+
+/* How many turns a loop takes until a number has reached another, by steps of this size. If it would take 2^64, it is 0. */
+HOT uint64_t turns(uint64_t to, uint64_t from, uint32_t step) { if ((to - from) % step) trap(); return (to - from) / step; }
+/* How many octets this many turns reach, each some octets beyond the one before. */
+HOT uint32_t run(uint32_t size, uint32_t step, uint64_t turns) { if (turns - 1 > 0xFFFFFFFFu || (turns - 1) * step > 0xFFFFFFFFu - size) trap(); return size + step * (uint32_t)(turns - 1); }
 
 /* memory.copy and memory.fill. At no octets a pointer may lead anywhere. */
 static void copy(struct machine *m, uint64_t to, uint64_t from, uint64_t count) {

@@ -13,6 +13,9 @@ class Octets:
     def __init__(self, octets, place=0, end=None):
         self.octets, self.place, self.end = octets, place, len(octets) if end is None else end
 
+    def copy(self):
+        return Octets(self.octets, self.place, self.end)
+
     def octet(self):
         self.place += 1
         return self.octets[self.place - 1]
@@ -56,8 +59,8 @@ class Module:
         while reader.place < len(octets):
             number = reader.octet()
             section, _ = reader.sub()
-            name = {0: 'custom', 1: 'type', 3: 'function', 5: 'memory', 6: 'global', 7: 'export', 10: 'code',
-                    11: 'data', 12: 'data_count'}.get(number)
+            name = {0: 'custom', 1: 'type', 3: 'function', 4: 'table', 5: 'memory', 6: 'global', 7: 'export',
+                    9: 'elements', 10: 'code', 11: 'data', 12: 'data_count'}.get(number)
             if name is None:
                 raise Refused('the module has a section of number %d' % number)
             getattr(self, 'read_' + name)(section)
@@ -81,6 +84,14 @@ class Module:
 
     def read_function(self, it):
         self.functions = [it.number() for _ in range(it.number())]
+
+    # What is in tables is called by instructions that are refused.
+
+    def read_table(self, it):
+        pass
+
+    def read_elements(self, it):
+        pass
 
     def read_memory(self, it):
         if it.number() != 1 or not it.octet() & 4:

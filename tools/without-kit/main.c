@@ -1,6 +1,6 @@
-/* `fio2070 show`, `check` and `record` without the Rattle kit: the calls of dist/fio2070.c do all decoding, texts and judging.
- * This file reads lines by docs/FORMATS.md and is not proved; tests/clone.py compares it with the program. ./fio2070 compiles it
- * if there is no `rt`. */
+/* `fio2070 show`, `check` and `record` on machines for which dist/ has no program: the calls of dist/fio2070.c do all decoding,
+ * texts and judging. This file reads lines by docs/FORMATS.md and is not proved; tests/clone.py compares it with the program.
+ * packaging/program compiles it there. */
 #include <fio2070.h>
 #include <signal.h>
 #include <stdio.h>
@@ -11,7 +11,7 @@
 #endif
 
 enum { MOST_OCTETS = 1048576, MOST_ITEMS = MOST_OCTETS / 6 + FIO2070_MOST_RECORD_ITEMS };
-enum { GOOD = 0, FAULTY = 1, MISUSED = 2, FAILED = 3, NEEDS_KIT = 125 };
+enum { GOOD = 0, FAULTY = 1, MISUSED = 2, FAILED = 3, LACKING = 125 };
 
 /* A line of the input that is not skipped: a frame, with its direction in a transcript. */
 struct line {
@@ -98,18 +98,16 @@ static int show(void) {
     return status;
 }
 
-/* Writes the line of `check` that reports a fault, and returns 1. Without a fault it writes nothing, counts the frames, and
- * returns 0. */
-static int has_fault(unsigned long *frames) {
+/* Writes the line of `check` that reports a fault which this checker finds, and returns 1. Without a fault it writes nothing,
+ * counts the frames, and returns 0. */
+static int has_fault(struct fio2070_checker checker, unsigned long *frames) {
     static const struct place top = {0, 0};
     struct place place = top;
-    struct fio2070_checker checker;
     while (next_line(&place, 1)) {
         if (line.length > 0) continue;
         printf("line %lu: bad line\n", line.number);
         return 1;
     }
-    fio2070_checker_start(&checker);
     for (place = top, *frames = 0; next_line(&place, 1); ++*frames) {
         struct fio2070_breach breach;
         char text[FIO2070_LONGEST_TEXT];
@@ -123,8 +121,10 @@ static int has_fault(unsigned long *frames) {
 }
 
 static int check(void) {
+    struct fio2070_checker checker;
     unsigned long frames;
-    if (has_fault(&frames)) return FAULTY;
+    fio2070_checker_start(&checker);
+    if (has_fault(checker, &frames)) return FAULTY;
     printf("good %lu frames\n", frames);
     return GOOD;
 }
@@ -152,12 +152,14 @@ static void begin_at_poll(struct fio2070_poller *poller, int *has_begun) {
 }
 
 static int report_record(void) {
+    static const struct fio2070_limits limits = FIO2070_STANDARD_LIMITS;
     struct place place = {0, 0};
+    struct fio2070_checker checker;
     struct fio2070_poller poller;
     struct fio2070_content_checker content;
     int has_begun = 0;
     unsigned long frames;
-    if (has_fault(&frames)) return FAULTY;
+    if (fio2070_checker_start_anywhere(&checker, limits) != FIO2070_STARTED || has_fault(checker, &frames)) return FAULTY;
     fio2070_content_start(&content);
     while (next_line(&place, 1)) {
         struct fio2070_content_breach breach;
@@ -201,8 +203,9 @@ static int run(int (*tool)(void)) {
 
 static const char ABOUT[] =
     "fio2070: compiled from dist/fio2070.c, which was made of the proved code, and a reader of lines in C that is not\n"
-    "fio2070: proved. It answers show, check and record. `simulate` and the proved program need the Rattle kit: README.md\n"
-    "fio2070: says under \"What is trusted\" where it comes from.\n";
+    "fio2070: proved. It answers show, check and record. The proved program of dist/ is for Linux on x86-64.\n";
+static const char NO_SIMULATE[] =
+    "fio2070: this program has no simulate. The view Play of dist/fio2070.html runs the same scripts in a browser.\n";
 
 /* Writes what this is to standard error, and returns a status. */
 static int say_what(int status) {
@@ -220,11 +223,14 @@ static int run_word(const char *word) {
     if (strcmp(word, "show") == 0) return run(show);
     if (strcmp(word, "check") == 0) return run(check);
     if (strcmp(word, "record") == 0) return run(report_record);
-    if (strcmp(word, "simulate") == 0) return say_what(NEEDS_KIT);
+    if (strcmp(word, "simulate") == 0) {
+        fputs(NO_SIMULATE, stderr);
+        return say_what(LACKING);
+    }
     if (strcmp(word, "--about") == 0) return say_what(GOOD);
     if (is_word(word, "-V", "--version")) {
         printf("fio2070 %lu.%lu.%lu\n", version / 10000, version / 100 % 100, version % 100);
-        return say_what(GOOD);
+        return GOOD;
     }
     if (is_word(word, "-h", "--help")) {
         puts("Usage: fio2070 show|check|record < FILE");

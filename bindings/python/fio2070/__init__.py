@@ -1,14 +1,18 @@
 """The field I/O transition link of the Model 2070, by the proved library libfio2070.
 
-Ranges, errors and sources are those of include/fio2070.h. A number out of its range raises ValueError.
+Ranges, errors and sources are those of include/fio2070.h. A number out of its range raises ValueError; what is no
+number, no octets (a number is none) or no list of the right kind raises TypeError.
 
     >>> encode.poll(5).hex()
     '3605'
     >>> decode_answer(bytes.fromhex('b605018c03e700000003e8')).entries
     [Entry(input=12, state=1, stamp=999)]
+    >>> Wire().read(wire_frame(encode.poll(5)))
+    [WireHeard(kind='message', address=20, control=131, message=b'6\\x05')]
 """
 
 import ctypes
+import operator
 from typing import Any, List, NamedTuple, Optional, Sequence, Tuple
 
 from . import _library as c
@@ -16,12 +20,14 @@ from . import constants, encode
 from .encode import Octets
 from .logs import LogReader, Verdict
 from .records import Answer, Breach, Command, ConfigurationItem, ContentBreach, Entry, Fault, RecordItem
+from .wire import Wire, WireBits, WireHeard, wire_check, wire_frame
 
-__all__ = ['Answer', 'Breach', 'Checker', 'Command', 'ConfigurationItem', 'ContentBreach', 'ContentChecker', 'Counter',
-           'Entry', 'Fault', 'Filters', 'Heard', 'LogReader', 'Module', 'Octets', 'Poller', 'RecordItem', 'Verdict', 'constants',
-           'content_rule_text', 'decode_answer', 'decode_command', 'encode', 'read_identification', 'read_outputs_answer',
-           'rule_text', 'show', 'version', 'widen']
+__all__ = ['Answer', 'Breach', 'Checker', 'Command', 'ConfigurationItem', 'ContentBreach', 'ContentChecker', 'Counter', 'Entry',
+           'Fault', 'Filters', 'Heard', 'LogReader', 'Module', 'Octets', 'Poller', 'RecordItem', 'Verdict', 'Wire', 'WireBits',
+           'WireHeard', 'constants', 'content_rule_text', 'decode_answer', 'decode_command', 'encode', 'read_identification',
+           'read_outputs_answer', 'rule_text', 'show', 'tester', 'version', 'widen', 'wire_check', 'wire_frame']
 
+__version__ = '%d.%d.%d' % (constants.VERSION // 10000, constants.VERSION // 100 % 100, constants.VERSION % 100)
 
 # Room for what `show` writes of most frames.
 _SHORT_TEXT = ctypes.c_uint8 * 512
@@ -56,7 +62,7 @@ def version() -> int:
 
 def decode_command(octets: Octets) -> Command:
     """The command that the octets spell. Raises Fault where they spell none."""
-    octets = bytes(octets)
+    octets = encode.octets_of(octets)
     read = c.CCommand()
     fault = c.library.fio2070_decode_command(octets, len(octets), read)
     if fault.kind != 0:
@@ -75,7 +81,7 @@ def _written(count: int) -> int:
 
 def show(octets: Octets) -> str:
     """What `fio2070 show` writes of a frame, or the words of its fault and a line feed."""
-    octets, text = bytes(octets), _SHORT_TEXT()
+    octets, text = encode.octets_of(octets), _SHORT_TEXT()
     count = c.library.fio2070_show(octets, len(octets), text, len(text))
     if count >= len(text):
         text = (ctypes.c_uint8 * (count + 1))()
@@ -85,7 +91,7 @@ def show(octets: Octets) -> str:
 
 def decode_answer(octets: Octets) -> Answer:
     """The answer that the octets spell. Raises Fault where they spell none."""
-    octets = bytes(octets)
+    octets = encode.octets_of(octets)
     read = c.CAnswer()
     fault = c.library.fio2070_decode_answer(octets, len(octets), read)
     if fault.kind != 0:
@@ -98,7 +104,7 @@ def decode_answer(octets: Octets) -> Answer:
 
 
 def _read_number(call: Any, number: Any, octets: Octets) -> int:
-    octets = bytes(octets)
+    octets = encode.octets_of(octets)
     fault = call(octets, len(octets), number)
     if fault.kind != 0:
         raise _fault(fault)
@@ -174,7 +180,7 @@ class Poller:
 
     def hear(self, octets: Octets) -> Heard:
         """Takes a block with the present number whole; anything else is reported and changes nothing."""
-        octets = bytes(octets)
+        octets = encode.octets_of(octets)
         heard = c.library.fio2070_poller_hear(self._poller, octets, len(octets), self._items, len(self._items))
         if heard.kind == 0:
             self.record.extend(RecordItem(bool(one.gap), one.input, one.state, one.stamp, one.wide)
@@ -189,14 +195,16 @@ class Poller:
 
 class Checker:
     """A checker of what the CPU's end sends and hears, of a module with these limits. Below a breach it goes on as one that
-    starts at the next poll."""
+    starts at the next poll. With `anywhere` it is for a log that begins anywhere: what is heard above the first frame that is
+    sent is passed over."""
 
-    def __init__(self, per_block: int = c.MOST_ENTRIES, waiting: int = c.STANDARD_WAITING) -> None:
+    def __init__(self, per_block: int = c.MOST_ENTRIES, waiting: int = c.STANDARD_WAITING, anywhere: bool = False) -> None:
         """The module's blocks have at most `per_block` entries, 1 to 255; `waiting` is 1 to 8,192."""
         self._checker, self._breach = c.CChecker(), c.CBreach()
         if not (1 <= per_block <= 255 and 1 <= waiting <= c.MOST_WAITING):
             raise ValueError('per_block is 1 to 255, waiting 1 to 8,192')
-        c.library.fio2070_checker_start_within(self._checker, c.CLimits(waiting, per_block, 0))
+        start = c.library.fio2070_checker_start_anywhere if anywhere else c.library.fio2070_checker_start_within
+        start(self._checker, c.CLimits(waiting, per_block, 0))
 
     def __repr__(self) -> str:
         kept = self._checker
@@ -212,15 +220,15 @@ class Checker:
         return self._breach_by(c.library.fio2070_checker_heard, octets)
 
     def _breach_by(self, take: Any, octets: Octets) -> Optional[Breach]:
-        octets, found = bytes(octets), self._breach
+        octets, found = encode.octets_of(octets), self._breach
         rule = take(self._checker, octets, len(octets), found)
         return Breach(rule, bool(found.has_due), found.due, found.got) if rule else None
 
 
 class ContentChecker:
     """A checker of the rules on content: it judges answers, and the entries of each block that a poller takes whose first
-    number is that of the first poll sent. The log may begin anywhere; with `begun` it begins with the start of both ends,
-    and more is found."""
+    number is that of the first poll sent. The log may begin anywhere: what is heard above the first frame that is sent is
+    passed over. With `begun` it begins with the start of both ends, and more is found."""
 
     def __init__(self, begun: bool = False) -> None:
         self._content, self._breach = c.CContentChecker(), c.CContentBreach()
@@ -232,12 +240,12 @@ class ContentChecker:
 
     def sent(self, octets: Octets) -> None:
         """Takes a frame that the CPU sent."""
-        octets = bytes(octets)
+        octets = encode.octets_of(octets)
         c.library.fio2070_content_sent(self._content, octets, len(octets))
 
     def heard(self, octets: Octets) -> Optional[ContentBreach]:
         """The first rule that a frame breaks which the CPU heard; None where it breaks none. All of the frame is taken."""
-        octets, found = bytes(octets), self._breach
+        octets, found = encode.octets_of(octets), self._breach
         rule = c.library.fio2070_content_heard(self._content, octets, len(octets), found)
         named = None if found.input == constants.NO_INPUT else found.input
         return ContentBreach(rule, named, found.items) if rule else None
@@ -315,7 +323,7 @@ class Module:
             raise ValueError('id is 0 to 255, per_block 1 to 255, waiting 1 to 8,192')
         self._module = c.CSizedModule()
         self._ring = ((ctypes.c_uint8 * 3 * waiting)(), waiting)
-        self._call('start', id, c.CLimits(waiting, per_block, 0))
+        self._call('start', operator.index(id), c.CLimits(waiting, per_block, 0))
 
     def _call(self, name: str, *arguments: Any) -> Any:
         return getattr(c.library, 'fio2070_sized_module_' + name)(self._module, *arguments)
@@ -355,11 +363,12 @@ class Module:
         self._call('count_transmit_error')
 
     def receive(self, octets: Octets) -> Optional[bytes]:
-        """The answer to a frame; None where there is none, and where the octets spell no command."""
-        octets = bytes(octets)
+        """The answer to a frame: no octets for a command without an answer (56, 57 and 59), None if the octets spell no
+        command; in both cases nothing changes. So `if answer:` asks whether there is one to send."""
+        octets = encode.octets_of(octets)
         out = (ctypes.c_uint8 * c.LONGEST_FRAME)()
         count = self._call('receive', *self._ring, octets, len(octets), out, len(out))
-        return bytes(out[:count]) if 0 < count <= len(out) else None
+        return None if count == c.NO_MESSAGE else bytes(out[:count])
 
     @property
     def outputs(self) -> Tuple[bytes, bytes]:

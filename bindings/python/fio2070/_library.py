@@ -96,7 +96,7 @@ class CContentBreach(ctypes.Structure):
 
 class CContentChecker(ctypes.Structure):
     """The octets of struct fio2070_content_checker."""
-    _fields_ = [('words', c_uint64 * 79)]
+    _fields_ = [('words', c_uint64 * 87)]
 
 
 class CLogVerdict(ctypes.Structure):
@@ -140,11 +140,25 @@ class CSizedModule(ctypes.Structure):
     _fields_ = [('words', c_uint64 * 132)]
 
 
+class CWire(ctypes.Structure):
+    _fields_ = [('octets', c_uint8 * 777), ('phase', c_uint8), ('held', c_uint16), ('check', c_uint16),
+                ('address', c_uint16), ('control', c_uint16)]
+
+
+class CWireBits(ctypes.Structure):
+    _fields_ = [('octets', c_uint8 * 777), ('phase', c_uint8), ('ones', c_uint8), ('pending', c_uint8),
+                ('value', c_uint8), ('count', c_uint8), ('full', c_uint8), ('reserved', c_uint8), ('held', c_uint16),
+                ('check', c_uint16), ('address', c_uint16), ('control', c_uint16)]
+
+
 library = _load()
 
 
 def _declare(name: str, result: Any, *arguments: Any) -> None:
-    function = getattr(library, name)
+    try:
+        function = getattr(library, name)
+    except AttributeError:
+        raise OSError('the shared library %s has no %s: it is older than this package' % (library._name, name)) from None
     function.restype = result
     function.argtypes = arguments
 
@@ -166,6 +180,7 @@ _declare('fio2070_decode_answer', CFault, c_char_p, c_size_t, POINTER(CAnswer))
 _declare('fio2070_block_entries', c_size_t, c_char_p, c_size_t, POINTER(CEntry), c_size_t)
 _declare('fio2070_checker_start', None, POINTER(CChecker))
 _declare('fio2070_checker_start_within', c_uint8, POINTER(CChecker), CLimits)
+_declare('fio2070_checker_start_anywhere', c_uint8, POINTER(CChecker), CLimits)
 _declare('fio2070_checker_sent', c_uint8, POINTER(CChecker), c_char_p, c_size_t, POINTER(CBreach))
 _declare('fio2070_checker_heard', c_uint8, POINTER(CChecker), c_char_p, c_size_t, POINTER(CBreach))
 _declare('fio2070_encode_status', c_size_t, c_uint8, POINTER(c_uint8), c_size_t)
@@ -225,3 +240,14 @@ _declare('fio2070_rule_text', c_size_t, c_uint8, POINTER(c_uint8), c_size_t)
 _declare('fio2070_content_rule_text', c_size_t, c_uint8, POINTER(c_uint8), c_size_t)
 _declare('fio2070_heard_text', c_size_t, POINTER(CHeard), POINTER(c_uint8), c_size_t)
 _declare('fio2070_version', c_uint32)
+_declare('fio2070_wire_start', None, POINTER(CWire), c_uint16, c_uint16)
+_declare('fio2070_wire_read', c_uint8, POINTER(CWire), c_uint8)
+_declare('fio2070_wire_read_many', c_size_t, POINTER(CWire), c_char_p, c_size_t, POINTER(c_uint8))
+_declare('fio2070_wire_lose', None, POINTER(CWire))
+_declare('fio2070_wire_message_length', c_size_t, POINTER(CWire))
+_declare('fio2070_wire_write', c_size_t, c_uint8, c_uint8, c_char_p, c_size_t, POINTER(c_uint8), c_size_t)
+_declare('fio2070_wire_check', c_uint16, c_char_p, c_size_t)
+_declare('fio2070_wire_bits_start', None, POINTER(CWireBits), c_uint16, c_uint16)
+_declare('fio2070_wire_bits_read', c_uint8, POINTER(CWireBits), c_uint8)
+_declare('fio2070_wire_bits_read_many', c_size_t, POINTER(CWireBits), c_char_p, c_size_t, POINTER(c_uint8))
+_declare('fio2070_wire_bits_message_length', c_size_t, POINTER(CWireBits))

@@ -115,3 +115,15 @@ LOG_TWO_MORE = 9
 LOG_NO_SIDE = 0
 LOG_FROM_CPU = 1
 LOG_FROM_MODULE = 2
+
+# One's own frames on a line, and the most octets of one.
+WIRE_ADDRESS = 0x14
+WIRE_CONTROL = 0x83
+WIRE_ANY = 256
+WIRE_LONGEST = 1556
+
+# What an octet or a bit of a line ends.
+WIRE_NOTHING = 0
+WIRE_MESSAGE = 1
+WIRE_OTHER = 2
+WIRE_DAMAGED = 3

@@ -6,14 +6,17 @@ from typing import Iterator, List, NamedTuple, Optional, Tuple, cast
 
 from . import _library as c
 from . import constants
-from .encode import Octets
+from .encode import Octets, octets_of
 
 _FORMS = {'auto': constants.LOG_AUTO, 'frames': constants.LOG_FRAMES, 'transcript': constants.LOG_TRANSCRIPT}
 _KINDS = ('blank', 'frames', 'part', 'possible', 'damaged', 'passed over')
 _REASONS = ('', 'no octets', 'no message', 'short message', 'several messages', 'may be longer', 'too long',
             'bad line', 'exchanged', 'two more')
 _SIDES = ('', '>', '<')
-# The numbers of struct fio2070_log_verdict and struct fio2070_log_place, in the processor's order of octets.
+# How many octets the library gets at a time: what a batch leaves of them is copied.
+_PIECE = 65536
+# The numbers of struct fio2070_log_verdict and struct fio2070_log_place, in the processor's order of octets: these, and the names
+# that take them below, are written by tools/generate-layouts.
 _VERDICT, _PLACE = struct.Struct('=QQIIBBBB4x'), struct.Struct('=QII')
 
 
@@ -52,13 +55,15 @@ class LogReader:
 
     def read(self, octets: Octets) -> List[Verdict]:
         """Takes the next octets of the log, and returns the verdicts that are due, in the order of the lines. A line gets its
-        verdict once it is decided, which can be lines later."""
-        octets, taken = bytes(octets), 0
+        verdict once it is decided, which can be lines later. After `end`, octets begin a new log of the same form, whose
+        lines are counted from 1."""
+        octets = octets_of(octets)
         verdicts: List[Verdict] = []
-        while taken < len(octets):
-            piece = octets[taken:] if taken else octets
-            taken += c.library.fio2070_log_read(self._reader, piece, len(piece), self._batch)
-            verdicts += self._told()
+        for start in range(0, len(octets), _PIECE):
+            piece = octets[start:start + _PIECE]
+            while piece:
+                piece = piece[c.library.fio2070_log_read(self._reader, piece, len(piece), self._batch):]
+                verdicts += self._told()
         return verdicts
 
     def end(self) -> List[Verdict]:
@@ -75,11 +80,11 @@ class LogReader:
         """The verdicts of the batch."""
         batch, verdicts, frame, place = self._batch, [], 0, 0
         octets, ends = bytes(self._octets[:batch.octet_count]), list(itertools.accumulate(batch.lengths[:batch.frame_count]))
-        frames = tuple(octets[begin:end] for begin, end in zip([0, *ends], ends))
-        places = tuple(cast(Iterator[Tuple[int, int, int]], _PLACE.iter_unpack(self._places[:_PLACE.size * batch.place_count])))
-        for line, time, frame_count, place_count, kind, reason, has_time, said in _VERDICT.iter_unpack(
+        all_frames = tuple(octets[begin:end] for begin, end in zip([0, *ends], ends))
+        all_places = tuple(cast(Iterator[Tuple[int, int, int]], _PLACE.iter_unpack(self._places[:_PLACE.size * batch.place_count])))
+        for line, time, frames, places, kind, reason, has_time, said in _VERDICT.iter_unpack(
                 self._verdicts[:_VERDICT.size * batch.verdict_count]):
-            verdicts.append(Verdict(line, _KINDS[kind], _REASONS[reason], frames[frame:frame + frame_count],
-                                    places[place:place + place_count], time if has_time else None, _SIDES[said]))
-            frame, place = frame + frame_count, place + place_count
+            verdicts.append(Verdict(line, _KINDS[kind], _REASONS[reason], all_frames[frame:frame + frames],
+                                    all_places[place:place + places], time if has_time else None, _SIDES[said]))
+            frame, place = frame + frames, place + places
         return verdicts

@@ -7,6 +7,8 @@ from typing import Any, Callable, List, Optional, Sequence, Tuple
 from . import _library as c
 from .records import RecordItem
 
+__all__ = ['CpuMaker', 'CpuMix', 'Maker', 'Mix', 'run', 'run_cpu']
+
 _ACT = CFUNCTYPE(None, c_void_p)
 _STEP = CFUNCTYPE(None, c_void_p, c_uint64)
 _EXCHANGE = CFUNCTYPE(c_size_t, c_void_p, POINTER(c_uint8), c_size_t, POINTER(c_uint8))
@@ -61,7 +63,7 @@ class Maker:
         raise NotImplementedError
 
     def exchange(self, octets: bytes) -> Optional[bytes]:
-        """The answer to a frame; None where there is none."""
+        """The answer to a frame; None, or no octets, if there is none."""
         raise NotImplementedError
 
     def outputs(self) -> Tuple[bytes, bytes]:
@@ -198,11 +200,13 @@ def _find(ends: _Ends, calls: _Calls, options: _Options) -> Optional[str]:
     return report or None
 
 
-def run(maker: Maker, seed: int = 1, events: int = 100_000, mix: Optional[Mix] = None, excepted: Sequence[str] = (),
+def run(maker: Maker, *, seed: int = 1, events: int = 100_000, mix: Optional[Mix] = None, excepted: Sequence[str] = (),
         goes_on: bool = False) -> Optional[str]:
-    """None where all answers are the same; else a short script that shows a difference, in the format of
-    `fio2070 simulate`, with both answers; of each rule that differs, where it `goes_on`. The `excepted` rules of the own
-    profile are not asked. What a call of the maker raises, this raises."""
+    """Runs random scripts of this many `events`; another `seed` gives other scripts. All but the maker is given by name.
+
+    None if all answers are the same; else what differs, the first rule that this breaks, and a short script that shows it,
+    in the format of `fio2070 simulate`; such a report of each rule that differs, if it `goes_on`. The `excepted` rules of
+    the own profile are not asked. What a call of the maker raises, this raises."""
     calls = _Calls()
     options = _options(seed, events, excepted, goes_on)
     if mix is not None:
@@ -210,10 +214,9 @@ def run(maker: Maker, seed: int = 1, events: int = 100_000, mix: Optional[Mix] =
     return _find(_Ends(module=ctypes.pointer(_raw(maker, calls))), calls, options)
 
 
-def run_cpu(maker: CpuMaker, seed: int = 1, events: int = 100_000, mix: Optional[CpuMix] = None,
+def run_cpu(maker: CpuMaker, *, seed: int = 1, events: int = 100_000, mix: Optional[CpuMix] = None,
             excepted: Sequence[str] = (), goes_on: bool = False) -> Optional[str]:
-    """None where all polls, records and numbers are the same; else a short script that shows a difference,
-    with the transcript; otherwise like `run`."""
+    """None if all polls, records and numbers are the same; else such a report, with the transcript; otherwise like `run`."""
     calls = _Calls()
     options = _options(seed, events, excepted, goes_on)
     if mix is not None:

@@ -7,6 +7,8 @@ import os
 import re
 import sys
 
+from . import output
+from .shown import shown
 from .terminal import say
 
 COMMANDS = {
@@ -30,9 +32,16 @@ def module_of(name):
     return importlib.import_module('fiolog.' + name)
 
 
+class Parser(argparse.ArgumentParser):
+    """A parser that says in one line what is wrong."""
+
+    def error(self, message):
+        self.exit(2, '%s: %s (%s --help)\n' % (self.prog, shown(message), self.prog))
+
+
 def arguments(words):
     """The command line."""
-    parser = argparse.ArgumentParser(prog='fiolog', description='Reads logs of the field I/O transition link.', epilog=BEGINNING)
+    parser = Parser(prog='fiolog', description='Reads logs of the field I/O transition link.', epilog=BEGINNING)
     choices = parser.add_subparsers(dest='command', metavar='COMMAND', required=True)
     wanted = [word for word in words[:1] if word in COMMANDS] or COMMANDS
     for name in COMMANDS:
@@ -53,35 +62,37 @@ def open_streams():
         sys.exit(3)
 
 
-def main(words=None):
-    """Runs a subcommand. Status 0: good; 1: a fault is reported; 2: the command line is invalid; 3: a read failed."""
-    gc.set_threshold(COLLECT_AFTER)
-    open_streams()
-    try:
-        parser, option = arguments(sys.argv[1:] if words is None else words)
-    except OSError as fault:
-        # The library that the modules of the subcommands load.
-        say(str(fault))
-        return 3
+def check_forms(parser, option):
+    """Ends with a word if the caller's expression is none, or if what a line carried is to be read as lines of a log."""
+    if getattr(option, 'line', '') and (option.pattern or option.sdlc or option.format != 'auto'):
+        parser.error('--line is of a file without lines: leave out --format, --pattern and --sdlc')
     if getattr(option, 'pattern', None):
         try:
             if 'octets' not in re.compile(option.pattern).groupindex:
                 parser.error('--pattern needs the group octets')
-        except re.error as fault:
+        except (re.error, OverflowError, RecursionError) as fault:
             parser.error('--pattern: %s' % fault)
-    try:
-        status = module_of(option.command).run(option)
-        sys.stdout.flush()
-        return status
-    except BrokenPipeError:
-        # The reader, such as `head`, has enough.
-        os.dup2(os.open(os.devnull, os.O_WRONLY), sys.stdout.fileno())
-        return 1
-    except KeyboardInterrupt:
-        return 130
-    except OSError as fault:
-        say('%s: %s' % (fault.filename, fault.strerror) if fault.filename and fault.strerror else str(fault))
-        return 3
+
+
+def refuse_inputs(option):
+    """Raises Refused if a file of the command line is read and written."""
+    read = getattr(option, 'files', None) or [getattr(option, 'fifo', None), getattr(option, 'serial', None)]
+    written = [getattr(option, name, None) for name in ('output', 'hires', 'plot', 'transcript', 'pcapng')]
+    output.refuse_inputs([*output.STREAMS, *written], [0 if name == '-' else name for name in read])
+
+
+def main(words=None):
+    """Runs a subcommand. Status 0: good; 1: a fault is reported; 2: the command line is invalid; 3: a file cannot be read or
+    written; 130: ended by Ctrl-C."""
+    gc.set_threshold(COLLECT_AFTER)
+    open_streams()
+
+    def run():
+        parser, option = arguments(sys.argv[1:] if words is None else words)
+        check_forms(parser, option)
+        refuse_inputs(option)
+        return module_of(option.command).run(option)
+    return output.guarded('fiolog', run)
 
 
 if __name__ == '__main__':

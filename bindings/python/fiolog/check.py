@@ -6,15 +6,18 @@ import json
 import sys
 from collections import Counter
 
-from . import log, many, terminal, unjudged
+from . import log, many, sides, terminal, unjudged
 from .counts import Counts
 from .decode import clock_of
-from .events import FRAME, JUDGED, LOSSES, PASSED
+from .events import FRAME, JUDGED, LOSSES, OTHER, PASSED, POSSIBLE
 from .late import LateRules
-from .message import POLL, message_of
+from .message import BLOCK, POLL, TYPE_ANSWER, message_of
 from .options import number_in
-from .protocol import BLOCK_ENTRIES, MOST_WAITING, STANDARD_WAITING
-from .rules import NineRules, Rules
+from .protocol import BLOCK_ENTRIES, CONTENT_RULES, MOST_WAITING, RULES, STANDARD_WAITING
+from .rules import Rules, TranscriptRules
+from .shown import shown
+
+NAMES = [name for rules in (RULES, CONTENT_RULES) for name, _ in rules.values()]
 
 
 def add_place(parser):
@@ -38,6 +41,12 @@ def add_limits(parser):
                         help='of the module: the most entries of a block, and the most that wait (%d %d)' % (BLOCK_ENTRIES, STANDARD_WAITING))
 
 
+def add_except(parser):
+    """The option of rules that are left out."""
+    parser.add_argument('--except', action='append', choices=NAMES, default=[], dest='excepted', metavar='RULE',
+                        help='leave out breaches of this rule, and count them; may be given again')
+
+
 class Limits(argparse.Action):
     """Both limits of a module, in their ranges."""
 
@@ -52,7 +61,8 @@ class Limits(argparse.Action):
 def add_arguments(parser):
     log.add_arguments(parser)
     add_place(parser)
-    parser.add_argument('--rules', choices=('all', 'nine'), default='all', help='nine: the rules of transcripts alone')
+    parser.add_argument('--rules', choices=('all', 'transcript'), default='all', help='transcript: the rules of transcripts alone')
+    add_except(parser)
     parser.add_argument('--late-answers', action='store_true', help='leave out answers that came late or twice, and count them')
     many.add_arguments(parser)
     parser.add_argument('--json', action='store_true',
@@ -79,59 +89,91 @@ class Spans:
 
 def _place(event):
     """The line of a frame, and its time where it has one; a time of the day as the log writes it."""
-    if event.time is None:
-        return 'in line %d' % event.number
-    return 'in line %d at %s' % (event.number, clock_of(event))
+    place = 'in %sline %d' % (event.head, event.number)
+    return place if event.time is None else '%s at %s' % (place, clock_of(event))
 
 
 def frames_judged(read, option, late=None):
-    """Each frame of a log with its breach and the rules that judged it, new ones for each file, and each damaged line; with
-    --start-at-poll from the first poll on. If late answers are left out, they are counted in `late`."""
-    def begin():
-        if late:
-            return LateRules(option.at, option.limits, late)
-        judged = NineRules if getattr(option, 'rules', 'all') == 'nine' else Rules
-        return judged(option.at, not option.start_at_poll, option.whole, option.limits)
-    judge, name, is_open = begin(), None, not option.start_at_poll
+    """Each frame and each damaged line of a log, with the breaches that are certain now and what judges it, anew for each file; at
+    the end of a file None with the other breaches. With --start-at-poll from the first poll on. If late answers are left out, they
+    are counted in `late`."""
+    judgement, name = None, None
     for event in read.events():
         if event.kind not in JUDGED:
             continue
-        if name != read.name:
-            judge, name, is_open = begin(), read.name, not option.start_at_poll
-        if event.kind in LOSSES:
-            judge.lose(event)
-            yield event, None, judge
-            continue
+        if name != read.name or judgement is None:
+            yield from _ended(read, judgement)
+            judgement, name, is_open = sides.Judgement(rules_for(option, late)), read.name, not option.start_at_poll
         is_open = is_open or event.octets[:1] == bytes([POLL])
-        if is_open:
-            yield event, judge.breach(read, event), judge
+        if is_open or event.kind in LOSSES:
+            yield event, judgement.add(event), judgement
         else:
             read.above += 1
+            judgement.leave_out(event)
+    yield from _ended(read, judgement)
+
+
+def rules_for(option, late=None):
+    """The rules that judge a log, by the options of the command line."""
+    excepted = getattr(option, 'excepted', ())
+    if late:
+        return LateRules(option.at, option.limits, late, excepted)
+    judged = TranscriptRules if getattr(option, 'rules', 'all') == 'transcript' else Rules
+    return judged(option.at, not option.start_at_poll, option.whole, option.limits, excepted)
+
+
+def _ended(read, judgement):
+    """The breaches that were held, at the end of a file, of which is noted what is missing."""
+    if judgement:
+        broken = judgement.end(read.reasons, read.kinds[POSSIBLE])
+        read.judgements.append(judgement)
+        read.unjudged += judgement.unjudged
+        yield None, broken, judgement
+
+
+class Findings:
+    """Writes each breach, and says how often each rule is broken."""
+
+    def __init__(self, option, read):
+        self.option, self.read, self.paint = option, read, terminal.painter('auto')
+        self.count, self.spans, self.has_late_answers = 0, Spans(), False
+
+    def add(self, event, found, counts):
+        """A breach."""
+        self.count += 1
+        self.spans.add(found.rule, event)
+        self.has_late_answers |= found.rule == 'pair' and answers_what_was_sent(event.octets, counts)
+        if self.option.json:
+            print(json.dumps({'file': shown(event.file or self.read.name), 'line': event.number, 'rule': found.rule, **found.due, 'says': found.says}))
+        else:
+            print('%sline %d: %s: %s' % (event.head, event.number, self.paint('fault', found.rule), found.says))
+
+
+def answers_what_was_sent(octets, counts):
+    """Whether an answer that was not due is to a command above, or a block of the latest number or the one before."""
+    if octets[0] == BLOCK:
+        return counts.number is not None and (counts.number - octets[1]) % 256 < 2
+    return counts.types[octets[0] - TYPE_ANSWER] > 0
 
 
 def run(option):
     """Checks a log, or several side by side; status 1 if a rule is broken or no frame is there."""
-    if len(option.files) > 1:
+    if len(option.files) > 1 and not option.merge:
         return many.run(option)
-    paint, read, counts = terminal.painter('auto'), log.Log(option, sys.stdout.flush, writes=option.json), Counts()
-    rules, breaches, spans = None, 0, Spans()
-    for event, found, rules in frames_judged(read, option, counts if option.late_answers else None):
-        if event.kind in LOSSES:
-            counts.lose()
-        else:
+    read, counts = log.Log(option, sys.stdout.flush, writes=option.json), Counts()
+    findings, judgement = Findings(option, read), None
+    for event, broken, judgement in frames_judged(read, option, counts if option.late_answers else None):
+        if event and event.kind in LOSSES:
+            counts.lose(event)
+        elif event:
             counts.add(event, message_of(event.octets) if event.kind == FRAME else None)
-        if found:
-            breaches += 1
-            spans.add(found.rule, event)
-            if option.json:
-                print(json.dumps({'file': read.name, 'line': event.number, 'rule': found.rule, **found.due, 'says': found.says}))
-            else:
-                print('line %d: %s: %s' % (event.number, paint('fault', found.rule), found.says))
+        for where, found in broken:
+            findings.add(where, found, counts)
     if not read.summary():
         return 1
-    for words in () if option.quiet else spans.words():
+    for words in () if option.quiet else findings.spans.words():
         terminal.say(words)
-    return end(option, read, counts, rules, breaches)
+    return end(option, read, counts, judgement, findings)
 
 
 def say_excused(excused):
@@ -141,21 +183,25 @@ def say_excused(excused):
                      'are right where the CPU did not hear it, and what comes behind a damaged frame where it did' % excused)
 
 
-def end(option, read, counts, rules, breaches):
+def end(option, read, counts, judgement, findings):
     """The summary, and the hints."""
-    left_out = counts.unjudged() + (rules.unjudged if rules else Counter()) + Counter(
-        lines_passed_over=read.kinds[PASSED], frames_above_a_poll=read.above)
+    left_out = counts.unjudged() + read.unjudged + Counter(lines_passed_over=read.kinds[PASSED], frames_of_others=read.kinds[OTHER],
+                                                              frames_above_a_poll=read.above)
     late = {'late_answers': counts.late_answers} if option.late_answers else {}
-    numbers = {**counts.in_short(), **late, 'breaches': breaches}
+    numbers = {**counts.in_short(), **late, 'breaches': findings.count}
     if option.json:
-        print(json.dumps({'summary': {**numbers, 'not_judged': unjudged.numbers(left_out)}}))
+        remarks = [sides.IN_SHORT[one.verdict] for one in read.judgements if one.verdict]
+        print(json.dumps({'summary': {**numbers, **({'remarks': remarks} if remarks else {}), 'not_judged': unjudged.numbers(left_out)}}))
     else:
         print(', '.join('%s %d' % (name.replace('_', ' '), number) for name, number in numbers.items()))
         if left_out:
             print('not judged: ' + unjudged.words(left_out, read.reasons))
     say_excused(left_out['frames_not_at_the_cpu'])
+    is_fault = sides.say(read.judgements)
     if read.is_reversed and option.at in ('cpu', 'bus'):
         terminal.say('the directions are those of the other end: try --at module')
-    if breaches and not option.start_at_poll and not counts.begins_with_poll:
+    if judgement and judgement.is_above_polls and counts.polls and not option.start_at_poll:
         terminal.say('the log begins in the middle of traffic: try --start-at-poll')
-    return 1 if breaches else 0
+    if findings.has_late_answers and not option.late_answers:
+        terminal.say('answers came late or twice: try --late-answers')
+    return 1 if findings.count or is_fault else 0

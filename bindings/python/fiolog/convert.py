@@ -1,10 +1,12 @@
 """`fiolog convert`: the frames as a transcript for `fio2070 check`, as frames for `fio2070 show`, as a pcapng file for
 Wireshark, or the blocks as a VCD file for viewers of waveforms."""
 
+import contextlib
 import sys
 
 from . import log
 from .message import BLOCK, LOST, message_of
+from .output import made
 from .pcapng import Writer
 from .waveform import Block, draw
 
@@ -45,12 +47,8 @@ def write(option, read, out):
 def run(option):
     """Converts the logs; status 1 where no frame is there."""
     is_binary = option.to == 'pcapng'
-    out = open(option.output, 'wb' if is_binary else 'w') if option.output else (
-        sys.stdout.buffer if is_binary else sys.stdout)
-    try:
+    standard = contextlib.nullcontext(sys.stdout.buffer if is_binary else sys.stdout)
+    with made(option.output, is_binary) if option.output else standard as out:
         read = log.Log(option, out.flush, writes=not option.output)
         write(option, read, out)
-    finally:
-        if option.output:
-            out.close()
     return 0 if read.summary() else 1

@@ -2,7 +2,7 @@
 
 from collections import Counter
 
-from .events import BAD
+from .events import BAD, PIECE
 from .message import AGAIN, BLOCK, LOST, MODULE_STATUS, POLL, RESET
 
 # How many response times are kept for the median and the 99th percentile: beyond, every second one, and so on.
@@ -51,7 +51,7 @@ class Counts:
         self.types, self.inputs, self.fill = Counter(), Counter(), Sample()
         self.responses, self.entries = Sample(), 0
         self.first = self.last = self.open_poll = self.number = self.sent_at = self.command = None
-        self.begins_with_poll = self.block = None
+        self.block = None
         self.restarts, self.first_reset, self.last_reset = 0, None, None     # P of the first 177 and of the last
         self.late_answers = 0   # those that late.py leaves out
 
@@ -63,7 +63,6 @@ class Counts:
         # A poll at the end of the first has no answer.
         both.lost_answers += self.open_poll is not None
         both.open_poll = other.open_poll
-        both.begins_with_poll = other.begins_with_poll if self.begins_with_poll is None else self.begins_with_poll
         # The first 177 of the second may be the first to say a restart.
         both.restarts += self.last_reset is False and other.first_reset is True
         both.first_reset = other.first_reset if self.first_reset is None else self.first_reset
@@ -81,16 +80,14 @@ class Counts:
             self.damaged += event.kind == BAD
             return
         self.types[message.code] += 1
-        if self.begins_with_poll is None:
-            self.begins_with_poll = message.code == POLL
         if message.is_answer:
             self._answer(event, message)
         else:
             self._command(event, message)
 
-    def lose(self):
+    def lose(self, event):
         """A frame may be lost here: whether the last poll was answered is not known."""
-        self.damaged += 1
+        self.damaged += event.kind != PIECE
         self.open_poll = self.command = None
 
     def _command(self, event, message):

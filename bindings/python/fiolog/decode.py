@@ -8,20 +8,19 @@ import re
 import sys
 import time
 
-from . import log, terminal
-from .events import BAD, DAMAGED, DOUBTFUL, FRAME, POSSIBLE
+from . import judge, log, terminal
+from .events import BAD, DAMAGED, DATED, DOUBTFUL, FRAME, OF_DAY, OTHER, PIECE, POSSIBLE
 from .log_words import POSSIBLE as UNSURE
 from .message import BLOCK, LETTERS, SENT_AGAIN, message_of
 from .options import line_range, message_type, number_in, status_letters
+from .shown import shown
 
 # The kinds of messages that nothing makes sure.
 UNSURE_KINDS = POSSIBLE, DOUBTFUL
 SPOKEN = FRAME, *UNSURE_KINDS
+SHOWN = *SPOKEN, BAD, OTHER, DAMAGED, PIECE
 # The most characters of a damaged line that are shown.
 MOST_SHOWN = 100
-# Times from here on are of a date.
-DATED = 1e8
-_OF_DAY = re.compile(r'\d{1,2}:\d\d:\d\d(?:[.,]\d{1,9})?')
 COLUMNS = ['file', 'line', 'time', 'direction', 'octets', 'type', 'says', 'input', 'state', 'stamp', 'wide']
 
 
@@ -59,13 +58,23 @@ def clock(seconds):
 
 def clock_of(event):
     """The time of a frame: a time of the day as the log writes it, else as `clock` has it."""
-    of_day = _OF_DAY.search(event.text) if event.time is not None and event.time < DATED else None
+    of_day = OF_DAY.search(event.text) if event.time is not None and event.time < DATED else None
     return of_day[0] if of_day else clock(event.time)
 
 
 def fault_in(event):
     """What is wrong with a line that says no message."""
-    return event.note if event.kind == BAD else 'damaged: %s: %s' % (event.note, event.text[:MOST_SHOWN])
+    if event.kind == BAD:
+        return event.note
+    if event.kind == OTHER:
+        return '%s: %s' % (event.note, event.octets.hex())
+    words = 'damaged: ' * (event.kind == DAMAGED) + event.note
+    return '%s: %s' % (words, shown(event.text[:MOST_SHOWN])) if event.raw else words
+
+
+def spoken(event):
+    """What a line says; None if it spells no message."""
+    return message_of(event.octets) if event.kind in SPOKEN or event.kind == OTHER and judge.spells(event.octets) else None
 
 
 class Filter:
@@ -107,7 +116,7 @@ class Filter:
 def as_text(write, paint, takes_part=lambda part: True):
     """Writes messages in the words of `show`, and what the bits of a status say; one that is not sure is marked."""
     def line(name, event, message):
-        head = '%-6s %s%s ' % ('%d:' % event.number, clock_of(event) + ' ' if event.time is not None else '', event.direction or '?')
+        head = '%s%-6s %s%s ' % (event.head, '%d:' % event.number, clock_of(event) + ' ' if event.time is not None else '', event.direction or '?')
         if message is None:
             write('%s%s\n' % (head, paint('fault', fault_in(event))))
             return
@@ -116,7 +125,7 @@ def as_text(write, paint, takes_part=lambda part: True):
             colour = 'mark'
         says, *lines = message.lines()
         again = paint('dim', '  ' + SENT_AGAIN) if message.is_repeat else ''
-        again += paint('fault', '  ' + UNSURE) if event.kind in UNSURE_KINDS else ''
+        again += paint('fault', '  ' + UNSURE) if event.kind in UNSURE_KINDS else paint('dim', '  ' + event.note) if event.kind == OTHER else ''
         bits = ''.join(paint('dim', '  %s: %s' % bit) + '\n' for bit in message.bits().items())
         write('%s%s%s\n%s' % (head, paint(colour, says), again, bits)
               + ''.join(words + '\n' for part, words in zip(message.parts, lines) if takes_part(part)))
@@ -126,10 +135,12 @@ def as_text(write, paint, takes_part=lambda part: True):
 def as_json(write, takes_part):
     """Writes an object a line."""
     def line(name, event, message):
-        one = {'file': name, 'line': event.number, 'time': event.time, 'direction': event.direction,
+        one = {'file': shown(name), 'line': event.number, 'time': event.time, 'direction': event.direction,
                'octets': event.octets.hex()}
         if event.kind in UNSURE_KINDS:
             one['possible'] = True
+        if event.kind == OTHER:
+            one['other'] = event.note
         if message is None:
             one['fault'] = fault_in(event)
         else:
@@ -150,7 +161,7 @@ def as_csv(write, takes_part):
     rows.writerow(COLUMNS)
 
     def line(name, event, message):
-        head = [name, event.number, '' if event.time is None else event.time, event.direction, event.octets.hex(),
+        head = [shown(name), event.number, '' if event.time is None else event.time, event.direction, event.octets.hex(),
                 '' if message is None else message.code, fault_in(event) if message is None else message.lines()[0]]
         for part in message and list(filter(takes_part, message.parts)) or [{}]:
             rows.writerow(head + [part.get(column, '') for column in COLUMNS[len(head):]])
@@ -166,9 +177,9 @@ def run(option):
         line = as_text(write, terminal.painter(option.color), taken.takes_part)
     read = log.Log(option, sys.stdout.flush)
     for event in read.events():
-        if event.kind not in (*SPOKEN, BAD, DAMAGED):
+        if event.kind not in SHOWN:
             continue
-        message = message_of(event.octets) if event.kind in SPOKEN else None
+        message = spoken(event)
         if taken.takes(event, message):
-            line(read.name, event, message)
-    return 0 if read.summary(takes_possible=True) and not read.kinds[BAD] + read.kinds[DAMAGED] else 1
+            line(event.file or read.name, event, message)
+    return 0 if read.summary(takes_possible=True) and not read.kinds[BAD] + read.kinds[DAMAGED] + read.kinds[PIECE] else 1

@@ -3,28 +3,43 @@
 import re
 from typing import NamedTuple, Optional, Tuple
 
-FRAME, BAD, POSSIBLE, DOUBTFUL, DAMAGED, PASSED, PART, BLANK = (
-    'frame', 'bad', 'possible', 'doubtful', 'damaged', 'passed', 'part', 'blank')
+from . import judge
+from .log_words import CURES
+from .shown import shown
+
+FRAME, BAD, OTHER, POSSIBLE, DOUBTFUL, DAMAGED, PIECE, PASSED, PART, BLANK = (
+    'frame', 'bad', 'other', 'possible', 'doubtful', 'damaged', 'piece', 'passed', 'part', 'blank')
 # Where judges lose their place; and what they are given.
-LOSSES = DAMAGED, DOUBTFUL
+LOSSES = DAMAGED, DOUBTFUL, PIECE
 JUDGED = FRAME, BAD, *LOSSES
 # Of a text the beginning is kept.
 LONGEST_TEXT = 1 << 16
-_UNSEEN = re.compile('\x1b\\[[^A-Za-z]*[A-Za-z]|[\0\ufeff]')
+# Times from here on are of a date; earlier ones are of the day if the line has one, else seconds since some start.
+DATED = 1e8
+OF_DAY = re.compile(r'\d{1,2}:\d\d:\d\d(?:[.,]\d{1,9})?')
+_COLOURS = re.compile('\x1b\\[[^A-Za-z]*[A-Za-z]')
+_MARKS = dict.fromkeys((0, 0xfeff))
+_LETTERS = 'ABCDEFGHIJKLMNOPQRSTUVWXYZabcdefghijklmnopqrstuvwxyz'
 
 
 def text_of(line):
     """A line as text, without colours and marks; octets that are no UTF-8 can be written again as they were."""
     text = line[:LONGEST_TEXT].rstrip(b'\r\n').decode('utf-8', 'surrogateescape')
-    return text if text.isprintable() else _UNSEEN.sub('', text)
+    if text.isprintable():
+        return text
+    # Each colour ends with a letter: none is sought where no letter follows, which would take the square of the time.
+    end = max(map(text.rfind, _LETTERS)) + 1
+    return (_COLOURS.sub('', text[:end]) + text[end:]).translate(_MARKS)
 
 
 class Line(NamedTuple):
     """A line of a log, `raw` as it is there. `kind` is FRAME for octets that spell a message; BAD for those that are a frame by
-    order or by their carrier, and spell none; POSSIBLE for a message that nothing makes sure, DOUBTFUL for one below frames; DAMAGED
-    for a line that may have held a frame, or frames that were lost on their way here; PART for a further line of the frame above;
-    BLANK; PASSED for any other. `time` is in seconds, `direction` is `>` or `<`, `note` is the reason, `places` are those of the
-    octets; `said` is what the log says of the direction, if it does."""
+    order or by their carrier, and spell none; OTHER for a frame with an address that is not judged; POSSIBLE for a message that
+    nothing makes sure, DOUBTFUL for one below frames; DAMAGED for a line that may have held a frame, or frames that were lost on
+    their way here; PIECE for each of two lines in which one message stands; PART for a further line of the frame above, or of one that
+    ends below; BLANK; PASSED for any other. `time` is in seconds, `direction` is `>` or `<`, `note` is the reason, `places` are those of the
+    octets; `said` is what the log says of the direction, if it does; `balance` of how many more frames down to here it says the other
+    direction than that of their type; `file` is the name of its file, if it is one of several that are read as one log."""
     number: int
     kind: str
     raw: bytes = b''
@@ -34,8 +49,26 @@ class Line(NamedTuple):
     note: str = ''
     places: Tuple = ()
     said: str = ''
+    balance: int = 0
+    file: str = ''
+
+    @property
+    def head(self):
+        """What is said before the number of the line: the name of its file if that has to be said."""
+        return shown(self.file) + ' ' if self.file else ''
+
+    @property
+    def why(self):
+        """Why it gives no frame, and what helps."""
+        return '%s (%s)' % (self.note, CURES[self.note]) if self.note in CURES else self.note
 
     @property
     def text(self):
         """The line as text."""
         return text_of(self.raw)
+
+
+def frame_of(number, octets, **line):
+    """The event of a frame, with its direction, and its fault if it spells no message."""
+    fault = judge.words_of(octets)
+    return Line(number, BAD if fault else FRAME, octets=octets, direction=judge.direction_of(octets), note=fault, **line)

@@ -9,6 +9,7 @@ import argparse
 import csv
 import datetime
 
+from .output import Refused, made
 from .protocol import INPUTS
 from .terminal import say
 from .waveform import Clock, ages_of, each_once
@@ -90,13 +91,16 @@ class Events:
 
     def shown(self, time):
         """The time of day of a time of the counter."""
-        moment = self.option.start + datetime.timedelta(milliseconds=time - self.first)
+        try:
+            moment = self.option.start + datetime.timedelta(milliseconds=time - self.first)
+        except OverflowError:
+            raise Refused('--start %s: the log has times before the year 1 or after 9999' % self.option.start) from None
         return moment.isoformat(' ', 'milliseconds')
 
 
 def write(blocks, option):
     """Writes blocks as they come; says what was left out."""
-    with open(option.hires, 'w', newline='') as out:
+    with made(option.hires) as out:
         events = Events(out, option)
         for block in each_once(blocks):
             events.add(block)

@@ -66,9 +66,13 @@ class LateAnswers:
 class LateRules(Rules):
     """All rules, without late answers. Those on content are given commands and blocks alone, and begin anew at a new poll
     whenever an answer to a command above can still come."""
+    # At a lost place the rules of transcripts judge.
+    unjudged_frames = ('frames_not_at_the_cpu',)
 
-    def __init__(self, at, limits, counts):
-        super().__init__(at, False, False, limits)
+
+    def __init__(self, at, limits, counts, excepted=()):
+        super().__init__(at, False, False, limits, excepted)
+        self.is_open = True     # an answer above the first command is late
         self.late = LateAnswers(counts)
         self.judge = Judge(at, limits, self.late)
 
@@ -77,9 +81,9 @@ class LateRules(Rules):
         self.late.is_settled = False
         super().lose(event)
 
-    def breach(self, read, event):
+    def found(self, event):
         """The breach of a frame; None where it keeps all rules."""
-        found, octets = self.judge.breach(read, event), event.octets
+        found, octets = self.judge.breach(event), event.octets
         if found or not self.late.is_settled:
             self.lose_place()
         if found:

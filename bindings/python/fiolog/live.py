@@ -2,30 +2,27 @@
 the line, or at Ctrl-C, and then writes what it counted.
 
 The field line itself is synchronous (SDLC): a serial port reads it by an adapter that gives out octet-stuffed HDLC with
-frame check."""
+frame check. What a port loses, or hears with a wrong parity or stop bit, is not said by pyserial: the frame check finds it."""
 
 import os
 import selectors
 import shlex
-import signal
 import socket
 import struct
 import subprocess
 import sys
 import time
 
-from fio2070.constants import LONGEST_FRAME
-
-from . import check, sdlc, terminal
+from . import check, log, output, sides, terminal, unjudged
 from .counts import Counts
-from .decode import as_text
-from .events import BAD, DAMAGED, FRAME, LOSSES, PASSED, POSSIBLE, Line
-from .judge import direction_of, words_of
-from .message import message_of
+from .decode import as_text, spoken
+from .events import BAD, DAMAGED, FRAME, LOSSES, OTHER, PASSED, PIECE, POSSIBLE, Line, frame_of
+from .line import OCTETS
 from .options import number_in
 from .pcapng import Writer
 from .reader import Reader
-from .rules import WRONG_CHECK, Rules
+from .rules import Rules
+from .shown import fault_words
 
 CHUNK = 1 << 16
 LONGEST_DATAGRAM = 1 << 16
@@ -35,97 +32,76 @@ DATAGRAM_BUFFER = 1 << 25
 SO_RXQ_OVFL = 40
 # Linux: a buffer beyond what the system's administrator allows to all.
 SO_RCVBUFFORCE = 33
-# A frame with its header and check, each octet stuffed; a babbler's octets beyond are dropped.
-LONGEST_STUFFED = 2 * (LONGEST_FRAME + 4)
 # Seconds without a frame after which the status line says so.
 QUIET = 2.0
 # Seconds that a process has to end.
 PATIENCE = 0.2
 # What is said of datagrams that the system dropped before they were read.
 DROPPED = 'dropped by the system'
+# What of the frames that are not judged is named.
+SHOWN = 'frames_above_a_command', 'frames_of_one_direction'
+# After so many lines without a frame a process writes no transcript.
+MOST_UNDECIDED = 1 << 10
 # What the status line names where it is 0 too.
 ALWAYS = ('frames', 'polls', 'breaches')
 
 
 def add_arguments(parser):
     source = parser.add_mutually_exclusive_group(required=True)
-    source.add_argument('--exec', metavar='COMMAND', help='a process that writes lines `> HEX` and `< HEX`')
+    source.add_argument('--exec', metavar='COMMAND', help='a process that writes lines `> HEX` and `< HEX`, or those of another log')
     source.add_argument('--serial', metavar='DEVICE', help='octet-stuffed HDLC with frame check')
     source.add_argument('--udp', type=number_in(0, 65535), metavar='PORT', help='a frame a datagram')
     source.add_argument('--fifo', metavar='FILE', help='a pipe or file with lines of a log')
+    log.add_address(parser)
     parser.add_argument('--rate', type=int, default=153600, metavar='BAUD', help='of the serial port (153600)')
     parser.add_argument('--host', default='127.0.0.1', help='the address to hear datagrams at (127.0.0.1)')
     parser.add_argument('--transcript', metavar='FILE', help='write what comes as a transcript')
     parser.add_argument('--pcapng', metavar='FILE', help='write it as pcapng; - for `| wireshark -k -i -`')
+    parser.add_argument('--force', action='store_true', help='overwrite files that are there already')
     parser.add_argument('--at', choices=('auto', 'cpu', 'module', 'bus'), default='auto', help='where it is heard')
     check.add_whole(parser)
     check.add_limits(parser)
+    check.add_except(parser)
     parser.add_argument('--seconds', type=float, metavar='N', help='end after so long')
     parser.add_argument('-v', '--verbose', action='store_true', help='name each line that is passed over, and why')
     parser.add_argument('-q', '--quiet', action='store_true', help='do not write the messages')
 
 
 class Lines:
-    """Lines of a log, as they come; with the form transcript none waits for those below."""
+    """Lines of a log, or what a line carried, as they come, by one of these readers: the first that finds a frame in a line, or the
+    last. In a transcript no line waits for those below."""
 
-    def __init__(self, form):
-        self.reader = Reader(form)
+    def __init__(self, *readers):
+        self.readers, self.events = list(readers), [[] for _ in readers]
+
+    @property
+    def reader(self):
+        """The reader that is followed."""
+        return self.readers[-1]
 
     def feed(self, chunk):
         """The events of the lines that are decided now."""
-        for event in self.reader.feed(chunk):
-            yield event if event.time is not None else event._replace(time=time.time())
+        return self._decided(lambda reader: reader.feed(chunk))
 
     def end(self):
         """The events of what is left."""
-        return self.reader.end()
+        yield from self._decided(Reader.end)
+        yield from self.events[-1]
+
+    def _decided(self, read):
+        now = time.time()
+        for reader, events in zip(self.readers, self.events):
+            events += (event if event.time is not None else event._replace(time=now) for event in read(reader))
+        found = [index for index, events in enumerate(self.events) if any(event.kind in (FRAME, BAD) for event in events)]
+        if not found and len(self.readers) > 1 and len(self.events[-1]) < MOST_UNDECIDED:
+            return ()
+        index = found[0] if found else -1
+        events, self.readers, self.events = self.events[index], [self.readers[index]], [[]]
+        return events
 
     def losses(self):
         """What did not come whole, by its words: a line says it itself."""
         return {}
-
-
-class Hdlc:
-    """Frames between flags. One with a wrong check is damaged."""
-
-    def __init__(self):
-        self.reader, self.held, self.number, self.wrong, self.is_lost = Reader(), bytearray(), 0, 0, False
-
-    def feed(self, chunk):
-        """The events of the frames that are whole now."""
-        for octet in chunk:
-            if octet == sdlc.FLAG:
-                frame, self.held, was_lost, self.is_lost = bytes(self.held), bytearray(), self.is_lost, False
-                if frame and not was_lost:
-                    yield from self._frame(frame)
-            elif len(self.held) >= LONGEST_STUFFED:
-                if not self.is_lost:
-                    yield self._lost()
-                self.is_lost = True
-            elif not self.is_lost:
-                self.held.append(octet)
-
-    def _frame(self, frame):
-        self.number += 1
-        octets = sdlc.unstuffed(frame)
-        if not sdlc.has_check(octets):
-            yield self._lost()
-            return
-        message = sdlc.message(octets)
-        if message:
-            yield event_of(self.number, message)
-
-    def _lost(self):
-        self.wrong += 1
-        return Line(self.number, DAMAGED, note=WRONG_CHECK)
-
-    def end(self):
-        """Nothing: what has no flag after it is no frame."""
-        return ()
-
-    def losses(self):
-        """What did not come whole, by its words."""
-        return {'wrong frame checks': self.wrong}
 
 
 class Datagrams:
@@ -151,7 +127,7 @@ class Datagrams:
             yield Line(self.number, DAMAGED, note='%s: %d datagrams' % (DROPPED, self.unsaid))
             self.unsaid = 0
         if octets:
-            yield event_of(self.number, octets)
+            yield frame_of(self.number, octets, time=time.time())
 
     def end(self):
         """Nothing is held."""
@@ -162,45 +138,41 @@ class Datagrams:
         return {'datagrams dropped': self.dropped}
 
 
-def event_of(number, octets):
-    """A frame that came now."""
-    words = words_of(octets)
-    return Line(number, BAD if words else FRAME, b'', octets, time.time(), direction_of(octets), words)
-
-
 class Station:
     """What is done with each frame: written, checked, counted, kept."""
 
     def __init__(self, option, source):
         self.option, self.source, self.counts = option, source, Counts()
-        self.breaches, self.content_breaches, self.is_open = 0, 0, False
-        self.name, self.reader = '-', source.reader
+        self.breaches = self.content_breaches = 0
+        self.name = '-'
         self.out = sys.stderr if option.pcapng == '-' else sys.stdout
         self.paint, self.status = terminal.painter('auto'), terminal.Status()
         self.line = as_text(self._write, self.paint)
-        self.rules = Rules(option.at, whole=option.whole, limits=option.limits)
-        self.transcript = open(option.transcript, 'w') if option.transcript else None
+        self.judgement = sides.Judgement(Rules(option.at, whole=option.whole, limits=option.limits, excepted=option.excepted))
+        self.transcript = output.recorded(option.transcript, option.force) if option.transcript else None
         self.capture = None
         if option.pcapng:
-            self.file = sys.stdout.buffer if option.pcapng == '-' else open(option.pcapng, 'wb')
+            self.file = sys.stdout.buffer if option.pcapng == '-' else output.recorded(option.pcapng, option.force, is_binary=True)
             self.capture = Writer(self.file)
         self.last = time.monotonic()
 
     def add(self, event):
         """A frame, good or bad; other lines are passed over, and at a damaged one the place is lost."""
         if event.kind in LOSSES:
-            self.rules.lose(event)
-            self.counts.lose()
-        if event.kind not in (FRAME, BAD):
+            self.judgement.add(event)
+            self.counts.lose(event)
+        if event.kind not in (FRAME, BAD, OTHER):
             if event.kind in (PASSED, POSSIBLE, *LOSSES) and self.option.verbose:
-                self._say('line %d: %s: %s' % (event.number, event.note, event.text[:100]))
+                self._say('line %d: %s: %s' % (event.number, event.why, event.text[:100]))
             return
-        self.last = time.monotonic()
-        message = message_of(event.octets) if event.kind == FRAME else None
-        self.counts.add(event, message)
+        message = spoken(event)
         if not self.option.quiet:
             self.line(self.name, event, message)
-        self._check(event)
+        if event.kind == OTHER:
+            return
+        self.last = time.monotonic()
+        self.counts.add(event, message)
+        self._name(self.judgement.add(event))
         if self.transcript:
             self.transcript.write('%s %s\n' % (event.direction, event.octets.hex()))
         if self.capture:
@@ -215,11 +187,9 @@ class Station:
         self.status.clear()
         self.out.write(text)
 
-    def _check(self, event):
-        """Says what a frame breaks. Answers above the first command are to what was sent before: they are not judged."""
-        self.is_open = self.is_open or event.direction == '>'
-        found = self.rules.breach(self, event) if self.is_open else None
-        if found:
+    def _name(self, broken):
+        """Says what frames break."""
+        for event, found in broken:
             self.breaches += not found.is_content
             self.content_breaches += found.is_content
             self._write('line %d: %s: %s\n' % (event.number, self.paint('fault', found.rule), found.says))
@@ -241,7 +211,11 @@ class Station:
         """What was counted."""
         numbers = {name.replace('_', ' '): number for name, number in self.counts.in_short(is_over).items()}
         numbers.update({'breaches': self.breaches, 'breaches in content': self.content_breaches})
-        kinds = {'lines passed over': self.reader.kinds[PASSED], 'damaged lines': sum(self.reader.kinds[kind] for kind in LOSSES)}
+        kinds = {'lines passed over': self.source.reader.kinds[PASSED],
+                 'wrong frame checks' if self.option.serial else 'damaged lines': sum(self.source.reader.kinds[kind] for kind in LOSSES if kind != PIECE),
+                 'lines with parts of messages': self.source.reader.kinds[PIECE],
+                 'frames of other addresses': self.source.reader.kinds[OTHER],
+                 **{unjudged.REASONS[name][1]: self.judgement.unjudged[name] for name in SHOWN}}
         return {**numbers, **{words: count for words, count in kinds.items() if count},
                 **{words: count for words, count in self.source.losses().items() if count}}
 
@@ -249,32 +223,36 @@ class Station:
         """The summary; status 1 where a rule is broken or nothing came."""
         for event in self.source.end():
             self.add(event)
-        for words in self.reader.manners.doubts.words():
+        self._name(self.judgement.end(self.source.reader.reasons, self.source.reader.kinds[POSSIBLE]))
+        for words in self.source.reader.manners.doubts.words():
             self._say(words)
         self._write(', '.join('%s %d' % pair for pair in self.numbers().items()) + '\n')
         self._flush()
-        check.say_excused(self.rules.excused)
+        check.say_excused(self.judgement.rules.excused)
+        is_fault = sides.say([self.judgement])
+        log.say_others(self.source.reader.others, self.counts.frames)
         if not self.counts.frames:
             terminal.say('no frame came')
-        return 1 if self.breaches or self.content_breaches or not self.counts.frames else 0
+        return 1 if self.breaches or self.content_breaches or is_fault or not self.counts.frames else 0
 
 
 def opened(option):
     """What is read: a file descriptor or socket, the function that reads it, what makes events of it, and what ends it."""
     if option.exec:
         process = subprocess.Popen(shlex.split(option.exec), stdout=subprocess.PIPE)
-        return process.stdout, lambda: os.read(process.stdout.fileno(), CHUNK), Lines('transcript'), lambda: end_of(process)
+        lines = Lines(Reader('transcript'), Reader(address=option.address))
+        return process.stdout, lambda: os.read(process.stdout.fileno(), CHUNK), lines, lambda: end_of(process)
     if option.udp is not None:
         heard, source = datagram_socket(option), Datagrams()
         return heard, lambda: source.receive(heard), source, heard.close
     if option.fifo:
         # Without a writer an open would wait, and not look at the time.
         descriptor = os.open(option.fifo, os.O_RDONLY | os.O_NONBLOCK)
-        return descriptor, lambda: os.read(descriptor, CHUNK), Lines('auto'), lambda: os.close(descriptor)
-    port = serial_port(option)
+        return descriptor, lambda: os.read(descriptor, CHUNK), Lines(Reader(address=option.address)), lambda: os.close(descriptor)
+    port, line = serial_port(option), Lines(Reader(line=OCTETS, address=option.address))
     if isinstance(port, int):
-        return port, lambda: os.read(port, CHUNK), Hdlc(), lambda: os.close(port)
-    return port, lambda: os.read(port.fileno(), CHUNK), Hdlc(), port.close
+        return port, lambda: os.read(port, CHUNK), line, lambda: os.close(port)
+    return port, lambda: os.read(port.fileno(), CHUNK), line, port.close
 
 
 def datagram_socket(option):
@@ -342,26 +320,21 @@ def chunks(file, read, is_ended):
             except BlockingIOError:
                 continue
             except OSError as fault:
-                terminal.say('the line has ended: %s' % (fault.strerror or fault))
+                terminal.say('the line has ended: %s' % fault_words(fault))
                 return
             if not chunk and not isinstance(file, socket.socket):
                 return
             yield chunk
 
 
-def end_at_signals():
-    """Lets what ends a process from outside be as Ctrl-C: the process of --exec is ended too, and the summary is written."""
-    def interrupt(number, frame):
-        raise KeyboardInterrupt
-    for name in ('SIGTERM', 'SIGHUP'):
-        number = getattr(signal, name, None)
-        if number and signal.getsignal(number) == signal.SIG_DFL:
-            signal.signal(number, interrupt)
-
-
 def run(option):
     """Hears the line until it ends."""
-    end_at_signals()
+    output.end_at_signals()
+    for name in ('exec', 'serial', 'fifo'):
+        given = getattr(option, name)
+        if given is not None and not given.strip():
+            raise output.Refused('--%s has no name' % name)
+    output.refuse_old((option.transcript, option.pcapng), option.force)
     try:
         file, read, source, end = opened(option)
     except ValueError as fault:

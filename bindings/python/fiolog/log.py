@@ -4,9 +4,13 @@ import os
 import sys
 from collections import Counter
 
-from . import source
-from .events import BAD, FRAME, LOSSES, PART, PASSED, POSSIBLE
-from .reader import CHECKED, FORMS, UNCHECKED, Reader
+from . import merge, source
+from .events import BAD, FRAME, LOSSES, PART, PASSED, PIECE, POSSIBLE
+from .log_words import CURES
+from .by_order import CHECKED, UNCHECKED
+from .line import LINES
+from .options import line_address
+from .reader import FORMS, Reader
 from .terminal import Progress, say
 from .unjudged import reasons_in_words
 
@@ -17,16 +21,30 @@ def add_arguments(parser):
     parser.add_argument('--format', choices=FORMS, default='auto', metavar='NAME',
                         help='auto (the default); frames or transcript: as `fio2070 show` and `check` read lines')
     parser.add_argument('--pattern', metavar='REGEX', help='an expression with the groups octets (hexadecimal digits) and perhaps time and dir')
-    parser.add_argument('--sdlc', action='store_true', help='each line ends with a frame that has address, control and frame check')
-    parser.add_argument('--no-check', action='store_true', help='with --sdlc: without the frame check')
+    parser.add_argument('--sdlc', action='store_true', help='each line ends with frames that have address, control and frame check; with '
+                                                            'flags, a frame may go on in the next line, or row of a dump')
+    parser.add_argument('--no-check', action='store_true', help='with --sdlc: each line ends with one frame, without the frame check')
+    parser.add_argument('--line', choices=LINES, default='', metavar='FORM',
+                        help='the file is what a line carried: octets, or bits (bits-high-first), one a clock, as a text of 0 and 1 or '
+                             'eight to an octet')
+    add_address(parser)
+    parser.add_argument('--merge', action='store_true', help='read the files as one log, in the order of their times: such as one file '
+                                                             'of each channel')
     parser.add_argument('-v', '--verbose', action='store_true', help='name each line that is passed over, and why')
     parser.add_argument('-q', '--quiet', action='store_true', help='say nothing on standard error but faults')
+
+
+def add_address(parser):
+    """The option of whose frames are judged."""
+    parser.add_argument('--address', type=line_address, metavar='HEX',
+                        help='the address of the frames of a line that are judged (14), with or without the control octet (1483), or any')
 
 
 def settings_of(option):
     """The reader's settings, by the options of the command line."""
     framing = '' if not option.sdlc else UNCHECKED if option.no_check else CHECKED
-    return {'form': option.format, 'pattern': option.pattern, 'framing': framing}
+    return {'form': option.format, 'pattern': option.pattern, 'framing': framing, 'line': getattr(option, 'line', ''),
+            'address': getattr(option, 'address', None)}
 
 
 class Log:
@@ -36,43 +54,73 @@ class Log:
     def __init__(self, option, idle=lambda: None, writes=True):
         self.option, self.idle, self.writes = option, idle, writes
         self.name, self.reader, self.lines = '-', None, 0
-        self.kinds, self.reasons = Counter(), Counter()
+        self.kinds, self.reasons, self.damages, self.others = Counter(), Counter(), Counter(), Counter()
         self.balance = 0    # as of Manners
         self.above = 0      # the frames above the first poll, where the log is to begin there
+        self.judgements = []    # of each file that is judged
+        self.is_binary = None   # whether the first file is no text
+        self.why = ''           # why a file of what a line carried has no frame
+        self.flagged = 0        # lines with the beginning of a frame of SDLC that give no frame
+        self.unjudged = Counter()   # what of the files is not judged, by its reason
 
     def events(self):
-        """All events, file after file."""
-        for name in self.option.files:
-            self.name, self.reader = name, Reader(**settings_of(self.option))
-            for event in self._of_file(name):
+        """All events, file after file, or of all files in the order of time."""
+        readers = [Reader(**settings_of(self.option)) for _ in self.option.files]
+        for event in self._merged(readers) if getattr(self.option, 'merge', False) else self._in_turn(readers):
+            if self.option.verbose and event.kind in (PASSED, *LOSSES):
+                self.name_passed(event)
+            yield event
+
+    def _in_turn(self, readers):
+        for self.name, self.reader in zip(self.option.files, readers):
+            for event in self._of_file(self.name, self.reader):
                 self.lines = event.number if event.kind != PART else self.lines
-                if self.option.verbose and event.kind in (PASSED, *LOSSES):
-                    self.name_passed(event)
                 yield event
-            self.kinds += self.reader.kinds
-            self.reasons += self.reader.reasons
-            self.balance += self.reader.manners.balance
-            for words in () if self.option.quiet else self.reader.manners.doubts.words():
-                say(words)
+            self._note(self.reader)
+
+    def _merged(self, readers):
+        """The events of all files as of one log, whose frames the first reader stands for."""
+        self.name, self.reader = self.option.files[0], readers[0]
+        files = [merge.File(name, self._of_file(name, reader)) for name, reader in zip(self.option.files, readers)]
+        both = merge.Merge(files)
+        yield from both
+        for reader in readers:
+            self.lines += reader.count
+            self._note(reader)
+        if both.is_apart:
+            say('a file ends before another begins: are they of one line, and of one time?')
+
+    def _note(self, reader):
+        """Notes what a reader found, at the end of its file."""
+        self.kinds += reader.kinds
+        self.reasons += reader.reasons
+        self.damages += reader.damages
+        self.others += reader.others
+        self.flagged += reader.flagged
+        self.why = self.why or reader.words()
+        self.balance += reader.manners.balance
+        for words in () if self.option.quiet else reader.manners.doubts.words():
+            say(words)
 
     def frames(self):
         """The frames alone."""
         return (event for event in self.events() if event.kind == FRAME)
 
-    def _of_file(self, name):
+    def _of_file(self, name, reader):
         descriptor = source.opened(name)
         if not self.option.quiet and os.isatty(descriptor):
             say('reading what is typed: a log is named behind the command')
         with Progress(descriptor, self.option.quiet, self.writes) as progress:
-            for chunk in source.chunks_of(descriptor, progress.add, self.idle):
-                yield from self.reader.feed(chunk)
-            yield from self.reader.end()
+            for chunk in source.chunks_of(descriptor, progress.add, self.idle, name, not getattr(self.option, 'line', '')):
+                self.is_binary = source.is_binary(chunk) if self.is_binary is None else self.is_binary
+                yield from reader.feed(chunk)
+            yield from reader.end()
         if descriptor != sys.stdin.fileno():
             os.close(descriptor)
 
     def name_passed(self, event):
         """Names a line that is passed over."""
-        say('line %d: %s: %s' % (event.number, event.note, event.text[:100]))
+        say('%sline %d: %s: %s' % (event.head, event.number, event.why, event.text[:100]))
 
     def summary(self, takes_possible=False):
         """Says how many lines were passed over and why; false without a frame or, if the command `takes_possible` ones, one that
@@ -81,19 +129,40 @@ class Log:
         if passed and not self.option.quiet:
             say('%d of %d lines passed over: %s%s' % (passed, self.lines, reasons_in_words(self.reasons),
                                                       '' if self.option.verbose else ' (-v names each)'))
-        damaged = sum(self.kinds[kind] for kind in LOSSES)
+        for reason, cure in () if self.option.quiet else CURES.items():
+            if self.reasons[reason] or self.damages[reason]:
+                say('%s: %s' % (reason, cure))
+        if self.flagged and not self.option.quiet and not self.option.sdlc:
+            say('%d line%s a flag, address and control octet of SDLC, and no frame that is read: try --sdlc' % (
+                self.flagged, ' has' if self.flagged == 1 else 's have'))
+        damaged = self.damaged
+        if self.kinds[PIECE] and not self.option.quiet:
+            say('messages stand in two lines: %d, in %d lines, which are not read' % (self.kinds[PIECE] // 2, self.kinds[PIECE]))
         if damaged and not self.option.quiet:
             say('%d damaged line%s may have held a frame: nobody is accused up to the next poll%s'
                 % (damaged, 's' * (damaged > 1), '' if self.option.verbose else ' (-v names each)'))
         if self.kinds[POSSIBLE] and not self.option.quiet:
             say('lines that say a message which nothing makes sure: %d%s' % (
                 self.kinds[POSSIBLE], '' if takes_possible else '; `fiolog decode` shows them'))
+        say_others(self.others, self.option.quiet and found)
         if not found and not (takes_possible and self.kinds[POSSIBLE]):
-            say('no frame in %d lines: docs/CAPTURES.md says what is read' % self.lines)
+            say(self.why or ('this is a binary file: pass it through `xxd` or `hexdump -C`; or, if it is what a line carried, see --line'
+                             if self.is_binary else 'no frame in %d lines: docs/CAPTURES.md says what is read' % self.lines))
             return False
         return True
+
+    @property
+    def damaged(self):
+        """How many lines are damaged."""
+        return sum(self.kinds[kind] for kind in LOSSES if kind != PIECE)
 
     @property
     def is_reversed(self):
         """Whether most directions contradict the types: then it is the log of the module's end."""
         return self.balance > 0
+
+
+def say_others(others, is_quiet):
+    """Says of which addresses frames are not judged."""
+    for words, count in () if is_quiet else others.most_common():
+        say('%d frame%s %s (--address)' % (count, 's' * (count > 1), words))

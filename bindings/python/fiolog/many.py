@@ -1,34 +1,41 @@
 """Many logs side by side: a row for each, the worst first, and one for all."""
 
 import json
-from concurrent.futures import ProcessPoolExecutor
+import sys
 from functools import partial, reduce
 from operator import add
 
-from . import log, terminal, unjudged
+from . import log, side_by_side, sides, terminal, unjudged
+from .options import number_in
+from .shown import shown
 from .summary import Summary, summary_of
 
+# More jobs than that are a mistake.
+MOST_ASKED = 1_000_000
 # What a row has; the first columns say which log is the worst.
 COLUMNS = ('breaches', 'damaged', 'marks', 'answers_lost', 'repeats', 'polls', 'frames')
 
 
 def add_arguments(parser):
     """The option of commands that take many logs."""
-    parser.add_argument('--jobs', type=int, metavar='N', help='with several logs: read this many at a time (all processors)')
+    parser.add_argument('--jobs', type=number_in(1, MOST_ASKED), metavar='N', help='with several logs: read this many at a time (all processors)')
 
 
 def settings_of(option):
     """The reader's settings and the rules', by the options of the command line."""
     return {'at': getattr(option, 'at', 'auto'), 'whole': getattr(option, 'whole', False), 'limits': getattr(option, 'limits', ()),
+            'excepted': getattr(option, 'excepted', ()),
             **log.settings_of(option)}
 
 
 def summary_or_fault(settings, name):
-    """The summary of a file, or the words of the system why it cannot be read."""
+    """The summary of a file, or words why it cannot be read."""
     try:
-        return summary_of(name, **settings)
+        return summary_of(sys.stdin.buffer if name == '-' else name, **settings)
     except OSError as fault:
         return fault.strerror or str(fault)
+    except Exception as fault:      # the rows of the other files are kept
+        return '%s: %s' % (type(fault).__name__, fault)
 
 
 def numbers(summary):
@@ -37,8 +44,10 @@ def numbers(summary):
 
 
 def first_words(summary):
-    """The first breach, as a row says it."""
-    return 'line %d: %s' % summary.first_breach[:2] if summary.first_breach else '' if summary.counts.frames else 'no frame'
+    """The first breach or, if little can be judged, why, as a row says it."""
+    if summary.first_breach:
+        return 'line %d: %s' % summary.first_breach[:2]
+    return ', '.join(map(sides.IN_SHORT.get, summary.verdicts)) if summary.counts.frames else 'no frame'
 
 
 def left_out(summary, counts_alone):
@@ -52,19 +61,21 @@ def write_json(rows, faults, total, counts_alone):
     """An object for each file, and one for all."""
     def object_of(one):
         key, _, missing = left_out(one, counts_alone)
-        return {**numbers(one), key.replace(' ', '_'): missing, 'rules': dict(one.broken)}
+        remarks = {'remarks': {sides.IN_SHORT[name]: count for name, count in one.verdicts.items()}} if one.verdicts else {}
+        return {**numbers(one), **remarks, key.replace(' ', '_'): missing, 'rules': dict(one.broken)}
     for name, one in rows:
-        print(json.dumps({'file': name, **object_of(one), 'first': one.first_breach}))
+        print(json.dumps({'file': shown(name), **object_of(one), 'first': one.first_breach}))
     for name, words in faults:
-        print(json.dumps({'file': name, 'fault': words}))
+        print(json.dumps({'file': shown(name), 'fault': shown(words)}))
     print(json.dumps({'summary': {'files': len(rows), **object_of(total)}}))
 
 
 def run(option, counts_alone=False):
     """Reads the files; status 1 if no frame is there or, unless it `counts_alone`, a rule is broken; 3 if a file cannot be
-    read."""
-    with ProcessPoolExecutor(option.jobs) as pool:
-        found = list(zip(option.files, pool.map(partial(summary_or_fault, settings_of(option)), option.files)))
+    read; 130 if Ctrl-C ended it: then the rows are those of the files that were read."""
+    work, count = partial(summary_or_fault, settings_of(option)), len(option.files)
+    done = side_by_side.results(work, option.files, side_by_side.jobs_of(option.jobs, count))
+    found = [(option.files[index], done[index]) for index in sorted(done)]
     faults = [(name, one) for name, one in found if isinstance(one, str)]
     rows = sorted(((name, one) for name, one in found if not isinstance(one, str)),
                   key=lambda row: [-numbers(row[1])[column] for column in COLUMNS])
@@ -80,5 +91,8 @@ def run(option, counts_alone=False):
         key, words, _ = left_out(total, counts_alone)
         if words:
             print('%s: %s' % (key, words))
-    is_bad = not total.counts.frames or total.breaches and not counts_alone
+    is_bad = not total.counts.frames or not counts_alone and (total.breaches or any(map(sides.is_fault, total.verdicts)))
+    if len(done) < count:
+        terminal.say('ended: %d of %d logs were read' % (len(done), count))
+        return 130
     return 3 if faults else 1 if is_bad else 0

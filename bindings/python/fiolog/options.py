@@ -2,6 +2,8 @@
 
 import argparse
 
+from fio2070.constants import WIRE_CONTROL
+
 from .fields import FIELDS
 
 TYPES = {'poll': 54, 'block': 182}
@@ -38,6 +40,16 @@ def message_type(text):
     if number not in FIELDS:
         raise argparse.ArgumentTypeError('%r is no type: 49 to 60, 177 to 188, poll or block' % text)
     return number
+
+
+def line_address(text):
+    """The address of the frames of a line that are judged, and their control octet, each None for any."""
+    if text == 'any':
+        return None, None
+    if len(text) not in (2, 4) or not all(sign in '0123456789abcdefABCDEF' for sign in text):
+        raise argparse.ArgumentTypeError('%r is no address, such as 14, no address and control octet, such as 1483, and not `any`' % text)
+    octets = bytes.fromhex(text)
+    return octets[0], octets[-1] if len(octets) > 1 else WIRE_CONTROL
 
 
 def status_letters(text):

@@ -10,6 +10,8 @@ from .protocol import BLOCK_ENTRIES, INPUTS, MOST_WAITING, STANDARD_WAITING
 
 WAITING = {'standard': STANDARD_WAITING, 'largest': MOST_WAITING}
 COMPUTED = 'computed, not proved'
+# What limits the pace: what a block takes, or what may wait.
+PACES = {False: '`enough` of `FewChange`', True: '`room` of `IsPolledInTime`'}
 MOST_ROUNDS = 10_000
 # Of each so many rounds in a row at most so many are lost.
 EACH, LOST = 100, 5
@@ -25,6 +27,10 @@ def add_arguments(parser):
                         help='instead of both: at most N inputs are open in a group with such filters; repeat it for each group')
     parser.add_argument('--limits', choices=WAITING, default='standard',
                         help='{:,} entries wait (standard) or {:,}'.format(*WAITING.values()))
+    parser.add_argument('--block', type=number_in(1, BLOCK_ENTRIES), default=BLOCK_ENTRIES, metavar='N',
+                        help='a block takes N entries, 1 to %d' % BLOCK_ENTRIES)
+    parser.add_argument('--waiting', type=number_in(1, MOST_WAITING), metavar='N',
+                        help='instead of --limits: N entries wait, 1 to {:,}'.format(MOST_WAITING))
     parser.add_argument('--outage', type=number_in(0, MOST_SCANS), metavar='MS', help='the link is down so long')
     parser.add_argument('--lost', type=number_in(0, 1000), default=0, metavar='N', help='rounds lost in a row')
     parser.add_argument('--every', type=number_in(1, MOST_SCANS), metavar='MS', help='a poll comes so often')
@@ -45,31 +51,39 @@ def most_exact(inputs, filter_length, per_block, every, behind):
     return waiting, behind - 1 + late
 
 
-def lossy_pace(every, within):
-    """How far apart rounds may begin of which at most `LOST` of each `EACH` are lost, where a clean one makes up for `every`
-    scans and the blocks may be `within` behind."""
-    return min((EACH - 1 - LOST) * every // (EACH - 1), within // (LOST + 1))
+def lossy_pace(longest, within):
+    """How far apart rounds may begin of which at most `LOST` of each `EACH` are lost, where a clean one makes up for
+    `longest` scans and the blocks may be `within` behind."""
+    return min((EACH - 1 - LOST) * longest // (EACH - 1), within // (LOST + 1))
 
 
-def differing_pace(groups, per_block):
-    """The most scans in which the inputs of these groups report no more than a block takes: each reports once, and once more
-    for each filter that ends in them."""
+def most_reported(groups, scans):
+    """The most that the inputs of these groups report in so many scans: each reports once, and once more for each filter that
+    ends in them."""
+    return sum(count * (1 + (scans - 1) // max(length, 1)) for count, length in groups)
+
+
+def differing_pace(groups, per_block, waiting, rounds):
+    """The most scans in which these inputs report no more than a block takes, if what they report in as many for each of
+    these rounds may wait."""
     every = 0
-    while sum(count * (1 + every // max(length, 1)) for count, length in groups) <= per_block and every < MOST_FILTER * per_block:
+    while (every < MOST_FILTER * per_block and most_reported(groups, every + 1) <= per_block
+           and most_reported(groups, rounds * (every + 1)) <= waiting):
         every += 1
     return every
 
 
-def differing(option):
+def differing(option, per_block, waiting):
     """The rows where the filters of the open inputs differ."""
-    every = differing_pace(option.group, BLOCK_ENTRIES)
-    yield 'poll every', '%d ms' % every, '`enough` of `FewChangeEach`'
-    if every == 0 or 2 * BLOCK_ENTRIES > WAITING[option.limits]:
-        return
-    yield 'entries that wait, at most', BLOCK_ENTRIES, '`few_wait` of `IsLateForEach`'
-    yield 'late, at most', '%d ms' % (every - 1), '`late` of `IsLateForEach`'
-    yield 'entries that wait, at most, answers lost', 2 * BLOCK_ENTRIES, '`few_wait` of `IsLateForEach`'
-    yield 'late, at most, answers lost', '%d ms' % (2 * every - 1), '`late` of `IsLateForEach`'
+    longest = differing_pace(option.group, per_block, waiting, 1)
+    every_lost = differing_pace(option.group, per_block, waiting, 2)
+    for rounds, every, name in ((1, longest, ''), (2, every_lost, ', answers lost')):
+        if rounds == 1 or every < longest:
+            yield 'poll every' + name, '%d ms' % every, '`enough` of `FewChangeEach`; `room` of `IsPolledInTimeForEach`'
+        if every > 0:
+            yield ('entries that wait, at most' + name, most_reported(option.group, rounds * every),
+                   '`few_wait` of `IsLateForEach`')
+            yield 'late, at most' + name, '%d ms' % (rounds * every - 1), '`late` of `IsLateForEach`'
 
 
 def paces(inputs, filter_length, per_block, waiting, left):
@@ -85,46 +99,61 @@ def paces(inputs, filter_length, per_block, waiting, left):
             yield every, rounds + 1
 
 
-def row(option):
+def row(option, per_block, waiting):
     """The rows: a name, a number with its unit, and where it is from."""
     inputs, length = option.inputs, max(option.filter, 1)
-    per_block, waiting = BLOCK_ENTRIES, WAITING[option.limits]
-    every = per_block * length // inputs
-    apart = every // (option.lost + 1)
-    yield 'poll every', '%d ms' % every, '`enough` of `FewChange`'
+    longest = per_block * length // inputs
+    within = waiting * length // inputs - (length - 1)
+    every, every_lost = (max(min(longest, most), 0) for most in (within, within // 2))
+    pace = PACES[every < longest]
+    yield 'poll every', '%d ms' % every, pace
     if option.lost:
-        yield ('begin a round every, so that %d lost in a row lose nothing' % option.lost, '%d ms' % apart,
-               '`enough` of `FewChange`')
+        yield ('begin a round every, so that %d lost in a row lose nothing' % option.lost,
+               '%d ms' % (every_lost // (option.lost + 1)), PACES[every_lost < longest])
+    if every > 0:
+        yield from bounds(inputs, length, per_block, every, every_lost)
+    ridden_out = waiting // inputs * length
+    yield 'outage without loss, at most', '%d ms' % ridden_out, '`room` of `IsOutage`; `outage` of `settled_links_lose_nothing`'
+    if every > 0:
+        yield 'outage within the pace, at most', '%d ms' % within, '`possible` of `outages_within_a_pace`'
+        yield from lossy(inputs, length, per_block, lossy_pace(longest, within))
+    if option.every is not None:
+        fits = 'nothing is lost' if option.every <= every else 'some may be lost in the densest traffic'
+        yield 'a poll every %d ms' % option.every, fits, pace if option.every <= every else COMPUTED
+    if option.outage is not None:
+        yield from outage(option, inputs, length, per_block, waiting, ridden_out)
+
+
+def bounds(inputs, length, per_block, every, every_lost):
+    """What waits and how late it is, with polls so far apart, and so far apart where answers may be lost."""
     waits, late = most_exact(inputs, length, per_block, every, every)
     yield 'entries that wait, at most', waits, '`few_wait` of `KeepsUpExactly`'
     yield 'late, at most', '%d ms' % late, '`young` of `KeepsUpExactly`'
-    waits, late = most_exact(inputs, length, per_block, every, 2 * every)
-    yield 'entries that wait, at most, answers lost', waits, '`few_wait` of `KeepsUpExactly`'
-    yield 'late, at most, answers lost', '%d ms' % late, '`exactly` of `IsLateBy`'
-    longest = waiting // inputs * length
-    yield 'outage without loss, at most', '%d ms' % longest, '`room` of `IsOutage`; `outage` of `settled_links_lose_nothing`'
-    within = waiting * length // inputs - (length - 1)
-    if within >= every:
-        yield 'outage within the pace, at most', '%d ms' % within, '`possible` of `outages_within_a_pace`'
-        apart = lossy_pace(every, within)
-        if apart > 0:
-            name = '%d of each %d rounds lost' % (LOST, EACH)
-            yield 'begin a round every, ' + name, '%d ms' % apart, '`lost_rounds`'
-            yield 'late, at most, ' + name, '%d ms' % ((LOST + 1) * apart + length - 2), '`late` of `IsLateBy`'
-    if option.every is not None:
-        fits = 'nothing is lost' if option.every <= every else 'some may be lost in the densest traffic'
-        yield 'a poll every %d ms' % option.every, fits, ('`enough` of `FewChange`' if option.every <= every
-                                                          else COMPUTED)
-    if option.outage is not None:
-        yield from outage(option, inputs, length, per_block, waiting, longest)
+    if every_lost < every:
+        yield 'poll every, answers lost', '%d ms' % every_lost, PACES[True]
+    if every_lost > 0:
+        waits, late = most_exact(inputs, length, per_block, every_lost, 2 * every_lost)
+        yield 'entries that wait, at most, answers lost', waits, '`few_wait` of `KeepsUpExactly`'
+        yield 'late, at most, answers lost', '%d ms' % late, '`exactly` of `IsLateBy`'
 
 
-def outage(option, inputs, length, per_block, waiting, longest):
+def lossy(inputs, length, per_block, apart):
+    """The pace and the lateness if some of each number of rounds are lost. The fewest scans for which a clean round has to
+    make up give the least lateness."""
+    if apart > 0:
+        name = '%d of each %d rounds lost' % (LOST, EACH)
+        yield 'begin a round every, ' + name, '%d ms' % apart, '`lost_rounds`'
+        fewest = -(-(EACH - 1) * apart // (EACH - 1 - LOST))
+        late = most_exact(inputs, length, per_block, fewest, (LOST + 1) * apart)[1]
+        yield 'late, at most, ' + name, '%d ms' % late, '`exactly` of `IsLateBy`'
+
+
+def outage(option, inputs, length, per_block, waiting, ridden_out):
     """What waits after an outage, and how it is caught up."""
     logged = logged_in(inputs, length, option.outage)
     left = min(logged, waiting)
     yield 'wait after an outage of %d ms, at most' % option.outage, left, COMPUTED
-    if option.outage <= longest:
+    if option.outage <= ridden_out:
         yield 'lost in it', 0, '`outage` of `settled_links_lose_nothing`'
     else:
         yield 'lost in it, at most', logged - left, COMPUTED
@@ -140,12 +169,13 @@ def run(option):
         print('fiolog: the groups have more than %d inputs' % INPUTS, file=sys.stderr)
         return 2
     if option.group and (option.inputs, option.filter, option.outage, option.every, option.lost) != (None, None, None, None, 0):
-        print('fiolog: --group goes with --limits and --json alone', file=sys.stderr)
+        print('fiolog: --group goes with --limits, --block, --waiting and --json alone', file=sys.stderr)
         return 2
     if not option.group and (option.inputs is None or option.filter is None):
         print('fiolog: plan wants --inputs and --filter, or --group', file=sys.stderr)
         return 2
-    rows = list(differing(option) if option.group else row(option))
+    waiting = option.waiting or WAITING[option.limits]
+    rows = list((differing if option.group else row)(option, option.block, waiting))
     if option.json:
         json.dump([{'what': what, 'number': number, 'from': source} for what, number, source in rows], sys.stdout, indent=1)
         print()
@@ -153,5 +183,8 @@ def run(option):
         groups = option.group or [(option.inputs, option.filter)]
         opened = ', '.join('%d open inputs with filters of at least %d' % group for group in groups)
         names = ['what', 'number', 'from'][:3 if option.verbose else 2]
-        terminal.table('%s, %s limits' % (opened, option.limits), names, [one[:len(names)] for one in rows])
+        limits = 'blocks of %d, %s wait' % (option.block, '{:,}'.format(waiting))
+        if option.block == BLOCK_ENTRIES and not option.waiting:
+            limits = option.limits + ' limits'
+        terminal.table('%s, %s' % (opened, limits), names, [one[:len(names)] for one in rows])
     return 0

@@ -4,6 +4,7 @@ break a rule on content. Times go on as those of a VCD file do."""
 from array import array
 
 from . import terminal
+from .output import made
 from .waveform import Clock, ages_of
 
 # A lane for each input, in inches, and the most that are drawn as high as that.
@@ -83,5 +84,6 @@ def write(blocks, name):
     if ending not in figure.canvas.get_supported_filetypes():
         terminal.say('--plot: matplotlib writes no picture that ends in .%s; .png, .svg and .pdf are some that it writes' % ending)
         return False
-    figure.savefig(name)
+    with made(name, is_binary=True) as file:
+        figure.savefig(file, format=ending)
     return True

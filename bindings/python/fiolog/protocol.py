@@ -32,27 +32,45 @@ RULES = {
 
 CONTENT_RULES = {
     1: ('order',
-        'input {input} is not later than the entry above it: two are swapped, one is doubled, or the module '
-        'restarted'),
+        'input {input} is not later than the entry above it, and a module logs changes in order of time, then '
+        'of input: two are swapped, one is doubled, a time is wrong, or the module restarted'),
     2: ('fresh',
         'input {input} changed before the block above was made, which has all changes until then: this one is '
-        'doubled or late'),
+        'doubled or late, or its time is wrong'),
     3: ('alternate',
-        'input {input} went to {state} twice: a change between was lost, or this one doubled'),
+        'input {input} went to {state} twice, and neither a gap mark nor a configuration that was sent can '
+        'have hidden a change between: one was lost, or this one is doubled, or its state is turned'),
     4: ('apart',
-        'input {input} went to {state} sooner than its filter lets it: a time or a filter is wrong'),
+        'input {input} went to {state} sooner than the shortest filter that it can have had lets it: a time '
+        'or a filter is wrong'),
     5: ('ignored',
-        'input {input} is ignored, and changed in the record all the same'),
+        'input {input} changed in the record, though it was ignored and no configuration that was sent since '
+        'opens it: the module does not ignore it, or the entry is of another input'),
     6: ('state',
-        'input {input} had another state in the answer 181 than in the record: a change was lost or turned'),
+        'input {input} had another state in an answer 181 than in the record, and neither a gap mark nor a '
+        'configuration that was sent can have hidden a change between: one was lost or turned, or the answer '
+        'is wrong'),
     7: ('clock',
-        'the counter went back: the module restarted, or a stamp is wrong'),
+        'the counter went back, and no load that was sent explains it: the module restarted, or a stamp is '
+        'wrong'),
     8: ('done',
-        'the module refused a load of the counter'),
+        'the module refused a load of the counter, and has no reason to: it can load any number'),
     9: ('accepted',
-        'the module refused a configuration of inputs that it has'),
+        'the module refused a configuration, and has no reason to: each input that is named exists'),
     10: ('cleared',
-        'a flag is set that the command clears'),
+        'a flag is set that the command clears, and the answer says which are left after that: the module did '
+        'not clear it'),
     11: ('watchdog',
-        'the module says that no watchdog was set before, and one was'),
+        'the module says that no watchdog was set before, and it has answered a command that sets one: it '
+        'restarted, or forgot it'),
+}
+
+# What a breach of `advance` means, if the number is ahead of the block that was due, or behind.
+ADVANCE = {
+    'ahead':
+        'the CPU went on without an answer, and what block {due} had is lost; or the log lost a line (own '
+        'profile; TEES allows it)',
+    'behind':
+        'the CPU asks again for a block that was answered; or it did not hear that answer, and the log is not '
+        'its own (own profile)',
 }

@@ -10,12 +10,13 @@ from typing import NamedTuple
 
 import fio2070
 
-from . import hires, log, plot, terminal
+from . import hires, log, plot, sides, terminal, unjudged
 from .check import add_place, frames_judged
 from .decode import clock_of
 from .events import FRAME, LOSSES, Line
 from .message import BLOCK, LOST, POLL, message_of
 from .rules import Breach
+from .shown import shown
 from .waveform import Block, draw
 
 COLUMNS = ['line', 'time', 'input', 'state', 'stamp', 'wide']
@@ -42,10 +43,10 @@ class Taken(NamedTuple):
 
 
 class Hearing:
-    """The CPU's end, which is given the answers. Below a damaged line a poll may have any number."""
+    """The CPU's end, which is given the answers. At first, and below a damaged line, a poll and a block may have any number."""
 
     def __init__(self):
-        self.poller, self.is_lost = None, False
+        self.poller, self.is_lost = None, True
 
     def note(self, event):
         """What is strange in a poll: it asks for another number than the proved CPU's end. Where that is the number of the
@@ -57,7 +58,7 @@ class Hearing:
         if (self.poller.number - asked) % 256 < 2:
             return None
         due, self.poller = self.poller.number, fio2070.Poller(asked)
-        return None if was_lost else 'line %d: block %d was due by what was heard, the CPU asked for %d' % (event.number, due, asked)
+        return None if was_lost else '%sline %d: block %d was due by what was heard, the CPU asked for %d' % (event.head, event.number, due, asked)
 
     def hear(self, octets):
         """What an answer adds to the record."""
@@ -69,16 +70,20 @@ class Hearing:
 
 
 def taken(read, option):
-    """What each frame adds to the record or breaks, where it does either."""
-    hearing = Hearing()
-    for event, breach, _ in frames_judged(read, option):
+    """What each frame adds to the record or breaks, where it does either. As text the record begins at the first command."""
+    hearing, is_text = Hearing(), getattr(option, 'text', False)
+    for event, broken, judgement in frames_judged(read, option):
+        yield from (Taken(where, [], found) for where, found in broken if where is not event)
+        if event is None:
+            continue
+        breach = next((found for where, found in broken if where is event), None)
         is_taken, items = False, []
         hearing.is_lost |= event.kind in LOSSES
         if event.kind == FRAME and event.octets[0] == POLL:
             words = hearing.note(event)
-            if words and not breach:
+            if words and not judgement.found and judgement.sides.answers:
                 terminal.say(words)
-        elif event.kind == FRAME and event.octets[0] == BLOCK:
+        elif event.kind == FRAME and event.octets[0] == BLOCK and not (is_text and not judgement.sides.commands):
             is_taken, items = hearing.hear(event.octets)
         if is_taken or breach:
             yield Taken(event, items, breach, is_taken)
@@ -99,7 +104,7 @@ class Record:
         """The blocks that were taken, as they are drawn; breaches are said."""
         for one in self:
             if one.breach:
-                terminal.say(one.breach.words(one.event.number))
+                terminal.say(one.event.head + one.breach.words(one.event.number))
             if one.is_block:
                 message = message_of(one.event.octets)
                 yield Block(message.fields['block'], message.fields['stamp'], bool(message.fields['status'] & LOST),
@@ -125,9 +130,9 @@ def write(record):
     """A table: the items with their lines, and the breaches in between."""
     for event, item, breach in record.parts():
         if breach:
-            print(breach.words(event.number))
+            print(event.head + breach.words(event.number))
         else:
-            print('%-6s %s' % ('%d:' % event.number, (clock_of(event) + ' ' if event.time is not None else '') + item_words(item)))
+            print('%s%-6s %s' % (event.head, '%d:' % event.number, (clock_of(event) + ' ' if event.time is not None else '') + item_words(item)))
 
 
 def write_json(record):
@@ -138,7 +143,8 @@ def write_json(record):
             fields['breaks'] = breach.rule
         else:
             fields = {'gap': True} if item.gap else {name: getattr(item, name) for name in COLUMNS[2:]}
-        print(json.dumps({'line': event.number, 'time': event.time, **fields}))
+        file = {'file': shown(event.file)} if event.file else {}
+        print(json.dumps({**file, 'line': event.number, 'time': event.time, **fields}))
 
 
 def write_csv(record):
@@ -193,4 +199,7 @@ def run(option):
         draw(record.blocks(), sys.stdout)
     else:
         (write_text if option.text else write_json if option.json else write_csv if option.csv else write)(record)
-    return 0 if read.summary() and not record.breaches else 1
+    is_read = read.summary()
+    if read.unjudged and not option.quiet:
+        terminal.say('not judged: ' + unjudged.words(read.unjudged))
+    return 1 if sides.say(read.judgements) or record.breaches or not is_read else 0

@@ -7,12 +7,16 @@ from typing import NamedTuple
 import fio2070
 from fio2070.constants import CONTENT_IGNORED, TYPE_LOAD_COUNTER
 
+from .events import PIECE
 from .judge import words_of
+from .log_words import LINE
 from .message import BLOCK, LOST, MORE, POLL, message_of
-from .protocol import CONTENT_RULES, INPUTS, RULES
+from .protocol import ADVANCE, CONTENT_RULES, INPUTS, RULES
 
-# What is said of a frame whose check is wrong.
-WRONG_CHECK = 'frame check is wrong'
+# Loads of the counter that excused nothing yet: at this number they are never used up.
+MOST_EXCUSES = 255
+# What is said of what stands where a frame may be, and is none.
+WRONG_CHECK = LINE['damaged']
 # What was due and what came, by rule, where the library says both.
 DUE = {'pair': 'an answer %d was due, %d came', 'number': 'block %d was asked for, %d came',
        'advance': 'block %d was due, %d came'}
@@ -51,16 +55,16 @@ class Judge:
         the rules begin anew. One with a wrong check was not heard, if the log was taken at the CPU."""
         self.is_behind_damage |= not (self.at == 'cpu' and event.note == WRONG_CHECK)
 
-    def place(self, read, event):
+    def place(self, event):
         """Where this frame was logged: the CPU's end, the module's or the bus between."""
         if self.at != 'auto':
             return self.at
         if not event.said:
             return 'bus'
         is_own = event.text[:2] in ('> ', '< ')
-        return 'module' if read.reader.manners.balance > 0 and not is_own else 'cpu'
+        return 'module' if event.balance > 0 and not is_own else 'cpu'
 
-    def breach(self, read, event):
+    def breach(self, event):
         """The breach of a frame; None where it keeps the rules."""
         if self.late and self.late.leaves_out(event.direction, event.octets, self.checker):
             return None
@@ -77,15 +81,21 @@ class Judge:
         rule, words = RULES[found.rule]
         if self.late and self.late.excuses(rule):
             return None
-        if was_damaged or rule == 'advance' and self.polled == before and self.place(read, event) != 'cpu':
+        if was_damaged or rule == 'advance' and self.polled == before and self.place(event) != 'cpu':
             # Whether the CPU heard the answer is not known here: asking again, or for the next block, may be right.
             self.excused += 1
             return None
         if found.has_due:
-            return Breach(rule, DUE[rule] % (found.due, found.got), {'due': found.due, 'got': found.got})
+            meaning = ': ' + advance_words(found.due, found.got) if rule == 'advance' else ''
+            return Breach(rule, DUE[rule] % (found.due, found.got) + meaning, {'due': found.due, 'got': found.got})
         if rule == 'limits':
             return Breach(rule, limits_words(message_of(event.octets)))
         return Breach(rule, words_of(event.octets) or words if rule == 'readable' else words)
+
+
+def advance_words(due, got):
+    """What it means that a poll has another number than the one due."""
+    return ADVANCE['ahead' if (got - due) % 256 < 128 else 'behind'].format(due=due)
 
 
 def limits_words(block):
@@ -99,13 +109,17 @@ def limits_words(block):
 
 
 class Rules:
-    """The library's two checkers over a log, which may begin anywhere. Where it `begins` in the middle of traffic, those on
-    content wait for a poll; a `whole` log begins with the start of both ends. The module has the standard limits, or these: the
-    most entries of a block, and the most that wait."""
+    """The library's two checkers over a log, which may begin anywhere: an answer above its first command is not judged. Where it
+    `begins` in the middle of traffic, the rules on content wait for a poll; a `whole` log begins with the start of both ends. The
+    module has the standard limits, or these: the most entries of a block, and the most that wait. Breaches of `excepted` rules are
+    left out."""
+    # The reasons of frames that no rule judges.
+    unjudged_frames = 'frames_above_a_command', 'frames_at_lost_places', 'frames_not_at_the_cpu'
 
-    def __init__(self, at, begins=True, whole=False, limits=()):
-        self.judge, self.load, self.lost = Judge(at, limits), None, Counter()
+    def __init__(self, at, begins=True, whole=False, limits=(), excepted=()):
+        self.judge, self.loads, self.lost = Judge(at, limits), [], Counter()
         self.content = fio2070.ContentChecker(whole) if begins else None
+        self.excepted, self.is_open = frozenset(excepted), whole
 
     @property
     def excused(self):
@@ -120,7 +134,7 @@ class Rules:
     def lose(self, event):
         """A frame was damaged here: the rules on content begin again at the next poll."""
         self.judge.lose(event)
-        self.lost['damaged_lines'] += 1
+        self.lost['pieces' if event.kind == PIECE else 'damaged_lines'] += 1
         self.lose_place()
 
     def lose_place(self):
@@ -128,10 +142,22 @@ class Rules:
         self.lost['lost_places'] += self.content is not None
         self.content = None
 
-    def breach(self, read, event):
+    def breach(self, event):
         """The breach of a frame; None where it keeps all rules."""
+        self.is_open = self.is_open or event.direction == '>'
+        if not self.is_open:
+            self.lost['frames_above_a_command'] += 1
+            return None
+        found = self.found(event)
+        if found and found.rule in self.excepted:
+            self.lost['excepted_breaches'] += 1
+            return None
+        return found
+
+    def found(self, event):
+        """The breach of a frame below the first command; None where it keeps all rules."""
         is_poll = len(event.octets) == 2 and event.octets[0] == POLL
-        found = self.judge.breach(read, event)
+        found = self.judge.breach(event)
         if found:
             self.lose_place()
             return found
@@ -145,7 +171,7 @@ class Rules:
         if self.content is None and may_begin:
             self.begin()
         if octets[:1] == bytes([TYPE_LOAD_COUNTER]):
-            self.load = octets
+            self.loads = [*self.loads, octets][-MOST_EXCUSES:]
         if self.content is None:
             self.lost['frames_at_lost_places'] += 1
         else:
@@ -160,21 +186,21 @@ class Rules:
         return content_breach(octets, found) if found else None
 
     def begin(self):
-        """Goes on below a breach. A load of the counter that was sent above still counts."""
+        """Goes on below a breach. The loads of the counter that were sent above still count."""
         self.content = fio2070.ContentChecker()
-        if self.load:
-            self.content.sent(self.load)
+        for load in self.loads:
+            self.content.sent(load)
 
 
-class NineRules(Rules):
+class TranscriptRules(Rules):
     """The rules of transcripts alone."""
 
     def lose_place(self):
         """Nothing: these rules go on by themselves."""
 
-    def breach(self, read, event):
-        """The breach of a frame; None where it keeps these rules."""
-        return self.judge.breach(read, event)
+    def found(self, event):
+        """The breach of a frame below the first command; None where it keeps these rules."""
+        return self.judge.breach(event)
 
 
 def content_breach(octets, found):

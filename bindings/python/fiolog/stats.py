@@ -6,7 +6,7 @@ from collections import Counter
 
 from . import log, many, terminal, unjudged
 from .counts import Counts
-from .events import BAD, FRAME, LOSSES, PASSED
+from .events import BAD, FRAME, LOSSES, OTHER, PASSED, PIECE
 from .message import message_of
 
 MILLI = 1000
@@ -50,17 +50,18 @@ def flat(one, above=''):
 
 def run(option):
     """Counts a log, or several side by side; status 1 if no frame is there."""
-    if len(option.files) > 1:
+    if len(option.files) > 1 and not option.merge:
         return many.run(option, counts_alone=True)
     read, counts = log.Log(option, writes=False), Counts()
     for event in read.events():
         if event.kind in LOSSES:
-            counts.lose()
+            counts.lose(event)
         elif event.kind in (FRAME, BAD):
             counts.add(event, message_of(event.octets) if event.kind == FRAME else None)
     if not read.summary():
         return 1
-    missing = counts.unjudged() + Counter(damaged_lines=sum(read.kinds[kind] for kind in LOSSES), lines_passed_over=read.kinds[PASSED])
+    missing = counts.unjudged() + Counter(
+        damaged_lines=read.damaged, pieces=read.kinds[PIECE], lines_passed_over=read.kinds[PASSED], frames_of_others=read.kinds[OTHER])
     if option.json:
         json.dump({**numbers(counts), 'not_counted': unjudged.numbers(missing, unjudged.OF_LINES)}, sys.stdout, indent=1)
         print()

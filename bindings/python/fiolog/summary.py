@@ -9,10 +9,11 @@ import os
 from collections import Counter
 
 from .counts import Counts
-from .events import BAD, FRAME, LOSSES
+from .events import FRAME, JUDGED, LOSSES, OTHER, POSSIBLE
 from .message import message_of
 from .reader import Reader
 from .rules import Rules
+from .sides import Judgement
 from .source import CHUNK, decoded
 
 
@@ -24,6 +25,7 @@ class Summary:
     def __init__(self):
         self.counts, self.broken, self.first_breach = Counts(), Counter(), None
         self.lines, self.unjudged, self.reasons = 0, Counter(), Counter()
+        self.verdicts = Counter()   # of how many logs little can be judged, by its reason (sides.py)
 
     @property
     def breaches(self):
@@ -40,13 +42,19 @@ class Summary:
         both.counts, both.broken = self.counts + other.counts, self.broken + other.broken
         both.first_breach = self.first_breach or other.first_breach
         both.lines, both.unjudged = self.lines + other.lines, self.unjudged + other.unjudged
-        both.reasons = self.reasons + other.reasons
+        both.reasons, both.verdicts = self.reasons + other.reasons, self.verdicts + other.verdicts
         return both
 
-    def add(self, event, found):
-        """Counts a frame, and the breach in it if there is one."""
-        self.counts.add(event, message_of(event.octets) if event.kind == FRAME else None)
-        if found:
+    def add(self, event):
+        """Counts a frame, or a line that may have held one."""
+        if event.kind in LOSSES:
+            self.counts.lose(event)
+        else:
+            self.counts.add(event, message_of(event.octets) if event.kind == FRAME else None)
+
+    def add_breaches(self, broken):
+        """Counts breaches, each with its event."""
+        for event, found in broken:
             self.broken[found.rule] += 1
             self.first_breach = self.first_breach or (event.number, found.rule, found.says)
 
@@ -55,31 +63,36 @@ def chunks_of(source):
     """The octets of a path, a file that is open, or an iterator of octets, piece by piece."""
     if isinstance(source, (str, os.PathLike)):
         with open(source, 'rb') as file:
-            yield from chunks_of(file)
+            try:
+                yield from chunks_of(file)
+            except OSError as fault:
+                fault.filename = os.fspath(source)
+                raise
     elif hasattr(source, 'read'):
         yield from iter(lambda: source.read(CHUNK), b'')
     else:
         yield from source
 
 
-def summary_of(source, at='auto', whole=False, limits=(), **settings):
+def summary_of(source, at='auto', whole=False, limits=(), excepted=(), **settings):
     """The summary of a log: a path, a file open for reading octets, or an iterator of octets. `at` says where it was taken, `whole`
-    that it begins with the start of both ends, `limits` those of the module; further settings are the reader's."""
-    summary, rules = Summary(), Rules(at, whole=whole, limits=limits)
-    summary.reader = reader = Reader(**settings)
-    for chunk in decoded(iter(chunks_of(source))):
-        _judge(summary, rules, reader.feed(chunk))
-    _judge(summary, rules, reader.end())
-    del summary.reader      # a summary is handed from process to process
-    summary.lines, summary.reasons = reader.texts.count, reader.reasons
-    summary.unjudged = rules.unjudged + Counter(lines_passed_over=sum(summary.reasons.values()))
+    that it begins with the start of both ends, `limits` those of the module, `excepted` the rules that are left out; further
+    settings are the reader's."""
+    summary, judgement = Summary(), Judgement(Rules(at, whole=whole, limits=limits, excepted=excepted))
+    reader = Reader(**settings)
+    for chunk in decoded(iter(chunks_of(source)), not settings.get('line')):
+        _judge(summary, judgement, reader.feed(chunk))
+    _judge(summary, judgement, reader.end())
+    summary.add_breaches(judgement.end(reader.reasons, reader.kinds[POSSIBLE]))
+    summary.lines, summary.reasons = reader.count, reader.reasons
+    if judgement.verdict:
+        summary.verdicts[judgement.verdict] += 1
+    summary.unjudged = judgement.unjudged + Counter(lines_passed_over=sum(summary.reasons.values()), frames_of_others=reader.kinds[OTHER])
     return summary
 
 
-def _judge(summary, rules, events):
+def _judge(summary, judgement, events):
     for event in events:
-        if event.kind in LOSSES:
-            rules.lose(event)
-            summary.counts.lose()
-        elif event.kind in (FRAME, BAD):
-            summary.add(event, rules.breach(summary, event))
+        if event.kind in JUDGED:
+            summary.add(event)
+            summary.add_breaches(judgement.add(event))

@@ -1,7 +1,10 @@
 """What is said on standard error, colours, tables and the progress bar. `rich` draws the last two where it is there."""
 
+import contextlib
 import os
 import sys
+
+from .shown import shown
 
 try:
     import rich
@@ -14,10 +17,14 @@ COLOURS = {'sent': '36', 'heard': '32', 'fault': '31;1', 'mark': '33', 'dim': '2
 _said = set()
 
 
-def say(words):
-    """A line on standard error."""
-    sys.stderr.write('fiolog: %s\n' % words)
-    sys.stderr.flush()
+def say(words, name='fiolog'):
+    """A line on standard error, below what was written so far."""
+    with contextlib.suppress(OSError):      # nobody hears it
+        if sys.stdout is not None:
+            sys.stdout.flush()
+    with contextlib.suppress(OSError):
+        sys.stderr.write('%s: %s\n' % (name, shown(words)))
+        sys.stderr.flush()
 
 
 def say_once(words):
@@ -46,16 +53,17 @@ def table(title, names, rows):
     if rich and sys.stdout.isatty():
         from rich.console import Console
         from rich.table import Table
-        drawn = Table(*names, title=title, title_justify='left')
+        from rich.text import Text
+        drawn = Table(*names, title=Text(shown(title)), title_justify='left')
         for row in rows:
-            drawn.add_row(*map(str, row))
+            drawn.add_row(*(Text(shown(str(cell))) for cell in row))
         Console().print(drawn)
         return
     if sys.stdout.isatty():
         say_once('rich is not installed: plain tables (Debian package python3-rich)')
-    cells = [list(map(str, names))] + [list(map(str, row)) for row in rows]
+    cells = [list(map(str, names))] + [[shown(str(cell)) for cell in row] for row in rows]
     widths = [max(map(len, column)) for column in zip(*cells)]
-    print(title)
+    print(shown(title))
     for row in cells:
         print('  ' + '  '.join(cell.ljust(width) for cell, width in zip(row, widths)).rstrip())
 

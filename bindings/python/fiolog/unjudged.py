@@ -5,17 +5,22 @@ from collections import Counter
 # By reason: the words of one, and of several.
 REASONS = {
     'damaged_lines': ('damaged line', 'damaged lines'),
+    'pieces': ('line with part of a message', 'lines with parts of messages'),
     'lines_passed_over': ('line passed over', 'lines passed over'),
+    'frames_of_others': ('frame of another address', 'frames of other addresses'),
     'lost_places': ('lost place', 'lost places'),
     'frames_at_lost_places': ('frame from a lost place to the next poll', 'frames from a lost place to the next poll'),
+    'frames_above_a_command': ('frame above the first command', 'frames above the first command'),
     'frames_above_a_poll': ('frame above the first poll', 'frames above the first poll'),
     'frames_not_at_the_cpu': ('frame that the CPU may not have heard so', 'frames that the CPU may not have heard so'),
+    'frames_of_one_direction': ('frame of a log of one direction', 'frames of a log of one direction'),
+    'excepted_breaches': ('breach of a rule that is left out', 'breaches of rules that are left out'),
     'late_answers': ('late answer', 'late answers'),
     'gaps': ('gap mark, above which transitions are lost', 'gap marks, above which transitions are lost'),
     'restarts': ('restart of the module', 'restarts of the module'),
 }
 # What is of lines, and so is not counted either.
-OF_LINES = ('damaged_lines', 'lines_passed_over', 'gaps', 'restarts')
+OF_LINES = ('damaged_lines', 'pieces', 'lines_passed_over', 'frames_of_others', 'gaps', 'restarts')
 # How many reasons of lines that are passed over are named.
 MOST_REASONS = 3
 

@@ -1,6 +1,6 @@
 //! Links libfio2070.a: of the folder that FIO2070_LIB_DIR names, else of the top of the repository, else of `lib` of the
-//! archive that this package came in; if none is there, it compiles fio2070.c, of the folder `c` of this package or of `dist` of the
-//! repository, by the commands that CC and AR name.
+//! archive that this package came in; if none is there, it compiles fio2070.c, of `dist` of the repository or of the folder `c`
+//! of this package, by the commands that CC and AR name. `packaging/crate` packs this folder with `c`.
 
 use std::env;
 use std::ffi::OsString;
@@ -41,11 +41,11 @@ fn named_folder(folder: PathBuf) -> PathBuf {
 
 /// Returns the folder of fio2070.c and fio2070.h.
 fn sources(here: &Path) -> PathBuf {
-    let packed = here.join("c");
-    if packed.exists() {
-        packed
+    let dist = here.join("../../../dist");
+    if dist.join("fio2070.c").exists() {
+        dist
     } else {
-        here.join("../../../dist")
+        here.join("c")
     }
 }
 
@@ -55,7 +55,14 @@ fn compiled(sources: &Path) -> PathBuf {
     let object = out.join("fio2070.o");
     let source = sources.join("fio2070.c");
     println!("cargo:rerun-if-changed={}", source.display());
-    let words = ["-O2", "-fPIC", "-ffunction-sections", "-c"].map(OsString::from);
+    let words = [
+        "-O2",
+        "-fPIC",
+        "-ffunction-sections",
+        "-fdata-sections",
+        "-c",
+    ]
+    .map(OsString::from);
     run(
         "CC",
         "cc",

@@ -4,6 +4,8 @@ use Rattle.fio_message.specs.Bits.{bit_of}
 use Rattle.fio_check.specs.declared.checker.Breach.{Breach as BreachOf}
 use Rattle.fio_check.specs.declared.checker.Checker.{Checker as CheckerOf}
 use Rattle.fio_check.specs.declared.checker.Due.{Due}
+use Rattle.fio_check.specs.declared.checker.Skips.{Skips}
+use Rattle.fio_check.specs.declared.checker.Skips.TheVariants.{Nothing, ToCommand, ToPoll}
 use Rattle.fio_check.specs.declared.limits.Limits.{Limits as LimitsOf}
 use Rattle.fio_flat.specs.declared.module.Limits.{Limits}
 use Rattle.fio_check.specs.declared.content.ContentBreach.{ContentBreach as ContentBreachOf}
@@ -31,6 +33,16 @@ flat_more None = 0
 flat_more (Some false) = 1
 flat_more (Some true) = 2
 
+-- what a checker passes over
+abbrev pub skips_in : ℕ → Skips
+skips_in skips = if skips == 0 then Nothing else if skips == 2 then ToCommand else ToPoll
+
+-- the same as an octet
+abbrev pub flat_skips : Skips → ℕ
+flat_skips Nothing = 0
+flat_skips ToPoll = 1
+flat_skips ToCommand = 2
+
 -- the checker that a struct of C stands for, whatever its octets are
 abbrev pub checker_in : Checker → CheckerOf
 checker_in flat = record {
@@ -43,7 +55,7 @@ checker_in flat = record {
     advanced = not (flat.advanced == 0);
     more = more_in flat.more;
   };
-  skips = not (flat.skips == 0);
+  skips = skips_in flat.skips;
 }
 
 -- the struct of C that stands for a checker: numbers that are not there are 0
@@ -57,7 +69,7 @@ flat_checker checker = record {
   answered = bit_of checker.facts.answered;
   advanced = bit_of checker.facts.advanced;
   more = flat_more checker.facts.more;
-  skips = bit_of checker.skips;
+  skips = flat_skips checker.skips;
   per_block = checker.limits.per_block;
   waiting = checker.limits.waiting;
   reserved = replicate 4 0;

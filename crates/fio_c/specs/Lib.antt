@@ -4,3 +4,4 @@ pub mod Flat
 pub mod Logs
 pub mod Texts
 pub mod Version
+pub mod Wires

@@ -1,17 +1,20 @@
 -- What the reader of logs says of lines, as C sees it.
-use Rattle.std.specs.Prelude.{◌≡◌, ℕ, ◌+◌, ◌≤◌, ◌<◌, ◌-◌, ◌^◌, true, false, List, [], ◌∷◌, ◌++◌, length, map, take, Option, Some, None, unwrap_or, is_some}
+use Rattle.std.specs.Prelude.{◌≡◌, ℕ, ◌+◌, ◌≤◌, ◌<◌, ◌-◌, ◌^◌, ◌==◌, ◌&&◌, Bool, true, false, nat_le, nat_lt, if◌then◌else◌, List, [], ◌∷◌, ◌++◌, length, map, take, Option, Some, None, unwrap_or, is_some}
 use Rattle.std.specs.List.{All, concat, sum_by}
 use Rattle.fio_message.specs.Bits.{bit_of}
 use Rattle.fio_log.specs.Sayings.{spells}
 use Rattle.fio_log.specs.Lines.{Text, finished, lines_after, no_line, only}
-use Rattle.fio_log.specs.Telling.{Telling, read_at_end}
+use Rattle.fio_log.specs.Telling.{KeepsVerdict, Telling, has_told_all, read_at_end}
 use Rattle.fio_log.specs.declared.directions.Direction.{Direction}
 use Rattle.fio_log.specs.declared.directions.Direction.TheVariants as directions
+use Rattle.fio_log.specs.declared.verdict.Form.{Form}
+use Rattle.fio_log.specs.declared.verdict.Form.TheVariants as forms
 use Rattle.fio_log.specs.declared.verdict.Kind.{Kind}
 use Rattle.fio_log.specs.declared.verdict.Kind.TheVariants as kinds
 use Rattle.fio_log.specs.declared.verdict.Reason.{Reason}
 use Rattle.fio_log.specs.declared.verdict.Reason.TheVariants as reasons
 use Rattle.fio_log.specs.declared.verdict.Verdict.{Verdict}
+use Rattle.fio_c.specs.declared.log_batch.TheConstants.{LOG_OCTETS, LOG_VERDICTS, VERDICT_OCTETS}
 use Rattle.fio_c.specs.declared.log_batch.LogBatch.{LogBatch}
 use Rattle.fio_c.specs.declared.log_batch.LogPlace.{LogPlace}
 use Rattle.fio_c.specs.declared.log_batch.LogVerdict.{LogVerdict}
@@ -71,6 +74,21 @@ pub record Holds (batch : LogBatch) (content : Content) : Type 0 where
   pub octets : take batch.octet_count batch.octets ≡ concat content.frames
   pub places : take batch.place_count batch.places ≡ content.places
 
+-- whether a batch has room for any verdict
+abbrev pub has_room : LogBatch → Bool
+has_room batch =
+    nat_lt batch.verdict_count LOG_VERDICTS && nat_le batch.frame_count LOG_VERDICTS && nat_le batch.place_count LOG_VERDICTS
+    && nat_le batch.octet_count (LOG_OCTETS - VERDICT_OCTETS)
+
+-- a batch without verdicts has room
+abbrev pub HasRoomFirst : LogBatch → Type 0
+HasRoomFirst batch = batch.verdict_count ≡ 0 → has_room batch ≡ true
+
+-- a reader has no verdict that is due, and after the end of a log none that is left
+pub record HasNoneDue (telling : Telling) : Type 0 where
+  pub ready : telling.is_ready ≡ false
+  pub left : telling.is_ended ≡ true → telling.told ≡ telling.read
+
 -- A batch has these frames more than a content says, and each of them spells a message.
 pub record HasFramesMore (content : Content) (count : ℕ) (batch : LogBatch) : Type 0 where
   pub frames : List (List ℕ)
@@ -99,20 +117,26 @@ pub record HasVerdicts (told : ℕ) (batch : LogBatch) (last : ℕ) : Type 0 whe
   pub places : sum_by (λ verdict. verdict.places) content.verdicts ≡ length content.places
   pub spelled : All (λ frame. spells frame ≡ true) content.frames
 
--- A reader has read nothing.
-pub record HasBegun (telling : Telling) : Type 0 where
+-- the form that a number names: 1 and 2 the texts that are read by order, any other number what octets in a line are
+abbrev pub form_of : ℕ → Form
+form_of number = if number == 1 then forms.Frames else (if number == 2 then forms.Transcript else forms.Auto)
+
+-- A reader has read nothing, and reads lines in a form.
+pub record HasBegun (form : Form) (telling : Telling) : Type 0 where
+  pub reads : telling.form ≡ form
   pub making : telling.making ≡ no_line
   pub read : telling.read ≡ 0
   pub told : telling.told ≡ 0
   pub is_ended : telling.is_ended ≡ false
 
--- A log has ended. The line that was made is its last one, if it has octets.
+-- A log has ended. The line that was made is its last one, if it has octets. A verdict that can be given stays as it was.
 pub record HasEnded (before after : Telling) : Type 0 where
   pub is_ended : after.is_ended ≡ true
   pub told : after.told ≡ before.told
   pub line :
       before.is_ended ≡ false → before.read < 2 ^ 64 - 1
       → (after.making ≡ finished before.making) × (after.read ≡ read_at_end before.read before.making)
+  pub ready : before.is_ready ≡ true → KeepsVerdict before after
 
 -- A reader has taken octets: they made these lines whole, which are read, and the line that is made.
 pub record HasTakenAll (before : Telling) (octets : List ℕ) (after : Telling) : Type 0 where
@@ -121,8 +145,24 @@ pub record HasTakenAll (before : Telling) (octets : List ℕ) (after : Telling) 
   pub read : after.read ≡ before.read + length whole
   pub is_ended : after.is_ended ≡ before.is_ended
 
--- A reader has taken octets of a text, and has told all verdicts that are in a batch.
-pub record HasRead (before : Telling) (text : List ℕ) (taken : ℕ) (after : Telling) (batch : LogBatch) : Type 0 where
+-- A reader has taken octets of a text that goes on with its log, and has told all verdicts that are in a batch. If there are
+-- none, all octets are taken, or the log has ended and each of its lines has its verdict.
+pub record HasReadOn (before : Telling) (text : List ℕ) (taken : ℕ) (after : Telling) (batch : LogBatch) : Type 0 where
   pub within : taken ≤ length text
+  pub form : after.form ≡ before.form
+  pub all : batch.verdict_count ≡ 0 → after.is_ended ≡ false → after.read < 2 ^ 64 - 1 → taken ≡ length text
+  pub told : batch.verdict_count ≡ 0 → after.is_ended ≡ true → after.told ≡ after.read
   pub octets : HasTakenAll before (take taken text) after
   pub verdicts : HasVerdicts before.told batch after.told
+
+-- The reader that a text is read from: if the log has ended and all verdicts are told, octets begin another one.
+pub record IsReadFrom (before : Telling) (text : List ℕ) (from : Telling) : Type 0 where
+  pub anew : has_told_all before ≡ true → 0 < length text → HasBegun before.form from
+  pub untold : has_told_all before ≡ false → from ≡ before
+  pub empty : text ≡ [] → from ≡ before
+
+-- A reader has taken octets of a text, and has told all verdicts that are in a batch.
+pub record HasRead (before : Telling) (text : List ℕ) (taken : ℕ) (after : Telling) (batch : LogBatch) : Type 0 where
+  pub from : Telling
+  pub begun : IsReadFrom before text from
+  pub read : HasReadOn from text taken after batch

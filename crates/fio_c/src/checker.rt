@@ -1,11 +1,11 @@
 //! The checker of the rules of transcripts, in memory of the caller.
-ghost use Rattle.std.specs.Prelude.{◌≡◌, true, false};
-ghost use Rattle.fio_check.specs.Checkers.{checker_with, checker_within, found_by, new_checker};
+ghost use Rattle.std.specs.Prelude.{◌≡◌, IfNone, IfSome, true, false};
+ghost use Rattle.fio_check.specs.Checkers.{checker_anywhere, checker_with, checker_within, found_by, new_checker};
 ghost use Rattle.fio_check.specs.Observations.{observation_in};
 ghost use Rattle.fio_flat.specs.Module.{are_limits};
-ghost use Rattle.fio_c.specs.Checkers.{checker_in, flat_breach, flat_checker, flat_more, limits_of, more_in, octet_in};
+ghost use Rattle.fio_c.specs.Checkers.{checker_in, flat_breach, flat_checker, flat_more, flat_skips, limits_of, more_in, octet_in, skips_in};
 
-use fio_check::{Breach as BreachFound, Checker as CheckerOf, Facts, Limits as LimitsOf};
+use fio_check::{Breach as BreachFound, Checker as CheckerOf, Facts, Limits as LimitsOf, Skips};
 use fio_flat::Limits;
 use fio_module::MOST_WAITING;
 
@@ -29,7 +29,8 @@ pub struct Checker {
     pub advanced: u8,
     /// 0 where no block answer is above, 1 where the latest has no C, 2 where it has.
     pub more: u8,
-    /// 1 below a breach, until the next poll.
+    /// What is passed over: 0 nothing; 1 all frames to the next poll, as below a breach; 2 what is heard above the first
+    /// command.
     pub skips: u8,
     /// The most entries of a block of the module.
     pub per_block: u8,
@@ -78,14 +79,40 @@ pub extern "C" fn fio2070_checker_start_within(checker: &mut Checker, limits: Li
     ensures octets { are_limits limits ≡ true → (result ≡ 0) × (checker.new ≡ flat_checker (checker_within (limits_of limits))) }
     ensures refused { are_limits limits ≡ false → (result ≡ 1) × (checker.new ≡ checker.old) }
 {
-    if limits.waiting == 0 || limits.waiting > MOST_WAITING || limits.per_block == 0 {
+    let Some(limits) = limits_from(limits) else {
         return 1;
+    };
+    *checker = flat_from(&CheckerOf::within(limits));
+    0
+}
+
+/// The same above the first frame of a log that begins anywhere: what the CPU's end heard above the first frame that it sent
+/// is passed over. Returns as `fio2070_checker_start_within` does.
+#[unsafe(no_mangle)]
+pub extern "C" fn fio2070_checker_start_anywhere(checker: &mut Checker, limits: Limits) -> u8
+    ensures made { are_limits limits ≡ true → checker_in checker.new ≡ checker_anywhere (limits_of limits) }
+    ensures octets { are_limits limits ≡ true → (result ≡ 0) × (checker.new ≡ flat_checker (checker_anywhere (limits_of limits))) }
+    ensures refused { are_limits limits ≡ false → (result ≡ 1) × (checker.new ≡ checker.old) }
+{
+    let Some(limits) = limits_from(limits) else {
+        return 1;
+    };
+    *checker = flat_from(&CheckerOf::anywhere(limits));
+    0
+}
+
+/// Returns the limits that a struct of C says, `None` where one is out of its range.
+fn limits_from(limits: Limits) -> Option<LimitsOf>
+    ensures none { IfNone result (are_limits limits ≡ false) }
+    ensures some { IfSome result (λ found. (are_limits limits ≡ true) × (found ≡ limits_of limits)) }
+{
+    if limits.waiting == 0 || limits.waiting > MOST_WAITING || limits.per_block == 0 {
+        return None;
     }
-    *checker = flat_from(&CheckerOf::within(LimitsOf {
+    Some(LimitsOf {
         per_block: limits.per_block,
         waiting: limits.waiting,
-    }));
-    0
+    })
 }
 
 /// Takes a frame that the CPU's end sent: writes its breach, each octet of it, and returns the
@@ -97,8 +124,8 @@ pub extern "C" fn fio2070_checker_sent(
     octets: &[u8],
     breach: &mut Breach,
 ) -> u8
-    ensures next { checker_in checker.new ≡ checker_with (checker_in checker.old) (observation_in true octets.now) }
-    ensures breach { breach.new ≡ flat_breach (found_by (checker_in checker.old) (observation_in true octets.now)) }
+    ensures next { checker_in checker.new ≡ checker_with (checker_in checker.old) true (observation_in true octets.now) }
+    ensures breach { breach.new ≡ flat_breach (found_by (checker_in checker.old) true (observation_in true octets.now)) }
     ensures rule { result ≡ breach.new.rule }
 {
     let mut kept = checker_from(checker);
@@ -113,8 +140,8 @@ pub extern "C" fn fio2070_checker_heard(
     octets: &[u8],
     breach: &mut Breach,
 ) -> u8
-    ensures next { checker_in checker.new ≡ checker_with (checker_in checker.old) (observation_in false octets.now) }
-    ensures breach { breach.new ≡ flat_breach (found_by (checker_in checker.old) (observation_in false octets.now)) }
+    ensures next { checker_in checker.new ≡ checker_with (checker_in checker.old) false (observation_in false octets.now) }
+    ensures breach { breach.new ≡ flat_breach (found_by (checker_in checker.old) false (observation_in false octets.now)) }
     ensures rule { result ≡ breach.new.rule }
 {
     let mut kept = checker_from(checker);
@@ -139,7 +166,7 @@ fn checker_from(flat: &Checker) -> CheckerOf
             advanced: flat.advanced != 0,
             more: more_in(flat.more),
         },
-        skips: flat.skips != 0,
+        skips: skips_in(flat.skips),
     }
 }
 
@@ -175,7 +202,7 @@ fn flat_from(checker: &CheckerOf) -> Checker
         answered: u8::from(facts.answered),
         advanced: u8::from(facts.advanced),
         more: flat_more(facts.more),
-        skips: u8::from(checker.skips),
+        skips: flat_skips(checker.skips),
         per_block: checker.limits.per_block,
         waiting: checker.limits.waiting,
         reserved: [0; 4],
@@ -204,6 +231,28 @@ fn flat_more(more: Option<bool>) -> u8
         None => 0,
         Some(false) => 1,
         Some(true) => 2,
+    }
+}
+
+/// Returns what a checker passes over.
+fn skips_in(skips: u8) -> Skips
+    ensures { result ≡ skips_in skips }
+{
+    match skips {
+        0 => Skips::Nothing,
+        2 => Skips::ToCommand,
+        _ => Skips::ToPoll,
+    }
+}
+
+/// `skips` for C: 0 nothing, 1 to the next poll, 2 what is heard to the first command.
+fn flat_skips(skips: Skips) -> u8
+    ensures { result ≡ flat_skips skips }
+{
+    match skips {
+        Skips::Nothing => 0,
+        Skips::ToPoll => 1,
+        Skips::ToCommand => 2,
     }
 }
 

@@ -1,7 +1,7 @@
 //! The checker of the rules on content, in memory of the caller.
 ghost use Rattle.std.specs.Prelude.{◌≡◌, true, false};
-ghost use Rattle.fio_check.specs.ContentCheckers.{content_found, kept_at_start, kept_with};
-ghost use Rattle.fio_check.specs.ContentKept.{content_kept};
+ghost use Rattle.fio_check.specs.ContentCheckers.{checking_at_start, checking_with, found_in_frame};
+ghost use Rattle.fio_check.specs.ContentKept.{content_checking};
 ghost use Rattle.fio_c.specs.Checkers.{flat_content_breach};
 
 use fio_check::{ContentBreach as BreachFound, ContentChecker};
@@ -29,10 +29,11 @@ const NO_BREACH: ContentBreach = ContentBreach {
     items: 0,
 };
 
-/// A checker of the rules on content above the first frame of a log, whose ends may have begun long before.
+/// A checker of the rules on content above the first frame of a log, whose ends may have begun long before. Answers above the
+/// first frame that the CPU's end sent are passed over.
 #[unsafe(no_mangle)]
 pub extern "C" fn fio2070_content_start(content: &mut ContentChecker)
-    ensures { content_kept content.new ≡ kept_at_start false }
+    ensures { content_checking content.new ≡ checking_at_start false }
 {
     *content = ContentChecker::new();
 }
@@ -40,7 +41,7 @@ pub extern "C" fn fio2070_content_start(content: &mut ContentChecker)
 /// The same for a log that begins with both ends. It knows how the module begins, so it finds more.
 #[unsafe(no_mangle)]
 pub extern "C" fn fio2070_content_start_begun(content: &mut ContentChecker)
-    ensures { content_kept content.new ≡ kept_at_start true }
+    ensures { content_checking content.new ≡ checking_at_start true }
 {
     *content = ContentChecker::begun();
 }
@@ -48,7 +49,7 @@ pub extern "C" fn fio2070_content_start_begun(content: &mut ContentChecker)
 /// Takes a frame that the CPU's end sent, which breaks no rule on content.
 #[unsafe(no_mangle)]
 pub extern "C" fn fio2070_content_sent(content: &mut ContentChecker, octets: &[u8])
-    ensures { content_kept content.new ≡ kept_with (content_kept content.old) true octets.now }
+    ensures { content_checking content.new ≡ checking_with (content_checking content.old) true octets.now }
 {
     content.sent(octets);
 }
@@ -61,8 +62,8 @@ pub extern "C" fn fio2070_content_heard(
     octets: &[u8],
     breach: &mut ContentBreach,
 ) -> u8
-    ensures next { content_kept content.new ≡ kept_with (content_kept content.old) false octets.now }
-    ensures breach { breach.new ≡ flat_content_breach (content_found (content_kept content.old) false octets.now) }
+    ensures next { content_checking content.new ≡ checking_with (content_checking content.old) false octets.now }
+    ensures breach { breach.new ≡ flat_content_breach (found_in_frame (content_checking content.old) false octets.now) }
     ensures rule { result ≡ breach.new.rule }
 {
     *breach = breach_from(content.heard(octets));

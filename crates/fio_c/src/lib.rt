@@ -17,11 +17,12 @@
 //! | read a log of any logger | `fio2070_log_..` |
 //! | be the CPU's end | `fio2070_poller_..` |
 //! | be the module | `fio2070_sized_module_..`; `fio2070_module_..` are these, in the header alone |
+//! | frame messages on a line, and read its octets or bits | `fio2070_wire_..` |
 //! | say which library it is | `fio2070_version` |
 //! | use its parts | `fio2070_counter_..`, `fio2070_filters_..`, `fio2070_widen` |
 //!
 //! The definitions are in `specs/`: flat forms of commands, answers and blocks (`Flat`), checkers
-//! (`Checkers`), logs (`Logs`), words (`Texts`), versions (`Version`). `fio_flat` has the other structs, and what calls do to them
+//! (`Checkers`), logs (`Logs`), words (`Texts`), versions (`Version`), lines (`Wires`). `fio_flat` has the other structs, and what calls do to them
 //! and to the caller's arrays.
 #![tactic(auto)]
 
@@ -47,4 +48,5 @@ mod sized_module;
 mod text_buffer;
 mod texts;
 mod version;
+mod wire;
 mod written;

@@ -8,7 +8,7 @@ ghost use Rattle.std.specs.Ptr.{lies_at, room_at};
 ghost use base.Fml.{fex};
 ghost use Rattle.fio_log.specs.Telling.{Telling};
 ghost use Rattle.fio_log.specs.contracts.reader.Reader.{the_row as ReaderRow};
-ghost use Rattle.fio_c.specs.Logs.{HasBegun, HasEnded, HasRead};
+ghost use Rattle.fio_c.specs.Logs.{HasBegun, HasEnded, HasRead, HasReadOn, IsReadFrom, form_of};
 
 use crate::log_batch::LogBatch;
 use crate::log_verdicts::fill;
@@ -32,14 +32,15 @@ const _: () = prove!(std::mem::size_of::<Reader>() <= 8 * LOG_READER_WORDS);
 #[unsafe(no_mangle)]
 pub unsafe extern "C" fn fio2070_log_start(reader: *mut LogReader, form: u8)
     requires* { sem 𝓛 (room_at ReaderRow reader) }
-    ensures* { sem 𝓛 (fex Telling (λ telling. fex (HasBegun telling)
+    ensures* { sem 𝓛 (fex Telling (λ telling. fex (HasBegun (form_of form) telling)
         (λ _. lies_at ReaderRow full_share reader telling))) }
 {
     std::ptr::write(reader as *mut Reader, new_reader(form));
 }
 
 /// Takes octets of the log until all are taken or the batch has no more room, and returns how many it took. The batch then
-/// has the verdicts that were due. Each octet that is not taken is to be given again.
+/// has the verdicts that were due. Each octet that is not taken is to be given again. After the end of a log, once each of its
+/// verdicts was given, octets begin a new log of the same form.
 #[unsafe(no_mangle)]
 pub unsafe extern "C" fn fio2070_log_read(
     reader: *mut LogReader,
@@ -68,7 +69,7 @@ pub unsafe extern "C" fn fio2070_log_end(reader: *mut LogReader)
 
 /// Returns a reader above the first line of a log.
 fn new_reader(form: u8) -> Reader
-    ensures { HasBegun result }
+    ensures { HasBegun (form_of form) result }
 {
     Reader::new(match form {
         1 => Form::Frames,
@@ -87,6 +88,24 @@ fn end_log(reader: &mut Reader)
 /// Takes octets until all are taken or the batch has no room for another verdict, and returns how many it took.
 fn read_log(reader: &mut Reader, octets: &[u8], batch: &mut LogBatch) -> usize
     ensures { HasRead reader.old octets.now result reader.new batch.new }
+{
+    begin_next(reader, octets);
+    read_on(reader, octets, batch)
+}
+
+/// Begins the next log if its octets come after the end of one, and each verdict of that was given.
+fn begin_next(reader: &mut Reader, octets: &[u8])
+    ensures { IsReadFrom reader.old octets.now reader.new }
+{
+    if !octets.is_empty() && reader.has_told_all() {
+        reader.start_again();
+    }
+}
+
+/// Takes octets of the log that has begun until all are taken or the batch has no room for another verdict, and returns how
+/// many it took.
+fn read_on(reader: &mut Reader, octets: &[u8], batch: &mut LogBatch) -> usize
+    ensures { HasReadOn reader.old octets.now result reader.new batch.new }
 {
     batch.clear();
     fill(reader, batch);

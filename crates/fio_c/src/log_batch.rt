@@ -1,5 +1,5 @@
 //! What the reader of logs says of lines, in memory of the caller.
-ghost use Rattle.std.specs.Prelude.{◌≡◌, ◌<◌, true, false};
+ghost use Rattle.std.specs.Prelude.{◌≡◌, ◌<◌, ◌+◌, true, false};
 
 use crate::written::write_at;
 use fio_message::FRAME_OCTETS;
@@ -80,11 +80,12 @@ pub struct LogBatch {
 
 impl LogBatch {
     ghost use Rattle.std.specs.Prelude.{[], ◌∷◌, ◌++◌};
-    ghost use Rattle.fio_c.specs.Logs.{Content, Holds};
+    ghost use Rattle.fio_c.specs.Logs.{Content, Holds, has_room};
 
     /// Takes all out.
     pub(crate) fn clear(&mut self)
-        ensures { Holds self.new (record { verdicts = []; frames = []; places = [] }) }
+        ensures empty { Holds self.new (record { verdicts = []; frames = []; places = [] }) }
+        ensures room { has_room self.new ≡ true }
     {
         self.verdict_count = 0;
         self.frame_count = 0;
@@ -94,7 +95,7 @@ impl LogBatch {
 
     /// Returns whether there is room for any verdict.
     pub(crate) fn has_room(&self) -> bool
-        ensures { result ≡ true → self.now.verdict_count < LOG_VERDICTS }
+        ensures { result ≡ has_room self.now }
     {
         (self.verdict_count as usize) < LOG_VERDICTS
             && self.frame_count as usize <= LOG_VERDICTS
@@ -105,8 +106,9 @@ impl LogBatch {
     /// Adds a verdict.
     pub(crate) fn push_verdict(&mut self, verdict: LogVerdict)
         requires { self.old.verdict_count < LOG_VERDICTS }
-        ensures { (content : Content) → Holds self.old content
+        ensures added { (content : Content) → Holds self.old content
             → Holds self.new (record content { verdicts = content.verdicts ++ verdict ∷ [] }) }
+        ensures count { self.new.verdict_count ≡ self.old.verdict_count + 1 }
     {
         let at = self.verdict_count as usize;
         self.verdicts[at] = verdict;

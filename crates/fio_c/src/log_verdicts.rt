@@ -1,9 +1,9 @@
 //! Verdicts of the reader of logs, put into a batch.
-ghost use Rattle.std.specs.Prelude.{◌≡◌, ◌+◌, ◌<◌, ℕ};
+ghost use Rattle.std.specs.Prelude.{◌≡◌, ◌+◌, ◌<◌, ℕ, true};
 ghost use Rattle.fio_c.specs.declared.log_batch.TheConstants.{LOG_VERDICTS};
-ghost use Rattle.fio_c.specs.Logs.{Content, HasFramesMore, HasPlacesMore, HasVerdicts, Holds, flat_verdict, kind_number, reason_number, side_number};
+ghost use Rattle.fio_c.specs.Logs.{Content, HasFramesMore, HasNoneDue, HasPlacesMore, HasRoomFirst, HasVerdicts, Holds, flat_verdict, has_room, kind_number, reason_number, side_number};
 
-use crate::log_batch::{LOG_FRAMES, LOG_PLACES, LOG_VERDICTS, LogBatch, LogPlace, LogVerdict};
+use crate::log_batch::{LOG_FRAMES, LOG_PLACES, LogBatch, LogPlace, LogVerdict};
 use fio_log::{Direction, Kind, Place, Reader, Reason, Verdict};
 
 /// Puts the verdicts that are due into a batch, until it has no room for another one.
@@ -13,11 +13,11 @@ pub(crate) fn fill(reader: &mut Reader, batch: &mut LogBatch)
     ensures making { reader.new.making ≡ reader.old.making }
     ensures read { reader.new.read ≡ reader.old.read }
     ensures is_ended { reader.new.is_ended ≡ reader.old.is_ended }
+    ensures form { reader.new.form ≡ reader.old.form }
+    ensures room { HasRoomFirst batch.old → HasRoomFirst batch.new }
+    ensures due { has_room batch.new ≡ true → HasNoneDue reader.new }
 {
-    'verdicts: for _ in 0..LOG_VERDICTS {
-        if !batch.has_room() {
-            return;
-        }
+    'verdicts: while batch.has_room() {
         let Some(verdict) = reader.verdict() else {
             return;
         };
@@ -28,8 +28,9 @@ pub(crate) fn fill(reader: &mut Reader, batch: &mut LogBatch)
 /// Adds the verdict that a reader has told last, with its frames and places.
 fn add(verdict: &Verdict, reader: &Reader, batch: &mut LogBatch)
     requires { batch.old.verdict_count < LOG_VERDICTS }
-    ensures { (first told : ℕ) → HasVerdicts first batch.old told → verdict.now.line ≡ told + 1
+    ensures told { (first told : ℕ) → HasVerdicts first batch.old told → verdict.now.line ≡ told + 1
         → HasVerdicts first batch.new verdict.now.line }
+    ensures count { batch.new.verdict_count ≡ batch.old.verdict_count + 1 }
 {
     let frames = add_frames(reader, batch);
     let places = add_places(reader, verdict.places, batch);

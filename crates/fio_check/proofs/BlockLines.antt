@@ -1,5 +1,5 @@
 -- The events of a log around an entry of a block.
-use Rattle.fio_check.proofs.Names.{◌≡◌, ◌∙◌, ◌+◌, ◌++◌, ◌%◌, ℕ, suc, Bool, true, false, List, [], ◌∷◌, Option, Some, refl, sym, ap, ap₂, arith, length, map, length-append, append_assoc, fold, Block, block_answer, items_of_block, gap_if, item_of, says_lost, Item, Entry, Gap, ContentFacts, content_at, content_with, no_content, ContentEvent, Ended, Heard, LineEvent, Recorded, events_below, events_in, events_of_block, events_of_log, TranscriptLine}
+use Rattle.fio_check.proofs.Names.{subst, ◌≡◌, ◌∙◌, ◌+◌, ◌++◌, ◌%◌, ℕ, suc, Bool, true, false, List, [], ◌∷◌, Option, Some, None, is_some, refl, sym, ap, ap₂, arith, length, map, length-append, append_assoc, fold, Block, block_answer, items_of_block, gap_if, item_of, says_lost, Item, Entry, Gap, ContentFacts, content_at, content_with, no_content, ContentEvent, Ended, Heard, LineEvent, Recorded, events_below, events_in, events_of_block, events_of_log, TranscriptLine}
 use Rattle.std.proofs.lemmas.List.{map-append}
 use Rattle.std.proofs.lemmas.List.Sums.{fold-append}
 use Rattle.std.proofs.lemmas.List.{length-map}
@@ -8,9 +8,12 @@ use Rattle.fio_message.specs.declared.answers.Answer.{Answer}
 use Rattle.fio_message.specs.declared.answers.Answer.TheVariants as answers
 use Rattle.fio_message.specs.declared.fields.Entry.{Entry as EntryOf}
 use Rattle.fio_check.specs.ContentEvents.{is_taken, number_below}
+use Rattle.fio_check.specs.ContentFacts.{content_step, forgetting, is_aging}
+use Rattle.fio_check.specs.ContentRules.{is_excused}
 use Rattle.fio_check.specs.Finding.{TakesBlock, content_below, number_below_lines, place_of_entry, with_entries}
 use Rattle.fio_check.specs.Lines.{answer_from}
 use Rattle.fio_check.proofs.ContentCourse.{tagged}
+use Rattle.fio_check.proofs.Unexcused.{step_only}
 use Rattle.fio_check.proofs.LogFaults.{content_of, content_of_all, facts_below, log_events}
 
 -- ---- the line of a block
@@ -78,9 +81,10 @@ log_around begun above below line block front back takes =
     let number = number_below_lines above in
     let frame = block-frame number line.from_cpu line.octets (with_entries block (front ++ back)) takes.heard takes.taken in
     let start = events_of_log begun above in
+    let more = log_events begun above (line ∷ below) in
     let rest = events_below (Some ((block.number + 1) % 256)) below in
     record {
-      events = log_events begun above (line ∷ below)
+      events = more.is ∙ ap (λ rest. start ++ rest) (more.polled (is-polled number (with_entries block (front ++ back)).number takes.taken))
           ∙ ap₂ (λ events next. start ++ (map (tagged line.number) events ++ events_below next below)) frame.events frame.next
           ∙ ap (λ events. start ++ (events ++ rest)) (block-split line.number block front back)
           ∙ ap (λ events. start ++ events) (append_assoc (events_to line.number block front back) (events_from line.number block back) rest)
@@ -93,6 +97,10 @@ log_around begun above below line block front back takes =
     one-more : (n : ℕ) → suc n ≡ 1 + n
     one-more n = omega arith
 
+    is-polled : (number : Option ℕ) (block : ℕ) → is_taken number block ≡ true → is_some number ≡ true
+    is-polled None block taken = absurd (cc)
+    is-polled (Some number) block taken = refl
+
 -- ---- what is above the entry
 
 -- what is above an entry of a block, by what is above its line
@@ -103,6 +111,16 @@ facts_within facts block front =
 below-tagged : (line : ℕ) (events : List ContentEvent) (facts : ContentFacts) → facts_below facts (map (tagged line) events) ≡ fold content_with facts events
 below-tagged line [] facts = refl
 below-tagged line (event ∷ events) facts = below-tagged line events (content_with facts event)
+
+-- that a block is heard is the same whatever its entries are
+excused-same : (facts : ContentFacts) (block : Block) (entries : List EntryOf)
+    → is_excused facts (Heard (block_answer (with_entries block entries))) ≡ is_excused facts (Heard (block_answer (with_entries block [])))
+unfolding is_excused
+excused-same facts block entries = refl
+
+heard-same : (facts : ContentFacts) (block : Block) (entries : List EntryOf)
+    → content_with facts (Heard (block_answer (with_entries block entries))) ≡ content_with facts (Heard (block_answer (with_entries block [])))
+heard-same facts block entries = ap (λ excused. forgetting excused (content_step facts (Heard (block_answer (with_entries block []))))) (excused-same facts block entries)
 
 pub content_around : (begun : Bool) (above below : List TranscriptLine) (line : TranscriptLine) (block : Block) (front back : List EntryOf)
     → TakesBlock above line (with_entries block (front ++ back))
@@ -117,14 +135,31 @@ content_around begun above below line block front back takes =
     ∙ fold-append (λ facts found. content_with facts found.event) no_content start to
     ∙ ap (λ facts. facts_below facts to) (sym (content_of_all start))
     ∙ below-tagged line.number (Heard (block_answer (with_entries block (front ++ back))) ∷ map Recorded (items_of_block (with_entries block front))) (content_below begun above)
+    ∙ ap (λ facts. fold content_with facts (map Recorded (items_of_block (with_entries block front)))) (heard-same (content_below begun above) block (front ++ back))
 
--- the items of a block send no load, and leave a clear block above
-record-keeps : (items : List Item) (facts : ContentFacts)
-    → ((fold content_with facts (map Recorded items)).loaded ≡ facts.loaded) × ((fold content_with facts (map Recorded items)).clear ≡ facts.clear)
-record-keeps [] facts = (refl, refl)
-record-keeps (Gap ∷ items) facts = record-keeps items (content_with facts (Recorded Gap))
-record-keeps (Entry input level stamp wide ∷ items) facts = record-keeps items (content_with facts (Recorded (Entry input level stamp wide)))
+-- where no load excuses anything the items of a block leave it so, and what is known of times, and the block as old as it is
+record KeepsTimes (facts below : ContentFacts) : Type 0 where
+  pub judged : below.excuses ≡ 0
+  pub timely : below.timely ≡ facts.timely
+  pub aged : below.aged ≡ facts.aged
+
+keeps-first : (facts : ContentFacts) (item : Item) → facts.excuses ≡ 0 → KeepsTimes facts (content_with facts (Recorded item))
+keeps-first facts Gap judged = subst (KeepsTimes facts) (sym (step_only facts (Recorded Gap) judged)) (record { judged = judged; timely = refl; aged = refl })
+keeps-first facts (Entry input level stamp wide) judged =
+    subst (KeepsTimes facts) (sym (step_only facts (Recorded (Entry input level stamp wide)) judged)) (record { judged = judged; timely = refl; aged = refl })
+
+record-keeps : (items : List Item) (facts : ContentFacts) → facts.excuses ≡ 0 → KeepsTimes facts (fold content_with facts (map Recorded items))
+record-keeps [] facts judged = record { judged = judged; timely = refl; aged = refl }
+record-keeps (item ∷ items) facts judged =
+    let first = keeps-first facts item judged in
+    let rest = record-keeps items (content_with facts (Recorded item)) first.judged in
+    record { judged = rest.judged; timely = rest.timely ∙ first.timely; aged = rest.aged ∙ first.aged }
 
 pub block_keeps : (facts : ContentFacts) (block : Block) (front : List EntryOf)
-    → ((facts_within facts block front).loaded ≡ facts.loaded) × ((facts_within facts block front).clear ≡ facts.clear)
-block_keeps facts block front = record-keeps (items_of_block (with_entries block front)) (content_with facts (Heard (block_answer (with_entries block []))))
+    → facts.excuses ≡ 0 → ((facts_within facts block front).excuses ≡ 0) × ((facts_within facts block front).timely ≡ facts.timely)
+    × ((facts_within facts block front).aged ≡ is_aging facts (Some block.stamp))
+block_keeps facts block front judged =
+    let event = Heard (block_answer (with_entries block [])) in
+    let heard = step_only facts event judged in
+    let rest = record-keeps (items_of_block (with_entries block front)) (content_with facts event) (ap (λ (f : ContentFacts). f.excuses) heard ∙ judged) in
+    (rest.judged, rest.timely ∙ ap (λ (f : ContentFacts). f.timely) heard, rest.aged ∙ ap (λ (f : ContentFacts). f.aged) heard)

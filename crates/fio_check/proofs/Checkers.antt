@@ -1,6 +1,7 @@
 -- The checker, one line at a time.
-use Rattle.fio_check.proofs.Names.{◌≡◌, ◌≤◌, ◌<◌, inl, inr, ◌∙◌, ◌+◌, ℕ, zero, suc, Bool, true, false, List, [], ◌∷◌, Option, Some, None, refl, sym, ap, arith, length, drop, is_some, option_map, option_and_then, slice_get, unwrap_or, if◌then◌else◌, option_or, slice_get_cases, facts_at, facts_with, number_polled, TranscriptLine, observation_at, earliest_above, first_broken, rule_broken, breach_at, verdict_on, Rule, Verdict, Good, Broken}
-use Rattle.fio_check.specs.Checkers.{HasNoPollBetween, GoesOn, breach_of, checker_at, checker_below_breach, checker_with, checker_within, due_in, found_at, found_by, passes_over, verdict_found_at, verdict_of_checker}
+use Rattle.fio_check.proofs.Names.{◌≡◌, ◌≤◌, ◌<◌, inl, inr, ◌∙◌, ◌+◌, ℕ, zero, suc, Bool, true, false, List, [], ◌∷◌, Option, Some, None, refl, sym, ap, ap₂, arith, length, drop, is_some, option_map, option_and_then, slice_get, unwrap_or, if◌then◌else◌, option_or, slice_get_cases, facts_at, facts_with, number_polled, TranscriptLine, from_first_command, is_sent_at, observation_at, earliest_above, first_broken, rule_broken, breach_at, verdict_on, Rule, Verdict, Good, Broken}
+use Rattle.fio_check.specs.Checkers.{BeginsAnywhere, HasNoPollBetween, GoesOn, breach_of, checker_anywhere, checker_at, checker_below_breach, checker_from, checker_skipping, checker_with, checker_within, due_in, found_at, found_by, found_from, passes_over, verdict_found_at, verdict_of_checker}
+use Rattle.fio_check.specs.declared.checker.Skips.TheVariants.{Nothing, ToCommand}
 use Rattle.fio_check.specs.declared.checker.Breach.{Breach}
 use Rattle.fio_check.specs.declared.checker.Checker.{Checker}
 use Rattle.fio_check.specs.declared.facts.Facts.{Facts}
@@ -8,6 +9,7 @@ use Rattle.fio_check.specs.declared.limits.Limits.{Limits}
 use Rattle.fio_check.specs.Rules.{first_broken_within, standard_limits}
 use Rattle.fio_check.specs.declared.observation.Observation.{Observation}
 use Rattle.fio_check.specs.declared.observation.Observation.TheVariants.{Unreadable, Poll, Command, Block, Answer}
+use Rattle.fio_check.proofs.FirstCommands.{IsBelowHeard, below_heard}
 use Rattle.fio_check.proofs.KeptFacts.{facts_next, seen_at}
 use Rattle.fio_check.proofs.Verdicts.{below-or-at, breach-is}
 
@@ -15,22 +17,22 @@ use Rattle.fio_check.proofs.Verdicts.{below-or-at, breach-is}
 
 -- a checker that passes over nothing
 abbrev pub taking : Limits → Facts → Checker
-taking limits facts = record { limits = limits; facts = facts; skips = false }
+taking limits facts = record { limits = limits; facts = facts; skips = Nothing }
 
-takes-it : (limits : Limits) (facts : Facts) (observation : Observation) → passes_over (taking limits facts) observation ≡ false
-takes-it limits facts (Poll number) = refl
-takes-it limits facts (Command answer absent) = refl
-takes-it limits facts (Block number status entries absent) = refl
-takes-it limits facts (Answer code accepted) = refl
-takes-it limits facts Unreadable = refl
+takes-it : (limits : Limits) (facts : Facts) (from_cpu : Bool) (observation : Observation) → passes_over (taking limits facts) from_cpu observation ≡ false
+takes-it limits facts from_cpu (Poll number) = refl
+takes-it limits facts from_cpu (Command answer absent) = refl
+takes-it limits facts from_cpu (Block number status entries absent) = refl
+takes-it limits facts from_cpu (Answer code accepted) = refl
+takes-it limits facts from_cpu Unreadable = refl
 
-pub found-taking : (limits : Limits) (facts : Facts) (observation : Observation)
-    → found_by (taking limits facts) observation ≡ breach_of limits facts observation
-found-taking limits facts observation = rw (takes-it limits facts observation) refl
+pub found-taking : (limits : Limits) (facts : Facts) (from_cpu : Bool) (observation : Observation)
+    → found_by (taking limits facts) from_cpu observation ≡ breach_of limits facts observation
+found-taking limits facts from_cpu observation = rw (takes-it limits facts from_cpu observation) refl
 
-pub with-taking : (limits : Limits) (facts : Facts) (observation : Observation) → first_broken_within limits facts observation ≡ None
-    → checker_with (taking limits facts) observation ≡ taking limits (facts_with facts observation)
-with-taking limits facts observation none = rw (takes-it limits facts observation, none) refl
+pub with-taking : (limits : Limits) (facts : Facts) (from_cpu : Bool) (observation : Observation) → first_broken_within limits facts observation ≡ None
+    → checker_with (taking limits facts) from_cpu observation ≡ taking limits (facts_with facts observation)
+with-taking limits facts from_cpu observation none = rw (takes-it limits facts from_cpu observation, none) refl
 
 -- the verdict of a breach is that of its rule
 verdict-of : (facts : Facts) (observation : Observation) (broken : Option Rule) (line : Option TranscriptLine)
@@ -60,9 +62,10 @@ agrees-more lines place line (Some verdict) here is so_far =
 agrees-more lines place line None here is so_far =
     let facts = facts_at lines place in
     let observation = observation_at lines place in
+    let from_cpu = is_sent_at lines place in
     let kept = so_far.kept is in
     let found_here : found_at standard_limits lines place ≡ breach_of standard_limits facts observation =
-    ap (λ checker. found_by checker observation) kept ∙ found-taking standard_limits facts observation in
+    ap (λ checker. found_by checker from_cpu observation) kept ∙ found-taking standard_limits facts from_cpu observation in
     let verdict_here : verdict_found_at lines place ≡ breach_at lines place =
     ap (λ found. option_and_then (λ l. option_map (λ breach. Broken l.number breach.rule) found) (slice_get lines place)) found_here
     ∙ verdict-of facts observation (first_broken facts observation) (slice_get lines place) in
@@ -73,8 +76,8 @@ agrees-more lines place line None here is so_far =
           (let none_here : breach_at lines place ≡ None = sym (ap (λ e. option_or e (breach_at lines place)) is) ∙ none in
           let keeps : rule_broken lines place ≡ None =
           unbroken line.number (rule_broken lines place) (sym (breach-is lines place line (rule_broken lines place) here refl) ∙ none_here) in
-          ap (λ checker. checker_with checker observation) kept
-          ∙ with-taking standard_limits facts observation keeps
+          ap (λ checker. checker_with checker from_cpu observation) kept
+          ∙ with-taking standard_limits facts from_cpu observation keeps
           ∙ ap (taking standard_limits) (ap (facts_with facts) (seen_at lines place line here) ∙ sym (facts_next lines place line here)));
     }
 
@@ -98,37 +101,37 @@ with-breach limits checker taken true breach is = absurd (cc)
 with-breach limits checker taken false None is = absurd (cc)
 with-breach limits checker taken false (Some breach) is = refl
 
-passes-it : (limits : Limits) (observation : Observation) → number_polled observation ≡ None
-    → passes_over (checker_below_breach limits) observation ≡ true
-passes-it limits (Poll number) none = absurd (cc)
-passes-it limits (Command answer absent) none = refl
-passes-it limits (Block number status entries absent) none = refl
-passes-it limits (Answer code accepted) none = refl
-passes-it limits Unreadable none = refl
+passes-it : (limits : Limits) (from_cpu : Bool) (observation : Observation) → number_polled observation ≡ None
+    → passes_over (checker_below_breach limits) from_cpu observation ≡ true
+passes-it limits from_cpu (Poll number) none = absurd (cc)
+passes-it limits from_cpu (Command answer absent) none = refl
+passes-it limits from_cpu (Block number status entries absent) none = refl
+passes-it limits from_cpu (Answer code accepted) none = refl
+passes-it limits from_cpu Unreadable none = refl
 
 -- what a checker below a breach keeps, and finds, until the next poll
-with-passing : (limits : Limits) (observation : Observation) → number_polled observation ≡ None
-    → checker_with (checker_below_breach limits) observation ≡ checker_below_breach limits
-with-passing limits observation none = rw (passes-it limits observation none) refl
+with-passing : (limits : Limits) (from_cpu : Bool) (observation : Observation) → number_polled observation ≡ None
+    → checker_with (checker_below_breach limits) from_cpu observation ≡ checker_below_breach limits
+with-passing limits from_cpu observation none = rw (passes-it limits from_cpu observation none) refl
 
-found-passing : (limits : Limits) (observation : Observation) → number_polled observation ≡ None
-    → found_by (checker_below_breach limits) observation ≡ None
-found-passing limits observation none = rw (passes-it limits observation none) refl
+found-passing : (limits : Limits) (from_cpu : Bool) (observation : Observation) → number_polled observation ≡ None
+    → found_by (checker_below_breach limits) from_cpu observation ≡ None
+found-passing limits from_cpu observation none = rw (passes-it limits from_cpu observation none) refl
 
 -- what a checker has of the limits stays
 limits-kept : (checker : Checker) (passes : Bool) (breach : Option Breach) (facts : Facts)
-    → (if passes then checker else (if is_some breach then checker_below_breach checker.limits else (record checker { facts = facts; skips = false }))).limits
+    → (if passes then checker else (if is_some breach then checker_below_breach checker.limits else (record checker { facts = facts; skips = Nothing }))).limits
     ≡ checker.limits
 limits-kept checker true breach facts = refl
 limits-kept checker false None facts = refl
 limits-kept checker false (Some found) facts = refl
 
-limits-stay : (checker : Checker) (observation : Observation) → (checker_with checker observation).limits ≡ checker.limits
-limits-stay checker observation = limits-kept checker (passes_over checker observation) (breach_of checker.limits checker.facts observation) (facts_with checker.facts observation)
+limits-stay : (checker : Checker) (from_cpu : Bool) (observation : Observation) → (checker_with checker from_cpu observation).limits ≡ checker.limits
+limits-stay checker from_cpu observation = limits-kept checker (passes_over checker from_cpu observation) (breach_of checker.limits checker.facts observation) (facts_with checker.facts observation)
 
 limits-at : (limits : Limits) (lines : List TranscriptLine) (place : ℕ) → (checker_at limits lines place).limits ≡ limits
 limits-at limits lines zero = refl
-limits-at limits lines (suc place) = limits-stay (checker_at limits lines place) (observation_at lines place) ∙ limits-at limits lines place
+limits-at limits lines (suc place) = limits-stay (checker_at limits lines place) (is_sent_at lines place) (observation_at lines place) ∙ limits-at limits lines place
 
 module _ (limits : Limits) (lines : List TranscriptLine) (breach : ℕ) (broken : is_some (found_at limits lines breach) ≡ true) where
   still-below : (place : ℕ) → breach < place → HasNoPollBetween lines breach place → checker_at limits lines place ≡ checker_below_breach limits
@@ -138,30 +141,30 @@ module _ (limits : Limits) (lines : List TranscriptLine) (breach : ℕ) (broken 
         | inl same ↦ (let here : is_some (found_at limits lines place) ≡ true = rw (← same) broken in
             let checker = checker_at limits lines place in
             let observation = observation_at lines place in
-            with-breach checker.limits checker (record checker { facts = facts_with checker.facts observation; skips = false })
-            (passes_over checker observation) (breach_of checker.limits checker.facts observation) here
+            with-breach checker.limits checker (record checker { facts = facts_with checker.facts observation; skips = Nothing })
+            (passes_over checker (is_sent_at lines place) observation) (breach_of checker.limits checker.facts observation) here
             ∙ ap checker_below_breach (limits-at limits lines place))
         | inr further ↦ (let before = still-below place further (λ between after above. none between after (omega (arith, above))) in
-            ap (λ checker. checker_with checker (observation_at lines place)) before
-            ∙ with-passing limits (observation_at lines place) (none place further (omega arith)))
+            ap (λ checker. checker_with checker (is_sent_at lines place) (observation_at lines place)) before
+            ∙ with-passing limits (is_sent_at lines place) (observation_at lines place) (none place further (omega arith)))
       ]
 
 -- a poll is taken alike by a checker below a breach and a new one
-found-alike : (limits : Limits) (observation : Observation) → is_some (number_polled observation) ≡ true
-    → found_by (checker_below_breach limits) observation ≡ found_by (checker_within limits) observation
-found-alike limits (Poll number) is = refl
-found-alike limits (Command answer absent) is = absurd (cc)
-found-alike limits (Block number status entries absent) is = absurd (cc)
-found-alike limits (Answer code accepted) is = absurd (cc)
-found-alike limits Unreadable is = absurd (cc)
+found-alike : (limits : Limits) (from_cpu : Bool) (observation : Observation) → is_some (number_polled observation) ≡ true
+    → found_by (checker_below_breach limits) from_cpu observation ≡ found_by (checker_within limits) from_cpu observation
+found-alike limits from_cpu (Poll number) is = refl
+found-alike limits from_cpu (Command answer absent) is = absurd (cc)
+found-alike limits from_cpu (Block number status entries absent) is = absurd (cc)
+found-alike limits from_cpu (Answer code accepted) is = absurd (cc)
+found-alike limits from_cpu Unreadable is = absurd (cc)
 
-with-alike : (limits : Limits) (observation : Observation) → is_some (number_polled observation) ≡ true
-    → checker_with (checker_below_breach limits) observation ≡ checker_with (checker_within limits) observation
-with-alike limits (Poll number) is = refl
-with-alike limits (Command answer absent) is = absurd (cc)
-with-alike limits (Block number status entries absent) is = absurd (cc)
-with-alike limits (Answer code accepted) is = absurd (cc)
-with-alike limits Unreadable is = absurd (cc)
+with-alike : (limits : Limits) (from_cpu : Bool) (observation : Observation) → is_some (number_polled observation) ≡ true
+    → checker_with (checker_below_breach limits) from_cpu observation ≡ checker_with (checker_within limits) from_cpu observation
+with-alike limits from_cpu (Poll number) is = refl
+with-alike limits from_cpu (Command answer absent) is = absurd (cc)
+with-alike limits from_cpu (Block number status entries absent) is = absurd (cc)
+with-alike limits from_cpu (Answer code accepted) is = absurd (cc)
+with-alike limits from_cpu Unreadable is = absurd (cc)
 
 get-drop : {A : Type 0} (all : List A) (n i : ℕ) → slice_get (drop n all) i ≡ slice_get all (n + i)
 get-drop all zero i = ap (slice_get all) (omega arith)
@@ -170,53 +173,135 @@ get-drop (x ∷ all) (suc n) i =
     let later : suc (n + i) ≡ suc n + i = omega arith in
     get-drop all n i ∙ ap (slice_get (x ∷ all)) later
 
-seen-drop : (lines : List TranscriptLine) (n i : ℕ) → observation_at (drop n lines) i ≡ observation_at lines (n + i)
-seen-drop lines n i = rw (get-drop lines n i) refl
+-- the same of what a line says, and of whether the CPU sent it
+record IsLineAt (lines others : List TranscriptLine) (place other : ℕ) : Type 0 where
+  pub sent : is_sent_at lines place ≡ is_sent_at others other
+  pub said : observation_at lines place ≡ observation_at others other
 
-module _ (limits : Limits) (lines : List TranscriptLine) (poll : ℕ) (below : checker_at limits lines poll ≡ checker_below_breach limits)
-    (polls : is_some (number_polled (observation_at lines poll)) ≡ true) where
-  same-start : checker_at limits lines (suc poll) ≡ checker_at limits (drop poll lines) 1
-  same-start =
-      ap (λ checker. checker_with checker (observation_at lines poll)) below
-      ∙ with-alike limits (observation_at lines poll) polls
-      ∙ ap (checker_with (checker_within limits)) (sym (seen-drop lines poll 0 ∙ ap (observation_at lines) (omega arith)))
+line-at : (lines others : List TranscriptLine) (place other : ℕ) → slice_get lines place ≡ slice_get others other → IsLineAt lines others place other
+line-at lines others place other same = record { sent = rw same refl; said = rw same refl }
 
-  next-place : (further : ℕ) → suc poll + suc further ≡ suc (suc poll + further)
-  next-place further = omega arith
+-- ---- a checker of lines, and one that starts at a later one, which it takes as this one does
 
-  shifted : (further : ℕ) → observation_at lines (suc poll + further) ≡ observation_at (drop poll lines) (suc further)
-  shifted further =
-      let place : suc poll + further ≡ poll + suc further = omega arith in
-      ap (observation_at lines) place ∙ sym (seen-drop lines poll (suc further))
+-- the checkers take the line alike
+record TakesAlike (one other : Checker) (from_cpu : Bool) (observation : Observation) : Type 0 where
+  pub found : found_by one from_cpu observation ≡ found_by other from_cpu observation
+  pub kept : checker_with one from_cpu observation ≡ checker_with other from_cpu observation
 
-  same-further : (further : ℕ) → checker_at limits lines (suc poll + further) ≡ checker_at limits (drop poll lines) (suc further)
+module _ (one other : Checker) (lines others : List TranscriptLine) (start : ℕ) (rest : (further : ℕ) → slice_get lines (start + further) ≡ slice_get others further)
+    (alike : TakesAlike (checker_from one lines start) other (is_sent_at lines start) (observation_at lines start)) where
+  same-line : (further : ℕ) → IsLineAt lines others (start + further) further
+  same-line further = line-at lines others (start + further) further (rest further)
+
+  first-line : IsLineAt lines others start 0
+  first-line = let place : start + 0 ≡ start = omega arith in line-at lines others start 0 (ap (slice_get lines) (sym place) ∙ rest 0)
+
+  later-line : (further : ℕ) → IsLineAt lines others (suc start + further) (suc further)
+  later-line further =
+      let place : suc start + further ≡ start + suc further = omega arith in
+      line-at lines others (suc start + further) (suc further) (ap (slice_get lines) place ∙ rest (suc further))
+
+  same-further : (further : ℕ) → checker_from one lines (suc start + further) ≡ checker_from other others (suc further)
   same-further zero =
-      let place : suc poll + 0 ≡ suc poll = omega arith in
-      ap (checker_at limits lines) place ∙ same-start
+      let place : suc start + 0 ≡ suc start = omega arith in
+      ap (checker_from one lines) place ∙ alike.kept ∙ ap₂ (checker_with other) first-line.sent first-line.said
   same-further (suc further) =
-      ap (checker_at limits lines) (next-place further)
-      ∙ ap (λ checker. checker_with checker (observation_at lines (suc poll + further))) (same-further further)
-      ∙ ap (checker_with (checker_at limits (drop poll lines) (suc further))) (shifted further)
+      let place : suc start + suc further ≡ suc (suc start + further) = omega arith in
+      let line = later-line further in
+      ap (checker_from one lines) place
+      ∙ ap (λ checker. checker_with checker (is_sent_at lines (suc start + further)) (observation_at lines (suc start + further))) (same-further further)
+      ∙ ap₂ (checker_with (checker_from other others (suc further))) line.sent line.said
 
-  same-found : (further : ℕ) → found_at limits lines (poll + further) ≡ found_at limits (drop poll lines) further
+  same-found : (further : ℕ) → found_from one lines (start + further) ≡ found_from other others further
   same-found zero =
-      let place : poll + 0 ≡ poll = omega arith in
-      ap (found_at limits lines) place
-      ∙ ap (λ checker. found_by checker (observation_at lines poll)) below
-      ∙ found-alike limits (observation_at lines poll) polls
-      ∙ ap (found_by (checker_within limits)) (sym (seen-drop lines poll 0 ∙ ap (observation_at lines) place))
+      let place : start + 0 ≡ start = omega arith in
+      ap (found_from one lines) place ∙ alike.found ∙ ap₂ (found_by other) first-line.sent first-line.said
   same-found (suc further) =
-      let place : poll + suc further ≡ suc poll + further = omega arith in
-      ap (found_at limits lines) place
-      ∙ ap (λ checker. found_by checker (observation_at lines (suc poll + further))) (same-further further)
-      ∙ ap (found_by (checker_at limits (drop poll lines) (suc further))) (shifted further)
+      let place : start + suc further ≡ suc start + further = omega arith in
+      let line = later-line further in
+      ap (found_from one lines) place
+      ∙ ap (λ checker. found_by checker (is_sent_at lines (suc start + further)) (observation_at lines (suc start + further))) (same-further further)
+      ∙ ap₂ (found_by (checker_from other others (suc further))) line.sent line.said
 
 pub goes_on : (limits : Limits) (lines : List TranscriptLine) → GoesOn limits lines
 goes_on limits lines = record {
   passes = λ breach place broken below none.
-      ap (λ checker. found_by checker (observation_at lines place))
+      ap (λ checker. found_by checker (is_sent_at lines place) (observation_at lines place))
       (still-below limits lines breach broken place below (λ between after above. none between after (omega (arith, above))))
-      ∙ found-passing limits (observation_at lines place) (none place below (omega arith));
+      ∙ found-passing limits (is_sent_at lines place) (observation_at lines place) (none place below (omega arith));
   starts = λ breach poll further broken below polls none.
-      same-found limits lines poll (still-below limits lines breach broken poll below none) polls further;
+      (let sent = is_sent_at lines poll in
+      let said = observation_at lines poll in
+      let here = still-below limits lines breach broken poll below none in
+      same-found (checker_within limits) (checker_within limits) lines (drop poll lines) poll (λ further. sym (get-drop lines poll further))
+      (record {
+        found = ap (λ checker. found_by checker sent said) here ∙ found-alike limits sent said polls;
+        kept = ap (λ checker. checker_with checker sent said) here ∙ with-alike limits sent said polls;
+      })
+      further);
 }
+
+-- ---- a log that begins anywhere
+
+-- what is heard above the first command is passed over
+above-heard : (limits : Limits) (observation : Observation) → number_polled observation ≡ None → passes_over (checker_skipping ToCommand limits) false observation ≡ true
+above-heard limits (Poll number) none = absurd (cc)
+above-heard limits (Command answer absent) none = refl
+above-heard limits (Block number status entries absent) none = refl
+above-heard limits (Answer code accepted) none = refl
+above-heard limits Unreadable none = refl
+
+command-alike : (limits : Limits) (observation : Observation) → TakesAlike (checker_skipping ToCommand limits) (checker_within limits) true observation
+command-alike limits (Poll number) = record { found = refl; kept = refl }
+command-alike limits (Command answer absent) = record { found = refl; kept = refl }
+command-alike limits (Block number status entries absent) = record { found = refl; kept = refl }
+command-alike limits (Answer code accepted) = record { found = refl; kept = refl }
+command-alike limits Unreadable = record { found = refl; kept = refl }
+
+module _ (limits : Limits) (lines : List TranscriptLine) (below : IsBelowHeard lines (from_first_command lines)) where
+  still-above : (place : ℕ) → place ≤ below.above → checker_from (checker_anywhere limits) lines place ≡ checker_anywhere limits
+  still-above zero within = refl
+  still-above (suc place) within =
+      let heard = below.heard place (omega (arith, within)) in
+      let observation = observation_at lines place in
+      ap (λ checker. checker_with checker (is_sent_at lines place) observation) (still-above place (omega (arith, within)))
+      ∙ ap (λ sent. checker_with (checker_anywhere limits) sent observation) heard.0
+      ∙ rw (above-heard limits observation heard.1) refl
+
+  nothing-above : (place : ℕ) → place < below.above → found_from (checker_anywhere limits) lines place ≡ None
+  nothing-above place within =
+      let heard = below.heard place within in
+      let observation = observation_at lines place in
+      ap (λ checker. found_by checker (is_sent_at lines place) observation) (still-above place (omega (arith, within)))
+      ∙ ap (λ sent. found_by (checker_anywhere limits) sent observation) heard.0
+      ∙ rw (above-heard limits observation heard.1) refl
+
+  starts-there : (further : ℕ) → further < length (from_first_command lines)
+      → found_from (checker_anywhere limits) lines (below.above + further) ≡ found_at limits (from_first_command lines) further
+  starts-there further within =
+      let rest = from_first_command lines in
+      let place : below.above + 0 ≡ below.above = omega arith in
+      let first = line-at lines rest below.above 0 (ap (slice_get lines) (sym place) ∙ below.same 0) in
+      let sent : is_sent_at lines below.above ≡ true = first.sent ∙ below.sent (omega (arith, within)) in
+      let here = still-above below.above (omega arith) in
+      let said = observation_at lines below.above in
+      let alike = command-alike limits said in
+      same-found (checker_anywhere limits) (checker_within limits) lines rest below.above below.same
+      (record {
+        found = ap (λ checker. found_by checker (is_sent_at lines below.above) said) here ∙ ap (λ s. found_by (checker_anywhere limits) s said) sent ∙ alike.found
+            ∙ ap (λ s. found_by (checker_within limits) s said) (sym sent);
+        kept = ap (λ checker. checker_with checker (is_sent_at lines below.above) said) here ∙ ap (λ s. checker_with (checker_anywhere limits) s said) sent ∙ alike.kept
+            ∙ ap (λ s. checker_with (checker_within limits) s said) (sym sent);
+      })
+      further
+
+pub begins_anywhere : (limits : Limits) (lines : List TranscriptLine) → BeginsAnywhere limits lines
+begins_anywhere limits lines =
+    let below = below_heard lines in
+    let count = below.count in
+    record {
+      passes = λ place above. nothing-above limits lines below place (omega (arith, above, count));
+      starts = λ above further is within.
+          (let same : above ≡ below.above = omega (arith, is, count) in
+          ap (λ n. found_from (checker_anywhere limits) lines (n + further)) same ∙ starts-there limits lines below further within);
+    }

@@ -1,5 +1,13 @@
 -- The events of a block, and the number of a CPU's end, as the checker of the rules on content takes them.
-use Rattle.fio_check.proofs.Names.{◌≡◌, ◌∙◌, ◌+◌, ◌++◌, ℕ, Bool, true, false, List, [], ◌∷◌, Option, Some, None, refl, sym, ap, ap₂, arith, length, map, fold, option_or, gap_if, Item, ContentFacts, content_with, breach_among, breach_found, ContentEvent, Recorded, Ended, items_and_end}
+use Rattle.fio_check.proofs.Names.{◌≡◌, ◌∙◌, ◌+◌, ◌++◌, ℕ, Bool, true, false, List, [], ◌∷◌, Option, Some, None, refl, sym, ap, ap₂, arith, length, map, fold, option_or, option_and_then, gap_if, Item, if◌then◌else◌, ◌==◌, not, is_set, InputAbove, Seen, ContentFacts, content_with, breach_among, breach_found, ContentEvent, Recorded, Ended, items_and_end}
+use Rattle.std.specs.Prelude.{◌||◌}
+use Rattle.std.proofs.Math.Path.{fun_ext}
+use Rattle.fio_message.specs.Status.{says_again, says_more}
+use Rattle.fio_message.proofs.Bits.{is_set-zero}
+use Rattle.fio_check.specs.ContentSaid.{is_clear_end}
+use Rattle.fio_check.specs.ContentFacts.{below_clear, coming, content_step, input_ended, seen_below, settles, timely_below}
+use Rattle.fio_check.specs.ContentKnown.{if_comes, input_coming}
+use Rattle.fio_check.specs.ContentKept.{flagged_number, is_flagged}
 use Rattle.fio_check.specs.declared.content.ContentBreach.{ContentBreach}
 
 pub option_or_assoc : {A : Type 0} (a b c : Option A) → option_or (option_or a b) c ≡ option_or a (option_or b c)
@@ -45,3 +53,109 @@ block_found facts below lost entries status stamp items found in_entries in_end 
     ∙ ap (option_or found) (among_last entries below items (Ended status stamp)
     ∙ ap₂ (λ f n. breach_among f n (map Recorded entries ++ (Ended status stamp ∷ []))) begins counts
     ∙ gap-found facts lost entries (Ended status stamp))
+
+-- ---- the end of a block
+
+-- an input below it
+pub ended_input : (facts : ContentFacts) (status stamp input : ℕ)
+    → (content_step facts (Ended status stamp)).inputs input ≡ input_ended (settles facts input (Ended status stamp)) (input_coming input (coming facts (Ended status stamp)) (facts.inputs input))
+ended_input facts status stamp input = by (is_clear_end (Ended status stamp)) _
+  where
+    by : (clear : Bool) (ended : ContentFacts) → (if clear then below_clear ended stamp else ended).inputs input ≡ ended.inputs input
+    by true ended = refl
+    by false ended = refl
+
+-- no poll is sent since
+pub ended_unpolled : (facts : ContentFacts) (status stamp : ℕ) → (content_step facts (Ended status stamp)).polled ≡ false
+ended_unpolled facts status stamp = by (is_clear_end (Ended status stamp)) _ refl
+  where
+    by : (clear : Bool) (ended : ContentFacts) → ended.polled ≡ false → (if clear then below_clear ended stamp else ended).polled ≡ false
+    by true ended none = none
+    by false ended none = none
+
+-- one without C settles inputs, and keeps its stamp
+pub ended_full : (old mid settled full : ContentFacts) (status stamp : ℕ) → says_more status ≡ false
+    → mid ≡ (record old {
+      seen = seen_below (Ended status stamp) old.seen;
+      inputs = λ input. input_coming input (coming old (Ended status stamp)) (old.inputs input);
+    })
+    → settled ≡ (record mid { inputs = λ input. input_ended (settles mid input (Ended status stamp)) (mid.inputs input) })
+    → full ≡ (record settled {
+      clear = not (says_again status) || settled.clear;
+      timely = timely_below (not (says_again status)) settled;
+      full = if timely_below (not (says_again status)) settled then Some stamp else None;
+      floor = Some (record { time = stamp; input = None });
+    })
+    → (record full { polled = false; since_poll = λ input. false }) ≡ content_step old (Ended status stamp)
+ended_full old mid settled full status stamp whole comes settles_is full_is =
+    ap {A = ContentFacts} (λ facts. record facts { polled = false; since_poll = λ input. false }) full_is
+    ∙ ap {A = ContentFacts} (λ facts. record facts {
+      clear = not (says_again status) || facts.clear;
+      timely = timely_below (not (says_again status)) facts;
+      full = if timely_below (not (says_again status)) facts then Some stamp else None;
+      floor = Some (record { time = stamp; input = None });
+      polled = false;
+      since_poll = λ input. false;
+    }) settles_is
+    ∙ ap {A = ContentFacts} (λ facts. record facts {
+      clear = not (says_again status) || facts.clear;
+      timely = timely_below (not (says_again status)) facts;
+      full = if timely_below (not (says_again status)) facts then Some stamp else None;
+      floor = Some (record { time = stamp; input = None });
+      polled = false;
+      since_poll = λ input. false;
+      inputs = λ input. input_ended (settles facts input (Ended status stamp)) (facts.inputs input);
+    }) comes
+    ∙ by (says_again status) refl
+  where
+    below : Bool → ContentFacts
+    below again = record old {
+      clear = not again || old.clear;
+      timely = timely_below (not again) old;
+      full = if timely_below (not again) old then Some stamp else None;
+      floor = Some (record { time = stamp; input = None });
+      seen = seen_below (Ended status stamp) old.seen;
+      polled = false;
+      since_poll = λ input. false;
+      inputs = λ input. input_ended (settles old input (Ended status stamp)) (input_coming input (coming old (Ended status stamp)) (old.inputs input));
+    }
+
+    by : (again : Bool) → says_again status ≡ again → below (says_again status) ≡ content_step old (Ended status stamp)
+    by true again = rw (whole, again) refl
+    by false first = rw (whole, first) refl
+
+-- one with C does neither
+pub ended_more : (old : ContentFacts) (status stamp : ℕ) → says_more status ≡ true → old.full ≡ (if old.timely then old.full else None)
+    → (record old { polled = false; since_poll = λ input. false }) ≡ content_step old (Ended status stamp)
+ended_more old status stamp more known = rw more
+    (ap (λ full. record old { full = full; polled = false; since_poll = λ input. false }) known
+    ∙ ap₂ (λ seen comes. record old {
+      full = if old.timely then old.full else None;
+      seen = seen;
+      polled = false;
+      since_poll = λ input. false;
+      inputs = λ input. input_coming input comes (old.inputs input);
+    }) (sym (still-seen old.seen)) (sym (none-comes old.seen)))
+  where
+    still-seen : (seen : Option Seen) → seen_below (Ended status stamp) seen ≡ seen
+    still-seen None = refl
+    still-seen (Some seen) = rw more refl
+
+    none-comes : (seen : Option Seen) → option_and_then (if_comes (Ended status stamp)) seen ≡ None
+    none-comes None = refl
+    none-comes (Some seen) = rw more refl
+
+-- the inputs that a clear block settles
+pub settled_clear : (old : ContentFacts) (inputs : ℕ → InputAbove) (status stamp : ℕ) → says_more status ≡ false → says_again status ≡ false
+    → ((input : ℕ) → inputs input ≡ input_ended (not (is_set 0 input)) (old.inputs input))
+    → (record old { inputs = inputs }) ≡ (record old { inputs = λ input. input_ended (settles old input (Ended status stamp)) (old.inputs input) })
+settled_clear old inputs status stamp whole first settled = rw (whole, first)
+    (ap (λ inputs. record old { inputs = inputs }) (fun_ext (λ input. settled input ∙ ap (λ b. input_ended (not b) (old.inputs input)) (is_set-zero input))))
+
+-- the stamp of a block is kept only where times are known
+pub flagged_if : (clear full : ℕ) → flagged_number clear full ≡ (if is_flagged clear then flagged_number clear full else None)
+flagged_if clear full = by (clear == 0)
+  where
+    by : (none : Bool) → (if none then None else Some full) ≡ (if not none then (if none then None else Some full) else None)
+    by true = refl
+    by false = refl

@@ -1,18 +1,22 @@
 -- What the fields of the checker of the rules on content stand for of one input, with one thing more.
-use Rattle.fio_check.proofs.Names.{◌≡◌, ◌<◌, ◌∙◌, ℕ, zero, suc, inl, inr, Bool, true, false, List, [], ◌∷◌, Some, None, refl, sym, ap, ap₂, arith, get_or, replicate, ◌==◌, not, nat_lt, nat_tests, if◌then◌else◌, eqb_tells, is_set}
-use Rattle.std.specs.Prelude.{◌&&◌, ◌||◌, ◌^◌, ◌-◌, ◌≤◌}
+use Rattle.fio_check.proofs.Names.{◌≡◌, ◌<◌, ◌∙◌, ℕ, zero, suc, inl, inr, Bool, true, false, List, [], ◌∷◌, Option, Some, None, option_or, refl, sym, ap, ap₂, arith, get_or, replicate, ◌==◌, not, nat_lt, nat_tests, if◌then◌else◌, eqb_tells, is_set, is_some_and}
+use Rattle.std.specs.Prelude.{◌&&◌, ◌||◌, ◌^◌, ◌-◌, ◌≤◌, ◌⊎◌}
+use Rattle.std.specs.Bool.{beq}
 use Rattle.std.proofs.Common.{w64}
 use Rattle.std.proofs.Math.Path.{fun_ext}
-use Rattle.std.specs.Int.Bits.{bit_and, bit_or}
+use Rattle.std.specs.Int.Bits.{bit_and, bit_or, bit_xor}
 use Rattle.std.specs.Int.{bit_not}
 use Rattle.std.proofs.lemmas.Bool.Decides.{leb_tells}
-use Rattle.fio_message.proofs.Bits.{is_set-above, is_set-and, is_set-ones, is_set-or, is_set-zero}
+use Rattle.fio_message.proofs.Bits.{is_set-above, is_set-and, is_set-not, is_set-ones, is_set-or, is_set-xor, is_set-zero}
 use Rattle.fio_message.specs.declared.fields.InputItem.{InputItem}
+use Rattle.fio_input.specs.FilterHistory.{last_item_of}
 use Rattle.fio_input.specs.declared.filters.TheConstants.{DEFAULT_FILTER}
 use Rattle.fio_message.specs.declared.limits.TheConstants.{INPUTS}
-use Rattle.fio_check.specs.ContentAbove.{ContentFacts, InputAbove, lesser}
-use Rattle.fio_check.specs.ContentSaid.{FilterPair, SentItem, are_some, filters_of, ignores, items_for, opens}
-use Rattle.fio_check.specs.ContentFacts.{input_begun, input_below_clear, input_with_answer, input_with_items, no_input, settled_now, with_items}
+use Rattle.fio_check.specs.ContentAbove.{lesser}
+use Rattle.fio_check.specs.ContentKnown.{ContentFacts, InputAbove}
+use Rattle.fio_check.specs.ContentSaid.{FilterPair, SentItem, filters_of, item_for}
+use Rattle.fio_check.specs.ContentFacts.{input_begun, input_ended, input_with_answer, input_with_earlier, input_with_item, no_input, turned_by, with_items}
+use Rattle.fio_check.specs.ContentKnown.{input_coming}
 use Rattle.fio_check.specs.ContentKept.{filters_in, input_kept, item_in}
 use Rattle.fio_check.specs.declared.content_inputs.ContentInputs.{ContentInputs}
 use Rattle.fio_check.proofs.InputSets.{without}
@@ -32,24 +36,78 @@ is_place place input within = elim (eqb_tells place input) as (λ _. (place == i
     is_other : (a b : ℕ) → (a ≡ b → ⊥) → (a == b) ≡ false
     is_other a b different = grind (arith, nat_tests)
 
-item-here : (old : InputAbove) (item : InputItem) (ignore same : Bool) → ignore ≡ item.ignore
+-- none of another input
+item-none : (item : InputItem) (input : ℕ) → (item.input == input && nat_lt input 64) ≡ false → item_for input (item ∷ []) ≡ None
+item-none item input other = by (item.input == input) (nat_lt input 64) other
+  where
+    by : (same within : Bool) → (same && within) ≡ false → (if within then option_or None (if same then Some item else None) else None) ≡ None
+    by true true is = absurd (cc)
+    by true false is = refl
+    by false true is = refl
+    by false false is = refl
+
+item-some : (item : InputItem) (input : ℕ) → (item.input == input && nat_lt input 64) ≡ true → item_for input (item ∷ []) ≡ Some item
+item-some item input own = by (item.input == input) (nat_lt input 64) own
+  where
+    by : (same within : Bool) → (same && within) ≡ true → (if within then option_or None (if same then Some item else None) else None) ≡ Some item
+    by true true is = refl
+    by true false is = absurd (cc)
+    by false within is = absurd (cc)
+
+earlier-none : (above : InputAbove) (named : Bool) → (if named then above else above) ≡ above
+earlier-none above true = refl
+earlier-none above false = refl
+
+item-here : (old : InputAbove) (item : InputItem) (ignore same : Bool) (found : Option InputItem) → ignore ≡ item.ignore → old.named ≡ false ⊎ same ≡ false
+    → found ≡ (if same then Some item else None)
     → (let filtered = (if same then record old { least = lesser old.least (filters_of item) } else old) in
-    let set = (if same then record filtered { named = true; item = Some (record { ignore = ignore; filters = filters_of item }); taken = false } else filtered) in
-    (if same then (if ignore then record set { hidden = true; watched = None } else record set { shut = false }) else set)
-    ≡ input_with_items old (if same then item ∷ [] else []))
-item-here old item true true is = rw (← is) refl
-item-here old item false true is = rw (← is) refl
-item-here old item ignore false is = refl
+    let set = (if same then record filtered { named = true; item = Some (record { ignore = ignore; filters = filters_of item }); taken = false; touched = true; told = None; unlogged = false } else filtered) in
+    (if same then turned_by ignore set else set)
+    ≡ input_with_earlier old found)
+item-here old item true true found is (inl unnamed) at = rw (at, unnamed, ← is) refl
+item-here old item false true found is (inl unnamed) at = rw (at, unnamed, ← is) refl
+item-here old item ignore true found is (inr never) at = absurd (cc)
+item-here old item ignore false found is which at = rw at (sym (earlier-none old old.named))
 
 -- an item is added
 pub item_added : (old filtered set new : InputAbove) (item : InputItem) (filters : FilterPair) (place input : ℕ) → place ≡ item.input → place < 64 → filters ≡ filters_of item
+    → (input ≡ place → old.named ≡ false)
     → filtered ≡ (if input == place then record old { least = lesser old.least filters } else old)
-    → set ≡ (if input == place then record filtered { named = true; item = Some (record { ignore = item.ignore; filters = filters }); taken = false } else filtered)
-    → new ≡ (if input == place then (if item.ignore then record set { hidden = true; watched = None } else record set { shut = false }) else set)
-    → new ≡ input_with_items old (items_for input (item ∷ []))
-item_added old filtered set new item filters place input named within in_force a b d =
+    → set ≡ (if input == place then record filtered { named = true; item = Some (record { ignore = item.ignore; filters = filters }); taken = false; touched = true; told = None; unlogged = false } else filtered)
+    → new ≡ (if input == place then turned_by item.ignore set else set)
+    → new ≡ input_with_earlier old (item_for input (item ∷ []))
+item_added old filtered set new item filters place input named within in_force unnamed a b d =
     let within_item : item.input < 64 = omega (arith, named, within) in
-    rw (d, b, a, in_force, named, is_place item.input input within_item) (item-here old item item.ignore (input == item.input) refl)
+    let own = is_place item.input input within_item in
+    rw (d, b, a, in_force, named)
+    (item-here old item item.ignore (input == item.input) (item_for input (item ∷ [])) refl
+    (by-place (input == item.input) refl) (found-is (input == item.input) own))
+  where
+    by-place : (same : Bool) → (input == item.input) ≡ same → (old.named ≡ false) ⊎ (same ≡ false)
+    by-place true is = inl (unnamed (sames input place item.input is named))
+      where
+        sames : (a b c : ℕ) → (a == c) ≡ true → b ≡ c → a ≡ b
+        sames a b c is same = grind (arith, nat_tests)
+    by-place false is = inr refl
+
+    found-is : (same : Bool) → (item.input == input && nat_lt input 64) ≡ same → item_for input (item ∷ []) ≡ (if same then Some item else None)
+    found-is true is = item-some item input is
+    found-is false is = item-none item input is
+
+-- an item that is none of an input up to 63, or of which the command has a later one
+pub item_left : (old : InputAbove) (item : InputItem) (place input : ℕ) → place ≡ item.input → (place < 64 → input ≡ place → old.named ≡ true)
+    → old ≡ input_with_earlier old (item_for input (item ∷ []))
+item_left old item place input named later = by (item.input == input && nat_lt input 64) refl
+  where
+    both : (a b : ℕ) → (a == b && nat_lt b 64) ≡ true → (a ≡ b) × (b < 64)
+    both a b is = (grind (arith, nat_tests), grind (arith, nat_tests))
+
+    by : (own : Bool) → (item.input == input && nat_lt input 64) ≡ own → old ≡ input_with_earlier old (item_for input (item ∷ []))
+    by true is =
+        let same = both item.input input is in
+        let low : place < 64 = omega (arith, same.0, same.1, named) in
+        rw (later low (sym same.0 ∙ sym named)) refl
+    by false is = rw (item-none item input is) (sym (earlier-none old old.named))
 
 -- ---- nothing, and whole sets
 
@@ -68,9 +126,15 @@ pub nothing_kept : (times leading trailing least_leading least_trailing : List �
       taken = 0;
       settled = 0;
       hidden = 0;
+      reopened = 0;
+      touched = 0;
+      told = 0;
+      told_levels = 0;
+      unlogged = 0;
       shut = 0;
       levels = 0;
       watched = 0;
+      shaded = 0;
       timed = 0;
       times = times;
       leading = leading;
@@ -95,9 +159,15 @@ module _ (times : List ℕ) (filter input : ℕ) (filter_is : filter ≡ DEFAULT
     taken = 2 ^ 64 - 1;
     settled = 2 ^ 64 - 1;
     hidden = 0;
+    reopened = 0;
+    touched = 0;
+    told = 0;
+    told_levels = 0;
+    unlogged = 0;
     shut = 2 ^ 64 - 1;
     levels = 0;
     watched = 0;
+    shaded = 0;
     timed = 0;
     times = times;
     leading = replicate 64 filter;
@@ -129,7 +199,7 @@ pub answer_taken : (old : ContentInputs) (input : ℕ)
     → input_kept (record old { named = 0; taken = bit_or old.named old.taken }) input ≡ input_with_answer true (input_kept old input)
 answer_taken old input = rw (is_set-zero input, is_set-or old.named old.taken input) refl
 
--- ---- a clear block
+-- ---- a block that settles inputs
 
 one-of : (a b which : Bool) → ((a && not which) || (b && which)) ≡ (if which then b else a)
 one-of true true true = refl
@@ -147,111 +217,159 @@ either-of true false x y = refl
 either-of false true x y = refl
 either-of false false x y = refl
 
-settled-case : (old : InputAbove) (item : SentItem) (taken sent : Bool)
+settled-case : (old : InputAbove) (item : SentItem) (taken sent unsettled : Bool)
     → (record old {
       item = if sent then Some item else None;
       taken = taken;
-      hidden = false;
-      shut = if taken && sent then item.ignore else old.shut;
-      least = if taken && sent then item.filters else old.least;
-    }) ≡ input_below_clear (record old { item = if sent then Some item else None; taken = taken }) (if taken then (if sent then Some item else None) else None)
-settled-case old item true true = refl
-settled-case old item true false = refl
-settled-case old item false true = refl
-settled-case old item false false = refl
+      hidden = unsettled && old.hidden;
+      reopened = unsettled && old.reopened;
+      touched = unsettled && old.touched;
+      shut = if (taken && sent) && not unsettled then item.ignore else old.shut;
+      least = if (taken && sent) && not unsettled then item.filters else old.least;
+    }) ≡ input_ended (not unsettled) (record old { item = if sent then Some item else None; taken = taken })
+settled-case old item true true true = refl
+settled-case old item true false true = refl
+settled-case old item false true true = refl
+settled-case old item false false true = refl
+settled-case old item true true false = refl
+settled-case old item true false false = refl
+settled-case old item false true false = refl
+settled-case old item false false false = refl
 
--- the end of a clear block
-pub clear_added : (old : ContentInputs) (input : ℕ) → old.shut < 2 ^ 64 → bit_and old.taken old.sent < 2 ^ 64
+-- the end of a block that settles all inputs but these
+pub settled_kept : (old : ContentInputs) (unsettled input : ℕ) → old.shut < 2 ^ 64 → bit_and old.taken old.sent < 2 ^ 64 → unsettled < 2 ^ 64
+    → (let settled = bit_and (bit_and old.taken old.sent) (bit_not w64 unsettled) in settled < 2 ^ 64
     → input_kept (record old {
-      settled = bit_or old.settled (bit_and old.taken old.sent);
-      hidden = 0;
-      shut = bit_or (bit_and old.shut (bit_not w64 (bit_and old.taken old.sent))) (bit_and old.ignoring (bit_and old.taken old.sent));
-    }) input ≡ input_below_clear (input_kept old input) (settled_now (input_kept old input))
-clear_added old input shut_fits both_fits =
-    let both = bit_and old.taken old.sent in
-    let in_both : is_set both input ≡ (is_set old.taken input && is_set old.sent input) = is_set-and old.taken old.sent input in
-    let shut : is_set (bit_or (bit_and old.shut (bit_not w64 both)) (bit_and old.ignoring both)) input ≡ (if is_set old.taken input && is_set old.sent input then is_set old.ignoring input else is_set old.shut input) =
-    is_set-or (bit_and old.shut (bit_not w64 both)) (bit_and old.ignoring both) input
-    ∙ ap₂ (λ a b. a || b) (without old.shut both input shut_fits both_fits) (is_set-and old.ignoring both input)
-    ∙ one-of (is_set old.shut input) (is_set old.ignoring input) (is_set both input)
-    ∙ ap (λ b. if b then is_set old.ignoring input else is_set old.shut input) in_both in
+      settled = bit_or old.settled settled;
+      hidden = bit_and unsettled old.hidden;
+      reopened = bit_and unsettled old.reopened;
+      touched = bit_and unsettled old.touched;
+      shut = bit_or (bit_and old.shut (bit_not w64 settled)) (bit_and old.ignoring settled);
+    }) input ≡ input_ended (not (is_set unsettled input)) (input_kept old input))
+settled_kept old unsettled input shut_fits both_fits unsettled_fits settled_fits =
+    let settled = bit_and (bit_and old.taken old.sent) (bit_not w64 unsettled) in
+    let here = (is_set old.taken input && is_set old.sent input) && not (is_set unsettled input) in
+    let in_settled : is_set settled input ≡ here =
+    without (bit_and old.taken old.sent) unsettled input both_fits unsettled_fits
+    ∙ ap (λ b. b && not (is_set unsettled input)) (is_set-and old.taken old.sent input) in
+    let shut : is_set (bit_or (bit_and old.shut (bit_not w64 settled)) (bit_and old.ignoring settled)) input ≡ (if here then is_set old.ignoring input else is_set old.shut input) =
+    is_set-or (bit_and old.shut (bit_not w64 settled)) (bit_and old.ignoring settled) input
+    ∙ ap₂ (λ a b. a || b) (without old.shut settled input shut_fits settled_fits) (is_set-and old.ignoring settled input)
+    ∙ one-of (is_set old.shut input) (is_set old.ignoring input) (is_set settled input)
+    ∙ ap (λ b. if b then is_set old.ignoring input else is_set old.shut input) in_settled in
     let own = filters_in old.leading old.trailing input in
     let others = filters_in old.least_leading old.least_trailing input in
-    let least : (if is_set (bit_or old.settled both) input then own else others) ≡ (if is_set old.taken input && is_set old.sent input then own else (if is_set old.settled input then own else others)) =
-    ap (λ b. if b then own else others) (is_set-or old.settled both input)
-    ∙ either-of (is_set old.settled input) (is_set both input) own others
-    ∙ ap (λ b. if b then own else (if is_set old.settled input then own else others)) in_both in
-    ap (λ h. record (input_kept old input) {
+    let least : (if is_set (bit_or old.settled settled) input then own else others) ≡ (if here then own else (if is_set old.settled input then own else others)) =
+    ap (λ b. if b then own else others) (is_set-or old.settled settled input)
+    ∙ either-of (is_set old.settled input) (is_set settled input) own others
+    ∙ ap (λ b. if b then own else (if is_set old.settled input then own else others)) in_settled in
+    ap₂ (λ h r. record (input_kept old input) {
       hidden = h;
-      shut = is_set (bit_or (bit_and old.shut (bit_not w64 both)) (bit_and old.ignoring both)) input;
-      least = if is_set (bit_or old.settled both) input then own else others;
-    }) (is_set-zero input)
-    ∙ ap₂ (λ s l. record (input_kept old input) { hidden = false; shut = s; least = l }) shut least
-    ∙ settled-case (input_kept old input) (item_in old input) (is_set old.taken input) (is_set old.sent input)
+      reopened = r;
+      touched = is_set (bit_and unsettled old.touched) input;
+      shut = is_set (bit_or (bit_and old.shut (bit_not w64 settled)) (bit_and old.ignoring settled)) input;
+      least = if is_set (bit_or old.settled settled) input then own else others;
+    }) (is_set-and unsettled old.hidden input) (is_set-and unsettled old.reopened input)
+    ∙ ap₂ (λ t s. record (input_kept old input) {
+      hidden = is_set unsettled input && is_set old.hidden input;
+      reopened = is_set unsettled input && is_set old.reopened input;
+      touched = t;
+      shut = s;
+      least = if is_set (bit_or old.settled settled) input then own else others;
+    }) (is_set-and unsettled old.touched input) shut
+    ∙ ap (λ l. record (input_kept old input) {
+      hidden = is_set unsettled input && is_set old.hidden input;
+      reopened = is_set unsettled input && is_set old.reopened input;
+      touched = is_set unsettled input && is_set old.touched input;
+      shut = if here then is_set old.ignoring input else is_set old.shut input;
+      least = l;
+    }) least
+    ∙ settled-case (input_kept old input) (item_in old input) (is_set old.taken input) (is_set old.sent input) (is_set unsettled input)
 
 -- ---- items, one after another
 
--- two are the same if each part is
-pub same-input : (a b : InputAbove) → a.named ≡ b.named → a.taken ≡ b.taken → a.hidden ≡ b.hidden → a.watched ≡ b.watched → a.shut ≡ b.shut
-    → a.item ≡ b.item → a.timed ≡ b.timed → a.least ≡ b.least → a ≡ b
-same-input a b named taken hidden watched shut item timed least =
-    ap₂ (λ n t. record a { named = n; taken = t }) named taken
-    ∙ ap₂ (λ h w. record a { named = b.named; taken = b.taken; hidden = h; watched = w }) hidden watched
-    ∙ ap₂ (λ s i. record a { named = b.named; taken = b.taken; hidden = b.hidden; watched = b.watched; shut = s; item = i }) shut item
-    ∙ ap₂ (λ t l. record b { timed = t; least = l }) timed least
-
-or-more : (a b c : Bool) → (a || (b || c)) ≡ ((b || a) || c)
-or-more true true c = refl
-or-more true false c = refl
-or-more false true c = refl
-or-more false false c = refl
-
-none-more : (a b c : Bool) → (not a && (not b && c)) ≡ (not (b || a) && c)
-none-more true true c = refl
-none-more true false c = refl
-none-more false true c = refl
-none-more false false c = refl
-
-if-more : {A : Type 0} (a b : Bool) (x y : A) → (if a then x else (if b then x else y)) ≡ (if b || a then x else y)
-if-more true true x y = refl
-if-more true false x y = refl
-if-more false true x y = refl
-if-more false false x y = refl
-
-pub or-false : (b : Bool) → (b || false) ≡ b
+or-false : (b : Bool) → (b || false) ≡ b
 or-false true = refl
 or-false false = refl
 
-some-more : (rest : List InputItem) (named : Bool) → (are_some rest || (true || named)) ≡ true
-some-more [] named = refl
-some-more (item ∷ rest) named = refl
+or-swap : (a b : Bool) → (a || b) ≡ (b || a)
+or-swap true true = refl
+or-swap true false = refl
+or-swap false true = refl
+or-swap false false = refl
 
-not-some : (rest : List InputItem) → (not (are_some rest) && false) ≡ false
-not-some [] = refl
-not-some (item ∷ rest) = refl
+-- two are the same if each part is
+pub same-input : (a b : InputAbove) → a.named ≡ b.named → a.taken ≡ b.taken → a.hidden ≡ b.hidden → a.reopened ≡ b.reopened → a.watched ≡ b.watched
+    → a.touched ≡ b.touched → a.told ≡ b.told → a.unlogged ≡ b.unlogged → a.shut ≡ b.shut → a.item ≡ b.item → a.timed ≡ b.timed → a.least ≡ b.least → a ≡ b
+same-input a b named taken hidden reopened watched touched told unlogged shut item timed least =
+    ap₂ (λ n t. record a { named = n; taken = t }) named taken
+    ∙ ap₂ (λ h r. record a { named = b.named; taken = b.taken; hidden = h; reopened = r }) hidden reopened
+    ∙ ap₂ (λ w s. record a { named = b.named; taken = b.taken; hidden = b.hidden; reopened = b.reopened; watched = w; shut = s }) watched shut
+    ∙ ap₂ (λ i t. record b { item = i; timed = t; least = a.least; touched = a.touched; told = a.told; unlogged = a.unlogged }) item timed
+    ∙ ap₂ (λ l t. record b { least = l; touched = t; told = a.told; unlogged = a.unlogged }) least touched
+    ∙ ap₂ (λ t u. record b { told = t; unlogged = u }) told unlogged
 
--- one item, and then others
-item-more : (above : InputAbove) (item : InputItem) (rest : List InputItem)
-    → input_with_items (input_with_items above (item ∷ [])) rest ≡ input_with_items above (item ∷ rest)
-item-more above item rest =
-    let named = some-more rest above.named in
-    let taken = not-some rest in
-    let hidden : (ignores rest || ((item.ignore || false) || above.hidden)) ≡ ((item.ignore || ignores rest) || above.hidden) =
-    ap (λ b. ignores rest || (b || above.hidden)) (or-false item.ignore) ∙ or-more (ignores rest) item.ignore above.hidden in
-    let watched : (if ignores rest then None else (if item.ignore || false then None else above.watched)) ≡ (if item.ignore || ignores rest then None else above.watched) =
-    ap (λ b. if ignores rest then None else (if b then None else above.watched)) (or-false item.ignore) ∙ if-more (ignores rest) item.ignore None above.watched in
-    let shut : (not (opens rest) && (not (not item.ignore || false) && above.shut)) ≡ (not (not item.ignore || opens rest) && above.shut) =
-    ap (λ b. not (opens rest) && (not b && above.shut)) (or-false (not item.ignore)) ∙ none-more (opens rest) (not item.ignore) above.shut in
-    same-input (input_with_items (input_with_items above (item ∷ [])) rest) (input_with_items above (item ∷ rest)) named taken hidden watched shut refl refl refl
+-- ---- the record comes to states
 
--- the items of a list, the first of them apart
-items-more : (above : InputAbove) (item : InputItem) (rest : List InputItem) (named : Bool)
-    → input_with_items (input_with_items above (if named then item ∷ [] else [])) rest ≡ input_with_items above (if named then item ∷ rest else rest)
-items-more above item rest true = item-more above item rest
-items-more above item rest false = refl
+told-case : (old : InputAbove) (told touched level bit unlogged : Bool)
+    → (record old { touched = touched; told = if not touched then Some bit else None; unlogged = unlogged || ((told && not touched) && not (beq level bit)) })
+    ≡ (let above = record old { touched = touched; told = if told then Some level else None; unlogged = unlogged } in
+    record above { told = if touched then None else Some bit; unlogged = (not touched && is_some_and above.told (λ l. not (beq l bit))) || unlogged })
+told-case old true true level bit unlogged = ap (λ u. record old { touched = true; told = None; unlogged = u }) (or-false unlogged)
+told-case old true false level bit unlogged = ap (λ u. record old { touched = false; told = Some bit; unlogged = u }) (or-swap unlogged (not (beq level bit)))
+told-case old false true level bit unlogged = ap (λ u. record old { touched = true; told = None; unlogged = u }) (or-false unlogged)
+told-case old false false level bit unlogged = ap (λ u. record old { touched = false; told = Some bit; unlogged = u }) (or-false unlogged)
 
--- the facts with an item, and then with others
-pub with_items_more : (facts : ContentFacts) (item : InputItem) (rest : List InputItem)
-    → with_items (with_items facts (item ∷ [])) rest ≡ with_items facts (item ∷ rest)
-with_items_more facts item rest = ap (λ inputs. record facts { inputs = inputs })
-    (fun_ext (λ input. items-more (facts.inputs input) item (items_for input rest) (item.input == input && nat_lt input INPUTS)))
+pub come_kept : (old : ContentInputs) (levels stamp input : ℕ) → old.told < 2 ^ 64 → old.touched < 2 ^ 64 → old.unlogged < 2 ^ 64
+    → input_kept (record old {
+      unlogged = bit_or old.unlogged (bit_and (bit_and old.told (bit_not w64 old.touched)) (bit_xor old.told_levels levels));
+      told = bit_not w64 old.touched;
+      told_levels = levels;
+    }) input ≡ input_coming input (Some (record { stamp = stamp; levels = levels })) (input_kept old input)
+come_kept old levels stamp input told_fits touched_fits unlogged_fits =
+    let untouched = without old.told old.touched input told_fits touched_fits in
+    let other = is_set-and (bit_and old.told (bit_not w64 old.touched)) (bit_xor old.told_levels levels) input ∙ ap₂ (λ a b. a && b) untouched (is_set-xor old.told_levels levels input) in
+    let unlogged = is_set-or old.unlogged (bit_and (bit_and old.told (bit_not w64 old.touched)) (bit_xor old.told_levels levels)) input ∙ ap (λ b. is_set old.unlogged input || b) other in
+    elim (leb_tells 64 input) as (λ _. input_kept (record old {
+      unlogged = bit_or old.unlogged (bit_and (bit_and old.told (bit_not w64 old.touched)) (bit_xor old.told_levels levels));
+      told = bit_not w64 old.touched;
+      told_levels = levels;
+    }) input ≡ input_coming input (Some (record { stamp = stamp; levels = levels })) (input_kept old input)) [
+      | inl above ↦
+          let none = is_set-above old.told 64 input told_fits above.1 in
+          let all = is_set-above (bit_not w64 old.touched) 64 input (omega arith) above.1 in
+          rw (not-below input 64 above.1, all, unlogged, none) (ap (λ u. record (input_kept old input) { told = None; unlogged = u }) (or-false (is_set old.unlogged input)))
+      | inr below ↦
+          rw (is-below input 64 below.1, is_set-not old.touched input touched_fits below.1, unlogged)
+          (told-case (input_kept old input) (is_set old.told input) (is_set old.touched input) (is_set old.told_levels input) (is_set levels input) (is_set old.unlogged input))
+    ]
+  where
+    is-below : (a b : ℕ) → a < b → nat_lt a b ≡ true
+    is-below a b within = grind (arith, nat_tests)
+
+    not-below : (a b : ℕ) → b ≤ a → nat_lt a b ≡ false
+    not-below a b above = grind (arith, nat_tests)
+
+-- the items of a list, the last of them first
+item-more : (above : InputAbove) (item : InputItem) (found : Option InputItem) (same within : Bool) → above.named ≡ false
+    → input_with_earlier (input_with_item above (if within then found else None)) (if within then option_or None (if same then Some item else None) else None)
+    ≡ input_with_item above (if within then option_or found (if same then Some item else None) else None)
+item-more above item (Some later) same true unnamed = refl
+item-more above item None same true unnamed = rw unnamed refl
+item-more above item found same false unnamed = rw unnamed refl
+
+-- the facts with the later items of a command, and then with one above them
+pub with_items_more : (facts : ContentFacts) (item : InputItem) (rest : List InputItem) (inputs : ℕ → InputAbove) → ((input : ℕ) → (facts.inputs input).named ≡ false)
+    → ((input : ℕ) → inputs input ≡ input_with_earlier ((with_items facts rest).inputs input) (item_for input (item ∷ [])))
+    → (record facts { inputs = inputs }) ≡ with_items facts (item ∷ rest)
+with_items_more facts item rest inputs unnamed added =
+    ap (λ inputs. record facts { inputs = inputs })
+    (fun_ext (λ input. added input ∙ item-more (facts.inputs input) item (last_item_of input rest) (item.input == input) (nat_lt input INPUTS) (unnamed input)))
+
+-- without items
+pub no_items : (facts : ContentFacts) → facts ≡ with_items facts []
+no_items facts = ap (λ inputs. record facts { inputs = inputs }) (fun_ext (λ input. by (facts.inputs input) (nat_lt input INPUTS)))
+  where
+    by : (above : InputAbove) (within : Bool) → above ≡ input_with_item above (if within then None else None)
+    by above true = refl
+    by above false = refl

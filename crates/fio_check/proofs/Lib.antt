@@ -4,11 +4,13 @@ pub mod InputSets
 pub mod KeptInputs
 pub mod Places
 pub mod KeptFacts
+pub mod FirstCommands
 pub mod Verdicts
 pub mod Differing
 pub mod KeptContent
 pub mod ContentPlaces
 pub mod ContentNext
+pub mod Unexcused
 pub mod ContentStart
 pub mod ContentCourse
 pub mod ContentFound
@@ -16,6 +18,7 @@ pub mod LogFaults
 pub mod BlockLines
 pub mod RulesFound
 pub mod ToldLater
+pub mod Shaded
 pub mod Found
 pub mod BreachesSoFar
 pub mod Checkers

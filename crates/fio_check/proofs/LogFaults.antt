@@ -1,11 +1,13 @@
 -- A fault of a log, by its events: what is above an event depends on those above it alone, and a fault stays one if lines
 -- follow.
-use Rattle.fio_check.proofs.Names.{◌≡◌, ◌<◌, ◌≤◌, ◌∙◌, ◌+◌, ◌++◌, ℕ, zero, suc, Bool, true, List, [], ◌∷◌, Option, Some, None, refl, sym, ap, ap₂, arith, length, drop, take, map, length-append, append_assoc, append-nil, fold, is_some, option_map, option_and_then, option_or, slice_get, slice_get_within, ContentFacts, content_at, content_with, no_content, LineEvent, events_above, events_below, events_of_lines, events_of_log, recorded_items, TranscriptLine, earliest_above}
+use Rattle.fio_check.proofs.Names.{◌≡◌, ◌<◌, ◌≤◌, ◌∙◌, ◌+◌, ◌++◌, inl, inr, false, from_first_command, ℕ, zero, suc, Bool, true, List, [], ◌∷◌, Option, Some, None, refl, sym, ap, ap₂, arith, length, drop, take, map, length-append, append_assoc, append-nil, fold, is_some, option_map, option_and_then, option_or, slice_get, slice_get_within, ContentFacts, content_at, content_with, no_content, LineEvent, events_above, events_below, events_of_lines, events_of_log, recorded_items, TranscriptLine, earliest_above}
 use Rattle.fio_check.specs.ContentEvents.{events_on, number_below}
-use Rattle.fio_check.specs.ContentRules.{ContentFault, content_fault_at, content_fault_in, fault_of, first_fault_in, rule_broken_by}
+use Rattle.fio_check.specs.ContentRules.{rule_broken_by}
+use Rattle.fio_check.specs.ContentFaults.{ContentFault, content_fault_at, content_fault_in, fault_of, first_fault_in}
 use Rattle.fio_check.specs.Finding.{IsFoundBy, number_below_lines}
 use Rattle.fio_check.proofs.ContentCourse.{dropped_first}
-use Rattle.fio_check.proofs.ContentNext.{content_next}
+use Rattle.fio_check.proofs.ContentNext.{content_is_kept, content_next}
+use Rattle.fio_check.proofs.FirstCommands.{with_or_without}
 use Rattle.fio_check.proofs.Verdicts.{earliest_stays, none_said, some_said}
 
 -- ---- what is above an event
@@ -31,7 +33,7 @@ course (event ∷ events) all rest place facts left is =
 pub content_of : (above below : List LineEvent) → content_at (above ++ below) (length above) ≡ facts_below no_content above
 content_of above below =
     let same : 0 + length above ≡ length above = omega arith in
-    ap (content_at (above ++ below)) (sym same) ∙ (course above (above ++ below) below 0 no_content refl refl).0
+    ap (content_at (above ++ below)) (sym same) ∙ (course above (above ++ below) below 0 no_content refl ((content_is_kept (above ++ below)).first)).0
 
 pub content_of_all : (events : List LineEvent) → content_at events (length events) ≡ facts_below no_content events
 content_of_all events = ap (λ all. content_at all (length events)) (sym (append-nil events)) ∙ content_of events []
@@ -131,12 +133,35 @@ events-more (line ∷ lines) below number =
     ap (λ rest. events_on number line ++ rest) (events-more lines below next)
     ∙ sym (append_assoc (events_on number line) (events_below next lines) (events_below (fold (λ n l. number_below n l.from_cpu l.octets) next lines) below))
 
--- the events of lines and of those that follow
-pub log_events : (begun : Bool) (lines below : List TranscriptLine)
-    → events_of_log begun (lines ++ below) ≡ events_of_log begun lines ++ events_below (number_below_lines lines) below
-log_events begun lines below =
-    let start = map (λ event. record { line = 0; event = event }) (events_above begun) in
-    ap (λ events. start ++ events) (events-more lines below None) ∙ sym (append_assoc start (events_of_lines lines) (events_below (number_below_lines lines) below))
+-- the events of a log are those of its front, and more
+pub record EventsMore (begun : Bool) (lines below : List TranscriptLine) : Type 0 where
+  pub more : List LineEvent
+  pub is : events_of_log begun (lines ++ below) ≡ events_of_log begun lines ++ more
+  -- those of the lines that follow, if a poll is above
+  pub polled : is_some (number_below_lines lines) ≡ true → more ≡ events_below (number_below_lines lines) below
+
+pub log_events : (begun : Bool) (lines below : List TranscriptLine) → EventsMore begun lines below
+log_events true lines below =
+    let start = map (λ event. record { line = 0; event = event }) (events_above true) in
+    record {
+      more = events_below (number_below_lines lines) below;
+      is = ap (λ events. start ++ events) (events-more lines below None)
+          ∙ sym (append_assoc start (events_of_lines lines) (events_below (number_below_lines lines) below));
+      polled = λ is. refl;
+    }
+log_events false lines below =
+    elim (with_or_without lines below) as (λ _. EventsMore false lines below) [
+      | inl has ↦ (let rest = from_first_command lines in record {
+        more = events_below (number_below_lines rest) below;
+        is = ap events_of_lines has.rest_is ∙ events-more rest below None;
+        polled = λ is. ap (λ number. events_below number below) (sym has.number);
+      })
+      | inr none ↦ record {
+        more = events_of_lines (from_first_command below);
+        is = ap events_of_lines none.rest_is ∙ ap (λ front. events_of_lines front ++ events_of_lines (from_first_command below)) (sym none.none);
+        polled = λ is. (let unpolled : is_some {T = ℕ} None ≡ true = sym (ap is_some none.number) ∙ is in absurd (cc));
+      }
+    ]
 
 -- a log with a fault is one in which it is found
 pub found_by : (begun : Bool) (lines : List TranscriptLine) → is_some (content_fault_in begun lines) ≡ true → IsFoundBy begun lines
@@ -146,5 +171,5 @@ found_by begun lines some = found (content_fault_in begun lines) refl some
     found None is some = absurd (cc)
     found (Some fault) is some = record {
       fault = fault;
-      found = λ below. ap first_fault_in (log_events begun lines below) ∙ fault-stays (events_of_log begun lines) (events_below (number_below_lines lines) below) fault is;
+      found = λ below. (let events = log_events begun lines below in ap first_fault_in events.is ∙ fault-stays (events_of_log begun lines) events.more fault is);
     }

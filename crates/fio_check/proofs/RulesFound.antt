@@ -1,14 +1,14 @@
 -- Which rule an event breaks: an entry that does not come behind the one above it, an entry with the state that its input
 -- had, and states that differ from the record.
-use Rattle.fio_check.proofs.Names.{◌≡◌, ◌<◌, ◌∙◌, ◌+◌, ℕ, Bool, true, false, [], ◌∷◌, Option, Some, None, refl, sym, ap, arith, find, if◌then◌else◌, is_some, nat_lt, not, eqb_tells, inl, inr, ◌≤◌, option_map, option_or, ◌==◌, ◌%◌, nat_tests, Entry, ContentFacts, Seen, is_set, ContentEvent, Recorded, Ended, is_some_and}
+use Rattle.fio_check.proofs.Names.{ap₂, ◌≡◌, ◌<◌, ◌∙◌, ◌+◌, ℕ, Bool, true, false, [], ◌∷◌, Option, Some, None, refl, sym, ap, arith, find, if◌then◌else◌, is_some, nat_lt, not, eqb_tells, inl, inr, ◌≤◌, option_map, option_or, ◌==◌, ◌%◌, nat_tests, Entry, ContentFacts, Seen, is_set, ContentEvent, Recorded, Ended, is_some_and}
 use Rattle.std.specs.Prelude.{◌&&◌, ◌||◌, ◌^◌, ◌-◌, nat_le}
 use Rattle.std.specs.Bool.{beq}
 use Rattle.fio_message.specs.declared.limits.TheConstants.{INPUTS}
 use Rattle.fio_check.specs.ContentSaid.{TimedState, comes_to, milliseconds_between}
 use Rattle.fio_check.specs.ContentRules.{breaks_entry, broken_state, comes_behind, differing, differs, entry_rules, first_differing, rule_broken_by, state_breach}
-use Rattle.fio_check.specs.Finding.{tells_state}
+use Rattle.fio_check.specs.Finding.{tells_of}
 use Rattle.fio_check.specs.declared.content_rules.ContentRule.{ContentRule}
-use Rattle.fio_check.specs.declared.content_rules.ContentRule.TheVariants.{Order, Fresh, Alternate, Apart, Ignored}
+use Rattle.fio_check.specs.declared.content_rules.ContentRule.TheVariants.{Order, Fresh, Alternate, Apart, Ignored, State}
 use Rattle.fio_check.proofs.Verdicts.{none_said, some_said}
 
 -- ---- the first of the rules of entries
@@ -32,7 +32,7 @@ none-first false false false rest none = (refl, refl)
 
 -- the rules that are tried after alternate
 abbrev further : ContentFacts → ℕ → TimedState → Option ContentRule
-further facts input entry = find (breaks_entry facts input entry) (Apart ∷ Ignored ∷ [])
+further facts input entry = find (breaks_entry facts input entry) (Apart ∷ Ignored ∷ State ∷ [])
 
 or-some : {A : Type 0} (one other : Option A) → is_some other ≡ true → is_some (option_or one other) ≡ true
 or-some (Some x) other is = refl
@@ -131,9 +131,9 @@ behind_one_way input wide other above one two behind =
 
 -- ---- the states that were asked for
 
-module _ (facts : ContentFacts) (seen : Seen) (is : facts.seen ≡ Some seen) where
+module _ (facts : ContentFacts) (seen : Seen) (is : facts.seen ≡ Some seen) (judged : facts.excuses ≡ 0) where
   states-are : (event : ContentEvent) → comes_to seen event ≡ true → broken_state facts event facts.seen ≡ state_breach true (first_differing facts seen)
-  states-are event comes = ap (broken_state facts event) is ∙ ap (λ b. state_breach b (first_differing facts seen)) comes
+  states-are event comes = ap (broken_state facts event) is ∙ ap₂ (λ n b. state_breach ((n == 0) && b) (first_differing facts seen)) judged comes
 
   none-differs : (found : Option ℕ) → state_breach true found ≡ None → found ≡ None
   none-differs None none = refl
@@ -183,18 +183,28 @@ alike : (one : Bool) → beq one one ≡ true
 alike true = refl
 alike false = refl
 
+-- states are above two events that were asked for, and a breach of them is not excused
+pub record AreJudged (facts spoiled : ContentFacts) (seen : Seen) : Type 0 where
+  pub judged : facts.excuses ≡ 0
+  pub seen_is : facts.seen ≡ Some seen
+  pub spoiled_judged : spoiled.excuses ≡ 0
+  pub spoiled_seen : spoiled.seen ≡ Some seen
+
 -- above an event that breaks no rule the latest entry of an input has this state: if it had the other one, the event
 -- would break a rule
-module _ (facts spoiled : ContentFacts) (input : ℕ) (within : input < INPUTS) (level : Bool)
-    (watched : (facts.inputs input).watched ≡ Some level) (other : (spoiled.inputs input).watched ≡ Some (not level))
-    (same : (seen : Seen) → facts.seen ≡ Some seen → spoiled.seen ≡ Some seen) where
-  by-states : (event : ContentEvent) (seen : Option Seen) → facts.seen ≡ seen → is_some_and seen (λ states. comes_to states event) ≡ true
+module _ (facts spoiled : ContentFacts) (input : ℕ) (within : input < INPUTS) (level shaded : Bool)
+    (watched : (facts.inputs input).watched ≡ Some (record { level = level; shaded = shaded }))
+    (other : (spoiled.inputs input).watched ≡ Some (record { level = not level; shaded = shaded }))
+    (known : Option Seen) (same : (seen : Seen) → known ≡ Some seen → AreJudged facts spoiled seen) where
+  by-states : (event : ContentEvent) (seen : Option Seen) → known ≡ seen → (shade : Bool) → shaded ≡ shade
+      → (not shade && is_some_and seen (λ states. comes_to states event)) ≡ true
       → rule_broken_by facts event ≡ None → is_some (rule_broken_by spoiled event) ≡ true
-  by-states event None is comes none = absurd (cc)
-  by-states event (Some seen) is comes none =
+  by-states event seen is true shade comes none = absurd (cc)
+  by-states event None is false shade comes none = absurd (cc)
+  by-states event (Some seen) is false shade comes none =
       let states = is_set seen.levels input in
-      let agrees : not (beq level states) ≡ false = rw watched at (input-agrees facts seen input within (agree facts seen is event comes none)) in
-      differ spoiled seen (same seen is) event comes (input-differs spoiled seen input within (rw other (turned-differs level states agrees)))
+      let agrees : not (beq level states) ≡ false = rw (watched, shade) at (input-agrees facts seen input within (agree facts seen (same seen is).seen_is (same seen is).judged event comes none)) in
+      differ spoiled seen (same seen is).spoiled_seen (same seen is).spoiled_judged event comes (input-differs spoiled seen input within (rw (other, shade) (turned-differs level states agrees)))
     where
       turned-differs : (level states : Bool) → not (beq level states) ≡ false → not (beq (not level) states) ≡ true
       turned-differs true true agrees = refl
@@ -203,9 +213,9 @@ module _ (facts spoiled : ContentFacts) (input : ℕ) (within : input < INPUTS) 
       turned-differs false false agrees = refl
 
   by-entry : (recorded stamp wide : ℕ) (now own : Bool) → (input == recorded && nat_lt input INPUTS) ≡ own
-      → (is_some (if own then Some (timed now wide) else None) || is_some_and facts.seen (λ states. comes_to states (Recorded (Entry recorded now stamp wide)))) ≡ true
+      → (is_some (if own then Some (timed now wide) else None) || (not shaded && is_some_and known (λ states. comes_to states (Recorded (Entry recorded now stamp wide))))) ≡ true
       → rule_broken_by facts (Recorded (Entry recorded now stamp wide)) ≡ None → is_some (rule_broken_by spoiled (Recorded (Entry recorded now stamp wide))) ≡ true
-  by-entry recorded stamp wide now false is tells none = by-states (Recorded (Entry recorded now stamp wide)) facts.seen refl tells none
+  by-entry recorded stamp wide now false is tells none = by-states (Recorded (Entry recorded now stamp wide)) known refl shaded refl tells none
   by-entry recorded stamp wide now true is tells none =
       let own : input ≡ recorded = named input recorded (nat_lt input INPUTS) is in
       let kept = (keeps_both facts recorded stamp wide now none).1 in
@@ -215,6 +225,7 @@ module _ (facts spoiled : ContentFacts) (input : ℕ) (within : input < INPUTS) 
       named : (a b : ℕ) (within : Bool) → (a == b && within) ≡ true → a ≡ b
       named a b within is = grind (arith, nat_tests)
 
-  pub is_told : (event : ContentEvent) → tells_state facts.seen input event ≡ true → rule_broken_by facts event ≡ None → is_some (rule_broken_by spoiled event) ≡ true
+  pub is_told : (event : ContentEvent) → tells_of known input event (record { level = level; shaded = shaded }) ≡ true
+      → rule_broken_by facts event ≡ None → is_some (rule_broken_by spoiled event) ≡ true
   is_told (Recorded (Entry recorded now stamp wide)) tells none = by-entry recorded stamp wide now (input == recorded && nat_lt input INPUTS) refl tells none
-  is_told event tells none = by-states event facts.seen refl tells none
+  is_told event tells none = by-states event known refl shaded refl tells none

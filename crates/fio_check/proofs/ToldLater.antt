@@ -1,42 +1,44 @@
 -- A log in which an input's latest entry has the other state, or is missing: what is above differs in that state alone, until
 -- an event tells the state.
-use Rattle.fio_check.proofs.Names.{◌≡◌, ◌<◌, ◌≤◌, ◌∙◌, ◌+◌, ◌++◌, ℕ, zero, suc, Bool, true, false, List, [], ◌∷◌, Option, Some, None, refl, sym, ap, arith, length, drop, take, length-drop, if◌then◌else◌, is_some, nat_lt, not, option_map, option_and_then, slice_get, slice_get_within, ◌==◌, Entry, Gap, ContentFacts, InputAbove, Seen, SentItem, content_at, content_with, ContentEvent, Sent, Heard, Recorded, Ended, LineEvent, content_event_at, Placed, is_some_and}
+use Rattle.fio_check.proofs.Names.{◌≡◌, ◌<◌, ◌≤◌, ◌∙◌, ◌+◌, ◌++◌, ℕ, zero, suc, Bool, true, false, List, [], ◌∷◌, Option, Some, None, refl, sym, subst, ap, ap₂, arith, option_or, length, drop, take, length-drop, if◌then◌else◌, is_some, nat_lt, not, option_map, option_and_then, slice_get, slice_get_within, ◌==◌, Entry, Gap, ContentFacts, InputAbove, Seen, SentItem, content_at, content_with, ContentEvent, Sent, Heard, Recorded, Ended, LineEvent, content_event_at, Placed, is_some_and}
 use Rattle.std.specs.Prelude.{◌&&◌, ◌||◌, ◌-◌}
 use Rattle.fio_message.specs.declared.limits.TheConstants.{INPUTS}
-use Rattle.fio_check.specs.ContentAbove.{latest_said}
-use Rattle.fio_check.specs.ContentSaid.{TimedState, comes_to, concealing, entry_recorded, ignores, is_clear_end, is_loading, items_for, items_sent, states_heard}
-use Rattle.fio_check.specs.ContentFacts.{input_below_clear, seen_below, seen_with, settled_now}
-use Rattle.fio_check.specs.ContentRules.{first_fault_in, rule_broken_by}
-use Rattle.fio_check.specs.Finding.{IsComparedAt, place_of_latest, tells_state}
+use Rattle.fio_check.specs.ContentAbove.{latest_said, one_excuse_more}
+use Rattle.fio_check.specs.ContentKnown.{WatchedState}
+use Rattle.fio_check.specs.ContentSaid.{TimedState, block_stamp, comes_to, entry_recorded, full_end, ignores, ignoring, is_clear_end, is_far, is_gap, is_loading, item_for, items_sent, opening, opens, states_heard}
+use Rattle.fio_check.specs.ContentFacts.{coming, content_step, input_below_clear, input_ended, is_aging, seen_below, seen_with, settled_now, settles}
+use Rattle.fio_check.specs.ContentKnown.{input_coming}
+use Rattle.fio_check.specs.ContentRules.{rule_broken_by}
+use Rattle.fio_check.specs.ContentFaults.{first_fault_in}
+use Rattle.fio_check.specs.Finding.{IsComparedAt, place_of_latest, seen_unloaded, tells_of}
 use Rattle.fio_check.proofs.ContentCourse.{dropped_first}
-use Rattle.fio_check.proofs.ContentPlaces.{said}
+use Rattle.fio_check.proofs.ContentNext.{item_parts, unwatched_none, watched_same}
+use Rattle.fio_check.proofs.ContentPlaces.{event_of, said, watched_after}
+use Rattle.fio_check.proofs.KeptContent.{ended_input}
+use Rattle.fio_check.proofs.Unexcused.{quiet_above, step_only}
 use Rattle.fio_check.proofs.LogFaults.{course, cut_at, facts_below, fault_at_event, no_fault_at}
 use Rattle.fio_check.proofs.Places.{is_the_latest}
-use Rattle.fio_check.proofs.RulesFound.{is_told, timed}
+use Rattle.fio_check.proofs.RulesFound.{AreJudged, is_told, timed}
 
 -- ---- with one event more
 
--- what is above of the states that were asked for, and of an input that has the other state in a spoiled log
-pub record IsSpoiled (input : ℕ) (facts spoiled : ContentFacts) : Type 0 where
-  pub loaded : facts.loaded ≡ spoiled.loaded
+-- an entry that is watched, with the other state
+abbrev pub turned_state : WatchedState → WatchedState
+turned_state watched = record watched { level = not watched.level }
+
+-- no load of the counter was sent, so what is known of times is the same
+pub record IsSameTime (facts spoiled : ContentFacts) : Type 0 where
+  pub judged : facts.excuses ≡ 0
+  pub spoiled_judged : spoiled.excuses ≡ 0
+  pub heard : facts.block_heard ≡ spoiled.block_heard
+  pub timely : facts.timely ≡ spoiled.timely
+  pub full : facts.full ≡ spoiled.full
   pub seen : (states : Seen) → facts.seen ≡ Some states → spoiled.seen ≡ Some states
-  pub watched : (level : Bool) → (facts.inputs input).watched ≡ Some level → (spoiled.inputs input).watched ≡ Some (not level)
 
-none-or : {A : Type 0} (none : Bool) (value : A) (option other : Option A) → (option ≡ Some value → other ≡ Some value)
-    → (if none then None else option) ≡ Some value → (if none then None else other) ≡ Some value
-none-or true value option other further is = absurd (cc)
-none-or false value option other further is = further is
-
-loaded-with : (facts spoiled : ContentFacts) (event : ContentEvent) → facts.loaded ≡ spoiled.loaded → (content_with facts event).loaded ≡ (content_with spoiled event).loaded
-loaded-with facts spoiled (Sent command) same = ap (λ b. is_some (is_loading (Sent command)) || b) same
-loaded-with facts spoiled (Heard answer) same = same
-loaded-with facts spoiled (Recorded Gap) same = same
-loaded-with facts spoiled (Recorded (Entry input level stamp wide)) same = same
-loaded-with facts spoiled (Ended status stamp) same = by-clear (is_clear_end (Ended status stamp)) refl
-  where
-    by-clear : (clear : Bool) → is_clear_end (Ended status stamp) ≡ clear → (content_with facts (Ended status stamp)).loaded ≡ (content_with spoiled (Ended status stamp)).loaded
-    by-clear true is = rw is same
-    by-clear false is = rw is same
+-- what is above of the states that were asked for, and of an input that has the other state in a spoiled log
+pub record IsSpoiled (input : ℕ) (unloaded : Bool) (facts spoiled : ContentFacts) : Type 0 where
+  pub times : unloaded ≡ true → IsSameTime facts spoiled
+  pub watched : (watched : WatchedState) → (facts.inputs input).watched ≡ Some watched → (spoiled.inputs input).watched ≡ Some (turned_state watched)
 
 seen-below : (event : ContentEvent) (states : Seen) (seen other : Option Seen) → ((s : Seen) → seen ≡ Some s → other ≡ Some s) → seen_below event seen ≡ Some states → seen_below event other ≡ Some states
 seen-below event states None other further is = absurd (cc)
@@ -51,78 +53,141 @@ seen_above event states (Some seen) is = kept (comes_to seen event) is
     kept true is = absurd (cc)
     kept false is = is
 
-seen-heard : (facts spoiled : ContentFacts) (heard : Option Seen) (states : Seen) → facts.loaded ≡ spoiled.loaded → ((s : Seen) → facts.seen ≡ Some s → spoiled.seen ≡ Some s)
-    → seen_with facts heard ≡ Some states → seen_with spoiled heard ≡ Some states
-seen-heard facts spoiled None states same further is = further states is
-seen-heard facts spoiled (Some heard) states same further is = rw (← same) (by-load facts.loaded is)
-  where
-    by-load : (loaded : Bool) → (if loaded then facts.seen else Some heard) ≡ Some states → (if loaded then spoiled.seen else Some heard) ≡ Some states
-    by-load true is = further states is
-    by-load false is = is
+aging-same : (facts spoiled : ContentFacts) (stamp : Option ℕ) → facts.full ≡ spoiled.full → is_aging facts stamp ≡ is_aging spoiled stamp
+aging-same facts spoiled None same = refl
+aging-same facts spoiled (Some now) same = ap (λ full. is_some_and full (λ f. is_far f now)) same
 
-seen-with : (facts spoiled : ContentFacts) (event : ContentEvent) → facts.loaded ≡ spoiled.loaded → ((s : Seen) → facts.seen ≡ Some s → spoiled.seen ≡ Some s)
-    → (states : Seen) → (content_with facts event).seen ≡ Some states → (content_with spoiled event).seen ≡ Some states
-seen-with facts spoiled (Sent command) same further states is = none-or (is_some (is_loading (Sent command))) states facts.seen spoiled.seen (further states) is
-seen-with facts spoiled (Heard answer) same further states is = seen-heard facts spoiled (states_heard (Heard answer)) states same further is
-seen-with facts spoiled (Recorded Gap) same further states is = further states is
-seen-with facts spoiled (Recorded (Entry input level stamp wide)) same further states is =
-    seen-below (Recorded (Entry input level stamp wide)) states facts.seen spoiled.seen further is
-seen-with facts spoiled (Ended status stamp) same further states is = by-clear (is_clear_end (Ended status stamp)) refl is
+seen-heard : (facts spoiled : ContentFacts) (heard : Option Seen) (states : Seen) → IsSameTime facts spoiled → seen_with facts heard ≡ Some states → seen_with spoiled heard ≡ Some states
+seen-heard facts spoiled None states same is = same.seen states is
+seen-heard facts spoiled (Some heard) states same is = subst (λ timely. (if timely then Some heard else None) ≡ Some states) same.timely is
+
+none-if : {A : Type 0} (none : Bool) (value : A) (option other : Option A) → (option ≡ Some value → other ≡ Some value)
+    → (if none then None else option) ≡ Some value → (if none then None else other) ≡ Some value
+none-if true value option other further is = absurd (cc)
+none-if false value option other further is = further is
+
+-- what is known of times is the same below an event that is no load
+times-step : (facts spoiled : ContentFacts) (event : ContentEvent) → is_loading event ≡ None → IsSameTime facts spoiled → IsSameTime (content_step facts event) (content_step spoiled event)
+times-step facts spoiled (Sent command) quiet same = record {
+  judged = ap (λ (loading : Option Bool). if is_some loading then one_excuse_more facts.excuses else facts.excuses) quiet ∙ same.judged;
+  spoiled_judged = ap (λ (loading : Option Bool). if is_some loading then one_excuse_more spoiled.excuses else spoiled.excuses) quiet ∙ same.spoiled_judged;
+  heard = same.heard;
+  timely = same.timely;
+  full = same.full;
+  seen = same.seen;
+}
+times-step facts spoiled (Heard answer) quiet same = record {
+  judged = same.judged;
+  spoiled_judged = same.spoiled_judged;
+  heard = ap (λ b. is_some (block_stamp (Heard answer)) || b) same.heard;
+  timely = same.timely;
+  full = same.full;
+  seen = λ states is.
+      (let aging = is_aging facts (block_stamp (Heard answer)) in
+      ap (λ a. if a then None else seen_with spoiled (states_heard (Heard answer))) (sym (aging-same facts spoiled (block_stamp (Heard answer)) same.full))
+      ∙ none-if aging states (seen_with facts (states_heard (Heard answer))) (seen_with spoiled (states_heard (Heard answer)))
+      (seen-heard facts spoiled (states_heard (Heard answer)) states same) is);
+}
+times-step facts spoiled (Recorded Gap) quiet same =
+    record { judged = same.judged; spoiled_judged = same.spoiled_judged; heard = same.heard; timely = same.timely; full = same.full; seen = λ states is. absurd (cc is) }
+times-step facts spoiled (Recorded (Entry input level stamp wide)) quiet same = record {
+  judged = same.judged;
+  spoiled_judged = same.spoiled_judged;
+  heard = same.heard;
+  timely = same.timely;
+  full = same.full;
+  seen = λ states is. seen-below (Recorded (Entry input level stamp wide)) states facts.seen spoiled.seen same.seen is;
+}
+times-step facts spoiled (Ended status stamp) quiet same = by-clear (is_clear_end (Ended status stamp)) refl
   where
-    by-clear : (clear : Bool) → is_clear_end (Ended status stamp) ≡ clear → (content_with facts (Ended status stamp)).seen ≡ Some states → (content_with spoiled (Ended status stamp)).seen ≡ Some states
-    by-clear true clear is = rw clear (seen-below (Ended status stamp) states facts.seen spoiled.seen further (rw clear at is))
-    by-clear false clear is = rw clear (seen-below (Ended status stamp) states facts.seen spoiled.seen further (rw clear at is))
+    known : (facts.block_heard || facts.timely) ≡ (spoiled.block_heard || spoiled.timely)
+    known = ap₂ (λ h t. h || t) same.heard same.timely
+
+    by-clear : (clear : Bool) → is_clear_end (Ended status stamp) ≡ clear → IsSameTime (content_step facts (Ended status stamp)) (content_step spoiled (Ended status stamp))
+    by-clear true is = rw is (record {
+      judged = same.judged;
+      spoiled_judged = same.spoiled_judged;
+      heard = same.heard;
+      timely = known;
+      full = ap (λ b. if b then Some stamp else None) known;
+      seen = λ states is. seen-below (Ended status stamp) states facts.seen spoiled.seen same.seen is;
+    })
+    by-clear false is = rw is (record {
+      judged = same.judged;
+      spoiled_judged = same.spoiled_judged;
+      heard = same.heard;
+      timely = same.timely;
+      full = ap₂ (λ timely full. if timely then option_or (full_end (Ended status stamp)) full else None) same.timely same.full;
+      seen = λ states is. seen-below (Ended status stamp) states facts.seen spoiled.seen same.seen is;
+    })
+
+times-with : (facts spoiled : ContentFacts) (event : ContentEvent) → is_loading event ≡ None → IsSameTime facts spoiled → IsSameTime (content_with facts event) (content_with spoiled event)
+times-with facts spoiled event quiet same =
+    subst (λ f. IsSameTime f (content_with spoiled event)) (sym (step_only facts event same.judged))
+    (subst (IsSameTime (content_step facts event)) (sym (step_only spoiled event same.spoiled_judged)) (times-step facts spoiled event quiet same))
 
 -- an event that is no entry of the input
 watched-with : (facts : ContentFacts) (event : ContentEvent) (input : ℕ) → entry_recorded input event ≡ None
-    → ((content_with facts event).inputs input).watched ≡ (if is_some (concealing input event) then None else (facts.inputs input).watched)
+    → ((content_with facts event).inputs input).watched
+    ≡ option_and_then (watched_after (is_some (opening input event)) (is_some (ignoring input event)) (is_some (is_gap event))) (facts.inputs input).watched
 watched-with facts (Sent command) input other =
-    ap (λ b. if b then None else (facts.inputs input).watched) (sym (said (ignores (items_for input (items_sent command)))))
-watched-with facts (Heard answer) input other = refl
-watched-with facts (Recorded Gap) input other = refl
-watched-with facts (Recorded (Entry recorded level stamp wide)) input other = by-input (input == recorded && nat_lt input INPUTS) refl other
+    let item = item_for input (items_sent command) in
+    (item_parts (facts.inputs input) item).watched
+    ∙ ap₂ (λ o i. option_and_then (watched_after o i false) (facts.inputs input).watched) (sym (said (opens item))) (sym (said (ignores item)))
+watched-with facts (Heard answer) input other = watched_same (facts.inputs input).watched
+watched-with facts (Recorded Gap) input other = sym (unwatched_none (facts.inputs input).watched)
+watched-with facts (Recorded (Entry recorded level stamp wide)) input other = by-input (input == recorded && nat_lt input INPUTS) refl other ∙ watched_same (facts.inputs input).watched
   where
     by-input : (own : Bool) → (input == recorded && nat_lt input INPUTS) ≡ own → (if own then Some (timed level wide) else None) ≡ None
         → ((content_with facts (Recorded (Entry recorded level stamp wide))).inputs input).watched ≡ (facts.inputs input).watched
     by-input true is other = absurd (cc)
     by-input false is other = rw is refl
-watched-with facts (Ended status stamp) input other = by-clear (is_clear_end (Ended status stamp)) refl
+watched-with facts (Ended status stamp) input other =
+    ap (λ (above : InputAbove). above.watched) (ended_input facts status stamp input)
+    ∙ below (settles facts input (Ended status stamp)) (input_coming input (coming facts (Ended status stamp)) (facts.inputs input)) ∙ watched_same (facts.inputs input).watched
   where
     below-clear : (above : InputAbove) (item : Option SentItem) → (input_below_clear above item).watched ≡ above.watched
     below-clear above None = refl
     below-clear above (Some item) = refl
 
-    by-clear : (clear : Bool) → is_clear_end (Ended status stamp) ≡ clear → ((content_with facts (Ended status stamp)).inputs input).watched ≡ (facts.inputs input).watched
-    by-clear true is = rw is (below-clear (facts.inputs input) (settled_now (facts.inputs input)))
-    by-clear false is = rw is refl
+    below : (settling : Bool) (above : InputAbove) → (input_ended settling above).watched ≡ above.watched
+    below true above = below-clear above (settled_now above)
+    below false above = refl
 
-spoiled-with : (facts spoiled : ContentFacts) (event : ContentEvent) (input : ℕ) → entry_recorded input event ≡ None → IsSpoiled input facts spoiled
-    → IsSpoiled input (content_with facts event) (content_with spoiled event)
-spoiled-with facts spoiled event input other above = record {
-  loaded = loaded-with facts spoiled event above.loaded;
-  seen = seen-with facts spoiled event above.loaded above.seen;
-  watched = λ level is. watched-with spoiled event input other
-      ∙ both (is_some (concealing input event)) (facts.inputs input).watched (spoiled.inputs input).watched level (above.watched level)
+spoiled-with : (facts spoiled : ContentFacts) (event : ContentEvent) (input : ℕ) (unloaded : Bool) → (unloaded ≡ true → is_loading event ≡ None) → entry_recorded input event ≡ None
+    → IsSpoiled input unloaded facts spoiled → IsSpoiled input unloaded (content_with facts event) (content_with spoiled event)
+spoiled-with facts spoiled event input unloaded quiet other above = record {
+  times = λ is. times-with facts spoiled event (quiet is) (above.times is);
+  watched = λ watched is. watched-with spoiled event input other
+      ∙ both (is_some (opening input event)) (is_some (ignoring input event)) (is_some (is_gap event)) (facts.inputs input).watched (spoiled.inputs input).watched watched above.watched
       (sym (watched-with facts event input other) ∙ is);
 }
   where
-    both : (none : Bool) (watched turned : Option Bool) (level : Bool) → (watched ≡ Some level → turned ≡ Some (not level))
-        → (if none then None else watched) ≡ Some level → (if none then None else turned) ≡ Some (not level)
-    both true watched turned level further is = absurd (cc)
-    both false watched turned level further is = further is
+    both : (opens ignores gap : Bool) (watched turned : Option WatchedState) (now : WatchedState) → ((w : WatchedState) → watched ≡ Some w → turned ≡ Some (turned_state w))
+        → option_and_then (watched_after opens ignores gap) watched ≡ Some now → option_and_then (watched_after opens ignores gap) turned ≡ Some (turned_state now)
+    both opens ignores gap None turned now further is = absurd (cc)
+    both opens ignores gap (Some before) turned now further is = rw (further before refl) (by-test ((opens && before.shaded) || gap) is)
+      where
+        by-test : (ends : Bool) → ◌≡◌ {A = Option WatchedState} (if ends then None else Some (record { level = before.level; shaded = ignores || before.shaded })) (Some now)
+            → ◌≡◌ {A = Option WatchedState} (if ends then None else Some (record { level = not before.level; shaded = ignores || before.shaded })) (Some (turned_state now))
+        by-test true is = absurd (cc)
+        by-test false is = ap (option_map turned_state) is
 
 -- ---- below some events
 
 -- of events among which no entry of the input is
-spoiled-below : (between all rest : List LineEvent) (place input : ℕ) (facts spoiled : ContentFacts) → drop place all ≡ between ++ rest
+spoiled-below : (between all rest : List LineEvent) (place input : ℕ) (unloaded : Bool) (facts spoiled : ContentFacts) → drop place all ≡ between ++ rest
+    → ((at : ℕ) (event : ContentEvent) → place ≤ at → at < place + length between → content_event_at all at ≡ Some event → unloaded ≡ true → is_loading event ≡ None)
     → ((at : ℕ) → place ≤ at → at < place + length between → option_and_then (entry_recorded input) (content_event_at all at) ≡ None)
-    → IsSpoiled input facts spoiled → IsSpoiled input (facts_below facts between) (facts_below spoiled between)
-spoiled-below [] all rest place input facts spoiled left none above = above
-spoiled-below (event ∷ between) all rest place input facts spoiled left none above =
+    → IsSpoiled input unloaded facts spoiled → IsSpoiled input unloaded (facts_below facts between) (facts_below spoiled between)
+spoiled-below [] all rest place input unloaded facts spoiled left quiet none above = above
+spoiled-below (event ∷ between) all rest place input unloaded facts spoiled left quiet none above =
     let cut = dropped_first all place event (between ++ rest) left in
     let here = rw cut.0 at (none place (omega arith) (omega arith)) in
-    spoiled-below between all rest (suc place) input (content_with facts event.event) (content_with spoiled event.event) cut.1
-    (λ at from to. none at (omega (arith, from)) (omega (arith, to))) (spoiled-with facts spoiled event.event input here above)
+    spoiled-below between all rest (suc place) input unloaded (content_with facts event.event) (content_with spoiled event.event) cut.1
+    (λ at e from to. quiet at e (omega (arith, from)) (omega (arith, to)))
+    (λ at from to. none at (omega (arith, from)) (omega (arith, to)))
+    (spoiled-with facts spoiled event.event input unloaded (quiet place event.event (omega arith) (omega arith) (ap (option_map event_of) cut.0)) here above)
 
 -- ---- where the state is told
 
@@ -147,6 +212,9 @@ latest-found events input place from (Some found) is at =
     let same : found.place ≡ from = cc in
     (rw same at latest.above, λ between after before. latest.none_between between (rw same after) before)
 
+pub latest_place : (events : List LineEvent) (input place from : ℕ) → place_of_latest events input place ≡ Some from → from < place
+latest_place events input place from at = (latest-found events input place from (latest_said (entry_recorded input) events place) refl at).0
+
 -- there is one at its place
 pub latest_said_there : (events : List LineEvent) (input place from : ℕ) → place_of_latest events input place ≡ Some from
     → is_some (option_and_then (entry_recorded input) (content_event_at events from)) ≡ true
@@ -163,11 +231,18 @@ latest_said_there events input place from at = there (latest_said (entry_recorde
 module _ (events spoiled_events left : List LineEvent) (from spoiled_from place input : ℕ) (facts spoiled : ContentFacts) (within : input < INPUTS) (none : first_fault_in events ≡ None)
     (rest : drop (suc from) events ≡ left) (above : content_at events (suc from) ≡ facts)
     (spoiled_rest : drop spoiled_from spoiled_events ≡ left) (spoiled_above : content_at spoiled_events spoiled_from ≡ spoiled)
-    (is_spoiled : IsSpoiled input facts spoiled) where
+    (is_spoiled : IsSpoiled input (not (is_some (latest_said is_loading events place))) facts spoiled) where
+  abbrev unloaded : Bool
+  unloaded = not (is_some (latest_said is_loading events place))
+
+  none-loaded : (found : Option (Placed Bool)) → not (is_some found) ≡ true → found ≡ None
+  none-loaded None is = refl
+  none-loaded (Some found) is = absurd (cc is)
+
   told-at : (found : LineEvent) → slice_get events place ≡ Some found → place_of_latest events input place ≡ Some from
-      → is_some ((content_at events place).inputs input).watched ≡ true → tells_state (content_at events place).seen input found.event ≡ true
+      → is_some_and ((content_at events place).inputs input).watched (tells_of (seen_unloaded events place) input found.event) ≡ true
       → is_some (first_fault_in spoiled_events) ≡ true
-  told-at found here at watched tells =
+  told-at found here at tells =
       let latest = latest-found events input place from (latest_said (entry_recorded input) events place) refl at in
       let after = latest.0 in
       let inside = slice_get_within events place found here in
@@ -182,29 +257,33 @@ module _ (events spoiled_events left : List LineEvent) (from spoiled_from place 
       let next : further ≡ found ∷ drop (suc place) events = sym way.1 ∙ ap (λ n. drop n events) reaches ∙ left-first events place found here in
       let spoiled_here = (dropped_first spoiled_events (spoiled_from + length between) found (drop (suc place) events) (spoiled_way.1 ∙ next)).0 in
       let facts_here : content_at events place ≡ facts_below facts between = ap (content_at events) (sym reaches) ∙ way.0 in
-      let is_spoiled_here = spoiled-below between events further (suc from) input facts spoiled (rest ∙ sym cut.0)
+      let is_spoiled_here = spoiled-below between events further (suc from) input unloaded facts spoiled (rest ∙ sym cut.0)
+      (λ n event from to is un. quiet_above events place n event (omega (arith, to, reaches)) is (none-loaded (latest_said is_loading events place) un))
       (λ n from to. latest.1 n (omega (arith, from)) (omega (arith, to, reaches))) is_spoiled in
       fault_at_event spoiled_events (spoiled_from + length between) found spoiled_here
       (ap (λ above. is_some (rule_broken_by above found.event)) spoiled_way.0
       ∙ told (facts_below facts between) (facts_below spoiled between) found.event ((facts_below facts between).inputs input).watched refl is_spoiled_here
-      (sym (ap (λ above. is_some (above.inputs input).watched) facts_here) ∙ watched)
-      (sym (ap (λ above. tells_state above.seen input found.event) facts_here) ∙ tells)
+      (sym (ap (λ (above : ContentFacts). is_some_and (above.inputs input).watched (tells_of (if is_some (latest_said is_loading events place) then None else above.seen) input found.event)) facts_here) ∙ tells)
       (sym (ap (λ above. rule_broken_by above found.event) facts_here) ∙ no_fault_at events place found here none))
     where
-      told : (facts spoiled : ContentFacts) (event : ContentEvent) (watched : Option Bool) → (facts.inputs input).watched ≡ watched → IsSpoiled input facts spoiled → is_some watched ≡ true
-          → tells_state facts.seen input event ≡ true → rule_broken_by facts event ≡ None → is_some (rule_broken_by spoiled event) ≡ true
-      told facts spoiled event None is differs some tells none = absurd (cc)
-      told facts spoiled event (Some level) is differs some tells none =
-          is_told facts spoiled input within level is (differs.watched level is) differs.seen event tells none
+      told : (facts spoiled : ContentFacts) (event : ContentEvent) (watched : Option WatchedState) → (facts.inputs input).watched ≡ watched → IsSpoiled input unloaded facts spoiled
+          → is_some_and watched (tells_of (if is_some (latest_said is_loading events place) then None else facts.seen) input event) ≡ true → rule_broken_by facts event ≡ None → is_some (rule_broken_by spoiled event) ≡ true
+      told facts spoiled event None is differs tells none = absurd (cc)
+      told facts spoiled event (Some watched) is differs tells none =
+          is_told facts spoiled input within watched.level watched.shaded is (differs.watched watched is) (if is_some (latest_said is_loading events place) then None else facts.seen)
+          (λ seen at. by (is_some (latest_said is_loading events place)) seen differs.times at) event tells none
+        where
+          by : (loaded : Bool) (seen : Seen) → (not loaded ≡ true → IsSameTime facts spoiled) → (if loaded then None else facts.seen) ≡ Some seen → AreJudged facts spoiled seen
+          by true seen times at = absurd (cc at)
+          by false seen times at = (let same = times refl in
+              record { judged = same.judged; seen_is = at; spoiled_judged = same.spoiled_judged; spoiled_seen = same.seen seen at })
 
   event-told : (found : Option LineEvent) → slice_get events place ≡ found → place_of_latest events input place ≡ Some from
-      → is_some ((content_at events place).inputs input).watched ≡ true
-      → is_some_and (option_map (λ (event : LineEvent). event.event) found) (tells_state (content_at events place).seen input) ≡ true → is_some (first_fault_in spoiled_events) ≡ true
-  event-told None here at watched tells = absurd (cc)
-  event-told (Some found) here at watched tells = told-at found here at watched tells
+      → is_some_and (option_map (λ (event : LineEvent). event.event) found)
+      (λ event. is_some_and ((content_at events place).inputs input).watched (tells_of (seen_unloaded events place) input event)) ≡ true → is_some (first_fault_in spoiled_events) ≡ true
+  event-told None here at tells = absurd (cc)
+  event-told (Some found) here at tells = told-at found here at tells
 
   -- the spoiled log has a fault
   pub told_later : IsComparedAt events input from place → is_some (first_fault_in spoiled_events) ≡ true
-  told_later at =
-      let both = both_hold (is_some ((content_at events place).inputs input).watched) _ at.compared in
-      event-told (slice_get events place) refl at.latest both.0 both.1
+  told_later at = event-told (slice_get events place) refl at.latest at.compared

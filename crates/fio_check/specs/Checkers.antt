@@ -1,14 +1,16 @@
 -- The checker, one line at a time: what it finds in a line, and what it keeps.
-use Rattle.std.specs.Prelude.{◌≡◌, ℕ, zero, suc, ◌+◌, ◌<◌, Bool, true, false, List, Option, None, drop, is_some, length, option_map, option_and_then, slice_get, unwrap_or, if◌then◌else◌}
+use Rattle.std.specs.Prelude.{◌≡◌, ℕ, zero, suc, ◌+◌, ◌<◌, Bool, true, false, List, Option, None, drop, is_some, length, not, option_map, option_and_then, slice_get, unwrap_or, if◌then◌else◌}
 use Rattle.fio_message.specs.declared.types.TheConstants.{BLOCK_ANSWER}
 use Rattle.fio_check.specs.Facts.{facts_with, no_facts, number_due, number_polled}
-use Rattle.fio_check.specs.Lines.{TranscriptLine}
-use Rattle.fio_check.specs.Observations.{observation_at}
+use Rattle.fio_check.specs.Lines.{TranscriptLine, from_first_command}
+use Rattle.fio_check.specs.Observations.{is_sent_at, observation_at}
 use Rattle.fio_check.specs.Places.{earliest_above}
 use Rattle.fio_check.specs.Rules.{first_broken_within, standard_limits}
 use Rattle.fio_check.specs.declared.checker.Breach.{Breach}
 use Rattle.fio_check.specs.declared.checker.Checker.{Checker}
 use Rattle.fio_check.specs.declared.checker.Due.{Due}
+use Rattle.fio_check.specs.declared.checker.Skips.{Skips}
+use Rattle.fio_check.specs.declared.checker.Skips.TheVariants.{Nothing, ToCommand, ToPoll}
 use Rattle.fio_check.specs.declared.facts.Facts.{Facts}
 use Rattle.fio_check.specs.declared.limits.Limits.{Limits}
 use Rattle.fio_check.specs.declared.observation.Observation.{Observation}
@@ -39,46 +41,69 @@ breach_of limits facts observation =
     option_map (λ rule. record { rule = rule; due = due_in facts observation rule })
     (first_broken_within limits facts observation)
 
+-- a checker of a module with these limits that passes over these frames, and knows nothing of what is above
+abbrev pub checker_skipping : Skips → Limits → Checker
+checker_skipping skips limits = record { limits = limits; facts = no_facts; skips = skips }
+
 -- a checker above the first line, of a module with these limits
 abbrev pub checker_within : Limits → Checker
-checker_within limits = record { limits = limits; facts = no_facts; skips = false }
+checker_within limits = checker_skipping Nothing limits
 
 -- the same with the limits of TEES 2009
 abbrev pub new_checker : Checker
 new_checker = checker_within standard_limits
 
+-- a checker above the first line of a log that begins anywhere
+abbrev pub checker_anywhere : Limits → Checker
+checker_anywhere limits = checker_skipping ToCommand limits
+
 -- a checker below a breach
 abbrev pub checker_below_breach : Limits → Checker
-checker_below_breach limits = record { limits = limits; facts = no_facts; skips = true }
+checker_below_breach limits = checker_skipping ToPoll limits
 
--- below a breach it passes over each line to the next poll
-abbrev pub passes_over : Checker → Observation → Bool
-passes_over checker (Poll number) = false
-passes_over checker observation = checker.skips
+-- what it passes over, by whether the CPU sent it: what is heard above the first command, or all above the next poll
+abbrev pub skips_frame : Skips → Bool → Bool
+skips_frame Nothing from_cpu = false
+skips_frame ToCommand from_cpu = not from_cpu
+skips_frame ToPoll from_cpu = true
 
--- what it finds in a line that says this
-abbrev pub found_by : Checker → Observation → Option Breach
-found_by checker observation =
-    if passes_over checker observation then None else breach_of checker.limits checker.facts observation
+-- it passes over no poll
+abbrev pub passes_over : Checker → Bool → Observation → Bool
+passes_over checker from_cpu (Poll number) = false
+passes_over checker from_cpu observation = skips_frame checker.skips from_cpu
+
+-- what it finds in a line that says this, by whether the CPU sent it
+abbrev pub found_by : Checker → Bool → Observation → Option Breach
+found_by checker from_cpu observation =
+    if passes_over checker from_cpu observation then None else breach_of checker.limits checker.facts observation
 
 -- the checker with a line more
-abbrev pub checker_with : Checker → Observation → Checker
-checker_with checker observation =
-    if passes_over checker observation then checker
+abbrev pub checker_with : Checker → Bool → Observation → Checker
+checker_with checker from_cpu observation =
+    if passes_over checker from_cpu observation then checker
     else (if is_some (breach_of checker.limits checker.facts observation) then checker_below_breach checker.limits
-    else (record checker { facts = facts_with checker.facts observation; skips = false }))
+    else (record checker { facts = facts_with checker.facts observation; skips = Nothing }))
 
 -- ---- all lines
 
--- the checker that took the lines above a place
-abbrev pub checker_at : Limits → List TranscriptLine → ℕ → Checker
-checker_at limits lines zero = checker_within limits
-checker_at limits lines (suc place) =
-    checker_with (checker_at limits lines place) (observation_at lines place)
+-- the checker that took the lines above a place, by what it was above the first
+abbrev pub checker_from : Checker → List TranscriptLine → ℕ → Checker
+checker_from checker lines zero = checker
+checker_from checker lines (suc place) =
+    checker_with (checker_from checker lines place) (is_sent_at lines place) (observation_at lines place)
 
 -- what it finds in the line at the place
+abbrev pub found_from : Checker → List TranscriptLine → ℕ → Option Breach
+found_from checker lines place =
+    found_by (checker_from checker lines place) (is_sent_at lines place) (observation_at lines place)
+
+-- the checker above a place that starts above the first line, of a module with these limits
+abbrev pub checker_at : Limits → List TranscriptLine → ℕ → Checker
+checker_at limits = checker_from (checker_within limits)
+
+-- what that one finds in the line at the place
 abbrev pub found_at : Limits → List TranscriptLine → ℕ → Option Breach
-found_at limits lines place = found_by (checker_at limits lines place) (observation_at lines place)
+found_at limits = found_from (checker_within limits)
 
 -- the same as a verdict, with the limits of TEES 2009
 abbrev pub verdict_found_at : List TranscriptLine → ℕ → Option Verdict
@@ -105,3 +130,12 @@ pub record GoesOn (limits : Limits) (lines : List TranscriptLine) : Type 0 where
       → is_some (number_polled (observation_at lines poll)) ≡ true
       → HasNoPollBetween lines breach poll
       → found_at limits lines (poll + further) ≡ found_at limits (drop poll lines) further
+
+-- Of a log that begins anywhere a checker finds nothing above the first command, and from that command on what one finds
+-- that starts there.
+pub record BeginsAnywhere (limits : Limits) (lines : List TranscriptLine) : Type 0 where
+  pub passes : (place : ℕ) → place + length (from_first_command lines) < length lines
+      → found_from (checker_anywhere limits) lines place ≡ None
+  pub starts : (above further : ℕ) → above + length (from_first_command lines) ≡ length lines
+      → further < length (from_first_command lines)
+      → found_from (checker_anywhere limits) lines (above + further) ≡ found_at limits (from_first_command lines) further

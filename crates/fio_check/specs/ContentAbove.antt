@@ -2,58 +2,22 @@
 --
 -- A clear block is a block answer with neither C nor E. Without E it was made at the poll directly above it, so each
 -- command above was received or is lost. Without C it took all entries that waited, so each entry below was logged later.
-use Rattle.std.specs.Prelude.{ℕ, Bool, ◌&&◌, false, List, [], Option, Some, None, drop, fold, is_some, min, not, nat_lt, option_map, option_and_then, take, if◌then◌else◌}
-use Rattle.std.specs.List.{flat_map}
+--
+-- A block that is sent again was made at an earlier poll for it, so each command above the first one was received by then or
+-- is lost. If it has no C, it settles each input of which no item was sent since that first poll, as a clear block settles
+-- all inputs. A clear block must be above: then the first poll is, too.
+use Rattle.std.specs.Prelude.{ℕ, zero, suc, ◌+◌, ◌-◌, ◌==◌, Bool, ◌&&◌, ◌||◌, false, List, Option, Some, None, drop, fold, is_some, min, not, nat_lt, option_map, option_and_then, take, unwrap_or, if◌then◌else◌}
 use Rattle.std.specs.Option.{option_map_or}
+use Rattle.fio_message.specs.declared.limits.TheConstants.{INPUTS}
 use Rattle.fio_message.specs.declared.commands.Command.{Command}
 use Rattle.fio_message.specs.declared.commands.Command.TheVariants as commands
 use Rattle.fio_message.specs.declared.fields.InputItem.{InputItem}
 use Rattle.fio_check.specs.ContentEvents.{ContentEvent, LineEvent, content_event_at}
-use Rattle.fio_check.specs.ContentSaid.{FilterPair, Floor, Seen, SentItem, TimedState, are_some, awaiting, comes_to, concealing, entry_recorded, filters_of, floor_of, hiding, is_accepting, is_clear_end, is_loading, is_set_dog, item_sent, items_for, items_of_input, items_sent, opening, said_if, stamp_heard, states_heard}
+use Rattle.fio_check.specs.ContentSaid.{FilterPair, Floor, Seen, SentItem, TimedState, awaiting, block_stamp, comes_to, ends_told, entry_recorded, filters_of, floor_of, full_end, ignoring, is_accepting, is_again_end, is_clear_end, is_end, is_far, is_gap, is_loading, is_set_dog, item_for, item_of_input, item_sent, items_sent, opening, polling, said_if, stamp_heard, states_heard}
 use Rattle.fio_check.specs.Observations.{names_absent}
+use Rattle.fio_check.specs.ContentKnown.{ContentFacts, InputAbove, WatchedState, if_comes, tells_other, told_by}
+use Rattle.fio_check.specs.ContentRules.{is_excused}
 use Rattle.fio_check.specs.Places.{Placed, is_some_and, latest_above}
-
--- ---- what is kept
-
--- what is above of one input
-pub record InputAbove : Type 0 where
-  -- the command that awaits its answer has an item of it
-  pub named : Bool
-  -- the last item of it that was sent
-  pub item : Option SentItem
-  -- that item was taken: the answer to its command says so
-  pub taken : Bool
-  -- an item that ignores it was sent since the latest clear block
-  pub hidden : Bool
-  -- the state of its latest entry, if no change since can have been hidden
-  pub watched : Option Bool
-  -- the wide time of its latest entry, if a clear block is above that entry
-  pub timed : Option ℕ
-  -- it is ignored for each entry that is logged from now on
-  pub shut : Bool
-  -- the least filters that can be in force for it
-  pub least : FilterPair
-
--- what the rules on content read
-pub record ContentFacts : Type 0 where
-  -- a load of the counter was sent
-  pub loaded : Bool
-  -- an answer to a watchdog was heard
-  pub watchdog_set : Bool
-  -- the flags that the command clears which awaits its answer
-  pub clearing : ℕ
-  -- that command names an input above 63
-  pub absent_named : Bool
-  -- the latest stamp, but of a block that is sent again
-  pub clock : Option ℕ
-  -- a clear block is above
-  pub clear : Bool
-  -- what the next entry is compared with
-  pub floor : Option Floor
-  -- the latest states that were asked for, if the record has not come to them
-  pub seen : Option Seen
-  -- of each input
-  pub inputs : ℕ → InputAbove
 
 -- ---- by places
 
@@ -79,35 +43,87 @@ is_at test events place = is_some_and (content_event_at events place) test
 abbrev pub is_clear_above : List LineEvent → ℕ → Bool
 is_clear_above events place = is_some (latest_said (λ event. said_if (is_clear_end event)) events place)
 
--- an item that ignores this input was sent since the latest clear block
+-- ---- times, of the events below those that are forgotten
+
+-- the end of a clear block that was heard among the events
+abbrev pub clearing_at : List LineEvent → ℕ → Option Bool
+clearing_at events place =
+    said_if (is_at is_clear_end events place && is_some (latest_said block_stamp events place))
+
+-- times are known: such an end is above
+abbrev pub is_timely : List LineEvent → ℕ → Bool
+is_timely events place = is_some (latest_above (clearing_at events) place)
+
+-- the stamp of the latest block without C, if times are known
+abbrev pub full_above : List LineEvent → ℕ → Option ℕ
+full_above events place =
+    if is_timely events place then last_said full_end events place else None
+
+-- of a block answer that is heard: whether it was made long after the latest block without C, if times are known
+abbrev pub aging_at : List LineEvent → ℕ → Option Bool
+aging_at events place = option_map (λ stamp. is_some_and (full_above events place) (λ full. is_far full stamp))
+    (option_and_then block_stamp (content_event_at events place))
+
+-- the latest block was
+abbrev pub is_aged : List LineEvent → ℕ → Bool
+is_aged events place = is_some_and (latest_above (aging_at events) place) (λ turn. turn.value)
+
+-- such a block is heard, or a gap mark recorded
+abbrev pub losing_at : List LineEvent → ℕ → Option Bool
+losing_at events place = said_if (unwrap_or (aging_at events place) false || is_at (λ event. is_some (is_gap event)) events place)
+
+-- a poll was sent since the latest block
+abbrev pub is_polled : List LineEvent → ℕ → Bool
+is_polled events place = is_some_and (latest_said polling events place) (λ turn. turn.value)
+
+-- of an item of this input that is sent below a poll for the block that is due, and of the end of a block: whether it is the item
+abbrev pub since_poll_at : List LineEvent → ℕ → ℕ → Option Bool
+since_poll_at events input place = if is_at is_end events place then Some false
+    else said_if (is_at (λ event. is_some (item_of_input input event)) events place && is_polled events place)
+
+-- an item of this input was sent below the first poll for the block that is due
+abbrev pub is_since_poll : List LineEvent → ℕ → ℕ → Bool
+is_since_poll events input place = is_some_and (latest_above (since_poll_at events input) place) (λ turn. turn.value)
+
+-- a block ends that settles this input
+abbrev pub settles_at : List LineEvent → ℕ → ℕ → Bool
+settles_at events input place = is_at is_clear_end events place
+    || (is_at is_again_end events place && (is_clear_above events place && not (is_since_poll events input place)))
+
+-- of an item that ignores this input, and of the end of a block that settles it: whether it is the item
+abbrev pub hiding_at : List LineEvent → ℕ → ℕ → Option Bool
+hiding_at events input place = if settles_at events input place then Some false
+    else option_and_then (ignoring input) (content_event_at events place)
+
+-- an item that ignores this input was sent since the latest block that settles it
 abbrev pub is_hidden : List LineEvent → ℕ → ℕ → Bool
-is_hidden events input place = is_some_and (latest_said (hiding input) events place) (λ turn. turn.value)
+is_hidden events input place = is_some_and (latest_above (hiding_at events input) place) (λ turn. turn.value)
 
 -- the command above, if no answer is below it
 abbrev pub awaited_command : List LineEvent → ℕ → Option Command
 awaited_command events place = option_and_then (λ found. found.value) (latest_said awaiting events place)
 
--- the items of an input that this command has
-abbrev pub items_named : ℕ → Option Command → List InputItem
-items_named input awaited = option_map_or (λ command. items_for input (items_sent command)) awaited []
+-- the item of an input that this command has
+abbrev pub item_named : ℕ → Option Command → Option InputItem
+item_named input awaited = option_and_then (λ command. item_for input (items_sent command)) awaited
 
 -- of a command with an item of this input, and of the answer that such a command was taken: whether it is the answer
 abbrev pub taking_at : List LineEvent → ℕ → ℕ → Option Bool
 taking_at events input place =
-    if is_at (λ event. are_some (items_of_input input event)) events place then Some false
-    else said_if (is_at is_accepting events place && are_some (items_named input (awaited_command events place)))
+    if is_at (λ event. is_some (item_of_input input event)) events place then Some false
+    else said_if (is_at is_accepting events place && is_some (item_named input (awaited_command events place)))
 
 -- the last item of this input that was sent was taken
 abbrev pub is_taken_above : List LineEvent → ℕ → ℕ → Bool
 is_taken_above events input place = is_some_and (latest_above (taking_at events input) place) (λ turn. turn.value)
 
--- at the end of a clear block: the last item of this input, if it was taken
+-- at the end of a block that settles this input: the last item of it, if it was taken
 abbrev pub settled_at : List LineEvent → ℕ → ℕ → Option SentItem
-settled_at events input place = if is_at is_clear_end events place && is_taken_above events input place
+settled_at events input place = if settles_at events input place && is_taken_above events input place
     then last_said (item_sent input) events place
     else None
 
--- the latest item of this input that the module had at a clear block for certain, and the place of the block
+-- the latest item of this input that the module had for certain at a block that settles it, and the place of the block
 abbrev pub settled : List LineEvent → ℕ → ℕ → Option (Placed SentItem)
 settled events input place = latest_above (settled_at events input) place
 
@@ -116,11 +132,6 @@ abbrev pub is_shut_by : List LineEvent → ℕ → ℕ → Placed SentItem → B
 is_shut_by events input place item =
     item.value.ignore && not (is_said_between (opening input) events item.place place)
 
--- the items of an input that were sent from a place on, above another
-abbrev pub items_between : ℕ → List LineEvent → ℕ → ℕ → List InputItem
-items_between input events from place =
-    flat_map (λ found. items_of_input input found.event) (drop from (take place events))
-
 -- the lesser filters of two pairs
 abbrev pub lesser : FilterPair → FilterPair → FilterPair
 lesser filters others = record {
@@ -128,51 +139,139 @@ lesser filters others = record {
   trailing = min filters.trailing others.trailing;
 }
 
--- the least filters of these and of items
-abbrev pub least_of : FilterPair → List InputItem → FilterPair
-least_of filters items = fold (λ least item. lesser least (filters_of item)) filters items
+-- the least filters of these and of an item, if there is one
+abbrev pub least_with : FilterPair → Option InputItem → FilterPair
+least_with filters item = option_map_or (λ found. lesser filters (filters_of found)) item filters
 
 -- no filter is less than a sample
 abbrev pub one_sample : FilterPair
 one_sample = record { leading = 1; trailing = 1 }
 
+-- the least of these filters and of those of the items of an input that were sent from a place on, above another
+abbrev pub least_between : FilterPair → ℕ → List LineEvent → ℕ → ℕ → FilterPair
+least_between filters input events from place =
+    fold (λ least found. least_with least (item_of_input input found.event)) filters (drop from (take place events))
+
 -- the least of the filters that were settled, and of those of the items sent since
 abbrev pub least_since : List LineEvent → ℕ → ℕ → Option (Placed SentItem) → FilterPair
-least_since events input place None = least_of one_sample (items_between input events 0 place)
-least_since events input place (Some item) =
-    least_of item.value.filters (items_between input events item.place place)
+least_since events input place None = least_between one_sample input events 0 place
+least_since events input place (Some item) = least_between item.value.filters input events item.place place
 
--- no change of an input below a place can have been hidden: a clear block is above the place, no item that ignores the
--- input was sent since, and no gap mark is below the place
+-- an item that ignores this input was sent above a place, since the latest block above another one that settles it
+abbrev pub is_shaded : List LineEvent → ℕ → ℕ → ℕ → Bool
+is_shaded events input from place =
+    is_hidden events input from || is_said_between (ignoring input) events from place
+
+-- an event at a place opens this input below an item that ignores it, which was sent since the latest block above an entry at
+-- an earlier place that settles it
+abbrev pub reopens_for : List LineEvent → ℕ → ℕ → ℕ → Option Bool
+reopens_for events input from place =
+    said_if (is_at (λ event. is_some (opening input event)) events place && is_shaded events input from place)
+
+-- the same of the latest block above the event that settles it, and of the end of such a block: whether it is the former
+abbrev pub reopening_at : List LineEvent → ℕ → ℕ → Option Bool
+reopening_at events input place = if settles_at events input place then Some false
+    else said_if (is_at (λ event. is_some (opening input event)) events place && is_hidden events input place)
+
+-- since the latest block that settles this input an item was sent that ignores it, and below it one that opens it
+abbrev pub is_reopened : List LineEvent → ℕ → ℕ → Bool
+is_reopened events input place =
+    is_some_and (latest_above (reopening_at events input) place) (λ turn. turn.value)
+
+-- such an item was sent below an entry
+abbrev pub is_reopened_for : List LineEvent → ℕ → ℕ → ℕ → Bool
+is_reopened_for events input from place =
+    is_some_and (latest_above (reopens_for events input from) place) (λ found. nat_lt from found.place)
+
+-- No change of an input between an entry at a place and an entry below can have been hidden. To hide it the input was
+-- ignored, and then opened for the latter. But a clear block is above the place, and of the items sent since the latest block that
+-- settles the input none opens it below one that ignores it; and no gap mark is below the place.
 abbrev pub is_watched_from : List LineEvent → ℕ → ℕ → ℕ → Bool
 is_watched_from events input from place =
-    (is_clear_above events from && not (is_hidden events input from))
-    && not (is_said_between (concealing input) events from place)
+    (is_clear_above events from && not (is_reopened events input from))
+    && not (is_reopened_for events input from place || is_said_between is_gap events from place)
 
--- the state of an entry, if it is watched from there
-abbrev pub watched_state : List LineEvent → ℕ → ℕ → Placed TimedState → Option Bool
-watched_state events input place entry =
-    if is_watched_from events input entry.place place then Some entry.value.level else None
+-- an entry, if it is watched from there
+abbrev pub watched_state : List LineEvent → ℕ → ℕ → Placed TimedState → Option WatchedState
+watched_state events input place entry = if is_watched_from events input entry.place place
+    then Some (record { level = entry.value.level; shaded = is_shaded events input entry.place place })
+    else None
 
--- the wide time of an entry, if a clear block is above it
+-- the wide time of an entry, if times were known there and its block was made soon
 abbrev pub timed_below : List LineEvent → Placed TimedState → Option ℕ
-timed_below events entry = if is_clear_above events entry.place then Some entry.value.wide else None
+timed_below events entry = if is_timely events entry.place && not (is_aged events entry.place)
+    then Some entry.value.wide
+    else None
 
--- states, if no event between comes to them
+-- a floor, but no entry of a block that was made long after the latest one without C
+abbrev pub floor_known : List LineEvent → Placed Floor → Option Floor
+floor_known events floor =
+    if is_some floor.value.input && is_aged events floor.place then None else Some floor.value
+
+-- a block that was made long after the latest one without C is heard below the one place and above the other, or a gap mark
+-- is recorded there
+abbrev pub is_lost_between : List LineEvent → ℕ → ℕ → Bool
+is_lost_between events above place =
+    is_some_and (latest_above (losing_at events) place) (λ found. nat_lt above found.place)
+
+-- states that were heard where times were known, if no event between comes to them, and neither such a block nor a gap mark is
+-- between
 abbrev pub seen_still : List LineEvent → ℕ → Placed Seen → Option Seen
-seen_still events place seen =
-    if is_said_between (λ event. said_if (comes_to seen.value event)) events seen.place place then None
-    else Some seen.value
+seen_still events place seen = if is_timely events seen.place
+    && not (is_said_between (λ event. said_if (comes_to seen.value event)) events seen.place place
+    || is_lost_between events seen.place place)
+    then Some seen.value
+    else None
 
--- what is above a place of one input
-abbrev pub input_at : List LineEvent → ℕ → ℕ → InputAbove
-input_at events input place = record {
-  named = are_some (items_named input (awaited_command events place));
+-- the latest states that were asked for, if the record has not come to them
+abbrev pub seen_at : List LineEvent → ℕ → Option Seen
+seen_at events place = option_and_then (seen_still events place) (latest_said states_heard events place)
+
+-- the states to which the record comes with an event
+abbrev pub coming_at : List LineEvent → ℕ → Option Seen
+coming_at events place =
+    option_and_then (λ event. option_and_then (if_comes event) (seen_at events place)) (content_event_at events place)
+
+-- of an item of this input, and of the end of a block that settles it: whether it is the item
+abbrev pub touching_at : List LineEvent → ℕ → ℕ → Option Bool
+touching_at events input place = if settles_at events input place then Some false
+    else said_if (is_at (λ event. is_some (item_of_input input event)) events place)
+
+-- an item of this input was sent since the latest block that settles it
+abbrev pub is_touched : List LineEvent → ℕ → ℕ → Bool
+is_touched events input place = is_some_and (latest_above (touching_at events input) place) (λ turn. turn.value)
+
+-- of an event that ends that its state is told, and of one with which the record comes to states: the state that is told
+abbrev pub telling_at : List LineEvent → ℕ → ℕ → Option (Option Bool)
+telling_at events input place = if is_at (ends_told input) events place then Some None
+    else (if nat_lt input INPUTS then option_map (told_by input (is_touched events input place)) (coming_at events place) else None)
+
+-- the state of this input that is told
+abbrev pub told_at : List LineEvent → ℕ → ℕ → Option Bool
+told_at events input place = option_and_then (λ found. found.value) (latest_above (telling_at events input) place)
+
+-- of an item of this input, and of an event with which the record comes to other states: whether it is that event
+abbrev pub unlogging_at : List LineEvent → ℕ → ℕ → Option Bool
+unlogging_at events input place = if is_at (λ event. is_some (item_of_input input event)) events place then Some false
+    else said_if (nat_lt input INPUTS && is_some_and (coming_at events place) (tells_other input (is_touched events input place) (told_at events input place)))
+
+-- the changes of this input are not logged
+abbrev pub is_unlogged : List LineEvent → ℕ → ℕ → Bool
+is_unlogged events input place = is_some_and (latest_above (unlogging_at events input) place) (λ turn. turn.value)
+
+-- what is above a place of one input, with these events for times and what is above this place of them
+abbrev pub input_at : List LineEvent → ℕ → List LineEvent → ℕ → ℕ → InputAbove
+input_at timed at events input place = record {
+  named = is_some (item_named input (awaited_command events place));
   item = last_said (item_sent input) events place;
   taken = is_taken_above events input place;
   hidden = is_hidden events input place;
+  reopened = is_reopened events input place;
   watched = option_and_then (watched_state events input place) (latest_said (entry_recorded input) events place);
-  timed = option_and_then (timed_below events) (latest_said (entry_recorded input) events place);
+  timed = option_and_then (timed_below timed) (latest_said (entry_recorded input) timed at);
+  touched = is_touched events input place;
+  told = told_at timed input at;
+  unlogged = is_unlogged timed input at;
   shut = is_some_and (settled events input place) (is_shut_by events input place);
   least = least_since events input place (settled events input place);
 }
@@ -182,21 +281,61 @@ abbrev pub flags_cleared : Command → ℕ
 flags_cleared (commands.Status clear) = clear
 flags_cleared command = 0
 
--- a load of the counter was sent
-abbrev pub is_loaded : List LineEvent → ℕ → Bool
-is_loaded events place = is_some (latest_said is_loading events place)
+-- ---- what loads of the counter excuse
 
--- what is above a place
-abbrev pub content_at : List LineEvent → ℕ → ContentFacts
-content_at events place = record {
-  loaded = is_loaded events place;
+-- the loads that were sent and have excused no breach yet, and the place from which on times are read
+pub record Excuses : Type 0 where
+  pub left : ℕ
+  pub from : ℕ
+
+-- what is above a place, with so many excuses, and with these events for times and what is above this place of them
+abbrev pub content_above : ℕ → List LineEvent → ℕ → List LineEvent → ℕ → ContentFacts
+content_above excuses timed at events place = record {
+  excuses = excuses;
   watchdog_set = is_some (latest_said is_set_dog events place);
   clearing = option_map_or flags_cleared (awaited_command events place) 0;
   absent_named = is_some_and (awaited_command events place) names_absent;
-  clock = last_said stamp_heard events place;
   clear = is_clear_above events place;
-  floor = last_said floor_of events place;
-  seen = if is_loaded events place then None
-      else option_and_then (seen_still events place) (latest_said states_heard events place);
-  inputs = λ input. input_at events input place;
+  polled = is_polled events place;
+  since_poll = λ input. is_since_poll events input place;
+  clock = last_said stamp_heard timed at;
+  block_heard = is_some (latest_said block_stamp timed at);
+  timely = is_timely timed at;
+  full = full_above timed at;
+  aged = is_aged timed at;
+  floor = option_and_then (floor_known timed) (latest_said floor_of timed at);
+  seen = seen_at timed at;
+  inputs = λ input. input_at timed at events input place;
 }
+
+-- the same where times are read of the events from a place on
+abbrev pub content_from : Excuses → List LineEvent → ℕ → ContentFacts
+content_from excuses events place =
+    content_above excuses.left (drop excuses.from events) (place - excuses.from) events place
+
+-- one excuse more; an octet counts them, and stays at 255
+abbrev pub one_excuse_more : ℕ → ℕ
+one_excuse_more excuses = min 255 (excuses + 1)
+
+-- one excuse less, but for 255
+abbrev pub one_excuse_less : ℕ → ℕ
+one_excuse_less excuses = if excuses == 255 then 255 else excuses - 1
+
+-- the excuses below an event at a place: a load of the counter is one more; an event that is excused uses one, and times are read
+-- from below it
+abbrev pub excuses_below : Excuses → ContentFacts → ℕ → Option ContentEvent → Excuses
+excuses_below excuses facts place None = excuses
+excuses_below excuses facts place (Some event) =
+    if is_excused facts event then record { left = one_excuse_less excuses.left; from = suc place }
+    else (if is_some (is_loading event) then record excuses { left = one_excuse_more excuses.left } else excuses)
+
+-- the excuses above a place
+unfoldable pub excuses_at : List LineEvent → ℕ → Excuses
+excuses_at events zero = record { left = 0; from = 0 }
+excuses_at events (suc place) =
+    let above = excuses_at events place in
+    excuses_below above (content_from above events place) place (content_event_at events place)
+
+-- what is above a place
+abbrev pub content_at : List LineEvent → ℕ → ContentFacts
+content_at events place = content_from (excuses_at events place) events place

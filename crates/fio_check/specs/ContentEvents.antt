@@ -13,7 +13,7 @@ use Rattle.fio_message.specs.declared.limits.TheConstants.{INPUTS}
 use Rattle.fio_input.specs.declared.filters.TheConstants.{DEFAULT_FILTER}
 use Rattle.fio_cpu.specs.Record.{items_of_block}
 use Rattle.fio_cpu.specs.declared.record.Item.{Item}
-use Rattle.fio_check.specs.Lines.{TranscriptLine, command_from, answer_from}
+use Rattle.fio_check.specs.Lines.{TranscriptLine, command_from, answer_from, from_first_command}
 use Rattle.fio_check.specs.Places.{is_some_and}
 
 -- what the CPU's end does: it sends a command; it hears an answer, of the block answers those that it takes; it records an
@@ -124,10 +124,14 @@ events_at_start = Sent (commands.ConfigureInputs (record { items = items_at_star
 abbrev pub events_above : Bool → List ContentEvent
 events_above begun = if begun then events_at_start else []
 
+-- the lines that are judged: all of a log that begins with both ends, of any other those from the first command on
+abbrev pub judged_lines : Bool → List TranscriptLine → List TranscriptLine
+judged_lines begun lines = if begun then lines else from_first_command lines
+
 -- the events of a log, by whether it begins with both ends
 abbrev pub events_of_log : Bool → List TranscriptLine → List LineEvent
 events_of_log begun lines =
-    map (λ event. record { line = 0; event = event }) (events_above begun) ++ events_of_lines lines
+    map (λ event. record { line = 0; event = event }) (events_above begun) ++ events_of_lines (judged_lines begun lines)
 
 -- the event at a place, where there is one; the first has place 0
 abbrev pub content_event_at : List LineEvent → ℕ → Option ContentEvent

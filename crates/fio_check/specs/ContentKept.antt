@@ -2,9 +2,9 @@
 -- is input i.
 use Rattle.std.specs.Prelude.{ℕ, ◌==◌, Bool, not, List, Option, Some, None, slice_index_or, if◌then◌else◌}
 use Rattle.fio_message.specs.Bits.{is_set}
-use Rattle.fio_check.specs.ContentAbove.{ContentFacts, InputAbove}
+use Rattle.fio_check.specs.ContentKnown.{ContentFacts, InputAbove}
 use Rattle.fio_check.specs.ContentSaid.{FilterPair, Floor, Seen, SentItem}
-use Rattle.fio_check.specs.ContentCheckers.{ContentKept}
+use Rattle.fio_check.specs.ContentCheckers.{ContentChecking, ContentKept}
 use Rattle.fio_check.specs.declared.content_above.ContentAbove.{ContentAbove}
 use Rattle.fio_check.specs.declared.content_inputs.ContentInputs.{ContentInputs}
 use Rattle.fio_check.specs.declared.content.ContentChecker.{ContentChecker}
@@ -43,8 +43,13 @@ input_kept inputs input = record {
   item = some_in inputs.sent input (item_in inputs input);
   taken = is_set inputs.taken input;
   hidden = is_set inputs.hidden input;
-  watched = some_in inputs.watched input (is_set inputs.levels input);
+  reopened = is_set inputs.reopened input;
+  watched = some_in inputs.watched input
+      (record { level = is_set inputs.levels input; shaded = is_set inputs.shaded input });
   timed = some_in inputs.timed input (slice_index_or inputs.times input 0);
+  touched = is_set inputs.touched input;
+  told = some_in inputs.told input (is_set inputs.told_levels input);
+  unlogged = is_set inputs.unlogged input;
   shut = is_set inputs.shut input;
   least = if is_set inputs.settled input then filters_in inputs.leading inputs.trailing input
       else filters_in inputs.least_leading inputs.least_trailing input;
@@ -64,12 +69,18 @@ seen_kept above = record { stamp = above.seen; levels = above.seen_levels }
 -- what is above, as far as it is kept
 abbrev pub facts_kept : ContentAbove → ContentFacts
 facts_kept above = record {
-  loaded = is_flagged above.loaded;
+  excuses = above.excuses;
   watchdog_set = is_flagged above.watchdog_set;
   clearing = above.clearing;
   absent_named = is_flagged above.absent_named;
   clock = flagged_number above.has_clock above.clock;
   clear = is_flagged above.clear;
+  polled = is_flagged above.polled;
+  since_poll = λ input. is_set above.since_poll input;
+  block_heard = is_flagged above.block_heard;
+  timely = is_flagged above.timely;
+  full = flagged_number above.timely above.full;
+  aged = is_flagged above.aged;
   floor = floor_in above.floor_kind above.floor above.floor_input;
   seen = if above.has_seen == 0 then None else Some (seen_kept above);
   inputs = λ input. input_kept above.inputs input;
@@ -81,3 +92,7 @@ content_kept checker = record {
   number = flagged_number checker.has_number checker.number;
   facts = facts_kept checker.above;
 }
+
+-- a checker, by its fields
+abbrev pub content_checking : ContentChecker → ContentChecking
+content_checking checker = record { begun = is_flagged checker.begun; kept = content_kept checker }

@@ -2,20 +2,20 @@
 -- `Rules`.
 --
 -- Each rule is stated once, by what is above an event and what the event says.
-use Rattle.std.specs.Prelude.{ℕ, ◌==◌, Bool, ◌&&◌, ◌||◌, false, List, [], ◌∷◌, Option, Some, None, bit_and, codes, find, is_some, length, nat_lt, not, option_map, option_and_then, slice_get, take, if◌then◌else◌}
+use Rattle.std.specs.Prelude.{ℕ, ◌==◌, Bool, ◌&&◌, ◌||◌, false, List, [], ◌∷◌, Option, Some, None, bit_and, codes, find, is_some, nat_lt, not, option_map, option_and_then, if◌then◌else◌}
 use Rattle.std.specs.Bool.{beq}
+use Rattle.std.specs.List.{list_any}
 use Rattle.std.specs.Option.{option_or}
 use Rattle.fio_message.specs.Bits.{is_set}
 use Rattle.fio_message.specs.Status.{says_error, says_set_before}
 use Rattle.fio_message.specs.declared.answers.Answer.{Answer}
 use Rattle.fio_message.specs.declared.answers.Answer.TheVariants as answers
 use Rattle.fio_message.specs.declared.limits.TheConstants.{INPUTS}
-use Rattle.fio_cpu.specs.declared.record.Item.{Item}
 use Rattle.fio_cpu.specs.declared.record.Item.TheVariants.{Entry}
-use Rattle.fio_check.specs.ContentAbove.{ContentFacts, InputAbove, content_at}
+use Rattle.fio_check.specs.ContentKnown.{ContentFacts, InputAbove, WatchedState}
+use Rattle.fio_check.specs.ContentKnown.{input_coming}
 use Rattle.fio_check.specs.ContentSaid.{FilterPair, Floor, Seen, TimedState, comes_to, is_before, is_later, milliseconds_between, stamp_of}
-use Rattle.fio_check.specs.ContentEvents.{ContentEvent, LineEvent, Heard, Recorded, Ended, events_of_log, recorded_items}
-use Rattle.fio_check.specs.Lines.{TranscriptLine}
+use Rattle.fio_check.specs.ContentEvents.{ContentEvent, Heard, Recorded, Ended}
 use Rattle.fio_check.specs.Places.{earliest_above, is_some_and}
 use Rattle.fio_check.specs.declared.content_rules.BrokenRule.{BrokenRule}
 use Rattle.fio_check.specs.declared.content_rules.ContentRule.{ContentRule}
@@ -45,35 +45,64 @@ abbrev pub is_too_near : TimedState → FilterPair → ℕ → Bool
 is_too_near entry filters earlier =
     nat_lt (milliseconds_between earlier entry.wide) (filter_towards entry.level filters)
 
+-- no load of the counter excuses a breach of a rule on time
+abbrev pub is_judged : ContentFacts → Bool
+is_judged facts = facts.excuses == 0
+
+-- the times of entries that are recorded now are known and judged: they are not forgotten since the latest clear block, no
+-- load excuses a breach, and the block was made soon after the latest one without C, so that its entries waited for less than
+-- 16 bits say
+abbrev pub are_times_judged : ContentFacts → Bool
+are_times_judged facts = is_judged facts && (facts.timely && not facts.aged)
+
+-- the states to which the record comes with an entry of this wide time
+abbrev pub coming_with : ContentFacts → ℕ → Option Seen
+coming_with facts wide =
+    option_and_then (λ seen. if is_later wide seen.stamp then Some seen else None) facts.seen
+
+-- what the states of a 181 tell of an input: an entry of this state is none of its changes, if it is the state that was told;
+-- or its changes are not logged
+abbrev pub is_told_otherwise : Bool → InputAbove → Bool
+is_told_otherwise level above = is_some_and above.told (beq level) || above.unlogged
+
 -- An entry of this input breaks a rule:
 abbrev pub breaks_entry : ContentFacts → ℕ → TimedState → ContentRule → Bool
--- Order: it does not come behind the entry above it, a clear block is above, and no load of the counter was sent.
-breaks_entry facts input entry Order = (not facts.loaded && facts.clear)
-    && is_some_and facts.floor (is_out_of_order input entry.wide)
--- Fresh: it is not later than the block without C above it, likewise.
+-- Order: it does not come behind the entry above it, and times are known and judged.
+breaks_entry facts input entry Order =
+    are_times_judged facts && is_some_and facts.floor (is_out_of_order input entry.wide)
+-- Fresh: it is not later than the block without C above it, and times are known and judged.
 breaks_entry facts input entry Fresh =
-    (not facts.loaded && facts.clear) && is_some_and facts.floor (is_stale entry.wide)
+    are_times_judged facts && is_some_and facts.floor (is_stale entry.wide)
 -- Alternate: it has the state of its input's latest entry, and no change between them can have been hidden.
 breaks_entry facts input entry Alternate =
-    is_some_and (facts.inputs input).watched (λ level. beq entry.level level)
--- Apart: it is nearer to its input's latest entry than the least filter that can be in force for the change, a clear block
--- is above that entry, and no load of the counter was sent.
-breaks_entry facts input entry Apart = not facts.loaded
+    is_some_and (facts.inputs input).watched (λ watched. beq entry.level watched.level)
+-- Apart: it is nearer to its input's latest entry than the least filter that can be in force for the change, and the times of
+-- both are known and judged.
+breaks_entry facts input entry Apart = are_times_judged facts
     && is_some_and (facts.inputs input).timed (is_too_near entry (facts.inputs input).least)
 -- Ignored: its input was ignored.
 breaks_entry facts input entry Ignored = (facts.inputs input).shut
+-- State: its input has that state in the latest 181 already, and no entry since; or it changed its state between two of them
+-- without an entry. No item of the input was sent since the clear block above them, and times are judged.
+breaks_entry facts input entry State = is_judged facts
+    && is_told_otherwise entry.level (input_coming input (coming_with facts entry.wide) (facts.inputs input))
 breaks_entry facts input entry rule = false
 
 -- in the order in which they are tried
 abbrev pub entry_rules : List ContentRule
-entry_rules = Order ∷ Fresh ∷ Alternate ∷ Apart ∷ Ignored ∷ []
+entry_rules = Order ∷ Fresh ∷ Alternate ∷ Apart ∷ Ignored ∷ State ∷ []
 
 -- ---- the states that were asked for
+
+-- the state of an entry that is watched, if no item that ignores its input was sent since the latest clear block above it
+abbrev pub steady_state : Option WatchedState → Option Bool
+steady_state watched =
+    option_and_then (λ entry. if entry.shaded then None else Some entry.level) watched
 
 -- the latest entry of an input has another state, and no change since can have been hidden
 abbrev pub differs : Seen → ℕ → InputAbove → Bool
 differs seen input above =
-    is_some_and above.watched (λ level. not (beq level (is_set seen.levels input)))
+    is_some_and (steady_state above.watched) (λ level. not (beq level (is_set seen.levels input)))
 
 -- the same as the input
 abbrev pub differing : ContentFacts → Seen → ℕ → Option ℕ
@@ -98,8 +127,8 @@ breaks_answer facts (answers.Status flags receive transmit stamp) Cleared =
 -- Watchdog: it says that the watchdog had not been set, and one was answered above.
 breaks_answer facts (answers.Watchdog status) Watchdog =
     not (says_set_before status) && facts.watchdog_set
--- Clock: its stamp is before the latest one above, it is no block that is sent again, and no load of the counter was sent.
-breaks_answer facts answer Clock = not facts.loaded
+-- Clock: its stamp is before the latest one above, it is no block that is sent again, and times are judged.
+breaks_answer facts answer Clock = is_judged facts
     && is_some_and (stamp_of answer) (λ stamp. is_some_and facts.clock (is_before stamp))
 breaks_answer facts answer rule = false
 
@@ -114,10 +143,11 @@ abbrev pub state_breach : Bool → Option ℕ → Option BrokenRule
 state_breach comes input =
     if comes then option_map (λ found. record { input = Some found; rule = State }) input else None
 
--- State: the record comes to the states that were asked for, and an input has another one in it.
+-- State: the record comes to the states that were asked for, an input has another one in it, and times are judged.
 abbrev pub broken_state : ContentFacts → ContentEvent → Option Seen → Option BrokenRule
 broken_state facts event None = None
-broken_state facts event (Some seen) = state_breach (comes_to seen event) (first_differing facts seen)
+broken_state facts event (Some seen) =
+    state_breach (is_judged facts && comes_to seen event) (first_differing facts seen)
 
 -- the first rule that an event breaks: an answer, an entry, or the end of a block
 abbrev pub rule_broken_by : ContentFacts → ContentEvent → Option BrokenRule
@@ -130,34 +160,25 @@ rule_broken_by facts (Recorded (Entry input level stamp wide)) = option_or
 rule_broken_by facts (Ended status stamp) = broken_state facts (Ended status stamp) facts.seen
 rule_broken_by facts event = None
 
--- ---- of a transcript
+-- ---- what a load of the counter excuses
 
--- where a rule on content is broken: the number of the line, the input if there is one, the rule, and the items of the
--- record above
-pub record ContentFault : Type 0 where
-  pub line : ℕ
-  pub input : Option ℕ
-  pub rule : ContentRule
-  pub above : List Item
+-- the facts where no load excuses anything
+abbrev pub without_excuse : ContentFacts → ContentFacts
+without_excuse facts = record facts { excuses = 0 }
 
--- a rule that is broken by an event in a line with this number, below these items
-abbrev pub fault_of : ℕ → List Item → BrokenRule → ContentFault
-fault_of line above broken =
-    record { line = line; input = broken.input; rule = broken.rule; above = above }
+-- an event breaks a rule on time
+abbrev pub breaks_time : ContentFacts → ContentEvent → Bool
+breaks_time facts (Heard answer) = breaks_answer facts answer Clock
+breaks_time facts (Recorded (Entry input level stamp wide)) =
+    is_some (broken_state facts (Recorded (Entry input level stamp wide)) facts.seen)
+    || list_any (breaks_entry facts input (record { level = level; wide = wide })) (Order ∷ Fresh ∷ Apart ∷ State ∷ [])
+breaks_time facts (Ended status stamp) = is_some (broken_state facts (Ended status stamp) facts.seen)
+breaks_time facts event = false
 
--- the fault at a place
-abbrev pub content_fault_at : List LineEvent → ℕ → Option ContentFault
-content_fault_at events place = option_and_then
-    (λ found. option_map (fault_of found.line (recorded_items (take place events))) (rule_broken_by (content_at events place) found.event))
-    (slice_get events place)
-
--- the first fault of these events
-abbrev pub first_fault_in : List LineEvent → Option ContentFault
-first_fault_in events = earliest_above (content_fault_at events) (length events)
-
--- the first fault of a transcript, by whether it begins with both ends
-abbrev pub content_fault_in : Bool → List TranscriptLine → Option ContentFault
-content_fault_in begun lines = first_fault_in (events_of_log begun lines)
+-- An event is excused: it would break a rule on time, but a load of the counter was sent that has excused no breach yet. It may
+-- have taken effect since times were forgotten last. No more loads take effect than were sent, so each excuses one breach.
+unfoldable pub is_excused : ContentFacts → ContentEvent → Bool
+is_excused facts event = breaks_time (without_excuse facts) event && not (is_judged facts)
 
 -- ---- names and numbers
 

@@ -1,7 +1,7 @@
 -- What one event says to the rules on content: the items of a command, the stamp of an answer, an entry, the end of a
 -- block; and how far times are apart.
-use Rattle.std.specs.Prelude.{ℕ, ◌^◌, ◌-◌, ◌+◌, ◌%◌, ◌==◌, Bool, ◌&&◌, true, false, List, [], ◌∷◌, Option, Some, None, fold, not, nat_le, nat_lt, if◌then◌else◌}
-use Rattle.std.specs.List.{list_any}
+use Rattle.std.specs.Prelude.{ℕ, ◌^◌, ◌-◌, ◌+◌, ◌%◌, ◌==◌, Bool, ◌&&◌, ◌||◌, true, false, List, [], Option, Some, None, is_some, not, nat_le, nat_lt, option_map, if◌then◌else◌}
+use Rattle.std.specs.Option.{option_map_or}
 use Rattle.fio_message.specs.Status.{says_again, says_error, says_more}
 use Rattle.fio_message.specs.declared.answers.Answer.{Answer}
 use Rattle.fio_message.specs.declared.answers.Answer.TheVariants as answers
@@ -9,6 +9,7 @@ use Rattle.fio_message.specs.declared.commands.Command.{Command}
 use Rattle.fio_message.specs.declared.commands.Command.TheVariants as commands
 use Rattle.fio_message.specs.declared.fields.InputItem.{InputItem}
 use Rattle.fio_message.specs.declared.limits.TheConstants.{INPUTS}
+use Rattle.fio_input.specs.FilterHistory.{last_item_of}
 use Rattle.fio_input.specs.FilterRule.{filter_in_force}
 use Rattle.fio_cpu.specs.declared.record.Item.TheVariants.{Entry, Gap}
 use Rattle.fio_check.specs.ContentEvents.{ContentEvent, Sent, Heard, Recorded, Ended}
@@ -22,6 +23,10 @@ milliseconds_between earlier later = (later + 2 ^ 32 - earlier) % 2 ^ 32
 -- a time is before another: it is not less than 2 ^ 31 ahead of it
 abbrev pub is_before : ℕ → ℕ → Bool
 is_before time other = nat_le (2 ^ 31) (milliseconds_between other time)
+
+-- a time is so far from an earlier one that 16 bits do not tell it
+abbrev pub is_far : ℕ → ℕ → Bool
+is_far earlier later = nat_le (2 ^ 16) (milliseconds_between earlier later)
 
 -- a time is neither another nor before it
 abbrev pub is_later : ℕ → ℕ → Bool
@@ -57,22 +62,19 @@ pub record SentItem : Type 0 where
 
 -- ---- what an event says
 
--- the items of this input that a command has, in order; inputs above 63 have none
-abbrev pub items_for : ℕ → List InputItem → List InputItem
-items_for input [] = []
-items_for input (item ∷ items) = if item.input == input && nat_lt input INPUTS
-    then item ∷ items_for input items
-    else items_for input items
+-- the last item of this input among items, which alone counts; inputs above 63 have none
+abbrev pub item_for : ℕ → List InputItem → Option InputItem
+item_for input items = if nat_lt input INPUTS then last_item_of input items else None
 
 -- the items of a command
 abbrev pub items_sent : Command → List InputItem
 items_sent (commands.ConfigureInputs items) = items.items
 items_sent command = []
 
--- the items of this input that an event sends
-abbrev pub items_of_input : ℕ → ContentEvent → List InputItem
-items_of_input input (Sent command) = items_for input (items_sent command)
-items_of_input input event = []
+-- the item of this input that an event sends
+abbrev pub item_of_input : ℕ → ContentEvent → Option InputItem
+item_of_input input (Sent command) = item_for input (items_sent command)
+item_of_input input event = None
 
 -- both filters of an item, as they are in force
 abbrev pub filters_of : InputItem → FilterPair
@@ -83,38 +85,29 @@ filters_of item =
 abbrev pub item_kept : InputItem → SentItem
 item_kept item = record { ignore = item.ignore; filters = filters_of item }
 
--- the last of items, or what is before them
-abbrev pub last_item : Option SentItem → List InputItem → Option SentItem
-last_item before items = fold (λ earlier item. Some (item_kept item)) before items
+-- an item is there that ignores its input
+abbrev pub ignores : Option InputItem → Bool
+ignores item = option_map_or (λ found. found.ignore) item false
 
--- items of an input are there
-abbrev pub are_some : List InputItem → Bool
-are_some [] = false
-are_some (item ∷ items) = true
-
--- some item ignores the input
-abbrev pub ignores : List InputItem → Bool
-ignores items = list_any (λ item. item.ignore) items
-
--- some item does not ignore it
-abbrev pub opens : List InputItem → Bool
-opens items = list_any (λ item. not item.ignore) items
+-- an item is there that does not ignore it
+abbrev pub opens : Option InputItem → Bool
+opens item = option_map_or (λ found. not found.ignore) item false
 
 -- an event says so where this holds
 abbrev pub said_if : Bool → Option Bool
 said_if holds = if holds then Some true else None
 
--- the last item of this input that is sent
+-- the item of this input that is sent
 abbrev pub item_sent : ℕ → ContentEvent → Option SentItem
-item_sent input event = last_item None (items_of_input input event)
+item_sent input event = option_map item_kept (item_of_input input event)
 
 -- an item is sent that ignores this input
 abbrev pub ignoring : ℕ → ContentEvent → Option Bool
-ignoring input event = said_if (ignores (items_of_input input event))
+ignoring input event = said_if (ignores (item_of_input input event))
 
 -- an item is sent that does not ignore it
 abbrev pub opening : ℕ → ContentEvent → Option Bool
-opening input event = said_if (opens (items_of_input input event))
+opening input event = said_if (opens (item_of_input input event))
 
 -- a load of the counter is sent
 abbrev pub is_loading : ContentEvent → Option Bool
@@ -160,6 +153,32 @@ abbrev pub is_clear_end : ContentEvent → Bool
 is_clear_end (Ended status stamp) = not (says_more status) && not (says_again status)
 is_clear_end event = false
 
+-- the end of a block
+abbrev pub is_end : ContentEvent → Bool
+is_end (Ended status stamp) = true
+is_end event = false
+
+-- the end of a block that is sent again, without C
+abbrev pub is_again_end : ContentEvent → Bool
+is_again_end (Ended status stamp) = not (says_more status) && says_again status
+is_again_end event = false
+
+-- of a poll and the end of a block: whether it is the poll
+abbrev pub polling : ContentEvent → Option Bool
+polling (Sent (commands.Poll number)) = Some true
+polling (Ended status stamp) = Some false
+polling event = None
+
+-- the stamp of a block answer that is heard
+abbrev pub block_stamp : ContentEvent → Option ℕ
+block_stamp (Heard (answers.Block block entries status stamp)) = Some stamp
+block_stamp event = None
+
+-- the end of a block without C: its stamp
+abbrev pub full_end : ContentEvent → Option ℕ
+full_end (Ended status stamp) = if says_more status then None else Some stamp
+full_end event = None
+
 -- an entry of any input, or the end of a block without C, as the floor of later entries
 abbrev pub floor_of : ContentEvent → Option Floor
 floor_of (Recorded (Entry input level stamp wide)) = Some (record { time = wide; input = Some input })
@@ -173,14 +192,15 @@ entry_recorded input (Recorded (Entry other level stamp wide)) =
     if input == other && nat_lt input INPUTS then Some (record { level = level; wide = wide }) else None
 entry_recorded input event = None
 
--- what can hide a change of this input from the record: an item that ignores it, or a gap mark
-abbrev pub concealing : ℕ → ContentEvent → Option Bool
-concealing input (Recorded Gap) = Some true
-concealing input event = ignoring input event
+-- a gap mark is recorded
+abbrev pub is_gap : ContentEvent → Option Bool
+is_gap (Recorded Gap) = Some true
+is_gap event = None
 
--- of an item that ignores this input, and of the end of a clear block: whether it is the item
-abbrev pub hiding : ℕ → ContentEvent → Option Bool
-hiding input event = if is_clear_end event then Some false else ignoring input event
+-- what ends that the states of a 181 tell of this input: an item or an entry of it, or a gap mark
+abbrev pub ends_told : ℕ → ContentEvent → Bool
+ends_told input event = (is_some (item_of_input input event) || is_some (entry_recorded input event))
+    || is_some (is_gap event)
 
 -- the states that were asked for
 abbrev pub states_heard : ContentEvent → Option Seen

@@ -1,13 +1,16 @@
 -- What the rules on content always find of a log in which a block has other entries than it was sent with, and by which line.
 -- A log may be cut below any of its lines: a fault is found by the last line of a log that has it.
-use Rattle.std.specs.Prelude.{◌≡◌, ℕ, ◌+◌, Bool, ◌&&◌, ◌||◌, true, false, not, List, [], ◌∷◌, ◌++◌, Option, Some, None, fold, is_some, length, option_map, replicate}
+use Rattle.std.specs.Prelude.{◌≡◌, ℕ, ◌+◌, Bool, ◌&&◌, ◌||◌, true, false, not, List, [], ◌∷◌, ◌++◌, Option, Some, None, fold, if◌then◌else◌, is_some, length, option_map, replicate}
 use Rattle.fio_message.specs.Blocks.{Block}
 use Rattle.fio_message.specs.declared.fields.Entry.{Entry}
 use Rattle.fio_cpu.specs.Record.{items_of_block}
-use Rattle.fio_check.specs.ContentAbove.{ContentFacts, content_at, input_at, is_at, latest_said}
-use Rattle.fio_check.specs.ContentSaid.{Seen, comes_to, entry_recorded}
+use Rattle.fio_check.specs.ContentAbove.{content_at, is_at, latest_said}
+use Rattle.fio_check.specs.ContentKnown.{ContentFacts, WatchedState}
+use Rattle.fio_check.specs.ContentSaid.{Seen, comes_to, entry_recorded, is_loading}
 use Rattle.fio_check.specs.ContentEvents.{ContentEvent, LineEvent, events_of_log, is_taken, number_below}
-use Rattle.fio_check.specs.ContentRules.{ContentFault, content_fault_in}
+use Rattle.fio_check.specs.ContentFacts.{is_aging}
+use Rattle.fio_check.specs.ContentRules.{steady_state}
+use Rattle.fio_check.specs.ContentFaults.{ContentFault, content_fault_in}
 use Rattle.fio_check.specs.Lines.{TranscriptLine}
 use Rattle.fio_check.specs.Places.{is_some_and}
 use Rattle.fio_check.specs.Pollers.{block_on}
@@ -54,21 +57,36 @@ turned entry = record entry { level = not entry.level }
 abbrev pub content_below : Bool → List TranscriptLine → ContentFacts
 content_below begun lines = content_at (events_of_log begun lines) (length (events_of_log begun lines))
 
--- below these lines the times of neighbouring entries are compared: a clear block is above, and no load of the counter was
--- sent
-pub record ComparesTimes (begun : Bool) (lines : List TranscriptLine) : Type 0 where
-  pub clear : (content_below begun lines).clear ≡ true
-  pub unloaded : (content_below begun lines).loaded ≡ false
+-- below these lines the times of neighbouring entries of a block with this stamp are compared: times are known and no load of
+-- the counter excuses anything, and the block was made soon after the latest one without C
+pub record ComparesTimes (begun : Bool) (lines : List TranscriptLine) (stamp : ℕ) : Type 0 where
+  pub timely : (content_below begun lines).timely ≡ true
+  pub judged : (content_below begun lines).excuses ≡ 0
+  pub soon : is_aging (content_below begun lines) (Some stamp) ≡ false
 
--- an event tells the state of an input: it is an entry of that input, or the record comes there to these states
-abbrev pub tells_state : Option Seen → ℕ → ContentEvent → Bool
-tells_state seen input event = is_some (entry_recorded input event) || is_some_and seen (λ states. comes_to states event)
+-- an event tells the state of an input, whose latest entry is watched: it is an entry of that input, or the record comes
+-- there to states that were asked for, and no item that ignores the input was sent since the clear block above its latest
+-- entry
+abbrev pub tells_of : Option Seen → ℕ → ContentEvent → WatchedState → Bool
+tells_of seen input event watched =
+    is_some (entry_recorded input event) || (not watched.shaded && is_some_and seen (λ states. comes_to states event))
+
+-- the states that were asked for and that the record has not come to, if no load of the counter is sent above
+abbrev pub seen_unloaded : List LineEvent → ℕ → Option Seen
+seen_unloaded events place =
+    if is_some (latest_said is_loading events place) then None else (content_at events place).seen
 
 -- at a place the latest entry of an input is compared with what tells the state of the input: no change since can have been
 -- hidden
 abbrev pub is_compared : List LineEvent → ℕ → ℕ → Bool
-is_compared events input place = is_some (input_at events input place).watched
-    && is_at (tells_state (content_at events place).seen input) events place
+is_compared events input place = is_at
+    (λ event. is_some_and ((content_at events place).inputs input).watched (tells_of (seen_unloaded events place) input event))
+    events place
+
+-- at a place the latest entry of an input is watched, and no item that ignores the input was sent since the latest clear block
+-- above that entry
+abbrev pub is_steady : List LineEvent → ℕ → ℕ → Bool
+is_steady events input place = is_some (steady_state ((content_at events place).inputs input).watched)
 
 -- the place of the latest entry of an input above a place
 abbrev pub place_of_latest : List LineEvent → ℕ → ℕ → Option ℕ
@@ -92,7 +110,7 @@ place_of_entry begun above block front =
 abbrev pub FindsDoubled : Bool → Type 0
 FindsDoubled begun =
     (above : List TranscriptLine) (line : TranscriptLine) (block : Block) (front back : List Entry) (entry : Entry)
-    → ComparesTimes begun above
+    → ComparesTimes begun above block.stamp
     → TakesBlock above line (with_entries block (front ++ (replicate 2 entry ++ back)))
     → IsFoundBy begun (above ++ (line ∷ []))
 
@@ -102,7 +120,7 @@ abbrev pub FindsSwapped : Bool → Type 0
 FindsSwapped begun =
     (above : List TranscriptLine) (line : TranscriptLine) (octets : List ℕ) (block : Block) (front back : List Entry)
     (entry other : Entry)
-    → ComparesTimes begun above
+    → ComparesTimes begun above block.stamp
     → content_fault_in begun (above ++ (line ∷ [])) ≡ None
     → ChangesEntries above line octets block (front ++ (entry ∷ (other ∷ back))) (front ++ (other ∷ (entry ∷ back)))
     → IsFoundBy begun (above ++ (with_octets line octets ∷ []))
@@ -129,13 +147,14 @@ FindsTurnedLater begun =
     → IsFoundBy begun (above ++ (with_octets line octets ∷ below))
 
 -- Dropped: an entry is left out of its block, in a log that had no fault. It is found by the line at which the entry was
--- compared, if an earlier entry of its input was compared with it.
+-- compared, if an earlier entry of its input was compared with it, and no item that ignores the input was sent since the
+-- clear block above that one.
 abbrev pub FindsDropped : Bool → Type 0
 FindsDropped begun =
     (above below : List TranscriptLine) (line : TranscriptLine) (octets : List ℕ) (block : Block) (front back : List Entry)
     (entry : Entry) (place : ℕ)
     → content_fault_in begun (above ++ (line ∷ below)) ≡ None
     → ChangesEntries above line octets block (front ++ (entry ∷ back)) (front ++ back)
-    → is_compared (events_of_log begun (above ++ (line ∷ below))) entry.input (place_of_entry begun above block front) ≡ true
+    → is_steady (events_of_log begun (above ++ (line ∷ below))) entry.input (place_of_entry begun above block front) ≡ true
     → IsComparedAt (events_of_log begun (above ++ (line ∷ below))) entry.input (place_of_entry begun above block front) place
     → IsFoundBy begun (above ++ (with_octets line octets ∷ below))

@@ -11,9 +11,11 @@ pub mod Checkers
 pub mod Laws
 pub mod ContentEvents
 pub mod ContentSaid
-pub mod ContentAbove
+pub mod ContentKnown
 pub mod ContentRules
+pub mod ContentAbove
 pub mod ContentFacts
+pub mod ContentFaults
 pub mod ContentCheckers
 pub mod ContentKept
 pub mod ContentLaws

@@ -66,3 +66,7 @@ observation_on line = observation_in line.from_cpu line.octets
 -- of the line at a place, where there is one; the first line has place 0
 abbrev pub observation_at : List TranscriptLine → ℕ → Observation
 observation_at lines place = option_map_or observation_on (slice_get lines place) seen.Unreadable
+
+-- whether the CPU sent the line at a place, where there is one
+abbrev pub is_sent_at : List TranscriptLine → ℕ → Bool
+is_sent_at lines place = option_map_or (λ line. line.from_cpu) (slice_get lines place) false

@@ -1,6 +1,6 @@
 //! The checker of a transcript, one frame at a time.
 ghost use Rattle.std.specs.Prelude.{◌≡◌, true, false};
-ghost use Rattle.fio_check.specs.Checkers.{breach_of, checker_with, checker_within, due_in, found_by, new_checker, passes_over};
+ghost use Rattle.fio_check.specs.Checkers.{breach_of, checker_anywhere, checker_skipping, checker_with, checker_within, due_in, found_by, new_checker, passes_over, skips_frame};
 ghost use Rattle.fio_check.specs.Observations.{observation_in};
 
 use crate::facts::Facts;
@@ -28,6 +28,17 @@ pub struct Breach {
     pub due: Option<Due>,
 }
 
+/// What a checker passes over.
+#[derive(Clone, Copy, Debug, PartialEq, Eq, Hash)]
+pub enum Skips {
+    /// Nothing.
+    Nothing,
+    /// What the CPU's end hears, to the first frame that it sends, as above the first command of a log that begins anywhere.
+    ToCommand,
+    /// All frames, to the next poll, as below a breach.
+    ToPoll,
+}
+
 /// A checker: what it keeps of the frames that it took.
 #[derive(Clone, Copy, Debug, PartialEq, Eq, Hash)]
 pub struct Checker {
@@ -35,8 +46,8 @@ pub struct Checker {
     pub limits: Limits,
     /// What is above the next frame.
     pub facts: Facts,
-    /// Whether it passes over all frames to the next poll, as it does below a breach.
-    pub skips: bool,
+    /// What it passes over.
+    pub skips: Skips,
 }
 
 impl Checker {
@@ -51,55 +62,80 @@ impl Checker {
     pub fn within(limits: Limits) -> Checker
         ensures { result ≡ checker_within limits }
     {
+        Checker::skipping(Skips::Nothing, limits)
+    }
+
+    /// Returns a checker above the first frame of a log that begins anywhere, of a module with these limits. It passes over
+    /// what the CPU's end hears above the first frame that it sends.
+    pub fn anywhere(limits: Limits) -> Checker
+        ensures { result ≡ checker_anywhere limits }
+    {
+        Checker::skipping(Skips::ToCommand, limits)
+    }
+
+    fn skipping(skips: Skips, limits: Limits) -> Checker
+        ensures { result ≡ checker_skipping skips limits }
+    {
         Checker {
             limits,
             facts: Facts::default(),
-            skips: false,
+            skips,
         }
     }
 
     /// Takes a frame that the CPU's end sent, and returns its breach. Below a breach the checker
     /// goes on as one that starts at the next poll.
     pub fn sent(&mut self, octets: &[u8]) -> Option<Breach>
-        ensures breach { result ≡ found_by self.old (observation_in true octets.now) }
-        ensures next { self.new ≡ checker_with self.old (observation_in true octets.now) }
+        ensures breach { result ≡ found_by self.old true (observation_in true octets.now) }
+        ensures next { self.new ≡ checker_with self.old true (observation_in true octets.now) }
     {
-        self.take(Observation::of(true, octets))
+        self.take(true, Observation::of(true, octets))
     }
 
     /// Takes a frame that the CPU's end heard, and returns its breach. Below a breach the checker
     /// goes on as one that starts at the next poll.
     pub fn heard(&mut self, octets: &[u8]) -> Option<Breach>
-        ensures breach { result ≡ found_by self.old (observation_in false octets.now) }
-        ensures next { self.new ≡ checker_with self.old (observation_in false octets.now) }
+        ensures breach { result ≡ found_by self.old false (observation_in false octets.now) }
+        ensures next { self.new ≡ checker_with self.old false (observation_in false octets.now) }
     {
-        self.take(Observation::of(false, octets))
+        self.take(false, Observation::of(false, octets))
     }
 
-    fn take(&mut self, observation: Observation) -> Option<Breach>
-        ensures breach { result ≡ found_by self.old observation }
-        ensures next { self.new ≡ checker_with self.old observation }
+    fn take(&mut self, from_cpu: bool, observation: Observation) -> Option<Breach>
+        ensures breach { result ≡ found_by self.old from_cpu observation }
+        ensures next { self.new ≡ checker_with self.old from_cpu observation }
     {
-        if self.passes_over(observation) {
+        if self.passes_over(from_cpu, observation) {
             return None;
         }
         let breach = breach_of(self.limits, &self.facts, observation);
         if breach.is_some() {
-            self.facts = Facts::default();
-            self.skips = true;
+            *self = Checker::skipping(Skips::ToPoll, self.limits);
         } else {
             self.facts.add(observation);
-            self.skips = false;
+            self.skips = Skips::Nothing;
         }
         breach
     }
 
-    fn passes_over(&self, observation: Observation) -> bool
-        ensures { result ≡ passes_over self.now observation }
+    fn passes_over(&self, from_cpu: bool, observation: Observation) -> bool
+        ensures { result ≡ passes_over self.now from_cpu observation }
     {
         match observation {
             Observation::Poll { .. } => false,
-            _ => self.skips,
+            _ => self.skips.skips_frame(from_cpu),
+        }
+    }
+}
+
+impl Skips {
+    fn skips_frame(self, from_cpu: bool) -> bool
+        ensures { result ≡ skips_frame self from_cpu }
+    {
+        match self {
+            Skips::Nothing => false,
+            Skips::ToCommand => !from_cpu,
+            Skips::ToPoll => true,
         }
     }
 }

@@ -1,14 +1,14 @@
 //! The checker of the rules on content, one frame at a time.
-ghost use Rattle.std.specs.Prelude.{◌≡◌, ◌+◌, ◌≤◌, ◌++◌, ◌∷◌, [], ℕ, fold, length, map, true, false, None};
+ghost use Rattle.std.specs.Prelude.{◌≡◌, ◌+◌, ◌≤◌, ◌++◌, ℕ, fold, length, map, true, false, None};
 ghost use Rattle.std.specs.Option.{option_or};
 ghost use Rattle.fio_message.specs.Status.{says_lost};
 ghost use Rattle.fio_message.specs.Views.{answer_of, command_of, entries_of};
 ghost use Rattle.fio_cpu.specs.Record.{gap_if, item_of};
 ghost use Rattle.fio_cpu.specs.declared.record.Item.TheVariants as Item;
-ghost use Rattle.fio_check.specs.ContentCheckers.{breach_among, breach_below, breach_found, content_found, kept_below, kept_at_start, kept_with};
-ghost use Rattle.fio_check.specs.ContentEvents.{Ended, Heard, Recorded, Sent, events_of_answer, items_and_end, number_with_answer, number_with_command};
+ghost use Rattle.fio_check.specs.ContentCheckers.{breach_among, breach_below, breach_found, checking_at_start, checking_with, checking_with_answer, checking_with_command, found_in_answer, found_in_frame, kept_below};
+ghost use Rattle.fio_check.specs.ContentEvents.{Ended, Heard, Recorded, events_of_answer, items_and_end, number_with_answer, number_with_command};
 ghost use Rattle.fio_check.specs.ContentFacts.{content_with};
-ghost use Rattle.fio_check.specs.ContentKept.{content_kept, facts_kept};
+ghost use Rattle.fio_check.specs.ContentKept.{content_checking, content_kept, facts_kept, is_flagged};
 
 use crate::content_above::ContentAbove;
 use crate::content_rules::{BrokenRule, ContentRule};
@@ -32,7 +32,8 @@ pub struct ContentBreach {
 
 /// A checker of the rules on content: what it keeps of the frames that it took. It judges the
 /// answers and entries that a CPU's end takes which starts at the first poll: of the block answers those with
-/// that end's number. So a block that is heard again is judged once.
+/// that end's number. So a block that is heard again is judged once. Answers above the first command of a log that begins
+/// later than both ends are passed over.
 #[derive(Clone, Copy, Debug)]
 #[repr(C)]
 pub struct ContentChecker {
@@ -42,17 +43,19 @@ pub struct ContentChecker {
     has_number: u8,
     /// The number that the next block to be taken has.
     number: u8,
+    /// Whether answers are judged: a command is above, or the log begins with both ends.
+    begun: u8,
     /// Padding to a multiple of 8 octets.
-    reserved: [u8; 6],
+    reserved: [u8; 5],
 }
 
 impl ContentChecker {
     /// Returns a checker above the first frame of a log, whose ends may have begun long before.
     #[inline(always)]
     pub fn new() -> ContentChecker
-        ensures { content_kept result ≡ kept_at_start false }
+        ensures { content_checking result ≡ checking_at_start false }
     {
-        ContentChecker::above(ContentAbove::new())
+        ContentChecker::above(ContentAbove::new(), 0)
     }
 
     /// Returns a checker above the first frame of a log that begins with both ends. It knows how the
@@ -60,37 +63,40 @@ impl ContentChecker {
     #[inline(always)]
     #[tactic(auto, using(crate::proofs::ContentStart::begun_is))]
     pub fn begun() -> ContentChecker
-        ensures { content_kept result ≡ kept_at_start true }
+        ensures { content_checking result ≡ checking_at_start true }
     {
-        ContentChecker::above(ContentAbove::begun())
+        ContentChecker::above(ContentAbove::begun(), 1)
     }
 
     #[inline(always)]
-    fn above(above: ContentAbove) -> ContentChecker
-        ensures { content_kept result ≡ (record { number = None; facts = facts_kept above }) }
+    fn above(above: ContentAbove, begun: u8) -> ContentChecker
+        ensures { content_checking result
+            ≡ (record { begun = is_flagged begun; kept = record { number = None; facts = facts_kept above } }) }
     {
         ContentChecker {
             above,
             has_number: 0,
             number: 0,
-            reserved: [0; 6],
+            begun,
+            reserved: [0; 5],
         }
     }
 
     /// Takes a frame that the CPU's end sent.
     pub fn sent(&mut self, octets: &[u8])
-        ensures { content_kept self.new ≡ kept_with (content_kept self.old) true octets.now }
+        ensures { content_checking self.new ≡ checking_with (content_checking self.old) true octets.now }
     {
-        if let Ok(command) = read_command(octets) {
-            self.send(&command);
+        match read_command(octets) {
+            Ok(command) => self.send(&command),
+            Err(_) => self.begun = 1,
         }
     }
 
     /// Takes a frame that the CPU's end heard, and returns its first breach of a rule on content. All of the
     /// frame is kept, below a breach too.
     pub fn heard(&mut self, octets: &[u8]) -> Option<ContentBreach>
-        ensures found { result ≡ content_found (content_kept self.old) false octets.now }
-        ensures next { content_kept self.new ≡ kept_with (content_kept self.old) false octets.now }
+        ensures found { result ≡ found_in_frame (content_checking self.old) false octets.now }
+        ensures next { content_checking self.new ≡ checking_with (content_checking self.old) false octets.now }
     {
         match read_answer(octets) {
             Ok(answer) => self.hear(&answer),
@@ -101,22 +107,47 @@ impl ContentChecker {
     /// Takes a command that is read already, as `sent` takes its octets.
     #[inline]
     pub fn send(&mut self, command: &CommandView<'_>)
-        ensures { content_kept self.new ≡ kept_below (content_kept self.old) (number_with_command (content_kept self.old).number (command_of command.now)) (Sent (command_of command.now) ∷ []) }
+        ensures { content_checking self.new ≡ checking_with_command (content_checking self.old) (command_of command.now) }
     {
+        self.begin_with(command);
+        self.above.add_command(command);
+    }
+
+    /// Judges from a command on, and takes the number of the first poll.
+    #[inline(always)]
+    fn begin_with(&mut self, command: &CommandView<'_>)
+        ensures { content_checking self.new ≡ (record {
+          begun = true;
+          kept = record { number = number_with_command (content_kept self.old).number (command_of command.now); facts = (content_kept self.old).facts };
+        }) }
+    {
+        self.begun = 1;
         if let CommandView::Poll { block } = *command {
             if self.has_number == 0 {
                 self.has_number = 1;
                 self.number = block;
             }
         }
-        self.above.add_command(command);
     }
 
     /// Takes an answer that is read already, as `heard` takes its octets.
     #[inline]
     pub fn hear(&mut self, answer: &AnswerView<'_>) -> Option<ContentBreach>
+        ensures found { result ≡ found_in_answer (content_checking self.old) (answer_of answer.now) }
+        ensures next { content_checking self.new ≡ checking_with_answer (content_checking self.old) (answer_of answer.now) }
+    {
+        if self.begun == 0 {
+            return None;
+        }
+        self.judge(answer)
+    }
+
+    /// Judges an answer, and takes it.
+    #[inline(always)]
+    fn judge(&mut self, answer: &AnswerView<'_>) -> Option<ContentBreach>
         ensures found { result ≡ breach_among (content_kept self.old).facts 0 (events_of_answer (content_kept self.old).number (answer_of answer.now)) }
         ensures next { content_kept self.new ≡ kept_below (content_kept self.old) (number_with_answer (content_kept self.old).number (answer_of answer.now)) (events_of_answer (content_kept self.old).number (answer_of answer.now)) }
+        ensures begun { self.new.begun ≡ self.old.begun }
     {
         match *answer {
             AnswerView::Block {

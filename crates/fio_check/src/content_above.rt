@@ -1,16 +1,19 @@
 //! What the rules on content keep of the events above, in plain memory that C code can hold too: a flag
 //! is an octet, and 0 is no.
-ghost use Rattle.std.specs.Prelude.{◌≡◌, ℕ, Some, if◌then◌else◌};
+ghost use Rattle.std.specs.Prelude.{◌≡◌, ◌==◌, ◌&&◌, ◌||◌, ℕ, Bool, None, Some, false, nat_lt, not, if◌then◌else◌};
 ghost use Rattle.std.specs.Option.{option_or};
+ghost use Rattle.fio_message.specs.Status.{says_again, says_more};
 ghost use Rattle.fio_message.specs.Views.{answer_of, command_of, items_of};
+ghost use Rattle.fio_message.specs.declared.limits.TheConstants.{INPUTS};
 ghost use Rattle.fio_cpu.specs.declared.record.Item.TheVariants.{Entry, Gap};
-ghost use Rattle.fio_check.specs.ContentSaid.{accepts_items, stamp_of};
+ghost use Rattle.fio_check.specs.ContentSaid.{accepts_items, items_sent, stamp_of};
 ghost use Rattle.fio_check.specs.ContentEvents.{Ended, Heard, Recorded, Sent};
-ghost use Rattle.fio_check.specs.ContentFacts.{below_answer, content_begun, content_with, no_content, with_command, with_items};
-ghost use Rattle.fio_check.specs.ContentKept.{facts_kept};
+ghost use Rattle.fio_check.specs.ContentFacts.{below_answer, coming, content_begun, content_step, content_with, forgetting, input_with_entry, input_ended, is_aging, no_content, seen_below, seen_with, settles, timely_below, with_command, with_items, with_since_poll};
+ghost use Rattle.fio_check.specs.ContentKnown.{input_coming};
+ghost use Rattle.fio_check.specs.ContentKept.{facts_kept, is_flagged};
 
 use crate::content_inputs::ContentInputs;
-use crate::content_times::{is_before, is_later};
+use crate::content_times::{is_before, is_far, is_later};
 use crate::observation::names_absent_item;
 use fio_message::{
     AnswerView, BlockStatus, CommandView, INPUTS, InputNumber, ItemsView, says_error,
@@ -24,14 +27,18 @@ pub struct ContentAbove {
     pub(crate) inputs: ContentInputs,
     /// The states of the latest 181.
     pub(crate) seen_levels: u64,
+    /// The inputs of which an item was sent below the first poll for the block that is due.
+    pub(crate) since_poll: u64,
     /// The latest stamp, but of a block that is sent again.
     pub(crate) clock: u32,
+    /// The stamp of the latest block without C, if times are known.
+    pub(crate) full: u32,
     /// The time with which the next entry is compared.
     pub(crate) floor: u32,
     /// The stamp of the latest 181.
     pub(crate) seen: u32,
-    /// Whether a load of the counter was sent.
-    pub(crate) loaded: u8,
+    /// How many loads of the counter were sent that have excused no breach yet: 255 stays.
+    pub(crate) excuses: u8,
     /// Whether an answer to a watchdog was heard.
     pub(crate) watchdog_set: u8,
     /// The flags that the command clears which awaits its answer.
@@ -41,12 +48,21 @@ pub struct ContentAbove {
     pub(crate) has_clock: u8,
     /// Whether a clear block is above.
     pub(crate) clear: u8,
+    /// Whether the latest block was made so long after the latest one without C that 16 bits do not tell the times of its
+    /// entries.
+    pub(crate) aged: u8,
     /// What has the time of the floor: 1 an entry, 2 a block without C, and 0 where there is neither.
     pub(crate) floor_kind: u8,
     /// The input of that entry.
     pub(crate) floor_input: u8,
     /// Whether the record has not come to the latest 181.
     pub(crate) has_seen: u8,
+    /// Whether a poll was sent since the latest block.
+    pub(crate) polled: u8,
+    /// Whether a block was heard since times were forgotten.
+    pub(crate) block_heard: u8,
+    /// Whether times are known: since then the end of a clear block that was heard is above.
+    pub(crate) timely: u8,
     /// Padding to a multiple of 8 octets.
     reserved: [u8; 3],
 }
@@ -60,18 +76,24 @@ impl ContentAbove {
         ContentAbove {
             inputs: ContentInputs::new(),
             seen_levels: 0,
+            since_poll: 0,
             clock: 0,
+            full: 0,
             floor: 0,
             seen: 0,
-            loaded: 0,
+            excuses: 0,
             watchdog_set: 0,
             clearing: 0,
             absent_named: 0,
             has_clock: 0,
             clear: 0,
+            aged: 0,
             floor_kind: 0,
             floor_input: 0,
             has_seen: 0,
+            polled: 0,
+            block_heard: 0,
+            timely: 0,
             reserved: [0; 3],
         }
     }
@@ -86,6 +108,9 @@ impl ContentAbove {
             clock: 0,
             has_clock: 1,
             clear: 1,
+            block_heard: 1,
+            timely: 1,
+            full: 0,
             floor: 0,
             floor_kind: 2,
             ..ContentAbove::new()
@@ -94,14 +119,20 @@ impl ContentAbove {
 
     // ---- Commands
 
-    /// Adds a command that is sent.
+    /// Adds a command that is sent: it breaks no rule, so it is not excused.
     pub(crate) fn add_command(&mut self, command: &CommandView<'_>)
         ensures { facts_kept self.new ≡ content_with (facts_kept self.old) (Sent (command_of command.now)) }
     {
+        self.step_command(command);
+    }
+
+    /// Adds a command that is not excused.
+    fn step_command(&mut self, command: &CommandView<'_>)
+        ensures { facts_kept self.new ≡ content_step (facts_kept self.old) (Sent (command_of command.now)) }
+    {
         self.begin_command(command);
-        if let CommandView::ConfigureInputs { items } = *command {
-            self.add_items(&items);
-        }
+        self.add_items_of(command);
+        self.add_since_poll();
     }
 
     /// Adds a command before its items.
@@ -112,11 +143,9 @@ impl ContentAbove {
         self.clearing = 0;
         self.absent_named = 0;
         match *command {
+            CommandView::Poll { .. } => self.polled = 1,
             CommandView::Status { clear } => self.clearing = clear,
-            CommandView::LoadCounter { .. } => {
-                self.loaded = 1;
-                self.has_seen = 0;
-            }
+            CommandView::LoadCounter { .. } => self.excuses = self.excuses.saturating_add(1),
             CommandView::ConfigureInputs { items } => {
                 self.absent_named = u8::from(names_absent_item(&items));
             }
@@ -124,12 +153,34 @@ impl ContentAbove {
         }
     }
 
-    /// Adds the items of a command.
+    /// Adds the items of a command, if it has some.
+    fn add_items_of(&mut self, command: &CommandView<'_>)
+        requires { (input : ℕ) → ((facts_kept self.old).inputs input).named ≡ false }
+        ensures { facts_kept self.new ≡ with_items (facts_kept self.old) (items_sent (command_of command.now)) }
+    {
+        if let CommandView::ConfigureInputs { items } = *command {
+            self.add_items(&items);
+        }
+    }
+
+    /// Adds the items of a command, the last one first: of each input that one counts.
     fn add_items(&mut self, items: &ItemsView<'_>)
+        requires { (input : ℕ) → ((facts_kept self.old).inputs input).named ≡ false }
         ensures { facts_kept self.new ≡ with_items (facts_kept self.old) (items_of items.now) }
     {
-        'items: for item in items.iter() {
-            self.inputs.add_item(item);
+        let mut left = items.len();
+        'items: while left > 0 {
+            left -= 1;
+            self.inputs.add_item(items.item(left));
+        }
+    }
+
+    /// Adds the items of a command to those sent since the first poll for the block that is due, if that is above.
+    fn add_since_poll(&mut self)
+        ensures { facts_kept self.new ≡ with_since_poll (facts_kept self.old) }
+    {
+        if self.polled != 0 {
+            self.since_poll = self.inputs.named() | self.since_poll;
         }
     }
 
@@ -139,10 +190,23 @@ impl ContentAbove {
     pub(crate) fn add_answer(&mut self, answer: &AnswerView<'_>)
         ensures { facts_kept self.new ≡ content_with (facts_kept self.old) (Heard (answer_of answer.now)) }
     {
+        let excused = self.is_answer_excused(answer);
+        self.step_answer(answer);
+        self.forget(excused);
+    }
+
+    /// Adds an answer, whether or not it is excused.
+    fn step_answer(&mut self, answer: &AnswerView<'_>)
+        ensures { facts_kept self.new ≡ content_step (facts_kept self.old) (Heard (answer_of answer.now)) }
+    {
         self.end_command(answer);
         match *answer {
             AnswerView::Watchdog { .. } => self.watchdog_set = 1,
             AnswerView::FilteredInputs { inputs, stamp } => self.set_seen(inputs, stamp),
+            AnswerView::Block { stamp, .. } => {
+                self.block_heard = 1;
+                self.begin_block(stamp);
+            }
             _ => {}
         }
     }
@@ -169,17 +233,28 @@ impl ContentAbove {
         }
     }
 
-    /// Sets the states of the latest 181, if no load was sent.
+    /// Sets the states of the latest 181, if times are known.
     fn set_seen(&mut self, levels: u64, stamp: u32)
         ensures { facts_kept self.new ≡ (record (facts_kept self.old) {
-          seen = if (facts_kept self.old).loaded then (facts_kept self.old).seen
-              else Some (record { stamp = stamp; levels = levels });
+          seen = seen_with (facts_kept self.old) (Some (record { stamp = stamp; levels = levels }));
         }) }
     {
-        if self.loaded == 0 {
-            self.has_seen = 1;
-            self.seen = stamp;
-            self.seen_levels = levels;
+        self.has_seen = self.timely;
+        self.seen = stamp;
+        self.seen_levels = levels;
+    }
+
+    /// Begins a block with this stamp: whether the times of its entries are told by 16 bits.
+    fn begin_block(&mut self, stamp: u32)
+        ensures { facts_kept self.new ≡ (record (facts_kept self.old) {
+          aged = is_aging (facts_kept self.old) (Some stamp);
+          seen = if is_aging (facts_kept self.old) (Some stamp) then None else (facts_kept self.old).seen;
+        }) }
+    {
+        let aged = self.timely != 0 && is_far(self.full, stamp);
+        self.aged = u8::from(aged);
+        if aged {
+            self.has_seen = 0;
         }
     }
 
@@ -189,6 +264,7 @@ impl ContentAbove {
     pub(crate) fn add_gap(&mut self)
         ensures { facts_kept self.new ≡ content_with (facts_kept self.old) (Recorded Gap) }
     {
+        self.has_seen = 0;
         self.inputs.add_gap();
     }
 
@@ -197,15 +273,74 @@ impl ContentAbove {
         ensures { (stamp : ℕ) → facts_kept self.new
             ≡ content_with (facts_kept self.old) (Recorded (Entry input level stamp wide)) }
     {
+        let excused = self.is_entry_excused(input, level, wide);
+        self.step_entry(input, level, wide);
+        self.forget(excused);
+    }
+
+    /// Adds an entry, whether or not it is excused.
+    fn step_entry(&mut self, input: InputNumber, level: bool, wide: u32)
+        ensures { (stamp : ℕ) → facts_kept self.new
+            ≡ content_step (facts_kept self.old) (Recorded (Entry input level stamp wide)) }
+    {
+        self.come_to(wide);
+        self.set_floor(input, wide);
+        self.add_to_input(input, level, wide);
+    }
+
+    /// The record comes to the states of the latest 181, if an entry of this wide time is later.
+    fn come_to(&mut self, wide: u32)
+        ensures { (recorded stamp : ℕ) (level : Bool) → facts_kept self.new ≡ (record (facts_kept self.old) {
+          seen = seen_below (Recorded (Entry recorded level stamp wide)) (facts_kept self.old).seen;
+          inputs = λ input. input_coming input (coming (facts_kept self.old) (Recorded (Entry recorded level stamp wide)))
+              ((facts_kept self.old).inputs input);
+        }) }
+    {
         if self.has_seen != 0 && is_later(wide, self.seen) {
             self.has_seen = 0;
+            self.inputs.come_to(self.seen_levels);
         }
-        self.floor_kind = 1;
+    }
+
+    /// The record comes to the states of the latest 181, if the stamp of a block without C is not before them.
+    fn come_to_end(&mut self, status: u8, stamp: u32)
+        requires { says_more status ≡ false }
+        ensures { facts_kept self.new ≡ (record (facts_kept self.old) {
+          seen = seen_below (Ended status stamp) (facts_kept self.old).seen;
+          inputs = λ input. input_coming input (coming (facts_kept self.old) (Ended status stamp))
+              ((facts_kept self.old).inputs input);
+        }) }
+    {
+        if self.has_seen != 0 && !is_before(stamp, self.seen) {
+            self.has_seen = 0;
+            self.inputs.come_to(self.seen_levels);
+        }
+    }
+
+    /// Sets the floor to an entry of this input and wide time, if its time is known.
+    fn set_floor(&mut self, input: InputNumber, wide: u32)
+        ensures { facts_kept self.new ≡ (record (facts_kept self.old) {
+          floor = if (facts_kept self.old).aged then None else Some (record { time = wide; input = Some input });
+        }) }
+    {
         self.floor = wide;
         self.floor_input = input.get();
+        self.floor_kind = if self.aged == 0 { 1 } else { 0 };
+    }
+
+    /// Adds an entry to what is kept of its input.
+    fn add_to_input(&mut self, input: InputNumber, level: bool, wide: u32)
+        ensures { facts_kept self.new ≡ (record (facts_kept self.old) {
+          inputs = λ other. if other == input && nat_lt other INPUTS
+              then input_with_entry (facts_kept self.old) level wide ((facts_kept self.old).inputs other)
+              else (facts_kept self.old).inputs other;
+        }) }
+    {
         let place = usize::from(input.get());
         if place < INPUTS {
-            self.inputs.add_entry(place, level, wide, self.clear != 0);
+            let timely = self.timely != 0 && self.aged == 0;
+            self.inputs
+                .add_entry(place, level, wide, self.clear != 0, timely);
         }
     }
 
@@ -213,19 +348,83 @@ impl ContentAbove {
     pub(crate) fn end_block(&mut self, status: u8, stamp: u32)
         ensures { facts_kept self.new ≡ content_with (facts_kept self.old) (Ended status stamp) }
     {
-        let status = BlockStatus::from_octet(status);
-        if status.more() {
-            return;
+        let excused = self.is_end_excused(status, stamp);
+        self.step_end(status, stamp);
+        self.forget(excused);
+    }
+
+    /// Adds the end of a block, whether or not it is excused.
+    fn step_end(&mut self, status: u8, stamp: u32)
+        ensures { facts_kept self.new ≡ content_step (facts_kept self.old) (Ended status stamp) }
+    {
+        if !BlockStatus::from_octet(status).more() {
+            self.come_to_end(status, stamp);
+            self.settle(status);
+            self.end_full(status, stamp);
         }
-        if self.has_seen != 0 && !is_before(stamp, self.seen) {
-            self.has_seen = 0;
+        self.polled = 0;
+        self.since_poll = 0;
+    }
+
+    /// Settles the inputs that the end of a block without C settles.
+    fn settle(&mut self, status: u8)
+        requires { says_more status ≡ false }
+        ensures { (stamp : ℕ) → facts_kept self.new ≡ (record (facts_kept self.old) {
+          inputs = λ input. input_ended (settles (facts_kept self.old) input (Ended status stamp)) ((facts_kept self.old).inputs input);
+        }) }
+    {
+        if !BlockStatus::from_octet(status).again() {
+            self.inputs.settle_but(0);
+        } else if self.clear != 0 {
+            self.inputs.settle_but(self.since_poll);
         }
+    }
+
+    /// Keeps the stamp of a block without C.
+    fn end_full(&mut self, status: u8, stamp: u32)
+        requires { says_more status ≡ false }
+        ensures { facts_kept self.new ≡ (record (facts_kept self.old) {
+          clear = not (says_again status) || (facts_kept self.old).clear;
+          timely = timely_below (not (says_again status)) (facts_kept self.old);
+          full = if timely_below (not (says_again status)) (facts_kept self.old) then Some stamp else None;
+          floor = Some (record { time = stamp; input = None });
+        }) }
+    {
         self.floor_kind = 2;
         self.floor = stamp;
-        if !status.again() {
+        self.full = stamp;
+        if !BlockStatus::from_octet(status).again() {
             self.clear = 1;
-            self.inputs.add_clear_block();
+            self.timely = self.timely_below_clear();
         }
+    }
+
+    // ---- Times
+
+    /// Returns whether times are known below the end of a clear block.
+    fn timely_below_clear(&self) -> u8
+        ensures { is_flagged result ≡ ((facts_kept self.now).block_heard || (facts_kept self.now).timely) }
+    {
+        u8::from(self.block_heard != 0 || self.timely != 0)
+    }
+
+    /// Uses an excuse and forgets all that is known of times, where an event is excused.
+    fn forget(&mut self, excused: bool)
+        ensures { facts_kept self.new ≡ forgetting excused (facts_kept self.old) }
+    {
+        if !excused {
+            return;
+        }
+        if self.excuses < u8::MAX {
+            self.excuses = self.excuses.saturating_sub(1);
+        }
+        self.has_clock = 0;
+        self.block_heard = 0;
+        self.timely = 0;
+        self.aged = 0;
+        self.floor_kind = 0;
+        self.has_seen = 0;
+        self.inputs.forget_times();
     }
 }
 

@@ -1,13 +1,14 @@
 //! What the rules on content keep of each input, in plain memory that C code can hold too. A set of inputs is
 //! a word.
-ghost use Rattle.std.specs.Prelude.{◌≡◌, ◌==◌, ◌<◌, ◌∷◌, [], ℕ, ◌&&◌, true, false, IfSome, None, Some, nat_lt, not, if◌then◌else◌};
+ghost use Rattle.std.specs.Prelude.{◌≡◌, ◌==◌, ◌<◌, ◌∷◌, [], ℕ, ◌&&◌, true, false, not, IfSome, None, Some, nat_lt, option_map, if◌then◌else◌};
 ghost use Rattle.fio_message.specs.Bits.{is_set};
 ghost use Rattle.fio_message.specs.declared.limits.TheConstants.{INPUTS};
 ghost use Rattle.fio_check.specs.ContentAbove.{lesser};
-ghost use Rattle.fio_check.specs.ContentSaid.{items_for};
-ghost use Rattle.fio_check.specs.ContentFacts.{input_begun, input_below_clear, input_with_answer, input_with_items, no_input, settled_now, unnamed, unwatched};
+ghost use Rattle.fio_check.specs.ContentSaid.{item_for};
+ghost use Rattle.fio_check.specs.ContentFacts.{forgetting_input, input_begun, input_ended, input_with_answer, input_with_earlier, no_input, turned_by, unnamed, unwatched, watched_now};
+ghost use Rattle.fio_check.specs.ContentKnown.{input_coming};
 ghost use Rattle.fio_check.specs.ContentKept.{input_kept};
-ghost use Rattle.fio_check.specs.ContentRules.{filter_towards};
+ghost use Rattle.fio_check.specs.ContentRules.{filter_towards, is_told_otherwise, steady_state};
 
 use crate::input_sets::{has_input, with_input};
 use fio_input::DEFAULT_FILTER;
@@ -25,17 +26,29 @@ pub struct ContentInputs {
     ignoring: u64,
     /// That item was taken.
     taken: u64,
-    /// That item was taken above a clear block, and its filters are the least that can be in force.
+    /// That item was taken above a block that settles it, and its filters are the least that can be in force.
     settled: u64,
-    /// An item that ignores it was sent since the latest clear block.
+    /// An item that ignores it was sent since the latest block that settles it.
     hidden: u64,
+    /// And below that one an item that opens it.
+    reopened: u64,
+    /// An item of it was sent since the latest block that settles it.
+    touched: u64,
+    /// Its state in the latest 181 that the record has come to is known to be the same since.
+    told: u64,
+    /// That state.
+    told_levels: u64,
+    /// It changed between two such 181 without an entry.
+    unlogged: u64,
     /// It is ignored for each entry below.
     shut: u64,
     /// The state of its latest entry.
     levels: u64,
-    /// No change of it since that entry can have been hidden.
+    /// No change of it since that entry can have been hidden and recorded again.
     watched: u64,
-    /// A clear block is above that entry.
+    /// An item that ignores it was sent since the latest block above that entry that settles it.
+    shaded: u64,
+    /// The time of that entry is known.
     timed: u64,
     /// The wide time of that entry.
     times: [u32; INPUTS],
@@ -60,9 +73,15 @@ impl ContentInputs {
             taken: 0,
             settled: 0,
             hidden: 0,
+            reopened: 0,
+            touched: 0,
+            told: 0,
+            told_levels: 0,
+            unlogged: 0,
             shut: 0,
             levels: 0,
             watched: 0,
+            shaded: 0,
             timed: 0,
             times: [0; INPUTS],
             leading: [1; INPUTS],
@@ -85,9 +104,15 @@ impl ContentInputs {
             taken: u64::MAX,
             settled: u64::MAX,
             hidden: 0,
+            reopened: 0,
+            touched: 0,
+            told: 0,
+            told_levels: 0,
+            unlogged: 0,
             shut: u64::MAX,
             levels: 0,
             watched: 0,
+            shaded: 0,
             timed: 0,
             times: [0; INPUTS],
             leading: [DEFAULT_FILTER; INPUTS],
@@ -117,10 +142,10 @@ impl ContentInputs {
         }
     }
 
-    /// Adds an item of the command.
+    /// Adds an item of the command, above those that are added, if none of these is of its input: the last one counts.
     pub(crate) fn add_item(&mut self, item: InputItem)
         ensures { (input : ℕ) → input_kept self.new input
-            ≡ input_with_items (input_kept self.old input) (items_for input (item ∷ [])) }
+            ≡ input_with_earlier (input_kept self.old input) (item_for input (item ∷ [])) }
     {
         let InputItem {
             input,
@@ -129,7 +154,7 @@ impl ContentInputs {
             trailing,
         } = item;
         let place = usize::from(input.get());
-        if place < INPUTS {
+        if place < INPUTS && !has_input(self.named, place) {
             let leading = leading.max(1);
             let trailing = trailing.max(1);
             self.add_filters(place, leading, trailing);
@@ -176,6 +201,9 @@ impl ContentInputs {
               named = true;
               item = Some (record { ignore = ignore; filters = record { leading = leading; trailing = trailing } });
               taken = false;
+              touched = true;
+              told = None;
+              unlogged = false;
             }
             else input_kept self.old input) }
     {
@@ -183,6 +211,9 @@ impl ContentInputs {
         self.sent = with_input(self.sent, place, true);
         self.ignoring = with_input(self.ignoring, place, ignore);
         self.taken = with_input(self.taken, place, false);
+        self.touched = with_input(self.touched, place, true);
+        self.told = with_input(self.told, place, false);
+        self.unlogged = with_input(self.unlogged, place, false);
         self.leading[place] = leading;
         self.trailing[place] = trailing;
     }
@@ -191,34 +222,50 @@ impl ContentInputs {
     fn hide_or_open(&mut self, place: usize, ignore: bool)
         requires { place < INPUTS }
         ensures { (input : ℕ) → input_kept self.new input ≡ (if input == place
-            then (if ignore then record (input_kept self.old input) { hidden = true; watched = None }
-            else record (input_kept self.old input) { shut = false })
+            then turned_by ignore (input_kept self.old input)
             else input_kept self.old input) }
     {
         if ignore {
             self.hidden = with_input(self.hidden, place, true);
-            self.watched = with_input(self.watched, place, false);
+            self.shaded = with_input(self.shaded, place, true);
         } else {
             self.shut = with_input(self.shut, place, false);
+            if has_input(self.hidden, place) {
+                self.reopened = with_input(self.reopened, place, true);
+            }
+            if has_input(self.shaded, place) {
+                self.watched = with_input(self.watched, place, false);
+            }
         }
     }
 
     // ---- Entries and blocks
 
-    /// Adds an entry, by whether a clear block is above.
-    pub(crate) fn add_entry(&mut self, place: usize, level: bool, wide: u32, clear: bool)
+    /// Adds an entry, by whether a clear block is above, and whether its time is known.
+    pub(crate) fn add_entry(
+        &mut self,
+        place: usize,
+        level: bool,
+        wide: u32,
+        clear: bool,
+        timely: bool,
+    )
         requires { place < INPUTS }
         ensures { (input : ℕ) → input_kept self.new input ≡ (if input == place
             then record (input_kept self.old input) {
-              watched = if clear && not (input_kept self.old input).hidden then Some level else None;
-              timed = if clear then Some wide else None;
+              watched = watched_now clear level (input_kept self.old input);
+              timed = if timely then Some wide else None;
+              told = None;
             }
             else input_kept self.old input) }
     {
-        let open = clear && !has_input(self.hidden, place);
-        self.watched = with_input(self.watched, place, open);
+        let watched = clear && !has_input(self.reopened, place);
+        let hidden = has_input(self.hidden, place);
+        self.watched = with_input(self.watched, place, watched);
+        self.shaded = with_input(self.shaded, place, hidden);
         self.levels = with_input(self.levels, place, level);
-        self.timed = with_input(self.timed, place, clear);
+        self.timed = with_input(self.timed, place, timely);
+        self.told = with_input(self.told, place, false);
         self.times[place] = wide;
     }
 
@@ -227,24 +274,54 @@ impl ContentInputs {
         ensures { (input : ℕ) → input_kept self.new input ≡ unwatched (input_kept self.old input) }
     {
         self.watched = 0;
+        self.told = 0;
     }
 
-    /// Adds the end of a clear block, at which each item that was taken is settled.
-    pub(crate) fn add_clear_block(&mut self)
-        ensures { (input : ℕ) → input_kept self.new input
-            ≡ input_below_clear (input_kept self.old input) (settled_now (input_kept self.old input)) }
+    /// The record comes to the states of a 181.
+    pub(crate) fn come_to(&mut self, levels: u64)
+        ensures { (input stamp : ℕ) → input_kept self.new input
+            ≡ input_coming input (Some (record { stamp = stamp; levels = levels })) (input_kept self.old input) }
     {
-        let settled = self.taken & self.sent;
+        let untouched = self.told & !self.touched;
+        self.unlogged = self.unlogged | (untouched & (self.told_levels ^ levels));
+        self.told = !self.touched;
+        self.told_levels = levels;
+    }
+
+    /// Forgets all that rests on times.
+    pub(crate) fn forget_times(&mut self)
+        ensures { (input : ℕ) → input_kept self.new input ≡ forgetting_input true (input_kept self.old input) }
+    {
+        self.timed = 0;
+        self.told = 0;
+        self.unlogged = 0;
+    }
+
+    /// Adds the end of a block that settles all inputs but these: each item of the others that was taken is in force.
+    pub(crate) fn settle_but(&mut self, unsettled: u64)
+        ensures { (input : ℕ) → input_kept self.new input
+            ≡ input_ended (not (is_set unsettled input)) (input_kept self.old input) }
+    {
+        let settled = (self.taken & self.sent) & !unsettled;
         self.shut = (self.shut & !settled) | (self.ignoring & settled);
         self.settled = self.settled | settled;
-        self.hidden = 0;
+        self.hidden = unsettled & self.hidden;
+        self.reopened = unsettled & self.reopened;
+        self.touched = unsettled & self.touched;
     }
 
     // ---- What the rules read
 
+    /// Returns the inputs of which the command that awaits its answer has an item.
+    pub(crate) fn named(&self) -> u64
+        ensures { (input : ℕ) → is_set result input ≡ (input_kept self.now input).named }
+    {
+        self.named
+    }
+
     /// Returns the state of the latest entry of an input, if it is watched.
     pub(crate) fn watched(&self, place: usize) -> Option<bool>
-        ensures { result ≡ (input_kept self.now place).watched }
+        ensures { result ≡ option_map (λ watched. watched.level) (input_kept self.now place).watched }
     {
         if has_input(self.watched, place) {
             Some(has_input(self.levels, place))
@@ -253,7 +330,18 @@ impl ContentInputs {
         }
     }
 
-    /// Returns the wide time of the latest entry of an input, if a clear block is above it.
+    /// Returns the same, if no item that ignores the input was sent since the latest block above that entry that settles it.
+    pub(crate) fn steady(&self, place: usize) -> Option<bool>
+        ensures { result ≡ steady_state (input_kept self.now place).watched }
+    {
+        if has_input(self.shaded, place) {
+            None
+        } else {
+            self.watched(place)
+        }
+    }
+
+    /// Returns the wide time of the latest entry of an input, if it is known.
     pub(crate) fn timed(&self, place: usize) -> Option<u32>
         ensures time { result ≡ (input_kept self.now place).timed }
         ensures within { IfSome result (λ _. place < INPUTS) }
@@ -270,6 +358,32 @@ impl ContentInputs {
         ensures { result ≡ (input_kept self.now place).shut }
     {
         has_input(self.shut, place)
+    }
+
+    /// Returns whether an entry of this state is none of the changes of an input, by what a 181 tells.
+    pub(crate) fn is_told_otherwise(&self, place: usize, level: bool) -> bool
+        ensures { result ≡ is_told_otherwise level (input_kept self.now place) }
+    {
+        let told = has_input(self.told, place) && has_input(self.told_levels, place) == level;
+        told || has_input(self.unlogged, place)
+    }
+
+    /// Returns the same where the record comes to these states with the entry.
+    pub(crate) fn is_told_otherwise_by(&self, place: usize, level: bool, levels: u64) -> bool
+        ensures { (stamp : ℕ) → result ≡ is_told_otherwise level (input_coming place
+            (Some (record { stamp = stamp; levels = levels })) (input_kept self.now place)) }
+    {
+        if place >= INPUTS {
+            return self.is_told_otherwise(place, level);
+        }
+        if has_input(self.unlogged, place) {
+            return true;
+        }
+        if has_input(self.touched, place) {
+            return false;
+        }
+        let now = has_input(levels, place);
+        now == level || (has_input(self.told, place) && has_input(self.told_levels, place) != now)
     }
 
     /// Returns the least filter of an input that can be in force for a change to this state.

@@ -3,73 +3,91 @@ ghost use Rattle.std.specs.Prelude.{◌≡◌};
 ghost use Rattle.fio_check.specs.ContentRules.{content_rule_name, content_rule_number, content_rule_of_number};
 
 /// What an entry of the record, the states of a 181 or an answer may break (own profile). They judge a transcript
-/// that keeps the rules of `Rule`. A clear block is a block answer with neither C nor E. An input is watched from an
-/// entry on if a clear block is above that entry, and no configuration that ignores the input was sent since that
-/// block; a gap mark ends it. Of each rule: what a right link does, when it is judged, and what a breach means, with
-/// the input I and its state S. `tools/generate-constants` makes the words of pages and tools of these.
+/// that keeps the rules of `Rule`. A clear block is a block answer with neither C nor E. It settles each input; below
+/// one, a block with E and without C settles each input of which no item was sent since the first poll for that block.
+/// An input is watched from an entry on if a clear block is above that entry, and of what was sent since the latest
+/// block that settles it nothing opens the input below what ignores it; it is steady if nothing ignores it; a gap mark
+/// ends both. Below a clear block a block is late if its stamp is 65,536 or more after that of the latest block without
+/// C: its entries may be older than their 16 bits say. The rules on time are `order`, `fresh`, `apart`, `state` and `clock`.
+/// A load of the counter that is sent excuses one breach of them, somewhere below: it may have taken effect before. Then
+/// all that is known of times is forgotten, till the end of a clear block that is heard below; 255 excuses are never used
+/// up. Of each rule: what a right link does, when it is judged, and what a breach means, with the input I and its state S.
+/// `tools/generate-constants` makes the words of pages and tools of these.
 #[derive(Clone, Copy, Debug, PartialEq, Eq, PartialOrd, Ord, Hash)]
 pub enum ContentRule {
     /// An entry is later than the entry above it, or has its time and a higher input.
     ///
-    /// Judged if a clear block is above the upper entry, and no load of the counter is sent above.
+    /// Judged if a clear block is above the upper entry, the blocks of both are not late, and no load of the counter
+    /// excuses it.
     ///
-    /// Breach: input I is not later than the entry above it: two are swapped, one is doubled, or the module restarted
+    /// Breach: input I is not later than the entry above it, and a module logs changes in order of time, then of input: two
+    /// are swapped, one is doubled, a time is wrong, or the module restarted
     Order,
     /// An entry is later than the stamp of the latest block without C, which had all entries up to that stamp.
     ///
-    /// Judged if that block or one above it is clear, and no load of the counter is sent above.
+    /// Judged if that block or one above it is clear, the block of the entry is not late, and no load of the counter
+    /// excuses it.
     ///
-    /// Breach: input I changed before the block above was made, which has all changes until then: this one is doubled or late
+    /// Breach: input I changed before the block above was made, which has all changes until then: this one is doubled or
+    /// late, or its time is wrong
     Fresh,
     /// The entries of an input have the states 0 and 1 in turn.
     ///
     /// Judged if the input is watched from the earlier entry on.
     ///
-    /// Breach: input I went to S twice: a change between was lost, or this one doubled
+    /// Breach: input I went to S twice, and neither a gap mark nor a configuration that was sent can have hidden a change
+    /// between: one was lost, or this one is doubled, or its state is turned
     Alternate,
     /// An entry of an input follows the one before no sooner than the filter for its change lets it.
     ///
-    /// Judged if a clear block is above the earlier entry, and no load of the counter is sent above. The filter is the
-    /// least that can be in force: at first 1; an item that is sent can lower it; a clear block sets it to the
-    /// last item of the input, if its answer says done.
+    /// Judged if a clear block is above the earlier entry, the blocks of both are not late, and no load of the counter
+    /// excuses it. The filter is the least that can be in force: at first 1; an item that is sent can lower it; a block
+    /// that settles the input sets it to its last item, if the answer to that says done.
     ///
-    /// Breach: input I went to S sooner than its filter lets it: a time or a filter is wrong
+    /// Breach: input I went to S sooner than the shortest filter that it can have had lets it: a time or a filter is wrong
     Apart,
     /// An input that is ignored has no entry.
     ///
-    /// Judged if above some clear block the last item of the input ignores it, and its answer says done, and no item
-    /// that is sent below opens the input.
+    /// Judged if above some block that settles the input its last item ignores it, and the answer to that says done, and
+    /// no item that is sent below opens the input.
     ///
-    /// Breach: input I is ignored, and changed in the record all the same
+    /// Breach: input I changed in the record, though it was ignored and no configuration that was sent since opens it: the
+    /// module does not ignore it, or the entry is of another input
     Ignored,
     /// An answer 181 has the states of the record at its stamp.
     ///
-    /// Judged if the input is watched and no load of the counter is sent above: at the first entry later than the stamp
-    /// of the latest 181, or the end of the first block without C whose stamp is not before it.
+    /// Judged if a clear block is above the latest 181, neither a late block nor a gap mark is below it, and no load of the
+    /// counter excuses it: at the first entry later than its stamp, or the end of the first block without C whose stamp
+    /// is not before it, of each steady input. From there on the next entry of an input has another state, and an input with
+    /// another state in the next 181 and no entry between is not logged, and has none: till an item of it is sent, if none
+    /// was since the latest block that settles it.
     ///
-    /// Breach: input I had another state in the answer 181 than in the record: a change was lost or turned
+    /// Breach: input I had another state in an answer 181 than in the record, and neither a gap mark nor a configuration
+    /// that was sent can have hidden a change between: one was lost or turned, or the answer is wrong
     State,
     /// The stamp of a 177, 180 or 181, or of a block without E, is not before the latest one above.
     ///
-    /// Judged if no load of the counter is sent above.
+    /// Judged if no load of the counter excuses it.
     ///
-    /// Breach: the counter went back: the module restarted, or a stamp is wrong
+    /// Breach: the counter went back, and no load that was sent explains it: the module restarted, or a stamp is wrong
     Clock,
     /// An answer 178 has no S: a load of the counter is never refused.
     ///
-    /// Breach: the module refused a load of the counter
+    /// Breach: the module refused a load of the counter, and has no reason to: it can load any number
     Done,
     /// An answer 179 has no S, if its configuration names no input above 63.
     ///
-    /// Breach: the module refused a configuration of inputs that it has
+    /// Breach: the module refused a configuration, and has no reason to: each input that is named exists
     Accepted,
     /// An answer 177 has none of the flags that its command clears.
     ///
-    /// Breach: a flag is set that the command clears
+    /// Breach: a flag is set that the command clears, and the answer says which are left after that: the module did not
+    /// clear it
     Cleared,
     /// An answer 186 has Y, if another 186 is above.
     ///
-    /// Breach: the module says that no watchdog was set before, and one was
+    /// Breach: the module says that no watchdog was set before, and it has answered a command that sets one: it restarted,
+    /// or forgot it
     Watchdog,
 }
 

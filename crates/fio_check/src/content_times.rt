@@ -1,6 +1,6 @@
 //! Times of 32 bits that are compared, modulo 2^32.
 ghost use Rattle.std.specs.Prelude.{◌≡◌};
-ghost use Rattle.fio_check.specs.ContentSaid.{is_before, is_later, milliseconds_between};
+ghost use Rattle.fio_check.specs.ContentSaid.{is_before, is_far, is_later, milliseconds_between};
 
 /// Half of all times: a time that is not less than this ahead of another is before it.
 const HALF: u32 = 1 << 31;
@@ -17,6 +17,13 @@ pub(crate) fn is_before(time: u32, other: u32) -> bool
     ensures { result ≡ is_before time other }
 {
     milliseconds_between(other, time) >= HALF
+}
+
+/// Returns whether a time is so far from an earlier one that 16 bits do not tell it.
+pub(crate) fn is_far(earlier: u32, later: u32) -> bool
+    ensures { result ≡ is_far earlier later }
+{
+    milliseconds_between(earlier, later) >= 1 << 16
 }
 
 /// Returns whether a time is neither another nor before it.

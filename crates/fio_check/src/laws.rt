@@ -1,11 +1,11 @@
 //! Laws of the definitions that the contracts cite: a function states one in its contract, and does
 //! nothing.
 ghost use Rattle.std.specs.Prelude.{◌≡◌, ℕ, Bool, List, option_map};
-ghost use Rattle.fio_check.specs.Checkers.{GoesOn, verdict_of_checker};
-ghost use Rattle.fio_check.specs.ContentCheckers.{fault_found, found_first, kept_at_start};
+ghost use Rattle.fio_check.specs.Checkers.{BeginsAnywhere, GoesOn, verdict_of_checker};
+ghost use Rattle.fio_check.specs.ContentCheckers.{checking_at_start, fault_found, found_first};
 ghost use Rattle.fio_check.specs.ContentEvents.{LineEvent};
 ghost use Rattle.fio_check.specs.ContentLaws.{KeepsContent};
-ghost use Rattle.fio_check.specs.ContentRules.{content_fault_in};
+ghost use Rattle.fio_check.specs.ContentFaults.{content_fault_in};
 ghost use Rattle.fio_check.specs.Facts.{is_answering, number_polled, status_of_block};
 ghost use Rattle.fio_check.specs.Finding.{FindsDoubled, FindsDropped, FindsSwapped, FindsTurned, FindsTurnedLater};
 ghost use Rattle.fio_check.specs.Laws.{HasOneVerdict, IsTheLatest, KeepsFacts};
@@ -48,6 +48,12 @@ pub fn checkers_go_on()
     ensures { (limits : Limits) (lines : List TranscriptLine) → GoesOn limits lines }
 {}
 
+/// Of a log that begins anywhere a checker finds nothing above the first command, and from that command on what one finds that
+/// starts there.
+pub fn checkers_begin_anywhere()
+    ensures { (limits : Limits) (lines : List TranscriptLine) → BeginsAnywhere limits lines }
+{}
+
 /// What a checker of the rules on content keeps event by event is what is above the next event.
 pub fn content_is_kept()
     ensures { (events : List LineEvent) → KeepsContent events }
@@ -58,7 +64,7 @@ pub fn content_is_kept()
 #[tactic(auto, using(crate::proofs::ContentFound::finds_the_fault))]
 pub fn content_checkers_find_the_fault()
     ensures { (begun : Bool) (lines : List TranscriptLine)
-        → found_first (kept_at_start begun) lines ≡ option_map fault_found (content_fault_in begun lines) }
+        → found_first (checking_at_start begun) lines ≡ option_map fault_found (content_fault_in begun lines) }
 {}
 
 /// A doubled entry is found at once: where an entry is in a block twice in succession, below a clear block and with no

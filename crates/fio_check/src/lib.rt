@@ -41,7 +41,7 @@ mod observation;
 mod rules;
 mod verdict;
 
-pub use checker::{Breach, Checker, Due};
+pub use checker::{Breach, Checker, Due, Skips};
 pub use content::{ContentBreach, ContentChecker};
 pub use content_rules::{BrokenRule, ContentRule};
 pub use facts::Facts;

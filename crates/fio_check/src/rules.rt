@@ -8,7 +8,8 @@ use crate::observation::Observation;
 use fio_message::BlockStatus;
 use fio_message::types::BLOCK_ANSWER;
 
-/// What a line of a transcript may break, in the order in which the rules are tried (own profile).
+/// What a line of a transcript may break, in the order in which the rules are tried (own profile). Of `Advance` too what
+/// a breach means, if the number is ahead of block N, which was due, and if it is behind.
 /// `tools/generate-constants` makes the words of pages and tools of these.
 #[derive(Clone, Copy, Debug, PartialEq, Eq, PartialOrd, Ord, Hash)]
 pub enum Rule {
@@ -20,6 +21,12 @@ pub enum Rule {
     Number,
     /// Broken by a line that is a poll, not the first, with another number than the one due: that of
     /// the poll before, plus one modulo 256 if a block answer is directly below that poll.
+    ///
+    /// Breach ahead: the CPU went on without an answer, and what block N had is lost; or the log lost a line (own
+    /// profile; TEES allows it)
+    ///
+    /// Breach behind: the CPU asks again for a block that was answered; or it did not hear that answer, and the log is
+    /// not its own (own profile)
     Advance,
     /// Broken by a line that is a block answer with E, though the poll directly above has another
     /// number than the poll before that.

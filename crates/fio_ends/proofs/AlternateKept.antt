@@ -1,126 +1,142 @@
 -- The rule `alternate` never accuses: an entry that is watched is a change from the state of the latest one of its input.
-use Rattle.fio_ends.proofs.Names.{◌≡◌, ◌≢◌, ◌∙◌, ◌+◌, ◌<◌, ◌≤◌, ◌&&◌, ◌||◌, inl, inr, ℕ, Bool, true, false, not, List, [], ◌∷◌, ◌++◌, length, Option, Some, None, refl, ap, sym, subst, arith, if◌then◌else◌, ◌==◌, beq, slice_get, slice_get_within, eqb_tells, nat_lt, nat_tests, is_some_and, same_Some, Command, Block, command_in, command_octets, IsCommand, says_again, says_more, Settings, AreInRange, Life, Occurrence, Scanned, LineSynced, Raised, Commanded, life_of, life_after_command, log_of, Transition, entry_of, MadeBlock, blocks_in, ContentFacts, InputAbove, content_with, Ended, Recorded, Sent, Gap, Event, SentFrame, Machine, start, after, after_sending, after_delivery_to_module, after_taken, Alternate, IsKept, get_after_push}
+use Rattle.fio_ends.proofs.Names.{◌≡◌, ◌≢◌, ◌∙◌, ◌+◌, ◌<◌, ◌≤◌, ◌&&◌, ◌||◌, inl, inr, ℕ, Bool, true, false, not, List, [], ◌∷◌, ◌++◌, length, Option, Some, None, option_map, option_and_then, refl, ap, sym, subst, arith, if◌then◌else◌, ◌==◌, beq, slice_get, eqb_tells, nat_lt, nat_tests, is_some_and, same_Some, Command, Block, InputItem, command_in, command_octets, IsCommand, says_again, says_more, Settings, AreInRange, Life, Occurrence, Scanned, LineSynced, Raised, life_of, life_after_command, log_of, Transition, entry_of, MadeBlock, blocks_in, ContentFacts, InputAbove, content_with, Ended, Recorded, Sent, Gap, Event, SentFrame, Machine, start, after, after_sending, after_delivery_to_module, after_taken, Alternate, IsKept}
 use Rattle.fio_message.specs.declared.commands.Command.TheVariants as commands
 use Rattle.fio_message.specs.Blocks.{block_answer}
 use Rattle.fio_input.specs.Widening.{wide_time_of}
 use Rattle.fio_module.specs.Blocks.{end_of_blocks}
-use Rattle.fio_check.specs.ContentSaid.{SentItem, ignores, items_for, items_sent}
-use Rattle.fio_check.specs.ContentFacts.{content_begun, input_below_clear, input_with_entry, settled_now}
+use Rattle.fio_check.specs.ContentKnown.{WatchedState}
+use Rattle.fio_check.specs.ContentSaid.{SentItem, ignores, item_for, items_sent, opens}
+use Rattle.fio_check.specs.ContentFacts.{coming, content_begun, input_below_clear, input_ended, input_with_entry, input_with_item, settled_now, shaded, unless_shaded, unnamed}
+use Rattle.fio_check.specs.ContentKnown.{input_coming}
 use Rattle.fio_link.specs.declared.event.Event.TheVariants as events
 use Rattle.fio_ends.specs.ContentRuns.{Always, ContentNeverAccuses, KeepsRule}
 use Rattle.fio_ends.proofs.BlockPlaces.{end_at, ends_within, is_next}
-use Rattle.fio_ends.proofs.BlockWalk.{IsWalk, entry_event, walk}
+use Rattle.fio_ends.proofs.BlockWalk.{IsWalk, entry_event, gap_keeps, walk}
 use Rattle.fio_ends.proofs.ContentBegun.{begun_input}
 use Rattle.fio_ends.proofs.ContentSteps.{IsInvariant, IsKnown, IsPastBus, Takes}
-use Rattle.fio_ends.proofs.MadeNow.{made_now}
 use Rattle.fio_ends.proofs.ContentFrame.{heard_keeps}
 use Rattle.fio_ends.proofs.ContentHeld.{content_never_accuses}
 use Rattle.fio_ends.proofs.Following.{IsNoCommand}
+use Rattle.fio_ends.proofs.Reopening.{IsFollowed, MayBeFollowed, followed-entry, followed-open, followed-other, followed-quiet, followed-received, followed-shut, may_be-entry, may_be-further, may_be-now, may_be-open, may_be-quiet, may_be-received, may_be-shut}
 use Rattle.fio_ends.proofs.Sends.{read_back}
+use Rattle.fio_ends.proofs.Shut.{KeepsShutBy}
+use Rattle.fio_ends.proofs.SettledAgain.{MadeThen, made_then, settles_open}
+use Rattle.fio_ends.proofs.SteadyKept.{NoneIgnores, again_open, clear_open, watched_below}
 use Rattle.fio_ends.proofs.Taken.{blocks_stay}
-use Rattle.fio_ends.proofs.Watching.{IsWatched, KeepsOpen, NoneHidden, input_at, none_hidden-command, none_hidden-further, none_hidden-now, none_hidden-quiet, none_hidden-since, opened-entry, watched-command, watched-entry, watched-other, watched-quiet}
-
--- no frame that is still to be received ignores an input
-abbrev pub NoneIgnores : List SentFrame → ℕ → ℕ → Type 0
-NoneIgnores frames last input =
-    (place : ℕ) (frame : SentFrame) → last ≤ place → slice_get frames place ≡ Some frame → KeepsOpen input (command_in frame.octets)
+use Rattle.fio_ends.proofs.Watching.{KeepsOpen, NoneHidden, input_at, none_hidden-now}
 
 -- what is known of the changes of an input that are still to be recorded, by what is known of content
-pub record KeepsWatch (life : Life) (frames : List SentFrame) (last upto input : ℕ) (clear hidden : Bool) (watched : Option Bool) : Type 0 where
-  pub open_ones : clear ≡ true → hidden ≡ false → NoneIgnores frames last input × NoneHidden life upto input
-  pub watched_ones : (level : Bool) → watched ≡ Some level → NoneIgnores frames last input × IsWatched life upto input level
+pub record KeepsFollowed (life : Life) (frames : List SentFrame) (last upto input : ℕ) (clear : Bool) (above : InputAbove) : Type 0 where
+  pub open_ones : clear ≡ true → above.reopened ≡ false → MayBeFollowed life frames last upto input above.hidden
+  pub watched_ones : (watched : WatchedState) → above.watched ≡ Some watched → IsFollowed life frames last upto input watched.shaded watched.level
 
 -- the same of each input of a machine
-abbrev pub WatchHolds : Settings → Machine → ContentFacts → Type 0
-WatchHolds settings machine facts =
+abbrev pub FollowHolds : Settings → Machine → ContentFacts → Type 0
+FollowHolds settings machine facts =
     (input : ℕ) → input < 64
-    → KeepsWatch (life_of machine.history) machine.to_module machine.last_to_module (end_at settings (life_of machine.history) machine.round) input facts.clear (facts.inputs input).hidden (facts.inputs input).watched
+    → KeepsFollowed (life_of machine.history) machine.to_module machine.last_to_module (end_at settings (life_of machine.history) machine.round) input facts.clear (facts.inputs input)
 
--- ---- the life goes on
+-- ---- a command is sent
 
-module _ (frames : List SentFrame) (last upto input : ℕ) (clear hidden : Bool) (watched : Option Bool) (low : input < 64) where
-  -- something happens that is no command
-  watch-quiet : (life : Life) (occurrence : Occurrence) → IsNoCommand occurrence → upto ≤ length (log_of life)
-      → KeepsWatch life frames last upto input clear hidden watched → KeepsWatch (occurrence ∷ life) frames last upto input clear hidden watched
-  watch-quiet life occurrence quiet within k = record {
-    open_ones = λ is none. (let o = k.open_ones is none in (o.0, none_hidden-quiet life occurrence upto input quiet within low o.1));
-    watched_ones = λ level is. (let w = k.watched_ones level is in (w.0, watched-quiet life occurrence upto input level quiet within low w.1));
-  }
+module _ (life : Life) (frames : List SentFrame) (last upto input : ℕ) (clear : Bool) (f : SentFrame) (command : Command) (reads : command_in f.octets ≡ Some command) where
+  keeps_open : ignores (item_for input (items_sent command)) ≡ false → KeepsOpen input (command_in f.octets)
+  keeps_open none items spells =
+      let same : command ≡ commands.ConfigureInputs items = same_Some _ _ (sym reads ∙ spells) in
+      ap (λ c. ignores (item_for input (items_sent c))) (sym same) ∙ none
 
-  -- the module receives a frame
-  watch-received : (life : Life) (place : ℕ) (frame : SentFrame) → last ≤ place → slice_get frames place ≡ Some frame
-      → KeepsWatch life frames last upto input clear hidden watched
-      → KeepsWatch (life_after_command (command_in frame.octets) life) frames (place + 1) upto input clear hidden watched
-  watch-received life place frame new at k = record {
-    open_ones = λ is none.
-        (let o = k.open_ones is none in (
-          λ later f high there. o.0 later f (omega arith) there,
-          none_hidden-command input low life upto (command_in frame.octets) (o.0 place frame new at) o.1,
-        ));
-    watched_ones = λ level is.
-        (let w = k.watched_ones level is in (
-          λ later f high there. w.0 later f (omega arith) there,
-          watched-command input low life upto level (command_in frame.octets) (w.0 place frame new at) w.1,
-        ));
-  }
+  keeps_shut : opens (item_for input (items_sent command)) ≡ false → KeepsShutBy input (command_in f.octets)
+  keeps_shut none items spells =
+      let same : command ≡ commands.ConfigureInputs items = same_Some _ _ (sym reads ∙ spells) in
+      ap (λ c. opens (item_for input (items_sent c))) (sym same) ∙ none
 
-  -- a command is sent that does not ignore the input, or does
-  watch-sent : (life : Life) (f : SentFrame) (command : Command) → command_in f.octets ≡ Some command → (ignoring : Bool)
-      → ignores (items_for input (items_sent command)) ≡ ignoring
-      → KeepsWatch life frames last upto input clear hidden watched
-      → KeepsWatch life (frames ++ f ∷ []) last upto input clear (ignoring || hidden) (if ignoring then None else watched)
-  watch-sent life f command reads true said k = record {
-    open_ones = λ is none. absurd (cc none);
-    watched_ones = λ level is. absurd (cc is);
-  }
-  watch-sent life f command reads false said k = record {
-    open_ones = λ is none. (let o = k.open_ones is none in (sent o.0, o.1));
-    watched_ones = λ level is. (let w = k.watched_ones level is in (sent w.0, w.1));
-  }
+  -- an item that ignores the input
+  ignore-sent : (above : InputAbove) (item : InputItem) → item.ignore ≡ true → item_for input (items_sent command) ≡ Some item
+      → KeepsFollowed life frames last upto input clear above → KeepsFollowed life (frames ++ f ∷ []) last upto input clear (input_with_item (unnamed above) (Some item))
+  ignore-sent above item ignored is k = rw ignored (record {
+    open_ones = λ on none. may_be-shut life frames last upto input f this above.hidden true (λ no. absurd (cc no)) (λ on. refl) (k.open_ones on none);
+    watched_ones = λ watched at. by above.watched refl watched at;
+  })
+    where
+      this : KeepsShutBy input (command_in f.octets)
+      this = keeps_shut (ap opens is ∙ ap not ignored)
+
+      by : (before : Option WatchedState) → above.watched ≡ before → (watched : WatchedState) → option_map shaded before ≡ Some watched
+          → IsFollowed life (frames ++ f ∷ []) last upto input watched.shaded watched.level
+      by None same watched at = absurd (cc at)
+      by (Some state) same watched at =
+          subst (λ (w : WatchedState). IsFollowed life (frames ++ f ∷ []) last upto input w.shaded w.level) (same_Some _ _ at)
+          (followed-shut life frames last upto input f this state.shaded true (λ no. absurd (cc no)) (λ on. refl) state.level (k.watched_ones state same))
+
+  -- an item that opens it
+  open-sent : (above : InputAbove) (item : InputItem) → item.ignore ≡ false → item_for input (items_sent command) ≡ Some item
+      → KeepsFollowed life frames last upto input clear above → KeepsFollowed life (frames ++ f ∷ []) last upto input clear (input_with_item (unnamed above) (Some item))
+  open-sent above item opened is k = rw opened (record {
+    open_ones = λ on none. by-hidden above.hidden refl on none;
+    watched_ones = λ watched at. by above.watched refl watched at;
+  })
     where
       this : KeepsOpen input (command_in f.octets)
-      this items spells =
-          let same : command ≡ commands.ConfigureInputs items = same_Some _ _ (sym reads ∙ spells) in
-          ap (λ c. ignores (items_for input (items_sent c))) (sym same) ∙ said
+      this = keeps_open (ap ignores is ∙ opened)
 
-      sent : NoneIgnores frames last input → NoneIgnores (frames ++ f ∷ []) last input
-      sent none place frame low at =
-          elim (get_after_push frames f place frame at) as (λ _. KeepsOpen input (command_in frame.octets)) [
-            | inl old ↦ none place frame low old
-            | inr new ↦ subst (λ (f : SentFrame). KeepsOpen input (command_in f.octets)) (sym new.1) this
-          ]
+      by-hidden : (hidden : Bool) → above.hidden ≡ hidden → clear ≡ true → (hidden || above.reopened) ≡ false → MayBeFollowed life (frames ++ f ∷ []) last upto input hidden
+      by-hidden true at on none = absurd (cc none)
+      by-hidden false at on none = may_be-open life frames last upto input f this (subst (MayBeFollowed life frames last upto input) at (k.open_ones on none))
+
+      by-shade : (state : WatchedState) → above.watched ≡ Some state → (shade : Bool) → state.shaded ≡ shade → (watched : WatchedState)
+          → (if shade then None else Some state) ≡ Some watched → IsFollowed life (frames ++ f ∷ []) last upto input watched.shaded watched.level
+      by-shade state same true shade watched at = absurd (cc at)
+      by-shade state same false shade watched at =
+          subst (λ (w : WatchedState). IsFollowed life (frames ++ f ∷ []) last upto input w.shaded w.level) (same_Some _ _ at)
+          (subst (λ s. IsFollowed life (frames ++ f ∷ []) last upto input s state.level) (sym shade)
+          (followed-open life frames last upto input f this state.level (subst (λ s. IsFollowed life frames last upto input s state.level) shade (k.watched_ones state same))))
+
+      by : (before : Option WatchedState) → above.watched ≡ before → (watched : WatchedState) → option_and_then unless_shaded before ≡ Some watched
+          → IsFollowed life (frames ++ f ∷ []) last upto input watched.shaded watched.level
+      by None same watched at = absurd (cc at)
+      by (Some state) same watched at = by-shade state same state.shaded refl watched at
+
+  pub item-sent : (above : InputAbove) (item : Option InputItem) → item_for input (items_sent command) ≡ item
+      → KeepsFollowed life frames last upto input clear above → KeepsFollowed life (frames ++ f ∷ []) last upto input clear (input_with_item (unnamed above) item)
+  item-sent above None is k =
+      let shut = keeps_shut (ap opens is) in
+      let opened = keeps_open (ap ignores is) in
+      record {
+        open_ones = λ on none. may_be-shut life frames last upto input f shut above.hidden above.hidden (λ no. (no, opened)) (λ on. on) (k.open_ones on none);
+        watched_ones = λ watched at.
+            followed-shut life frames last upto input f shut watched.shaded watched.shaded (λ no. (no, opened)) (λ on. on) watched.level (k.watched_ones watched at);
+      }
+  item-sent above (Some item) is k = by item.ignore refl
+    where
+      by : (ignore : Bool) → item.ignore ≡ ignore → KeepsFollowed life (frames ++ f ∷ []) last upto input clear (input_with_item (unnamed above) (Some item))
+      by true ignored = ignore-sent above item ignored is k
+      by false opened = open-sent above item opened is k
 
 -- ---- the CPU takes a block
 
 -- an entry of an input, or of another
 module _ (life : Life) (frames : List SentFrame) (last upto : ℕ) (transition : Transition) (at : slice_get (log_of life) upto ≡ Some transition) where
-  watch-entry : (input : ℕ) (clear hidden : Bool) (watched : Option Bool) → transition.input ≡ input → KeepsWatch life frames last upto input clear hidden watched
-      → KeepsWatch life frames last (upto + 1) input clear hidden (if clear && not hidden then Some transition.level else None)
-  watch-entry input true true watched same k = record { open_ones = λ is none. absurd (cc none); watched_ones = λ level is. absurd (cc is) }
-  watch-entry input false hidden watched same k = record { open_ones = λ is none. absurd (cc is); watched_ones = λ level is. absurd (cc is) }
-  watch-entry input true false watched same k =
-      let o = k.open_ones refl refl in
-      let w = opened-entry life upto input transition at same o.1 in
-      record {
-        open_ones = λ is none. (o.0, inr (transition.level, w));
-        watched_ones = λ level is. (o.0, subst (IsWatched life (upto + 1) input) (same_Some _ _ is) w);
-      }
-
-  watch-other : (input : ℕ) (clear hidden : Bool) (watched : Option Bool) → transition.input ≢ input → KeepsWatch life frames last upto input clear hidden watched
-      → KeepsWatch life frames last (upto + 1) input clear hidden watched
-  watch-other input clear hidden watched apart k = record {
-    open_ones = λ is none. (let o = k.open_ones is none in (o.0, none_hidden-further life upto (upto + 1) input (omega arith) o.1));
-    watched_ones = λ level is. (let w = k.watched_ones level is in (w.0, watched-other life upto input level transition at apart w.1));
+  entry-own : (input : ℕ) (facts : ContentFacts) (wide : ℕ) (above : InputAbove) → transition.input ≡ input → KeepsFollowed life frames last upto input facts.clear above
+      → KeepsFollowed life frames last (upto + 1) input facts.clear (input_with_entry facts transition.level wide above)
+  entry-own input facts wide above same k = record {
+    open_ones = λ on none. inl (transition.level, may_be-entry life frames last upto input transition at above.hidden same (k.open_ones on none));
+    watched_ones = λ watched now. by facts.clear refl above.reopened refl watched now;
   }
+    where
+      by : (clear : Bool) → facts.clear ≡ clear → (reopened : Bool) → above.reopened ≡ reopened → (watched : WatchedState)
+          → (if clear && not reopened then Some (record { level = transition.level; shaded = above.hidden }) else None) ≡ Some watched
+          → IsFollowed life frames last (upto + 1) input watched.shaded watched.level
+      by false on reopened none watched now = absurd (cc now)
+      by true on true none watched now = absurd (cc now)
+      by true on false none watched now =
+          subst (λ (w : WatchedState). IsFollowed life frames last (upto + 1) input w.shaded w.level) (same_Some _ _ now)
+          (may_be-entry life frames last upto input transition at above.hidden same (k.open_ones on none))
 
--- below a clear block
-hidden_below : (above : InputAbove) (item : Option SentItem) → (input_below_clear above item).hidden ≡ false
-hidden_below above None = refl
-hidden_below above (Some item) = refl
-
-watched_below : (above : InputAbove) (item : Option SentItem) → (input_below_clear above item).watched ≡ above.watched
-watched_below above None = refl
-watched_below above (Some item) = refl
+  entry-other : (input : ℕ) (clear : Bool) (above : InputAbove) → transition.input ≢ input → KeepsFollowed life frames last upto input clear above
+      → KeepsFollowed life frames last (upto + 1) input clear above
+  entry-other input clear above apart k = record {
+    open_ones = λ on none. may_be-further life frames last upto (upto + 1) input above.hidden (omega arith) (k.open_ones on none);
+    watched_ones = λ watched is. followed-other life frames last upto input transition at watched.shaded watched.level apart (k.watched_ones watched is);
+  }
 
 differs : (level : Bool) (before : Bool) → level ≡ not before → beq level before ≡ false
 differs true true is = absurd (cc is)
@@ -128,10 +144,15 @@ differs true false is = refl
 differs false true is = refl
 differs false false is = absurd (cc is)
 
-none_same : (level : Bool) (watched : Option Bool) → ((before : Bool) → watched ≡ Some before → level ≡ not before)
-    → is_some_and watched (λ before. beq level before) ≡ false
+none_same : (level : Bool) (watched : Option WatchedState) → ((before : WatchedState) → watched ≡ Some before → level ≡ not before.level)
+    → is_some_and watched (λ before. beq level before.level) ≡ false
 none_same level None changed = refl
-none_same level (Some before) changed = differs level before (changed before refl)
+none_same level (Some before) changed = differs level before.level (changed before refl)
+
+-- below a clear block
+shown_below : (above : InputAbove) (item : Option SentItem) → (input_below_clear above item).hidden ≡ false
+shown_below above None = refl
+shown_below above (Some item) = refl
 
 module _ (settings : Settings) (range : AreInRange settings) (first : ℕ) (begin : Machine) where
   module _ (from : Life) (machine : Machine) (place number : ℕ) (answer : Block) (block : MadeBlock)
@@ -140,151 +161,173 @@ module _ (settings : Settings) (range : AreInRange settings) (first : ℕ) (begi
     now = life_of machine.history
 
     -- what is kept between the entries
-    abbrev pub Watch : ℕ → List Transition → ContentFacts → Type 0
-    Watch upto rest facts =
-        (input : ℕ) → input < 64
-        → KeepsWatch now machine.to_module machine.last_to_module upto input facts.clear (facts.inputs input).hidden (facts.inputs input).watched
+    abbrev pub Follow : ℕ → List Transition → ContentFacts → Type 0
+    Follow upto rest facts = (input : ℕ) → input < 64 → KeepsFollowed now machine.to_module machine.last_to_module upto input facts.clear (facts.inputs input)
 
-    pub watch_gap : (facts : ContentFacts) → end_at settings now machine.round ≤ block.start → Watch (end_at settings now machine.round) block.transitions facts
-        → Watch block.start block.transitions (content_with facts (Recorded Gap))
-    watch_gap facts forward q = λ input low.
+    follow_gap : (facts : ContentFacts) → end_at settings now machine.round ≤ block.start → Follow (end_at settings now machine.round) block.transitions facts
+        → Follow block.start block.transitions (content_with facts (Recorded Gap))
+    follow_gap facts forward q = λ input low.
         (let k = q input low in
         record {
-          open_ones = λ is none. (let o = k.open_ones is none in (o.0, none_hidden-further now (end_at settings now machine.round) block.start input forward o.1));
-          watched_ones = λ level is. absurd (cc is);
+          open_ones = λ on none. may_be-further now machine.to_module machine.last_to_module (end_at settings now machine.round) block.start input (facts.inputs input).hidden forward (k.open_ones on none);
+          watched_ones = λ watched is. absurd (cc is);
         })
 
-    pub watch_entry : (k : ℕ) (transition : Transition) (rest : List Transition) (facts : ContentFacts) → slice_get block.transitions k ≡ Some transition
-        → slice_get (log_of now) (block.start + k) ≡ Some transition → Watch (block.start + k) (transition ∷ rest) facts
+    follow_entry : (k : ℕ) (transition : Transition) (rest : List Transition) (facts : ContentFacts) → slice_get block.transitions k ≡ Some transition
+        → slice_get (log_of now) (block.start + k) ≡ Some transition → Follow (block.start + k) (transition ∷ rest) facts
         → KeepsRule Alternate facts (entry_event answer.stamp transition)
-        × Watch (block.start + (k + 1)) rest (content_with facts (entry_event answer.stamp transition))
-    watch_entry k transition rest facts at logged q =
+        × Follow (block.start + (k + 1)) rest (content_with facts (entry_event answer.stamp transition))
+    follow_entry k transition rest facts at logged q =
         let input_low : transition.input < 64 = input_at now (block.start + k) transition logged in
         let wide = wide_time_of answer.stamp (entry_of transition).stamp in (
           none_same transition.level (facts.inputs transition.input).watched
-              (λ before is. (watched-entry now (block.start + k) transition.input before transition logged refl ((q transition.input input_low).watched_ones before is).1).0),
+              (λ before is. (followed-entry now machine.to_module machine.last_to_module (block.start + k) transition.input transition logged before.shaded before.level refl
+              ((q transition.input input_low).watched_ones before is)).0),
           λ input low.
               (let next_place : (block.start + k) + 1 ≡ block.start + (k + 1) = omega arith in
-              let above = facts.inputs input in
+              let above = input_coming input (coming facts (entry_event answer.stamp transition)) (facts.inputs input) in
               let new = input_with_entry facts transition.level wide above in
-              subst (λ upto. KeepsWatch now machine.to_module machine.last_to_module upto input facts.clear
-              (if (input == transition.input) && nat_lt input 64 then new else above).hidden (if (input == transition.input) && nat_lt input 64 then new else above).watched) next_place
-              (elim (eqb_tells input transition.input) as (λ _. KeepsWatch now machine.to_module machine.last_to_module ((block.start + k) + 1) input facts.clear
-              (if (input == transition.input) && nat_lt input 64 then new else above).hidden (if (input == transition.input) && nat_lt input 64 then new else above).watched) [
+              let k : KeepsFollowed now machine.to_module machine.last_to_module (block.start + (k + 1)) input facts.clear (if (input == transition.input) && nat_lt input 64 then new else above) =
+              subst (λ upto. KeepsFollowed now machine.to_module machine.last_to_module upto input facts.clear (if (input == transition.input) && nat_lt input 64 then new else above)) next_place
+              (elim (eqb_tells input transition.input) as (λ _. KeepsFollowed now machine.to_module machine.last_to_module ((block.start + k) + 1) input facts.clear
+              (if (input == transition.input) && nat_lt input 64 then new else above)) [
                 | inl same ↦
                     let met : ((input == transition.input) && nat_lt input 64) ≡ true = (let s : input ≡ transition.input = same.1 in grind (arith, nat_tests)) in
-                    subst (λ b. KeepsWatch now machine.to_module machine.last_to_module ((block.start + k) + 1) input facts.clear (if b then new else above).hidden (if b then new else above).watched) (sym met)
-                    (watch-entry now machine.to_module machine.last_to_module (block.start + k) transition logged input facts.clear above.hidden above.watched (sym same.1) (q input low))
+                    subst (λ b. KeepsFollowed now machine.to_module machine.last_to_module ((block.start + k) + 1) input facts.clear (if b then new else above)) (sym met)
+                    (entry-own now machine.to_module machine.last_to_module (block.start + k) transition logged input facts wide above (sym same.1) (record { open_ones = (q input low).open_ones; watched_ones = (q input low).watched_ones }))
                 | inr apart ↦
                     let met : ((input == transition.input) && nat_lt input 64) ≡ false = ap (λ b. b && nat_lt input 64) apart.0 in
-                    subst (λ b. KeepsWatch now machine.to_module machine.last_to_module ((block.start + k) + 1) input facts.clear (if b then new else above).hidden (if b then new else above).watched) (sym met)
-                    (watch-other now machine.to_module machine.last_to_module (block.start + k) transition logged input facts.clear above.hidden above.watched (λ is. apart.1 (sym is)) (q input low))
-              ])),
+                    subst (λ b. KeepsFollowed now machine.to_module machine.last_to_module ((block.start + k) + 1) input facts.clear (if b then new else above)) (sym met)
+                    (entry-other now machine.to_module machine.last_to_module (block.start + k) transition logged input facts.clear above (λ is. apart.1 (sym is)) (record { open_ones = (q input low).open_ones; watched_ones = (q input low).watched_ones }))
+              ]) in
+              record { open_ones = k.open_ones; watched_ones = k.watched_ones }),
         )
 
-    -- at a clear block all frames are received, and no change is hidden since it was made
-    pub clear_open : (input : ℕ) → input < 64 → block.more ≡ false → says_again answer.status ≡ false
-        → NoneIgnores machine.to_module machine.last_to_module input × NoneHidden now block.end input
-    clear_open input low all anew =
-        let m = made_now settings first begin from machine place number answer block known t anew in
-        let ends : block.end ≡ length (log_of (Commanded (commands.Poll number) ∷ t.life)) = m.took all in (
-          λ place frame high there. absurd (omega (arith, t.received, slice_get_within machine.to_module place frame there)),
-          subst (λ life. NoneHidden life block.end input) (sym t.since.is)
-              (none_hidden-since t.since.more (Commanded (commands.Poll number) ∷ t.life) block.end input t.since.none (omega (arith, ends)) low
-              (none_hidden-now (Commanded (commands.Poll number) ∷ t.life) block.end input ends)),
-        )
+    follow_settled : (input : ℕ) (settling : Bool) (clear : Bool) (above : InputAbove)
+        → (settling ≡ true → NoneIgnores machine.to_module machine.last_to_module input × NoneHidden now block.end input)
+        → KeepsFollowed now machine.to_module machine.last_to_module block.end input clear above
+        → KeepsFollowed now machine.to_module machine.last_to_module block.end input clear (input_ended settling above)
+    follow_settled input true clear above opens k = record {
+      open_ones = λ on none. (let o = opens refl in may_be-now now machine.to_module machine.last_to_module block.end input (input_below_clear above (settled_now above)).hidden o.0 o.1);
+      watched_ones = λ watched is. k.watched_ones watched (sym (watched_below above (settled_now above)) ∙ is);
+    }
+    follow_settled input false clear above opens k = k
 
-    pub watch_ended : (facts : ContentFacts) (more again : Bool) → says_more answer.status ≡ more → says_again answer.status ≡ again → Watch block.end [] facts
-        → Watch block.end [] (content_with facts (Ended answer.status answer.stamp))
-    watch_ended facts true again more_is again_is q = rw more_is q
-    watch_ended facts false true more_is again_is q = rw (more_is, again_is) q
-    watch_ended facts false false more_is again_is q = rw (more_is, again_is) (λ input low.
-        (let above = facts.inputs input in
+    follow_ended : (facts : ContentFacts) → MadeThen settings now block facts → (more again : Bool) → says_more answer.status ≡ more → says_again answer.status ≡ again
+        → Follow block.end [] facts → Follow block.end [] (content_with facts (Ended answer.status answer.stamp))
+    follow_ended facts made true again more_is again_is q = rw more_is (λ input low. record { open_ones = (q input low).open_ones; watched_ones = (q input low).watched_ones })
+    follow_ended facts made false true more_is again_is q = rw (more_is, again_is) (λ input low.
+        (let k = follow_settled input (facts.clear && not (facts.since_poll input)) facts.clear (input_coming input (coming facts (Ended answer.status answer.stamp)) (facts.inputs input))
+        (λ is. (let s = settles_open facts.clear (facts.since_poll input) is in
+        again_open settings range first begin from machine place number answer block known t input low facts.since_poll (made s.0) s.1 (sym t.carried.more ∙ more_is)))
+        (record { open_ones = (q input low).open_ones; watched_ones = (q input low).watched_ones }) in
+        record { open_ones = k.open_ones; watched_ones = k.watched_ones }))
+    follow_ended facts made false false more_is again_is q = rw (more_is, again_is) (λ input low.
+        (let above = input_coming input (coming facts (Ended answer.status answer.stamp)) (facts.inputs input) in
         let item = settled_now above in
         let k = q input low in
+        let opened = clear_open settings range first begin from machine place number answer block known t input low (sym t.carried.more ∙ more_is) again_is in
         record {
-          open_ones = λ is none. clear_open input low (sym t.carried.more ∙ more_is) again_is;
-          watched_ones = λ level is. k.watched_ones level (sym (watched_below above item) ∙ is);
+          open_ones = λ on none. may_be-now now machine.to_module machine.last_to_module block.end input (input_below_clear above item).hidden opened.0 opened.1;
+          watched_ones = λ watched is. k.watched_ones watched (sym (watched_below above item) ∙ is);
         }))
 
-    watch_walk : IsWalk Alternate settings now machine.round answer block Watch (WatchHolds settings (after_taken machine place answer))
-    watch_walk = record {
-      gap = watch_gap;
-      entry = watch_entry;
+    -- and what is known of when the block was made
+    abbrev pub FollowMade : ℕ → List Transition → ContentFacts → Type 0
+    FollowMade upto rest facts = Follow upto rest facts × MadeThen settings now block facts
+
+    follow_walk : IsWalk (KeepsRule Alternate) content_with settings now machine.round answer block FollowMade (FollowHolds settings (after_taken machine place answer))
+    follow_walk = record {
+      gap = λ facts forward q. (follow_gap facts forward q.0, q.1);
+      entry = λ k transition rest facts at logged q. (let e = follow_entry k transition rest facts at logged q.0 in (e.0, (e.1, q.1)));
       ended = λ facts q. (
         tt,
         (let upto = (is_next settings now machine.round block t.made).ends in
-            subst (λ n. (input : ℕ) → input < 64 → KeepsWatch now machine.to_module machine.last_to_module n input (content_with facts (Ended answer.status answer.stamp)).clear
-            ((content_with facts (Ended answer.status answer.stamp)).inputs input).hidden ((content_with facts (Ended answer.status answer.stamp)).inputs input).watched) upto
-            (watch_ended facts (says_more answer.status) (says_again answer.status) refl refl q)),
+            subst (λ n. (input : ℕ) → input < 64 → KeepsFollowed now machine.to_module machine.last_to_module n input (content_with facts (Ended answer.status answer.stamp)).clear
+            ((content_with facts (Ended answer.status answer.stamp)).inputs input)) upto
+            (follow_ended facts q.1 (says_more answer.status) (says_again answer.status) refl refl q.0)),
       );
     }
 
   -- ---- the invariant
 
-  pub watch-happens : (machine : Machine) (facts : ContentFacts) (event : Event) → IsPastBus event → WatchHolds settings machine facts
-      → WatchHolds settings (after settings first machine event) facts
-  watch-happens machine facts (events.Scan raw) past p = λ input low.
-      watch-quiet machine.to_module machine.last_to_module (end_at settings (life_of machine.history) machine.round) input facts.clear (facts.inputs input).hidden (facts.inputs input).watched
-      low (life_of machine.history) (Scanned raw) tt (ends_within settings (life_of machine.history) machine.round) (p input low)
-  watch-happens machine facts events.LineSync past p = λ input low.
-      watch-quiet machine.to_module machine.last_to_module (end_at settings (life_of machine.history) machine.round) input facts.clear (facts.inputs input).hidden (facts.inputs input).watched
-      low (life_of machine.history) LineSynced tt (ends_within settings (life_of machine.history) machine.round) (p input low)
-  watch-happens machine facts (events.Raise mask) past p = λ input low.
-      watch-quiet machine.to_module machine.last_to_module (end_at settings (life_of machine.history) machine.round) input facts.clear (facts.inputs input).hidden (facts.inputs input).watched
-      low (life_of machine.history) (Raised mask) tt (ends_within settings (life_of machine.history) machine.round) (p input low)
-  watch-happens machine facts events.Poll past p = absurd past
-  watch-happens machine facts (events.Send command) past p = absurd past
-  watch-happens machine facts (events.ToModule index) past p = absurd past
-  watch-happens machine facts (events.ToCpu index) past p = absurd past
-  watch-happens machine facts events.Restart past p = absurd past
+  quiet : (machine : Machine) (facts : ContentFacts) (occurrence : Occurrence) → IsNoCommand occurrence → FollowHolds settings machine facts → (input : ℕ) → input < 64
+      → KeepsFollowed (occurrence ∷ life_of machine.history) machine.to_module machine.last_to_module (end_at settings (life_of machine.history) machine.round) input facts.clear (facts.inputs input)
+  quiet machine facts occurrence silent p input low =
+      let now = life_of machine.history in
+      let upto = end_at settings now machine.round in
+      let within = ends_within settings now machine.round in
+      let k = p input low in
+      record {
+        open_ones = λ on none. may_be-quiet machine.to_module machine.last_to_module upto input (facts.inputs input).hidden low now occurrence silent within (k.open_ones on none);
+        watched_ones = λ watched is. followed-quiet machine.to_module machine.last_to_module upto input watched.shaded low now occurrence silent within watched.level (k.watched_ones watched is);
+      }
 
-  pub watch-sends : (machine : Machine) (facts : ContentFacts) (command : Command) → IsCommand command → WatchHolds settings machine facts
-      → WatchHolds settings (after_sending machine command) (content_with facts (Sent command))
-  watch-sends machine facts command within p = λ input low.
-      watch-sent machine.to_module machine.last_to_module (end_at settings (life_of machine.history) machine.round) input facts.clear (facts.inputs input).hidden (facts.inputs input).watched
-      low (life_of machine.history) (record { octets = command_octets command; round = machine.round }) command (read_back command within)
-      (ignores (items_for input (items_sent command))) refl (p input low)
+  follow-happens : (machine : Machine) (facts : ContentFacts) (event : Event) → IsPastBus event → FollowHolds settings machine facts
+      → FollowHolds settings (after settings first machine event) facts
+  follow-happens machine facts (events.Scan raw) past p = λ input low. quiet machine facts (Scanned raw) tt p input low
+  follow-happens machine facts events.LineSync past p = λ input low. quiet machine facts LineSynced tt p input low
+  follow-happens machine facts (events.Raise mask) past p = λ input low. quiet machine facts (Raised mask) tt p input low
+  follow-happens machine facts events.Poll past p = absurd past
+  follow-happens machine facts (events.Send command) past p = absurd past
+  follow-happens machine facts (events.ToModule index) past p = absurd past
+  follow-happens machine facts (events.ToCpu index) past p = absurd past
+  follow-happens machine facts events.Restart past p = absurd past
 
-  pub watch-receives : (machine : Machine) (facts : ContentFacts) (place : ℕ) (frame : SentFrame) → IsKept settings first machine → machine.last_to_module < place + 1
-      → slice_get machine.to_module place ≡ Some frame → WatchHolds settings machine facts
-      → WatchHolds settings (after_delivery_to_module settings machine (place + 1) (Some frame)) facts
-  watch-receives machine facts place frame k new at p = λ input low.
+  follow-sends : (machine : Machine) (facts : ContentFacts) (command : Command) → IsCommand command → FollowHolds settings machine facts
+      → FollowHolds settings (after_sending machine command) (content_with facts (Sent command))
+  follow-sends machine facts command within p = λ input low.
+      (let k = item-sent (life_of machine.history) machine.to_module machine.last_to_module (end_at settings (life_of machine.history) machine.round) input facts.clear
+      (record { octets = command_octets command; round = machine.round }) command (read_back command within) (facts.inputs input) (item_for input (items_sent command)) refl (p input low) in
+      record { open_ones = k.open_ones; watched_ones = k.watched_ones })
+
+  follow-receives : (machine : Machine) (facts : ContentFacts) (place : ℕ) (frame : SentFrame) → IsKept settings first machine → machine.last_to_module < place + 1
+      → slice_get machine.to_module place ≡ Some frame → FollowHolds settings machine facts
+      → FollowHolds settings (after_delivery_to_module settings machine (place + 1) (Some frame)) facts
+  follow-receives machine facts place frame k new at p = λ input low.
       (let now = life_of machine.history in
       let command = command_in frame.octets in
       let few : machine.round ≤ length (blocks_in settings machine) = omega (arith, k.always.answers.behind, k.one_life.made) in
       let upto : end_at settings (life_after_command command now) machine.round ≡ end_at settings now machine.round =
       ap end_of_blocks (blocks_stay settings now command machine.round few) in
-      subst (λ n. KeepsWatch (life_after_command command now) machine.to_module (place + 1) n input facts.clear (facts.inputs input).hidden (facts.inputs input).watched) (sym upto)
-      (watch-received machine.to_module machine.last_to_module (end_at settings now machine.round) input facts.clear (facts.inputs input).hidden (facts.inputs input).watched
-      low now place frame (omega arith) at (p input low)))
+      let known = p input low in
+      subst (λ n. KeepsFollowed (life_after_command command now) machine.to_module (place + 1) n input facts.clear (facts.inputs input)) (sym upto)
+      (record {
+        open_ones = λ on none. may_be-received machine.to_module machine.last_to_module (end_at settings now machine.round) input (facts.inputs input).hidden low now place frame (omega arith) at (known.open_ones on none);
+        watched_ones = λ watched is.
+            followed-received machine.to_module machine.last_to_module (end_at settings now machine.round) input watched.shaded low now place frame (omega arith) at watched.level (known.watched_ones watched is);
+      }))
 
   alternate_is_invariant : IsInvariant settings first begin Alternate (Unit {0}) tt (λ state machine event. tt) (λ state machine later. Unit {0})
-      (λ state from machine facts. WatchHolds settings machine facts)
+      (λ state from machine facts. FollowHolds settings machine facts)
   alternate_is_invariant = record {
     goes_on = λ state machine event rest holds. tt;
-    begins = λ known input low. record { open_ones = λ is none. absurd (cc is); watched_ones = λ level is. absurd (cc is) };
-    happens = λ state from machine facts event rest known past holds p. watch-happens machine facts event past p;
-    sends = λ state from machine facts event command known may within p. watch-sends machine facts command within p;
-    receives = λ state from machine facts place frame known new at reads p. watch-receives machine facts place frame known.is_kept new at p;
-    hears = λ state from machine facts place rest command answer known h holds p. ((heard_keeps facts answer).alternate, p);
-    takes = λ state from machine facts place rest number answer block known t holds p.
-        walk Alternate settings (life_of machine.history) machine.round answer block (Watch from machine place number answer block known t)
-        (WatchHolds settings (after_taken machine place answer)) (watch_walk from machine place number answer block known t)
-        t.made t.carried facts ((heard_keeps facts (block_answer answer)).alternate) p;
+    begins = λ known input low. record { open_ones = λ is none. absurd (cc is); watched_ones = λ watched is. absurd (cc is) };
+    happens = λ state from machine facts event rest known past holds p. follow-happens machine facts event past p;
+    sends = λ state from machine facts event command known may within p. follow-sends machine facts command within p;
+    receives = λ state from machine facts place frame known new at reads p. follow-receives machine facts place frame known.is_kept new at p;
+    hears = λ state from machine facts place rest command answer known h holds p. (
+      (heard_keeps facts answer).alternate,
+      λ input low. (let k = p input low in record { open_ones = k.open_ones; watched_ones = k.watched_ones }),
+    );
+    takes = λ state from machine facts place rest number answer block known t polls holds p.
+        walk (KeepsRule Alternate) content_with (gap_keeps Alternate) settings (life_of machine.history) machine.round answer block (FollowMade from machine place number answer block known t)
+        (FollowHolds settings (after_taken machine place answer)) (follow_walk from machine place number answer block known t)
+        t.made t.carried facts ((heard_keeps facts (block_answer answer)).alternate)
+        (λ input low. (let k = p input low in record { open_ones = k.open_ones; watched_ones = k.watched_ones }), made_then settings range first begin from machine place number answer block known t facts polls);
   }
 
 -- at the start of both ends no change is hidden
-pub watch_begun : (settings : Settings) → WatchHolds settings start content_begun
-watch_begun settings input low =
-    subst (λ (above : InputAbove). KeepsWatch [] [] 0 0 input true above.hidden above.watched) (sym (begun_input input low))
+follow_begun : (settings : Settings) → FollowHolds settings start content_begun
+follow_begun settings input low =
+    subst (KeepsFollowed [] [] 0 0 input true) (sym (begun_input input low))
     (record {
-      open_ones = λ is none. (λ place frame high there. absurd (cc there), none_hidden-now [] 0 input refl);
-      watched_ones = λ level is. absurd (cc is);
+      open_ones = λ on none. may_be-now [] [] 0 0 input false (λ place frame high there. absurd (cc there)) (none_hidden-now [] 0 input refl);
+      watched_ones = λ watched is. absurd (cc is);
     })
 
 pub alternate_never_accuses : ContentNeverAccuses Alternate Always
 alternate_never_accuses = content_never_accuses Alternate (Unit {0}) tt (λ state machine event. tt)
-    (λ settings first begin state from machine facts. WatchHolds settings machine facts)
+    (λ settings first begin state from machine facts. FollowHolds settings machine facts)
     (λ settings first begin range. alternate_is_invariant settings range first begin)
-    (λ settings first. watch_begun settings)
+    (λ settings first. follow_begun settings)

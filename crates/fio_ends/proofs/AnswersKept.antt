@@ -2,7 +2,6 @@
 use Rattle.fio_ends.proofs.Names.{◌≡◌, ◌∙◌, ◌&&◌, ◌||◌, ◌==◌, ℕ, suc, ◌<◌, Bool, true, false, not, List, [], ◌∷◌, ◌++◌, Option, Some, None, refl, ap, sym, subst, arith, fold, if◌then◌else◌, list_any, nat_lt, nat_tests, InputItem, Answer, Command, Block, says_error, all_present, is_absent, Settings, Life, Occurrence, Commanded, life_of, life_after_command, Item, Entry, Gap, items_of_block, ContentFacts, content_with, Heard, Recorded, Ended, events_of_block, Accepted, Cleared, Done, Watchdog, ContentRule, Machine}
 use Rattle.std.specs.Int.{bit_at}
 use Rattle.std.specs.List.{list_all}
-use Rattle.std.specs.Option.{option_or}
 use Rattle.std.specs.Prelude.{bit_and, is_some, min, zero}
 use Rattle.std.proofs.lemmas.Nat.{and_le_l}
 use Rattle.std.proofs.lemmas.Nat.Bits.{bit_at_and, bit_at-lt, bit_at-zero, same_from_bits_below}
@@ -13,8 +12,8 @@ use Rattle.fio_message.specs.Status.{error_status}
 use Rattle.fio_message.specs.declared.commands.Command.TheVariants as commands
 use Rattle.fio_message.proofs.StatusBits.{error_back, set_before_back}
 use Rattle.fio_module.specs.Flags.{flags_of, is_flag_up, watchdog_of, word_of}
-use Rattle.fio_check.specs.ContentSaid.{floor_of, is_clear_end, is_set_dog}
-use Rattle.fio_check.specs.ContentFacts.{below_clear, seen_below}
+use Rattle.fio_check.specs.ContentSaid.{is_clear_end, is_set_dog}
+use Rattle.fio_check.specs.ContentFacts.{below_clear}
 use Rattle.fio_check.specs.ContentEvents.{items_and_end}
 use Rattle.fio_check.specs.ContentRules.{breaks_answer}
 use Rattle.fio_ends.specs.ContentRuns.{Always, ContentNeverAccuses, KeepsRule}
@@ -55,7 +54,7 @@ module _ (rule : ContentRule) (keeps : KeepsOthers rule)
     receives = λ state from machine facts place frame known new at reads p. tt;
     hears = λ state from machine facts place rest command answer known h holds p.
         (heard facts h.life command answer h.awaits (says_of settings from machine facts place command answer h), tt);
-    takes = λ state from machine facts place rest number answer block known t holds p. (
+    takes = λ state from machine facts place rest number answer block known t polls holds p. (
       (
         blocks facts answer,
         items_keep rule keeps (items_of_block answer) (content_with facts (Heard (block_answer answer))) answer.status answer.stamp,
@@ -230,17 +229,16 @@ set_then false before later new old is = old is
 set-later : (before now : Life) → GoesOn before now → IsSet before → IsSet now
 set-later before now g set = subst IsSet (sym g.is) (set-more g.more before set)
 
-dog_ended : (clear : Bool) (ended : ContentFacts) → (if clear then below_clear ended else ended).watchdog_set ≡ ended.watchdog_set
-dog_ended true ended = refl
-dog_ended false ended = refl
+dog_ended : (clear : Bool) (ended : ContentFacts) (stamp : ℕ) → (if clear then below_clear ended stamp else ended).watchdog_set ≡ ended.watchdog_set
+dog_ended true ended stamp = refl
+dog_ended false ended stamp = refl
 
 -- below the items of a block it is known as above them
 dog_below : (facts : ContentFacts) (answer : Block) → (fold content_with facts (events_of_block answer)).watchdog_set ≡ facts.watchdog_set
 dog_below facts answer = below (content_with facts (Heard (block_answer answer))) (items_of_block answer)
   where
     below : (above : ContentFacts) (items : List Item) → (fold content_with above (items_and_end items answer.status answer.stamp)).watchdog_set ≡ above.watchdog_set
-    below above [] = dog_ended (is_clear_end (Ended answer.status answer.stamp))
-        (record above { floor = option_or (floor_of (Ended answer.status answer.stamp)) above.floor; seen = seen_below (Ended answer.status answer.stamp) above.seen })
+    below above [] = dog_ended (is_clear_end (Ended answer.status answer.stamp)) _ answer.stamp
     below above (Gap ∷ items) = below (content_with above (Recorded Gap)) items
     below above (Entry input level low wide ∷ items) = below (content_with above (Recorded (Entry input level low wide))) items
 
@@ -258,7 +256,7 @@ watchdog_is_invariant settings first begin = record {
         set_then (is_some (is_set_dog (Heard answer))) facts.watchdog_set (life_of machine.history)
             (set_since command h.life (life_of machine.history) answer says h.since) (λ is. set-later from (life_of machine.history) known.now (p is)),
       ));
-  takes = λ state from machine facts place rest number answer block known t holds p. (
+  takes = λ state from machine facts place rest number answer block known t polls holds p. (
     (
       refl,
       items_keep Watchdog (λ facts input low wide status stamp level. (refl, tt, tt)) (items_of_block answer) (content_with facts (Heard (block_answer answer))) answer.status answer.stamp,

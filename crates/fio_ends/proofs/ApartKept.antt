@@ -1,33 +1,37 @@
 -- The rule `apart` never accuses: an entry is as far from the latest one of its input as the least filter that can be in force.
-use Rattle.fio_ends.proofs.Names.{◌≡◌, ◌∙◌, ◌+◌, ◌<◌, ◌≤◌, ℕ, Bool, false, [], ◌∷◌, length, Some, refl, ap, sym, subst, arith, append-nil, slice_get, command_in, command_octets, Settings, AreInRange, Life, Scanned, LineSynced, Raised, life_of, life_after_command, log_of, log_of-with_command, blocks_of, blocks_in, ContentFacts, InputAbove, Event, SentFrame, Machine, start, after, after_delivery_to_module, after_taken, Apart, IsKept, take, drop}
+use Rattle.fio_ends.proofs.Names.{after_sending, fold, Answer, Command, IsCommand, Sent, MadeBlock, Block, events_of_block, ◌≡◌, ◌∙◌, ◌+◌, ◌<◌, ◌≤◌, ℕ, true, false, [], ◌∷◌, ◌++◌, length, Some, refl, ap, sym, subst, arith, Option, append-nil, slice_get, command_in, command_octets, Settings, AreInRange, Life, Scanned, LineSynced, Raised, life_of, life_after_command, log_of, log_of-with_command, blocks_of, blocks_in, ContentFacts, InputAbove, Heard, Event, SentFrame, Machine, start, after, after_delivery_to_module, after_taken, Apart, IsKept, take, drop}
 use Rattle.fio_message.specs.Blocks.{block_answer}
 use Rattle.fio_module.specs.Blocks.{end_of_blocks}
 use Rattle.fio_module.specs.Log.{transitions_below}
-use Rattle.fio_check.specs.ContentFacts.{content_begun}
+use Rattle.fio_check.specs.ContentFacts.{content_begun, content_step}
+use Rattle.fio_check.specs.ContentSaid.{item_for, items_sent}
+use Rattle.fio_check.proofs.ContentNext.{item_parts}
 use Rattle.fio_link.specs.declared.event.Event.TheVariants as events
-use Rattle.fio_ends.specs.ContentPremises.{HasNearInputs, blocks_taken}
-use Rattle.fio_ends.specs.ContentRuns.{ContentNeverAccuses}
+use Rattle.fio_ends.specs.ContentPremises.{blocks_taken, scans_above}
+use Rattle.fio_ends.specs.ContentRuns.{KeepsRule}
 use Rattle.fio_ends.proofs.BlockPlaces.{end_at}
 use Rattle.fio_ends.proofs.BlockWalk.{walk}
 use Rattle.fio_ends.proofs.ContentBegun.{begun_input}
-use Rattle.fio_ends.proofs.ContentFrame.{heard_keeps}
-use Rattle.fio_ends.proofs.ContentHeld.{timed_never_accuses}
-use Rattle.fio_ends.proofs.ContentSteps.{IsInvariant, IsPastBus}
+use Rattle.fio_ends.proofs.ContentSteps.{HearsAnswer, IsKnown, IsPastBus, Takes}
+use Rattle.fio_ends.proofs.ContentLines.{EachKeeps}
+use Rattle.fio_check.specs.ContentRules.{without_excuse}
 use Rattle.fio_ends.proofs.IgnoredKept.{both_begun, both-happens, both-receives, both-sends, item-heard}
-use Rattle.fio_ends.proofs.LeastFilters.{KeepsLeast, least-begins, least-quiet, least-received, least-sent}
+use Rattle.fio_ends.proofs.LeastFilters.{KeepsLeast, least-quiet, least-received, least-sent}
 use Rattle.fio_ends.proofs.Sends.{read_back}
-use Rattle.fio_ends.proofs.Steady.{loaded_after, loaded_sent, sends_no_load, steady-happens, steady-receives, unloaded_before}
-use Rattle.fio_ends.proofs.Taken.{Asks, asked_of, asks_on, blocks_stay, taken_stay}
-use Rattle.fio_ends.proofs.ApartTimes.{AreNearByInput, KeepsApart, KeepsTimes, entries_in, front_asked, latest_after, near_last, none_yet, past_loaded, times-later}
+use Rattle.fio_ends.proofs.SettledAgain.{MadeThen}
+use Rattle.fio_ends.proofs.Steady.{IsSteady}
+use Rattle.fio_ends.proofs.Taken.{blocks_stay, taken_stay}
+use Rattle.fio_ends.proofs.ApartTimes.{AreNearByInput, KeepsApart, KeepsTimes, entries_in, latest_after, near_last, none_yet, times-later}
+use Rattle.fio_ends.proofs.Fulls.{full_begun, full-happens, full-receives, waits_briefly}
 use Rattle.fio_ends.proofs.ApartBlocks.{KeepsRest, apart_walk}
 
-module _ (settings : Settings) (range : AreInRange settings) (first : ℕ) (begin : Machine) where
+module _ (settings : Settings) (range : AreInRange settings) (first : ℕ) (begin : Machine) (above : Option ℕ) where
   abbrev begin_life : Life
   begin_life = life_of begin.history
 
   -- ---- other events
 
-  least-happens : (machine : Machine) (facts : ContentFacts) (event : Event) → IsPastBus event
+  pub least-happens : (machine : Machine) (facts : ContentFacts) (event : Event) → IsPastBus event
       → ((input : ℕ) → input < 64
       → KeepsLeast (life_of machine.history) machine.to_module machine.last_to_module (end_at settings (life_of machine.history) machine.round) input (facts.inputs input).least)
       → (input : ℕ) → input < 64
@@ -72,117 +76,118 @@ module _ (settings : Settings) (range : AreInRange settings) (first : ℕ) (begi
   times-happens machine facts (events.ToCpu index) past k = absurd past
   times-happens machine facts events.Restart past k = absurd past
 
-  apart-receives : (loaded : Bool) (machine : Machine) (facts : ContentFacts) (place : ℕ) (frame : SentFrame) → IsKept settings first machine → machine.last_to_module < place + 1
-      → slice_get machine.to_module place ≡ Some frame → KeepsApart settings begin loaded machine facts
-      → KeepsApart settings begin loaded (after_delivery_to_module settings machine (place + 1) (Some frame)) facts
-  apart-receives loaded machine facts place frame k new at p =
+  pub apart-receives : (machine : Machine) (facts : ContentFacts) (place : ℕ) (frame : SentFrame) → IsKept settings first machine → machine.last_to_module < place + 1
+      → slice_get machine.to_module place ≡ Some frame → KeepsApart settings begin above machine facts
+      → KeepsApart settings begin above (after_delivery_to_module settings machine (place + 1) (Some frame)) facts
+  apart-receives machine facts place frame k new at p =
       let now = life_of machine.history in
       let command = command_in frame.octets in
       let later = life_after_command command now in
       let few : machine.round ≤ length (blocks_in settings machine) = omega (arith, k.always.answers.behind, k.one_life.made) in
       let upto : end_at settings later machine.round ≡ end_at settings now machine.round = ap end_of_blocks (blocks_stay settings now command machine.round few) in
       record {
-        loaded_is = p.loaded_is;
-        steady = steady-receives loaded begin_life now command p.steady;
+        full = full-receives settings range first begin above machine facts place frame k p.full;
         both = both-receives settings range first begin machine facts place frame k new at p.both;
         least = λ input low.
             subst (λ n. KeepsLeast later machine.to_module (place + 1) n input (facts.inputs input).least) (sym upto)
             (least-received machine.to_module machine.last_to_module (end_at settings now machine.round) input (facts.inputs input).least low now place frame (omega arith) at (p.least input low));
-        times = λ unloaded.
+        times =
             times-later settings begin_life now later [] (end_at settings now machine.round) (end_at settings later machine.round) machine.round
             (latest_after none_yet (entries_in (blocks_taken settings begin machine)))
             (latest_after none_yet (entries_in (drop begin.round (take machine.round (blocks_of settings later))))) facts
             (log_of-with_command command now ∙ sym (append-nil (log_of now))) (omega (arith, upto))
-            (ap (λ blocks. latest_after none_yet (entries_in blocks)) (taken_stay settings range first begin AreNearByInput machine command k)) (p.times unloaded);
+            (ap (λ blocks. latest_after none_yet (entries_in blocks)) (taken_stay settings range first begin (AreNearByInput above) machine command k)) p.times;
       }
 
-  apart_is_invariant : IsInvariant settings first begin Apart Bool false loaded_after (Asks settings first begin AreNearByInput)
-      (λ loaded from machine facts. KeepsApart settings begin loaded machine facts)
-  apart_is_invariant = record {
-    goes_on = asks_on settings first begin AreNearByInput;
-    begins = λ known. record {
-      loaded_is = refl;
-      steady = λ is. refl;
-      both = λ input low. record {
-        item = record { taken_one = λ is. absurd (cc is); sent_last = λ is. absurd (cc is) };
-        shut = λ is. absurd (cc is);
-      };
-      least = λ input low. least-begins begin_life begin.to_module begin.last_to_module (end_at settings begin_life begin.round) input;
-      times = λ unloaded. record { clear = λ is. absurd (cc is); timed = λ input low time is. absurd (cc is) };
-    };
-    happens = λ loaded from machine facts event rest known past asks p. record {
-      loaded_is = p.loaded_is ∙ past_loaded loaded machine event past;
-      steady = steady-happens settings first loaded begin_life machine event rest past asks.no_load p.steady;
-      both = both-happens settings range first begin machine facts event past p.both;
-      least = least-happens machine facts event past p.least;
-      times = λ unloaded. times-happens machine facts event past (p.times (past_loaded loaded machine event past ∙ unloaded));
-    };
-    sends = λ loaded from machine facts event command known may within p. record {
-      loaded_is = loaded_sent loaded facts command p.loaded_is ∙ sym (sends_no_load first loaded machine event command may);
-      steady = λ is. p.steady (unloaded_before first loaded machine event command may is);
-      both = both-sends settings range first begin machine facts command within p.both;
-      least = λ input low. least-sent machine.to_module machine.last_to_module (end_at settings (life_of machine.history) machine.round) input (facts.inputs input).least low (life_of machine.history)
-          (record { octets = command_octets command; round = machine.round }) command (read_back command within) (p.least input low);
-      times = λ unloaded. (let k = p.times (unloaded_before first loaded machine event command may unloaded) in record { clear = k.clear; timed = k.timed });
-    };
-    receives = λ loaded from machine facts place frame known new at reads p. apart-receives loaded machine facts place frame known.is_kept new at p;
-    hears = λ loaded from machine facts place rest command answer known h asks p. (
-      (heard_keeps facts answer).apart,
-      record {
-        loaded_is = p.loaded_is;
-        steady = p.steady;
-        both = λ input low. (let k = p.both input low in
-            record { item = item-heard settings range first begin from machine facts place command answer h input low k.item; shut = k.shut });
-        least = p.least;
-        times = λ unloaded. (let k = p.times unloaded in record { clear = k.clear; timed = k.timed });
-      },
-    );
-    takes = λ loaded from machine facts place rest number answer block known t asks p.
-        (let asked = asked_of settings range first begin AreNearByInput front_asked loaded from machine place number answer block rest known t asks in
-        walk Apart settings (life_of machine.history) machine.round answer block (KeepsRest settings range first begin from machine place number answer block known t asked loaded p.steady)
-        (KeepsApart settings begin loaded (after_taken machine place answer)) (apart_walk settings range first begin from machine place number answer block known t asked loaded p.steady)
-        t.made t.carried facts ((heard_keeps facts (block_answer answer)).apart)
-        (record {
-          loaded_is = p.loaded_is;
-          both = λ input low. (let k = p.both input low in record { item = record { taken_one = k.item.taken_one; sent_last = λ is. absurd (cc is) }; shut = k.shut });
-          least = p.least;
-          latest = latest_after none_yet (entries_in (blocks_taken settings begin machine));
-          near = near_last (blocks_taken settings begin machine) block asked.near;
-          latest_is = refl;
-          times = λ unloaded. (let k = p.times unloaded in record { clear = k.clear; timed = k.timed });
-        }));
+  pub least-sends : (machine : Machine) (facts : ContentFacts) (command : Command) → IsCommand command
+      → ((input : ℕ) → input < 64
+      → KeepsLeast (life_of machine.history) machine.to_module machine.last_to_module (end_at settings (life_of machine.history) machine.round) input (facts.inputs input).least)
+      → (input : ℕ) → input < 64
+      → KeepsLeast (life_of machine.history) (after_sending machine command).to_module machine.last_to_module (end_at settings (life_of machine.history) machine.round) input
+      ((content_step facts (Sent command)).inputs input).least
+  least-sends machine facts command within p input low =
+      let f : SentFrame = record { octets = command_octets command; round = machine.round } in
+      subst (KeepsLeast (life_of machine.history) (machine.to_module ++ f ∷ []) machine.last_to_module (end_at settings (life_of machine.history) machine.round) input)
+      (sym (item_parts (facts.inputs input) (item_for input (items_sent command))).least)
+      (least-sent machine.to_module machine.last_to_module (end_at settings (life_of machine.history) machine.round) input (facts.inputs input).least low (life_of machine.history)
+      f command (read_back command within) (p input low))
+
+  pub apart-happens : (machine : Machine) (facts : ContentFacts) (event : Event) → IsPastBus event → KeepsApart settings begin above machine facts
+      → KeepsApart settings begin above (after settings first machine event) facts
+  apart-happens machine facts event past p = record {
+    full = full-happens settings range first begin above machine facts event past p.full;
+    both = both-happens settings range first begin machine facts event past p.both;
+    least = least-happens machine facts event past p.least;
+    times = times-happens machine facts event past p.times;
   }
 
--- at the start of both ends the filters are those of the item above, and no entry is recorded
-apart_begun : (settings : Settings) → KeepsApart settings start false start content_begun
-apart_begun settings = record {
-  loaded_is = refl;
-  steady = λ is. refl;
-  both = both_begun settings;
-  least = λ input low.
-      subst (λ (above : InputAbove). KeepsLeast [] [] 0 0 input above.least) (sym (begun_input input low))
+  pub apart-sends : (machine : Machine) (facts : ContentFacts) (command : Command) → IsCommand command → KeepsApart settings begin above machine facts
+      → KeepsApart settings begin above (after_sending machine command) (content_step facts (Sent command))
+  apart-sends machine facts command within p = record {
+    full = p.full;
+    both = λ input low. (let k = (both-sends settings range first begin machine facts command within p.both) input low in record { item = k.item; shut = k.shut });
+    least = least-sends machine facts command within p.least;
+    times = record {
+      clear = p.times.clear;
+      timed = λ input low time is. p.times.timed input low time (sym (item_parts (facts.inputs input) (item_for input (items_sent command))).timed ∙ is);
+    };
+  }
+
+  pub apart-hears : (from : Life) (machine : Machine) (facts : ContentFacts) (place : ℕ) (command : Command) (answer : Answer)
+      → HearsAnswer settings from machine facts place command answer → KeepsApart settings begin above machine facts
+      → KeepsApart settings begin above (record machine { last_to_cpu = place + 1 }) (content_step facts (Heard answer))
+  apart-hears from machine facts place command answer h p = record {
+    full = p.full;
+    both = λ input low. (let k = p.both input low in
+        record { item = item-heard settings range first begin from machine facts place command answer h input low k.item; shut = k.shut });
+    least = p.least;
+    times = record { clear = p.times.clear; timed = p.times.timed };
+  }
+
+  pub apart-takes : (from : Life) (machine : Machine) (facts : ContentFacts) (place number : ℕ) (answer : Block) (block : MadeBlock) (known : IsKnown settings first begin from machine)
+      (t : Takes settings first from machine place number answer block)
+      (asked : AreNearByInput above (blocks_taken settings begin machine ++ block ∷ [])) → IsSteady begin_life (life_of machine.history) → MadeThen settings (life_of machine.history) block facts
+      → KeepsApart settings begin above machine facts
+      → EachKeeps (λ facts. KeepsRule Apart (without_excuse facts)) content_step facts (events_of_block answer)
+      × KeepsApart settings begin above (after_taken machine place answer) (fold content_step facts (events_of_block answer))
+  apart-takes from machine facts place number answer block known t asked steady made p =
+      let heard = content_step facts (Heard (block_answer answer)) in
+      let brief = λ (timely : facts.timely ≡ true) (young : heard.aged ≡ false).
+      waits_briefly settings range first begin above from machine place number answer block known t asked.blocks_near steady facts (p.full timely) young in
+      walk (λ facts. KeepsRule Apart (without_excuse facts)) content_step (λ facts. tt) settings (life_of machine.history) machine.round answer block
+      (KeepsRest settings range first begin above from machine place number answer block known t asked steady heard brief)
+      (KeepsApart settings begin above (after_taken machine place answer)) (apart_walk settings range first begin above from machine place number answer block known t asked steady heard brief)
+      t.made t.carried facts refl
       (record {
-        now = record { leading = omega arith; trailing = omega arith };
-        coming = λ place frame high at. absurd (cc at);
-        logged = λ k transition high at of_input. absurd (cc at);
-      });
-  times = λ unloaded. record {
+        timely_is = refl;
+        aged_is = refl;
+        full = p.full;
+        made = made;
+        both = λ input low. (let k = p.both input low in record { item = record { taken_one = k.item.taken_one; sent_last = λ is. absurd (cc is) }; shut = k.shut });
+        least = p.least;
+        latest = latest_after none_yet (entries_in (blocks_taken settings begin machine));
+        near = near_last (blocks_taken settings begin machine) block asked.near;
+        latest_is = refl;
+        times = record { clear = p.times.clear; timed = p.times.timed };
+      })
+
+pub least_begun : (input : ℕ) → input < 64 → KeepsLeast [] [] 0 0 input (content_begun.inputs input).least
+least_begun input low =
+    subst (λ (above : InputAbove). KeepsLeast [] [] 0 0 input above.least) (sym (begun_input input low))
+    (record {
+      now = record { leading = omega arith; trailing = omega arith };
+      coming = λ place frame high at. absurd (cc at);
+      logged = λ k transition high at of_input. absurd (cc at);
+    })
+
+-- at the start of both ends the filters are those of the item above, and no entry is recorded
+pub apart_begun : (settings : Settings) → KeepsApart settings start (scans_above true) start content_begun
+apart_begun settings = record {
+  full = λ clear. full_begun settings;
+  both = both_begun settings;
+  least = least_begun;
+  times = record {
     clear = λ is. (omega arith, omega arith);
     timed = λ input low time is. absurd (cc (ap (λ (above : InputAbove). above.timed) (sym (begun_input input low)) ∙ is));
   };
 }
-
-pub apart_never_accuses : ContentNeverAccuses Apart HasNearInputs
-apart_never_accuses = timed_never_accuses Apart Bool (λ begun. false) (λ settings. loaded_after) HasNearInputs
-    (λ begun settings first begin. Asks settings first begin AreNearByInput)
-    (λ begun settings first begin loaded from machine facts. KeepsApart settings begin loaded machine facts)
-    (λ begun settings first machine last later premise. premise.no_load)
-    (λ begun settings first machine last later none leads unloaded premise. record {
-      last = last;
-      leads = leads;
-      none = none;
-      asked = record { brief = premise.brief; near = premise.near };
-      no_load = λ is. unloaded;
-    })
-    (λ begun settings first begin range. apart_is_invariant settings range first begin)
-    (λ settings first. apart_begun settings)

@@ -1,19 +1,17 @@
 -- The time of the latest entry of each input, and what is asked of the next one.
-use Rattle.fio_ends.proofs.Names.{◌≡◌, ◌∙◌, ◌+◌, ◌-◌, ◌^◌, ◌<◌, ◌≤◌, ◌&&◌, ◌⊎◌, inl, inr, ℕ, Bool, true, false, not, List, [], ◌∷◌, ◌++◌, length, Option, Some, None, refl, ap, subst, arith, append-nil, if◌then◌else◌, flat_map, flat_map-append, slice_get, AllByRecursion, nat_lt, nat_tests, is_some_and, same_Some, Settings, Life, life_of, log_of, Transition, MadeBlock, blocks_of, ContentFacts, InputAbove, FilterPair, Event, Machine, get_before_push}
+use Rattle.fio_ends.proofs.Names.{◌≡◌, ◌∙◌, ◌+◌, ◌-◌, ◌^◌, ◌<◌, ◌≤◌, ◌&&◌, ◌⊎◌, inl, inr, ℕ, Bool, true, false, not, List, [], ◌∷◌, ◌++◌, length, Option, Some, None, refl, ap, subst, arith, append-nil, if◌then◌else◌, flat_map, flat_map-append, slice_get, nat_lt, nat_tests, is_some_and, same_Some, Settings, Life, life_of, log_of, Transition, MadeBlock, blocks_of, ContentFacts, InputAbove, FilterPair, Machine, get_before_push}
 use Rattle.fio_input.specs.Delivery.{filter_to}
 use Rattle.fio_check.specs.ContentSaid.{milliseconds_between}
 use Rattle.fio_check.specs.ContentFacts.{input_with_entry}
 use Rattle.fio_check.specs.ContentRules.{filter_towards}
-use Rattle.fio_link.specs.declared.event.Event.TheVariants as events
-use Rattle.fio_ends.specs.ContentPremises.{InputsAreNear, WaitBriefly, blocks_taken, latest_with}
+use Rattle.fio_ends.specs.ContentPremises.{BlocksAreNear, InputsAreNear, blocks_taken, latest_with}
 use Rattle.fio_ends.proofs.BlockPlaces.{end_at}
 use Rattle.fio_ends.proofs.Clocks.{between_clocks, clock, offset_of}
-use Rattle.fio_ends.proofs.ContentSteps.{IsPastBus}
+use Rattle.fio_ends.proofs.Fulls.{KeepsFull}
+use Rattle.fio_ends.proofs.Fulls as fulls
 use Rattle.fio_ends.proofs.Shut.{ShutHolds}
 use Rattle.fio_ends.proofs.LeastFilters.{AreNoMore, KeepsLeast}
 use Rattle.fio_ends.proofs.Settled.{setting_of}
-use Rattle.fio_ends.proofs.Steady.{IsSteady, loaded_after}
-use Rattle.fio_ends.proofs.Taken.{brief_front}
 
 -- ---- what is asked of the blocks
 
@@ -29,8 +27,8 @@ latest_after latest (transition ∷ transitions) = latest_after (latest_with lat
 abbrev pub none_yet : ℕ → Option ℕ
 none_yet input = None
 
-pub record AreNearByInput (blocks : List MadeBlock) : Type 0 where
-  pub brief : AllByRecursion WaitBriefly blocks
+pub record AreNearByInput (above : Option ℕ) (blocks : List MadeBlock) : Type 0 where
+  pub blocks_near : BlocksAreNear above blocks
   pub near : InputsAreNear none_yet (entries_in blocks)
 
 pub near_front : (latest : ℕ → Option ℕ) (front more : List Transition) → InputsAreNear latest (front ++ more) → InputsAreNear latest front
@@ -45,9 +43,9 @@ pub latest_after-append : (latest : ℕ → Option ℕ) (front more : List Trans
 latest_after-append latest [] more = refl
 latest_after-append latest (transition ∷ front) more = latest_after-append (latest_with latest transition) front more
 
-pub front_asked : (front more : List MadeBlock) → AreNearByInput (front ++ more) → AreNearByInput front
-front_asked front more a = record {
-  brief = brief_front front more a.brief;
+pub front_asked : (above : Option ℕ) (front more : List MadeBlock) → AreNearByInput above (front ++ more) → AreNearByInput above front
+front_asked above front more a = record {
+  blocks_near = fulls.near_front above front more a.blocks_near;
   near = near_front none_yet (entries_in front) (entries_in more)
       (subst (InputsAreNear none_yet) (flat_map-append (λ (block : MadeBlock). block.transitions) front more) a.near);
 }
@@ -74,11 +72,13 @@ far_enough offset earlier later filter apart near =
     between_clocks offset earlier later (omega arith) near in
     grind (arith, nat_tests)
 
-pub none_near : (test : ℕ → Bool) (loaded : Bool) (timed : Option ℕ) → (loaded ≡ false → (time : ℕ) → timed ≡ Some time → test time ≡ false)
-    → (not loaded && is_some_and timed test) ≡ false
-none_near test true timed kept = refl
-none_near test false None kept = refl
-none_near test false (Some time) kept = kept refl time refl
+pub none_near : (test : ℕ → Bool) (timely aged : Bool) (timed : Option ℕ)
+    → (timely ≡ true → aged ≡ false → (time : ℕ) → timed ≡ Some time → test time ≡ false)
+    → ((timely && not aged) && is_some_and timed test) ≡ false
+none_near test false aged timed kept = refl
+none_near test true true timed kept = refl
+none_near test true false None kept = refl
+none_near test true false (Some time) kept = kept refl refl time refl
 
 -- ---- what is kept
 
@@ -94,19 +94,17 @@ pub record IsTimed (offset : ℕ) (now : Life) (upto input : ℕ) (latest : Opti
 
 -- what is known of times, below a clear block
 pub record KeepsTimes (settings : Settings) (begin now : Life) (upto round : ℕ) (latest : ℕ → Option ℕ) (facts : ContentFacts) : Type 0 where
-  pub clear : facts.clear ≡ true → (length (log_of begin) ≤ upto) × (length (blocks_of settings begin) ≤ round)
+  pub clear : facts.timely ≡ true → (length (log_of begin) ≤ upto) × (length (blocks_of settings begin) ≤ round)
   pub timed : (input : ℕ) → input < 64 → (time : ℕ) → (facts.inputs input).timed ≡ Some time
-      → (facts.clear ≡ true) × IsTimed (offset_of begin) now upto input (latest input) time
+      → (facts.timely ≡ true) × IsTimed (offset_of begin) now upto input (latest input) time
 
 -- what is kept of a machine
-pub record KeepsApart (settings : Settings) (begin : Machine) (loaded : Bool) (machine : Machine) (facts : ContentFacts) : Type 0 where
-  pub loaded_is : facts.loaded ≡ loaded
-  pub steady : IsSteady loaded (life_of begin.history) (life_of machine.history)
+pub record KeepsApart (settings : Settings) (begin : Machine) (above : Option ℕ) (machine : Machine) (facts : ContentFacts) : Type 0 where
+  pub full : KeepsFull settings begin above machine facts
   pub both : ShutHolds settings machine facts
   pub least : (input : ℕ) → input < 64
       → KeepsLeast (life_of machine.history) machine.to_module machine.last_to_module (end_at settings (life_of machine.history) machine.round) input (facts.inputs input).least
-  pub times : loaded ≡ false
-      → KeepsTimes settings (life_of begin.history) (life_of machine.history) (end_at settings (life_of machine.history) machine.round) machine.round
+  pub times : KeepsTimes settings (life_of begin.history) (life_of machine.history) (end_at settings (life_of machine.history) machine.round) machine.round
       (latest_after none_yet (entries_in (blocks_taken settings begin machine))) facts
 
 -- the log of a life goes on, or stays
@@ -133,17 +131,6 @@ times-later settings begin now later more upto upto_later round latest latest_la
       (t.0, timed-later (offset_of begin) now later more upto upto_later input (latest input) (latest_later input) time grown le (ap (λ (f : ℕ → Option ℕ). f input) same) t.1));
 }
 
--- a scan, a line sync or raised flags send nothing
-pub past_loaded : (loaded : Bool) (machine : Machine) (event : Event) → IsPastBus event → loaded ≡ loaded_after loaded machine event
-past_loaded loaded machine (events.Scan raw) past = refl
-past_loaded loaded machine (events.Raise mask) past = refl
-past_loaded loaded machine events.LineSync past = refl
-past_loaded loaded machine events.Poll past = absurd past
-past_loaded loaded machine (events.Send command) past = absurd past
-past_loaded loaded machine (events.ToModule index) past = absurd past
-past_loaded loaded machine (events.ToCpu index) past = absurd past
-past_loaded loaded machine events.Restart past = absurd past
-
 -- ---- the CPU takes a block
 
 -- an entry that is ahead of another of its input is of a later scan
@@ -158,6 +145,7 @@ pub least_by : (here : Bool) (facts : ContentFacts) (level : Bool) (wide : ℕ) 
 least_by true facts level wide above = refl
 least_by false facts level wide above = refl
 
-pub if_clear : (clear : Bool) (wide time : ℕ) → (if clear then Some wide else None) ≡ Some time → (clear ≡ true) × (wide ≡ time)
-if_clear true wide time is = (refl, same_Some _ _ is)
-if_clear false wide time is = absurd (cc is)
+pub if_clear : (clear aged : Bool) (wide time : ℕ) → (if clear && not aged then Some wide else None) ≡ Some time → (clear ≡ true) × (aged ≡ false) × (wide ≡ time)
+if_clear true true wide time is = absurd (cc is)
+if_clear true false wide time is = (refl, refl, same_Some _ _ is)
+if_clear false aged wide time is = absurd (cc is)

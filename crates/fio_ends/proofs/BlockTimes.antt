@@ -4,10 +4,10 @@ use Rattle.std.proofs.lemmas.Bool.{cases_lt}
 use Rattle.fio_message.specs.declared.commands.Command.TheVariants as commands
 use Rattle.fio_input.specs.Widening.{wide_time_of}
 use Rattle.fio_link.proofs.Times.{BlockTimely, blocks_timely}
-use Rattle.fio_ends.specs.ContentPremises.{WaitBriefly}
 use Rattle.fio_ends.proofs.BlockPlaces.{ends_within, is_next}
 use Rattle.fio_ends.proofs.Clocks.{block_stamped, clock, offset_of, transition_clocked, wide_is}
 use Rattle.fio_ends.proofs.ContentSteps.{IsKnown, Takes}
+use Rattle.fio_ends.proofs.EntryTimes.{WaitBriefly}
 use Rattle.fio_ends.proofs.Following.{GoesOn, goes_on-both}
 use Rattle.fio_ends.proofs.Lives.{blocks_grow, log_grows, logged_since, made_since, scans_grow}
 use Rattle.fio_ends.proofs.MadeNow.{made_now}

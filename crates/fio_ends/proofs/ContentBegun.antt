@@ -1,11 +1,13 @@
 -- What is above a log that begins with both ends: events that break no rule, and what is known of each input.
-use Rattle.fio_ends.proofs.Names.{◌≡◌, ◌<◌, ◌&&◌, ◌++◌, not, ℕ, Bool, true, false, [], ◌∷◌, refl, ap, sym, subst, arith, if◌then◌else◌, nat_lt, nat_tests, ContentFacts, content_with, no_content, Ended, Heard, Sent, ContentRule, Accepted, Clock, State}
+use Rattle.fio_ends.proofs.Names.{◌∙◌, None, Answer, content_step, ◌≡◌, ◌<◌, ◌&&◌, ◌++◌, not, ℕ, Bool, true, false, [], ◌∷◌, refl, ap, sym, subst, arith, if◌then◌else◌, nat_lt, nat_tests, ContentFacts, content_with, no_content, Ended, Heard, Sent, ContentRule, Accepted, Clock, State}
 use Rattle.fio_message.specs.Blocks.{block_answer}
 use Rattle.fio_message.specs.declared.answers.Answer.TheVariants as answers
 use Rattle.fio_cpu.specs.Record.{gap_if}
 use Rattle.fio_check.specs.ContentEvents.{events_above, items_and_end}
 use Rattle.fio_check.specs.ContentFacts.{input_begun, no_input}
 use Rattle.fio_check.proofs.ContentStart.{block_at_start, command_at_start, no_again, no_error, no_lost}
+use Rattle.fio_check.proofs.Unexcused.{sent_step, step_only}
+use Rattle.fio_check.specs.ContentRules.{breaks_answer, broken_state}
 use Rattle.fio_ends.specs.ContentRuns.{KeepsRule}
 use Rattle.fio_ends.proofs.ContentFrame.{sent_keeps}
 use Rattle.fio_ends.proofs.ContentLines.{EventsKeep}
@@ -22,18 +24,33 @@ taken_facts = content_with sent_facts (Heard (answers.ConfigureInputs 0))
 abbrev heard_facts : ContentFacts
 heard_facts = content_with taken_facts (Heard (block_answer block_at_start))
 
+-- no load excuses anything
+sent_is : sent_facts ≡ content_step no_content (Sent command_at_start)
+sent_is = sent_step no_content command_at_start
+
+taken_is : taken_facts ≡ content_step (content_step no_content (Sent command_at_start)) (Heard (answers.ConfigureInputs 0))
+taken_is = ap (λ facts. content_with facts (Heard (answers.ConfigureInputs 0))) sent_is ∙ step_only (content_step no_content (Sent command_at_start)) (Heard (answers.ConfigureInputs 0)) refl
+
+heard_is : heard_facts ≡ content_step (content_step (content_step no_content (Sent command_at_start)) (Heard (answers.ConfigureInputs 0))) (Heard (block_answer block_at_start))
+heard_is = ap (λ facts. content_with facts (Heard (block_answer block_at_start))) taken_is
+    ∙ step_only (content_step (content_step no_content (Sent command_at_start)) (Heard (answers.ConfigureInputs 0))) (Heard (block_answer block_at_start)) refl
+
+none_heard : (facts : ContentFacts) (answer : Answer) → facts.seen ≡ None → KeepsRule State facts (Heard answer)
+none_heard facts answer none = ap (broken_state facts (Heard answer)) none
+
 taken_keeps : (rule : ContentRule) → KeepsRule rule sent_facts (Heard (answers.ConfigureInputs 0))
 taken_keeps Accepted = ap (λ error. error && not sent_facts.absent_named) no_error
-taken_keeps State = refl
+taken_keeps Clock = ap (λ facts. breaks_answer facts (answers.ConfigureInputs 0) Clock) sent_is ∙ refl
+taken_keeps State = none_heard sent_facts (answers.ConfigureInputs 0) (ap (λ (facts : ContentFacts). facts.seen) sent_is)
 taken_keeps rule = refl
 
 heard_keeps : (rule : ContentRule) → KeepsRule rule taken_facts (Heard (block_answer block_at_start))
-heard_keeps Clock = rw no_again refl
-heard_keeps State = refl
+heard_keeps Clock = ap (λ facts. breaks_answer facts (block_answer block_at_start) Clock) taken_is ∙ rw no_again refl
+heard_keeps State = none_heard taken_facts (block_answer block_at_start) (ap (λ (facts : ContentFacts). facts.seen) taken_is)
 heard_keeps rule = refl
 
 ended_keeps : (rule : ContentRule) → EventsKeep rule heard_facts (Ended 0 0 ∷ [])
-ended_keeps State = (refl, tt)
+ended_keeps State = (ap (broken_state heard_facts (Ended 0 0)) (ap (λ (facts : ContentFacts). facts.seen) heard_is), tt)
 ended_keeps rule = (tt, tt)
 
 -- the events above a log break no rule

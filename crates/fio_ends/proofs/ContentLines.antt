@@ -1,15 +1,19 @@
 -- Events that keep a rule on content, frame by frame, are those of a log in which none breaks it.
-use Rattle.fio_ends.proofs.Names.{◌≡◌, ◌∙◌, ◌-◌, ◌≤◌, inl, inr, ℕ, suc, Bool, List, [], ◌∷◌, ◌++◌, drop, length, map, Option, Some, None, refl, ap, sym, subst, arith, fold, option_map, slice_get, eqb_tells, length-drop, same_Some, slice_get_within, ContentFacts, content_with, no_content, ContentKept, kept_at_start, kept_with, ContentEvent, LineEvent, content_event_at, events_above, events_below, events_in, events_of_lines, events_of_log, TranscriptLine, ContentRule, CpuFrame, frame_on}
+use Rattle.fio_ends.proofs.Names.{◌&&◌, true, false, ◌≡◌, ◌∙◌, ◌-◌, ◌≤◌, inl, inr, ℕ, suc, Bool, List, [], ◌∷◌, ◌++◌, drop, length, map, Option, Some, None, refl, ap, sym, subst, arith, fold, option_map, slice_get, eqb_tells, length-drop, same_Some, slice_get_within, ContentFacts, content_with, no_content, ContentKept, kept_at_start, kept_with, ContentEvent, LineEvent, content_event_at, events_above, events_below, events_in, events_of_lines, TranscriptLine, ContentRule, CpuFrame, frame_on}
 use Rattle.fio_check.specs.ContentAbove.{content_at}
 use Rattle.fio_check.proofs.ContentCourse.{dropped_first}
-use Rattle.fio_check.proofs.ContentNext.{content_next}
-use Rattle.fio_ends.specs.ContentRuns.{KeepsRule, NoneBreaks}
+use Rattle.fio_check.proofs.ContentNext.{content_is_kept, content_next}
+use Rattle.fio_check.specs.ContentRules.{state_breach}
+use Rattle.fio_ends.specs.ContentRuns.{KeepsRule}
+
+-- this holds of each of these events, by what is kept of content step by step
+abbrev pub EachKeeps : (ContentFacts → ContentEvent → Type 0) → (ContentFacts → ContentEvent → ContentFacts) → ContentFacts → List ContentEvent → Type 0
+EachKeeps keeps step facts [] = Unit {0}
+EachKeeps keeps step facts (event ∷ events) = keeps facts event × EachKeeps keeps step (step facts event) events
 
 -- each of these events keeps a rule
 abbrev pub EventsKeep : ContentRule → ContentFacts → List ContentEvent → Type 0
-EventsKeep rule facts [] = Unit {0}
-EventsKeep rule facts (event ∷ events) =
-    KeepsRule rule facts event × EventsKeep rule (content_with facts event) events
+EventsKeep rule facts events = EachKeeps (KeepsRule rule) content_with facts events
 
 -- and each of those of frames
 abbrev pub FramesKeep : ContentRule → ContentKept → List CpuFrame → Type 0
@@ -85,12 +89,24 @@ at_places rule all (found ∷ rest) place left keep above event low at =
           above event (omega (arith, other.1)) at
     ]
 
+-- an event with which the record comes to no states
+pub none_comes : (judged : Bool) (input : Option ℕ) → state_breach (judged && false) input ≡ None
+none_comes true input = refl
+none_comes false input = refl
+
+-- no event of a log with these lines breaks the rule, where the lines are those that are judged
+abbrev pub NoneBreaksIn : Bool → ContentRule → List TranscriptLine → Type 0
+NoneBreaksIn begun rule lines =
+    let events = map (λ event. record { line = 0; event = event }) (events_above begun) ++ events_of_lines lines in
+    (place : ℕ) (event : ContentEvent) → content_event_at events place ≡ Some event → KeepsRule rule (content_at events place) event
+
 -- lines whose frames keep the rule, and so do the events above them
 pub none_breaks : (rule : ContentRule) (begun : Bool) (lines : List TranscriptLine) → EventsKeep rule no_content (events_above begun)
-    → FramesKeep rule (kept_at_start begun) (map frame_on lines) → NoneBreaks begun lines rule
+    → FramesKeep rule (kept_at_start begun) (map frame_on lines) → NoneBreaksIn begun rule lines
 none_breaks rule begun lines above keep place event at =
-    let all = events_of_log begun lines in
+    let all : List LineEvent = map (λ event. record { line = 0; event = event }) (events_above begun) ++ events_of_lines lines in
     at_places rule all all 0 refl
+    (subst (λ facts. EventsKeep rule facts (map event_of all)) (sym ((content_is_kept all).first))
     (subst (EventsKeep rule no_content) (sym (untagged 0 (events_above begun) (events_of_lines lines)))
-    (events_keep rule no_content (events_above begun) (map event_of (events_of_lines lines)) above (lines_keep rule (kept_at_start begun) lines keep)))
+    (events_keep rule no_content (events_above begun) (map event_of (events_of_lines lines)) above (lines_keep rule (kept_at_start begun) lines keep))))
     place event (omega arith) at

@@ -1,23 +1,46 @@
 -- Along a prompt run an invariant of content holds, from its start or from any command on.
-use Rattle.fio_ends.proofs.Names.{◌≡◌, ◌∙◌, ◌+◌, ◌%◌, ◌<◌, ◌≤◌, ◌⊎◌, inl, inr, ℕ, Bool, true, false, List, [], ◌∷◌, length, Option, Some, None, refl, ap, sym, subst, arith, if◌then◌else◌, ◌==◌, slice_get, AllByRecursion, list_any, nat_tests, Answer, Command, command_octets, IsCommand, Life, life_of, answer_in, block_in, Settings, AreInRange, ContentFacts, ContentKept, kept_at_start, Heard, Sent, content_events, events_of_block, number_after, no_facts, answer_type_to, is_absent, names_absent, observation_of, ContentRule, Facts, Event, SentFrame, Machine, number_of, sending_refusal, after_sending, after_delivery_to_module, after_delivered_block, after_delivery_to_cpu, refusal, after, Leads, HasBlock, IsNotRestart, HaveNoRestart, blocks_in, CarriesBlockOf, number_of-fits, number_of-next, after_taken, in_order, same_round, after_delivery, IsKept, carries_own, kept_all, kept, frame_heard, frames_at, frames_from, due_after, IsPrompt, ArePrompt, IsWithinRanges, Block, items_of_block, item_numbered, ◌++◌, command_in, same_Some}
+use Rattle.fio_ends.proofs.Names.{◌≡◌, ◌∙◌, ◌+◌, ◌%◌, ◌<◌, ◌≤◌, ◌⊎◌, inl, inr, ℕ, Bool, true, false, List, [], ◌∷◌, length, Option, Some, None, refl, ap, sym, subst, arith, if◌then◌else◌, ◌==◌, slice_get, AllByRecursion, list_any, nat_tests, Answer, Command, command_octets, IsCommand, Life, life_of, answer_in, block_in, Settings, AreInRange, ContentFacts, ContentKept, kept_at_start, Heard, Sent, content_events, events_of_block, number_after, no_facts, answer_type_to, is_absent, names_absent, observation_of, ContentRule, Facts, Event, SentFrame, Machine, number_of, sending_refusal, after_sending, after_delivery_to_module, after_delivered_block, after_delivery_to_cpu, refusal, after, Leads, HasBlock, IsNotRestart, HaveNoRestart, blocks_in, CarriesBlockOf, number_of-fits, number_of-next, after_taken, in_order, same_round, after_delivery, IsKept, carries_own, kept_all, kept, frame_heard, frames_at, frames_from, due_after, IsPrompt, ArePrompt, IsWithinRanges, Block, items_of_block, item_numbered, ◌++◌, command_in, same_Some, InputAbove, InputItem, content_with, fold, Ended, Recorded, map, fold-append, ◌&&◌}
 use Rattle.fio_message.specs.declared.answers.Answer.TheVariants as answers
 use Rattle.fio_message.specs.declared.commands.Command.TheVariants as commands
+use Rattle.std.specs.Prelude.{◌||◌, unwrap_or}
+use Rattle.fio_message.specs.Blocks.{block_answer}
 use Rattle.fio_check.specs.ContentEvents.{number_with_command}
+use Rattle.fio_check.specs.ContentFacts.{input_with_item, unnamed}
+use Rattle.fio_check.specs.ContentSaid.{item_for, items_sent, polling}
 use Rattle.fio_check.specs.Facts.{facts_with}
 use Rattle.fio_check.specs.Observations.{observation_of_command}
 use Rattle.fio_check.specs.declared.observation.Observation.{Observation}
 use Rattle.fio_check.specs.declared.observation.Observation.TheVariants as seen
+use Rattle.fio_check.proofs.KeptContent.{ended_unpolled}
 use Rattle.fio_link.specs.declared.event.Event.TheVariants as events
 use Rattle.fio_link.proofs.Events.{frame_at_place}
-use Rattle.fio_ends.specs.PromptRuns.{BeginsWithCommand}
+use Rattle.fio_ends.proofs.FirstPolls.{polls_begin, polls_raised, polls_received, polls_scanned, polls_sent, polls_synced, polls_taken}
 use Rattle.fio_ends.proofs.Heard.{IsHeardAs}
 use Rattle.fio_ends.proofs.Following.{Answers, Follows, GoesOn, IsBlockFor, IsReceived, Keeps, Stage, facts_below, from_after, goes_on-both, goes_on-same, may_begin}
 use Rattle.fio_ends.proofs.Sends.{other_said, read_back, said_of, sends-other, sends-poll}
 use Rattle.fio_ends.proofs.Hears.{block_said, no_block_said}
-use Rattle.fio_ends.proofs.PromptRuns.{ReachesLater, keeps-event}
+use Rattle.fio_ends.proofs.PromptRuns.{BeginsWithCommand, ReachesLater, keeps-event}
 use Rattle.fio_ends.proofs.ContentLines.{FramesKeep, content_below, frames_keep}
-use Rattle.fio_ends.proofs.ContentSteps.{IsInvariant, IsKnown, IsSending}
+use Rattle.fio_ends.proofs.ContentSteps.{IsInvariant, IsKnown, IsSending, PollsKnown}
 use Rattle.fio_ends.proofs.ContentFrame.{Agrees, KeepsContent, agrees-below, agrees-start, awaits_sent, block_events, number_stays, one_frame, sent_keeps}
+
+-- ---- the polls
+
+-- of a command that is sent below a poll, or is one: an input of which no item was sent since has none in it
+left_since : (polled since : Bool) (above : InputAbove) (item : Option InputItem) → polled ≡ true
+    → ((polled && (input_with_item (unnamed above) item).named) || since) ≡ false → (since ≡ false) × (item ≡ None)
+left_since polled since above item held free = by polled item held free
+  where
+    by : (polled : Bool) (item : Option InputItem) → polled ≡ true → ((polled && (input_with_item (unnamed above) item).named) || since) ≡ false → (since ≡ false) × (item ≡ None)
+    by false item held free = absurd (cc held)
+    by true (Some item) held free = absurd (cc free)
+    by true None held free = (free, refl)
+
+-- below a block no poll is sent
+unpolled_below : (facts : ContentFacts) (block : Block) → (fold content_with facts (events_of_block block)).polled ≡ false
+unpolled_below facts block =
+    ap (λ (facts : ContentFacts). facts.polled) (fold-append content_with facts (Heard (block_answer block) ∷ map Recorded (items_of_block block)) (Ended block.status block.stamp ∷ []))
+    ∙ ended_unpolled (fold content_with facts (Heard (block_answer block) ∷ map Recorded (items_of_block block))) block.status block.stamp
 
 -- ---- an answer that is no block answer
 
@@ -34,15 +57,15 @@ module _ (settings : Settings) (range : AreInRange settings) (first : ℕ) (begi
     (i : IsInvariant settings first begin rule S initial next Holds P) where
   -- a command, by what its line says
   sent : (state : S) (from : Life) (machine : Machine) (facts : Facts) (kept : ContentKept) (event : Event) (command : Command) (said : Observation)
-      → IsKnown settings first begin from machine → P state from machine kept.facts
+      → IsKnown settings first begin from machine → PollsKnown settings machine kept.facts → P state from machine kept.facts
       → IsSending first machine event command → IsCommand command → observation_of_command command ≡ said
       → ((number : ℕ) → (facts_with facts said).polled ≡ Some number → number_with_command kept.number command ≡ Some (number_of first machine.round))
       → ((facts_with facts said).polled ≡ None → number_with_command kept.number command ≡ None)
-      → KeepsContent rule (P (next state machine event) (life_of machine.history)) first facts kept (record { from_cpu = true; octets = command_octets command } ∷ []) (after_sending machine command)
-  sent state from machine facts kept event command said known p may within says number unpolled =
+      → KeepsContent settings rule (P (next state machine event) (life_of machine.history)) first facts kept (record { from_cpu = true; octets = command_octets command } ∷ []) (after_sending machine command)
+  sent state from machine facts kept event command said known polls p may within says number unpolled =
       let reads = read_back command within in
       let frame : SentFrame = record { octets = command_octets command; round = machine.round } in
-      one_frame rule (P (next state machine event) (life_of machine.history)) first facts kept (record { from_cpu = true; octets = command_octets command }) (after_sending machine command)
+      one_frame settings rule (P (next state machine event) (life_of machine.history)) first facts kept (record { from_cpu = true; octets = command_octets command }) (after_sending machine command)
       said (number_with_command kept.number command) (Sent command ∷ [])
       (said_of command within ∙ says)
       (ap (λ read. number_after kept.number read None) reads)
@@ -52,9 +75,12 @@ module _ (settings : Settings) (range : AreInRange settings) (first : ℕ) (begi
         number = number;
         unpolled = unpolled;
         awaits = λ code other awaited last. awaits_sent kept.facts machine.to_module frame command other reads last;
+        polls = polls_sent settings machine.to_module machine.polls machine.last_to_module machine.round (life_of machine.history) kept.facts.clear kept.facts.polled kept.facts.since_poll
+            polls frame known.is_kept.one_life.made command reads (content_with kept.facts (Sent command)).since_poll
+            (λ held input free. left_since (unwrap_or (polling (Sent command)) kept.facts.polled) (kept.facts.since_poll input) (kept.facts.inputs input) (item_for input (items_sent command)) held free);
       })
 
-  numbered : (machine : Machine) (facts : Facts) (kept : ContentKept) → Agrees first machine facts kept → (polled : Option ℕ) → facts.polled ≡ polled
+  numbered : (machine : Machine) (facts : Facts) (kept : ContentKept) → Agrees settings first machine facts kept → (polled : Option ℕ) → facts.polled ≡ polled
       → (kept.number ≡ Some (number_of first machine.round)) ⊎ (kept.number ≡ None)
   numbered machine facts kept a None is = inr (a.unpolled is)
   numbered machine facts kept a (Some polled) is = inl (a.number polled is)
@@ -65,25 +91,25 @@ module _ (settings : Settings) (range : AreInRange settings) (first : ℕ) (begi
   own_number machine kept (inr none) = rw none refl
 
   module _ (state : S) (from : Life) (machine : Machine) (facts : Facts) (kept : ContentKept) (known : IsKnown settings first begin from machine)
-      (a : Agrees first machine facts kept) (p : P state from machine kept.facts) where
+      (a : Agrees settings first machine facts kept) (p : P state from machine kept.facts) where
     content-poll : let number = number_of first machine.round in
-        KeepsContent rule (P (next state machine events.Poll) (life_of machine.history)) first facts kept (record { from_cpu = true; octets = command_octets (commands.Poll number) } ∷ [])
+        KeepsContent settings rule (P (next state machine events.Poll) (life_of machine.history)) first facts kept (record { from_cpu = true; octets = command_octets (commands.Poll number) } ∷ [])
         (after_sending machine (commands.Poll number))
     content-poll =
         let number = number_of first machine.round in
         let fits : number < 256 = omega (arith, number_of-fits first machine.round) in
-        sent state from machine facts kept events.Poll (commands.Poll number) (seen.Poll number) known p refl fits refl
+        sent state from machine facts kept events.Poll (commands.Poll number) (seen.Poll number) known a.polls p refl fits refl
         (λ polled is. own_number machine kept (numbered machine facts kept a facts.polled refl)) (λ is. absurd (cc is))
 
     content-send : (command : Command) → sending_refusal command ≡ None → IsCommand command
-        → KeepsContent rule (P (next state machine (events.Send command)) (life_of machine.history)) first facts kept (record { from_cpu = true; octets = command_octets command } ∷ []) (after_sending machine command)
+        → KeepsContent settings rule (P (next state machine (events.Send command)) (life_of machine.history)) first facts kept (record { from_cpu = true; octets = command_octets command } ∷ []) (after_sending machine command)
     content-send command fine within =
         let stays = number_stays kept.number command fine in
-        sent state from machine facts kept (events.Send command) command (seen.Command (answer_type_to command) (names_absent command)) known p (refl, fine) within (other_said command fine)
+        sent state from machine facts kept (events.Send command) command (seen.Command (answer_type_to command) (names_absent command)) known a.polls p (refl, fine) within (other_said command fine)
         (λ polled is. stays ∙ a.number polled is) (λ is. stays ∙ a.unpolled is)
 
   module _ (state : S) (from : Life) (machine : Machine) (due : ℕ) (facts : Facts) (kept : ContentKept) (known : IsKnown settings first begin from machine)
-      (f : Follows settings first from machine due facts) (a : Agrees first machine facts kept) (p : P state from machine kept.facts) where
+      (f : Follows settings first from machine due facts) (a : Agrees settings first machine facts kept) (p : P state from machine kept.facts) where
     abbrev k : IsKept settings first machine
     k = known.is_kept
 
@@ -91,15 +117,15 @@ module _ (settings : Settings) (range : AreInRange settings) (first : ℕ) (begi
     now = life_of machine.history
 
     -- an event without a frame
-    no_frame : (state_then : S) (later : Machine) → later.round ≡ machine.round → later.to_module ≡ machine.to_module → P state_then from later kept.facts
-        → KeepsContent rule (P state_then from) first facts kept [] later
-    no_frame state_then later round frames holds =
-        record { keep = tt; holds = holds; agrees = agrees-below first machine later facts kept round frames a }
+    no_frame : (state_then : S) (later : Machine) → later.round ≡ machine.round → later.to_module ≡ machine.to_module → PollsKnown settings later kept.facts → P state_then from later kept.facts
+        → KeepsContent settings rule (P state_then from) first facts kept [] later
+    no_frame state_then later round frames polls holds =
+        record { keep = tt; holds = holds; agrees = agrees-below settings first machine later facts kept round frames polls a }
 
     -- what is to be shown of an answer that is heard
     abbrev Hears : ℕ → List ℕ → Machine → Type 0
     Hears place octets later = (rest : List Event) → Holds state machine (events.ToCpu (place + 1) ∷ rest)
-        → KeepsContent rule (P (next state machine (events.ToCpu (place + 1))) now) first facts kept (record { from_cpu = false; octets = octets } ∷ []) later
+        → KeepsContent settings rule (P (next state machine (events.ToCpu (place + 1))) now) first facts kept (record { from_cpu = false; octets = octets } ∷ []) later
 
     abbrev Received : Command → Type 0
     Received command = IsReceived settings first from now facts machine.to_module machine.to_cpu machine.last_to_module machine.round due command
@@ -127,9 +153,9 @@ module _ (settings : Settings) (range : AreInRange settings) (first : ℕ) (begi
           spells = found.1;
           heard_as = h;
         }) holds p in
-        one_frame rule (P (next state machine (events.ToCpu (place + 1))) now) first facts kept (record { from_cpu = false; octets = octets }) later (seen.Answer type h.accepted)
+        one_frame settings rule (P (next state machine (events.ToCpu (place + 1))) now) first facts kept (record { from_cpu = false; octets = octets }) later (seen.Answer type h.accepted)
         kept.number (Heard found.0 ∷ []) h.heard found.3 found.2 (step.0, tt) step.1
-        (record { number = a.number; unpolled = a.unpolled; awaits = λ code command is. absurd (cc is) }))
+        (record { number = a.number; unpolled = a.unpolled; awaits = λ code command is. absurd (cc is); polls = a.polls }))
 
     hears_block : (number : ℕ) (place : ℕ) (frame : SentFrame) → slice_get machine.to_cpu place ≡ Some frame → machine.last_to_cpu ≤ place + 1
         → (r : Received (commands.Poll number))
@@ -166,8 +192,8 @@ module _ (settings : Settings) (range : AreInRange settings) (first : ℕ) (begi
           carried = c.carried;
           after_is = ap (after_delivery_to_cpu first machine (place + 1)) (frame_at_place machine.to_cpu place ∙ at) ∙ taken;
         })
-        holds p in
-        one_frame rule (P (next state machine (events.ToCpu (place + 1))) now) first facts kept (record { from_cpu = false; octets = frame.octets }) (after_taken machine place b)
+        a.polls holds p in
+        one_frame settings rule (P (next state machine (events.ToCpu (place + 1))) now) first facts kept (record { from_cpu = false; octets = frame.octets }) (after_taken machine place b)
         (seen.Block b.number b.status (length b.entries) (list_any (λ entry. is_absent entry.input) b.entries))
         (Some ((own + 1) % 256)) (events_of_block b) (block_said (answer_in frame.octets) b h.spells)
         (ap (λ n. number_after n None (answer_in frame.octets)) known_number ∙ found.1)
@@ -177,6 +203,8 @@ module _ (settings : Settings) (range : AreInRange settings) (first : ℕ) (begi
           number = λ polled is. ap Some (sym (number_of-next first machine.round));
           unpolled = λ is. absurd (cc (is, polled.0));
           awaits = λ code command is. absurd (cc is);
+          polls = polls_taken settings machine.to_module machine.polls machine.last_to_module machine.round now _ _ _ (unpolled_below kept.facts b)
+              k.always.polls.sent k.always.at_most;
         })))
 
     hears : (command : Command) (place : ℕ) (frame : SentFrame) → slice_get machine.to_cpu place ≡ Some frame → machine.last_to_cpu ≤ place + 1
@@ -208,25 +236,35 @@ module _ (settings : Settings) (range : AreInRange settings) (first : ℕ) (begi
     -- each event keeps the invariant
     content-event : (event : Event) → refusal machine event ≡ None → IsNotRestart event → IsWithinRanges event → IsPrompt machine due event
         → (rest : List Event) → Holds state machine (event ∷ rest)
-        → KeepsContent rule (P (next state machine event) (from_after machine from event)) first facts kept (frames_at first machine event) (after settings first machine event)
+        → KeepsContent settings rule (P (next state machine event) (from_after machine from event)) first facts kept (frames_at first machine event) (after settings first machine event)
     content-event (events.Scan raw) fine none within prompt rest holds =
-        no_frame (next state machine (events.Scan raw)) (after settings first machine (events.Scan raw)) refl refl (i.happens state from machine kept.facts (events.Scan raw) rest known tt holds p)
+        no_frame (next state machine (events.Scan raw)) (after settings first machine (events.Scan raw)) refl refl
+        (polls_scanned settings machine.to_module machine.polls machine.last_to_module machine.round now kept.facts.clear kept.facts.polled kept.facts.since_poll a.polls raw)
+        (i.happens state from machine kept.facts (events.Scan raw) rest known tt holds p)
     content-event events.LineSync fine none within prompt rest holds =
-        no_frame (next state machine events.LineSync) (after settings first machine events.LineSync) refl refl (i.happens state from machine kept.facts events.LineSync rest known tt holds p)
+        no_frame (next state machine events.LineSync) (after settings first machine events.LineSync) refl refl
+        (polls_synced settings machine.to_module machine.polls machine.last_to_module machine.round now kept.facts.clear kept.facts.polled kept.facts.since_poll a.polls)
+        (i.happens state from machine kept.facts events.LineSync rest known tt holds p)
     content-event (events.Raise mask) fine none within prompt rest holds =
-        no_frame (next state machine (events.Raise mask)) (after settings first machine (events.Raise mask)) refl refl (i.happens state from machine kept.facts (events.Raise mask) rest known tt holds p)
+        no_frame (next state machine (events.Raise mask)) (after settings first machine (events.Raise mask)) refl refl
+        (polls_raised settings machine.to_module machine.polls machine.last_to_module machine.round now kept.facts.clear kept.facts.polled kept.facts.since_poll a.polls mask)
+        (i.happens state from machine kept.facts (events.Raise mask) rest known tt holds p)
     content-event events.Restart fine none within prompt rest holds = absurd none
     content-event events.Poll fine none within prompt rest holds = content-poll state from machine facts kept known a p
     content-event (events.Send command) fine none within prompt rest holds = content-send state from machine facts kept known a p command fine within
     content-event (events.ToModule index) fine none within prompt rest holds =
-        after_delivery (λ n found. machine.last_to_module < n
-        → KeepsContent rule (P (next state machine (events.ToModule n)) from) first facts kept [] (after_delivery_to_module settings machine n found))
+        let made_then : IsKept settings first (after settings first machine (events.ToModule index)) =
+        kept_all settings range first (events.ToModule index ∷ []) machine (after settings first machine (events.ToModule index)) (tt, tt) (fine, refl) k in
+        after_delivery (λ n found. IsKept settings first (after_delivery_to_module settings machine n found) → machine.last_to_module < n
+        → KeepsContent settings rule (P (next state machine (events.ToModule n)) from) first facts kept [] (after_delivery_to_module settings machine n found))
         machine.to_module machine.last_to_module index fine
-        (λ place frame le at new. no_frame (next state machine (events.ToModule (place + 1))) (after_delivery_to_module settings machine (place + 1) (Some frame)) refl refl
-        (i.receives state from machine kept.facts place frame known new at (last_reads place frame new at f.stage) p)) prompt
+        (λ place frame le at made_then new. no_frame (next state machine (events.ToModule (place + 1))) (after_delivery_to_module settings machine (place + 1) (Some frame)) refl refl
+        (polls_received settings machine.to_module machine.polls machine.last_to_module machine.round now kept.facts.clear kept.facts.polled kept.facts.since_poll a.polls
+        place frame (omega (arith, new)) at k.one_life.made made_then.one_life.made)
+        (i.receives state from machine kept.facts place frame known new at (last_reads place frame new at f.stage) p)) made_then prompt
     content-event (events.ToCpu index) fine none within prompt rest holds =
         after_delivery (λ n found. machine.last_to_cpu < n → n ≡ due → (rest : List Event) → Holds state machine (events.ToCpu n ∷ rest)
-        → KeepsContent rule (P (next state machine (events.ToCpu n)) now) first facts kept (frame_heard found) (after_delivery_to_cpu first machine n found))
+        → KeepsContent settings rule (P (next state machine (events.ToCpu n)) now) first facts kept (frame_heard found) (after_delivery_to_cpu first machine n found))
         machine.to_cpu machine.last_to_cpu index fine
         (λ place frame le at new is. hears_due place frame at new is f.stage) prompt.0 prompt.1 rest holds
 
@@ -270,7 +308,7 @@ module _ (settings : Settings) (range : AreInRange settings) (first : ℕ) (begi
 
   -- so all events do
   pub all_keep_content : (state : S) (later : List Event) (from : Life) (machine last : Machine) (due : ℕ) (facts : Facts) (kept : ContentKept) → IsKnown settings first begin from machine
-      → Follows settings first from machine due facts → Agrees first machine facts kept → P state from machine kept.facts
+      → Follows settings first from machine due facts → Agrees settings first machine facts kept → P state from machine kept.facts
       → Leads settings first machine later last → HaveNoRestart later → AllByRecursion IsWithinRanges later
       → ArePrompt settings first machine due later → Holds state machine later
       → FramesKeep rule kept (frames_from settings first machine later)
@@ -296,7 +334,7 @@ module _ (settings : Settings) (range : AreInRange settings) (first : ℕ) (begi
       → Holds initial begin (event ∷ later)
       → from_after begin r.from event ≡ life_of begin.history
       → Keeps settings first (from_after begin r.from event) no_facts (frames_at first begin event) (after settings first begin event) (due_after begin r.due event)
-      → KeepsContent rule (P (next initial begin event) (from_after begin r.from event)) first no_facts (kept_at_start false) (frames_at first begin event) (after settings first begin event)
+      → KeepsContent settings rule (P (next initial begin event) (from_after begin r.from event)) first no_facts (kept_at_start false) (frames_at first begin event) (after settings first begin event)
       → FramesKeep rule (kept_at_start false) (frames_from settings first begin (event ∷ later))
   first_keeps event later last r holds same here content =
       let frames = frames_at first begin event in
@@ -327,10 +365,10 @@ module _ (settings : Settings) (range : AreInRange settings) (first : ℕ) (begi
       let known = known_first r.is_kept in
       first_keeps events.Poll later last r holds refl
       (sends-poll settings first begin no_facts (may_begin settings first r.from begin r.due r.facts r.follows))
-      (content-poll initial (life_of begin.history) begin no_facts (kept_at_start false) known (agrees-start false first begin) (i.begins known))
+      (content-poll initial (life_of begin.history) begin no_facts (kept_at_start false) known (agrees-start settings false first begin (polls_begin settings begin.to_module begin.polls begin.last_to_module begin.round (life_of begin.history) false (λ input. false))) (i.begins known))
   later_keeps (events.Send command ∷ later) last begins r holds =
       let known = known_first r.is_kept in
       first_keeps (events.Send command) later last r holds refl
       (sends-other settings first begin no_facts (may_begin settings first r.from begin r.due r.facts r.follows) command r.leads.0 r.within.0)
-      (content-send initial (life_of begin.history) begin no_facts (kept_at_start false) known (agrees-start false first begin) (i.begins known) command r.leads.0 r.within.0)
+      (content-send initial (life_of begin.history) begin no_facts (kept_at_start false) known (agrees-start settings false first begin (polls_begin settings begin.to_module begin.polls begin.last_to_module begin.round (life_of begin.history) false (λ input. false))) (i.begins known) command r.leads.0 r.within.0)
   later_keeps (other ∷ later) last begins r holds = absurd begins

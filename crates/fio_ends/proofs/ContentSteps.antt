@@ -1,12 +1,13 @@
 -- What is to be shown of an invariant, event by event, so that a rule on content never accuses.
-use Rattle.fio_ends.proofs.Names.{◌≡◌, ◌+◌, ◌<◌, ◌≤◌, ℕ, true, false, List, ◌∷◌, length, Some, None, fold, slice_get, Answer, Command, Block, IsCommand, answer_in, command_in, says_again, Settings, Life, life_of, MadeBlock, newest_poll, is_new, ContentFacts, content_with, no_content, Heard, Sent, events_of_block, names_absent, ContentRule, Event, SentFrame, Machine, number_of, sending_refusal, after, after_sending, after_delivery_to_module, HasBlock, blocks_in, after_taken, IsKept}
+use Rattle.fio_ends.proofs.Names.{◌≡◌, ◌+◌, ◌<◌, ◌≤◌, ℕ, true, false, List, ◌∷◌, length, Some, None, is_some, fold, slice_get, Answer, Command, Block, IsCommand, answer_in, command_in, says_again, Settings, Life, life_of, MadeBlock, newest_poll, is_new, ContentFacts, content_with, no_content, Heard, Sent, events_of_block, names_absent, ContentRule, Event, SentFrame, Machine, number_of, sending_refusal, after, after_sending, after_delivery_to_module, HasBlock, blocks_in, after_taken, IsKept}
 use Rattle.fio_message.specs.declared.commands.Command.TheVariants as commands
 use Rattle.fio_check.specs.ContentAbove.{flags_cleared}
-use Rattle.fio_check.specs.ContentSaid.{are_some, items_for, items_sent}
+use Rattle.fio_check.specs.ContentSaid.{item_for, items_sent}
 use Rattle.fio_link.specs.declared.event.Event.TheVariants as events
 use Rattle.fio_link.specs.Rounds.{CarriesBlock}
 use Rattle.fio_ends.specs.ContentRuns.{KeepsRule}
 use Rattle.fio_ends.proofs.ContentLines.{EventsKeep}
+use Rattle.fio_ends.proofs.FirstPolls.{KnowsPolls}
 use Rattle.fio_ends.proofs.Following.{GoesOn, IsSentLast, IsSince}
 use Rattle.fio_ends.proofs.Heard.{IsHeardAs}
 
@@ -27,7 +28,7 @@ IsSending first machine other command = ⊥
 pub record Awaits (facts : ContentFacts) (command : Command) : Type 0 where
   pub clearing : facts.clearing ≡ flags_cleared command
   pub absent_named : facts.absent_named ≡ names_absent command
-  pub named : (input : ℕ) → (facts.inputs input).named ≡ are_some (items_for input (items_sent command))
+  pub named : (input : ℕ) → (facts.inputs input).named ≡ is_some (item_for input (items_sent command))
 
 -- what is known of each machine of a log that begins at one, where any answer that is still to be heard is to a command
 -- that the module receives after a life that goes on from `from`
@@ -63,6 +64,11 @@ pub record Takes (settings : Settings) (first : ℕ) (from : Life) (machine : Ma
   pub carried : CarriesBlock answer block
   pub after_is : after settings first machine (events.ToCpu (place + 1)) ≡ after_taken machine place answer
 
+-- what is known of content says this of the polls of a machine's round
+abbrev pub PollsKnown : Settings → Machine → ContentFacts → Type 0
+PollsKnown settings machine facts =
+    KnowsPolls settings machine.to_module machine.polls machine.last_to_module machine.round (life_of machine.history) facts.clear facts.polled facts.since_poll
+
 -- an invariant of machines and what is known of content above, in a log that begins at a machine, with what a rule reads of
 -- the events above: it holds along each prompt run from any command on where `Holds` does, and by it each event keeps the rule
 pub record IsInvariant (settings : Settings) (first : ℕ) (begin : Machine) (rule : ContentRule) (S : Type 0) (initial : S) (next : S → Machine → Event → S)
@@ -94,6 +100,6 @@ pub record IsInvariant (settings : Settings) (first : ℕ) (begin : Machine) (ru
   -- the CPU takes a block
   pub takes : (state : S) (from : Life) (machine : Machine) (facts : ContentFacts) (place : ℕ) (rest : List Event) (number : ℕ) (answer : Block) (block : MadeBlock)
       → IsKnown settings first begin from machine
-      → Takes settings first from machine place number answer block → Holds state machine (events.ToCpu (place + 1) ∷ rest) → P state from machine facts
+      → Takes settings first from machine place number answer block → PollsKnown settings machine facts → Holds state machine (events.ToCpu (place + 1) ∷ rest) → P state from machine facts
       → EventsKeep rule facts (events_of_block answer)
       × P (next state machine (events.ToCpu (place + 1))) (life_of machine.history) (after_taken machine place answer) (fold content_with facts (events_of_block answer))

@@ -1,14 +1,17 @@
 -- The times of a block that the CPU takes in a log, and of its entries.
-use Rattle.fio_ends.proofs.Names.{◌≡◌, ◌∙◌, ◌+◌, ◌^◌, ◌<◌, ◌≤◌, ℕ, false, length, Some, ap, sym, arith, slice_get, length-append, Block, says_again, Settings, Life, life_of, loads_of, log_of, Transition, entry_of, MadeBlock, blocks_of, Machine, each-at}
+use Rattle.fio_ends.proofs.Names.{◌≡◌, ◌∙◌, ◌+◌, ◌^◌, ◌<◌, ◌≤◌, ℕ, false, length, Some, ap, sym, arith, slice_get, AllByRecursion, length-append, Block, says_again, Settings, Life, life_of, loads_of, log_of, Transition, entry_of, MadeBlock, blocks_of, Machine, each-at}
 use Rattle.fio_input.specs.Widening.{wide_time_of}
 use Rattle.fio_module.proofs.BlockLaws.{blocks_without_more_take_all}
 use Rattle.fio_link.proofs.Times.{BlockTimely, blocks_timely}
-use Rattle.fio_ends.specs.ContentPremises.{WaitBriefly}
 use Rattle.fio_ends.proofs.Clocks.{IsClocked, block_stamped, clock, offset_of, transition_clocked, wide_is}
 use Rattle.fio_ends.proofs.ContentSteps.{IsKnown, Takes}
 use Rattle.fio_ends.proofs.Following.{GoesOn, goes_on-both}
 use Rattle.fio_ends.proofs.Lives.{IsMadeSince, blocks_grow, logged_since, made_since}
 use Rattle.fio_ends.proofs.MadeNow.{made_now}
+
+-- fewer than 65,536 scans lie between each entry of a block and the making of the block
+abbrev pub WaitBriefly : MadeBlock → Type 0
+WaitBriefly block = AllByRecursion (λ transition. block.scans < transition.scans + 2 ^ 16) block.transitions
 
 module _ (settings : Settings) (first : ℕ) (begin : Machine) (from : Life) (machine : Machine) (place number : ℕ) (answer : Block) (block : MadeBlock)
     (known : IsKnown settings first begin from machine) (t : Takes settings first from machine place number answer block) where

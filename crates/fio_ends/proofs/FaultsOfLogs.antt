@@ -5,18 +5,16 @@ use Rattle.std.specs.Prelude.{find, option_and_then, take, if◌then◌else◌}
 use Rattle.fio_check.specs.ContentAbove.{content_at}
 use Rattle.fio_check.specs.ContentSaid.{TimedState}
 use Rattle.fio_check.specs.ContentEvents.{recorded_items}
-use Rattle.fio_check.specs.ContentRules.{answer_rules, breaks_answer, breaks_entry, content_fault_at, content_fault_in, entry_rules, fault_of}
+use Rattle.fio_check.specs.ContentRules.{answer_rules, breaks_answer, breaks_entry, entry_rules}
+use Rattle.fio_check.specs.ContentFaults.{content_fault_at, content_fault_in, fault_of}
 use Rattle.fio_check.specs.declared.content_rules.BrokenRule.{BrokenRule}
 use Rattle.fio_ends.specs.ContentPremises.{HasNearTimes}
 use Rattle.fio_ends.specs.ContentRuns.{AccusesNone, ContentNeverAccuses, KeepsRule}
+use Rattle.fio_ends.proofs.TimesKept.{apart_never_accuses, clock_never_accuses, fresh_never_accuses, order_never_accuses, state_never_accuses}
 use Rattle.fio_ends.proofs.AlternateKept.{alternate_never_accuses}
 use Rattle.fio_ends.proofs.AnswersKept.{accepted_never_accuses, cleared_never_accuses, done_never_accuses, watchdog_never_accuses}
-use Rattle.fio_ends.proofs.ApartKept.{apart_never_accuses}
-use Rattle.fio_ends.proofs.ClockKept.{clock_never_accuses}
-use Rattle.fio_ends.proofs.FloorsKept.{fresh_never_accuses, order_never_accuses}
 use Rattle.fio_ends.proofs.GoodLines.{none_earliest}
 use Rattle.fio_ends.proofs.IgnoredKept.{ignored_never_accuses}
-use Rattle.fio_ends.proofs.StateKept.{state_never_accuses}
 
 -- ---- one event
 
@@ -38,6 +36,10 @@ none_of_five : (a b c d e : Bool) (p q r s t : ContentRule) → a ≡ false → 
     → (if a then Some p else (if b then Some q else (if c then Some r else (if d then Some s else (if e then Some t else None))))) ≡ None
 none_of_five a b c d e p q r s t first second third fourth fifth = rw (first, second, third, fourth, fifth) refl
 
+none_of_six : (a b c d e f : Bool) (p q r s t u : ContentRule) → a ≡ false → b ≡ false → c ≡ false → d ≡ false → e ≡ false → f ≡ false
+    → (if a then Some p else (if b then Some q else (if c then Some r else (if d then Some s else (if e then Some t else (if f then Some u else None)))))) ≡ None
+none_of_six a b c d e f p q r s t u first second third fourth fifth sixth = rw (first, second, third, fourth, fifth, sixth) refl
+
 none_of_answer : (facts : ContentFacts) (answer : Answer) → KeepsAll facts (Heard answer) → find (breaks_answer facts answer) answer_rules ≡ None
 none_of_answer facts answer k =
     none_of_five (breaks_answer facts answer Done) (breaks_answer facts answer Accepted) (breaks_answer facts answer Cleared) (breaks_answer facts answer Watchdog) (breaks_answer facts answer Clock)
@@ -47,13 +49,13 @@ none_of_entry : (facts : ContentFacts) (input low wide : ℕ) (level : Bool) →
     → find (breaks_entry facts input (record { level = level; wide = wide })) entry_rules ≡ None
 none_of_entry facts input low wide level k =
     let entry : TimedState = record { level = level; wide = wide } in
-    none_of_five (breaks_entry facts input entry Order) (breaks_entry facts input entry Fresh) (breaks_entry facts input entry Alternate) (breaks_entry facts input entry Apart)
-    (breaks_entry facts input entry Ignored) Order Fresh Alternate Apart Ignored k.order k.fresh k.alternate k.apart k.ignored
+    none_of_six (breaks_entry facts input entry Order) (breaks_entry facts input entry Fresh) (breaks_entry facts input entry Alternate) (breaks_entry facts input entry Apart)
+    (breaks_entry facts input entry Ignored) (breaks_entry facts input entry State) Order Fresh Alternate Apart Ignored State k.order k.fresh k.alternate k.apart k.ignored k.state.1
 
 none_broken : (facts : ContentFacts) (event : ContentEvent) → KeepsAll facts event → rule_broken_by facts event ≡ None
 none_broken facts (Heard answer) k = ap (option_map {U = BrokenRule} (λ rule. record { input = None; rule = rule })) (none_of_answer facts answer k)
 none_broken facts (Recorded (Entry input level low wide)) k =
-    ap₂ option_or k.state (ap (option_map {U = BrokenRule} (λ rule. record { input = Some input; rule = rule })) (none_of_entry facts input low wide level k))
+    ap₂ option_or k.state.0 (ap (option_map {U = BrokenRule} (λ rule. record { input = Some input; rule = rule })) (none_of_entry facts input low wide level k))
 none_broken facts (Recorded Gap) k = refl
 none_broken facts (Ended status stamp) k = k.state
 none_broken facts (Sent command) k = refl
@@ -79,15 +81,15 @@ pub accuses_none : AccusesNone HasNearTimes
 unfolding AccusesNone ContentNeverAccuses
 accuses_none begun settings first before later machine last range run leads begins holds lines has =
     no_faults begun lines (λ place event at. record {
-      order = order_never_accuses begun settings first before later machine last range run leads begins holds.entries lines has place event at;
-      fresh = fresh_never_accuses begun settings first before later machine last range run leads begins holds.entries lines has place event at;
+      order = order_never_accuses begun settings first before later machine last range run leads begins holds lines has place event at;
+      fresh = fresh_never_accuses begun settings first before later machine last range run leads begins holds lines has place event at;
       alternate = alternate_never_accuses begun settings first before later machine last range run leads begins tt lines has place event at;
-      apart = apart_never_accuses begun settings first before later machine last range run leads begins holds.inputs lines has place event at;
+      apart = apart_never_accuses begun settings first before later machine last range run leads begins holds lines has place event at;
       ignored = ignored_never_accuses begun settings first before later machine last range run leads begins tt lines has place event at;
-      clock = clock_never_accuses begun settings first before later machine last range run leads begins holds.stamps lines has place event at;
+      clock = clock_never_accuses begun settings first before later machine last range run leads begins holds lines has place event at;
       done = done_never_accuses begun settings first before later machine last range run leads begins tt lines has place event at;
       accepted = accepted_never_accuses begun settings first before later machine last range run leads begins tt lines has place event at;
       cleared = cleared_never_accuses begun settings first before later machine last range run leads begins tt lines has place event at;
       watchdog = watchdog_never_accuses begun settings first before later machine last range run leads begins tt lines has place event at;
-      state = state_never_accuses begun settings first before later machine last range run leads begins holds.states lines has place event at;
+      state = state_never_accuses begun settings first before later machine last range run leads begins holds lines has place event at;
     })

@@ -3,7 +3,7 @@ use Rattle.fio_ends.proofs.Names.{◌≡◌, ◌∙◌, ◌+◌, ◌<◌, ◌≤
 use Rattle.std.specs.Option.{option_or}
 use Rattle.std.specs.Prelude.{option_and_then, option_map, unwrap_or}
 use Rattle.fio_check.specs.Checkers.{checker_at, checker_with, found_at, found_by, verdict_found_at}
-use Rattle.fio_check.specs.Observations.{observation_at}
+use Rattle.fio_check.specs.Observations.{is_sent_at, observation_at}
 use Rattle.fio_check.specs.Places.{earliest_above}
 use Rattle.fio_check.specs.declared.checker.Breach.{Breach}
 use Rattle.fio_check.specs.declared.verdict.Verdict.TheVariants.{Broken}
@@ -33,16 +33,17 @@ none_from limits lines before [] place facts is at checker kept above low high =
     absurd (omega arith)
 none_from limits lines before (line ∷ rest) place facts is at checker kept above low high =
     let observation = observation_on line in
+    let sent = is_sent_at lines place in
     let here : slice_get lines place ≡ Some line =
     ap (slice_get lines) at ∙ ap (λ all. slice_get all (length before)) is ∙ line_here before rest line in
     let seen : observation_at lines place ≡ observation = seen_at lines place line here in
     elim (eqb_tells above place) as (λ _. found_at limits lines above ≡ None) [
-      | inl same ↦ rw same.1 (ap₂ found_by checker seen ∙ found-taking limits facts observation ∙ rw kept.0 refl)
+      | inl same ↦ rw same.1 (ap₂ (λ known said. found_by known sent said) checker seen ∙ found-taking limits facts sent observation ∙ rw kept.0 refl)
       | inr other ↦
           none_from limits lines (before ++ line ∷ []) rest (suc place) (facts_with facts observation)
           (is ∙ sym (append_assoc before (line ∷ []) rest))
           (let more : length (before ++ line ∷ []) ≡ length before + 1 = length-append before (line ∷ []) in omega arith)
-          (ap₂ checker_with checker seen ∙ with-taking limits facts observation kept.0)
+          (ap₂ (λ known said. checker_with known sent said) checker seen ∙ with-taking limits facts sent observation kept.0)
           kept.1 above (omega (arith, other.1)) high
     ]
 

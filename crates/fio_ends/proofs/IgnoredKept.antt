@@ -1,20 +1,23 @@
 -- The rule `ignored` never accuses: an input that was settled as ignored has no entries until an item opens it.
-use Rattle.fio_ends.proofs.Names.{◌≡◌, ◌∙◌, ◌+◌, ◌<◌, ◌≤◌, ◌&&◌, ◌||◌, inl, inr, ℕ, Bool, true, false, not, List, [], ◌∷◌, length, Option, Some, None, same_Some, refl, ap, sym, subst, arith, if◌then◌else◌, ◌==◌, slice_get, slice_get_within, nat_lt, Answer, Command, Block, command_in, command_octets, IsCommand, says_again, says_more, says_error, all_present, InputItem, ArrayVec, Settings, AreInRange, Life, Scanned, LineSynced, Raised, life_of, life_after_command, log_of, Transition, entry_of, MadeBlock, blocks_in, ContentFacts, InputAbove, content_with, Ended, Recorded, Sent, Gap, Event, SentFrame, Machine, start, after, after_sending, after_delivery_to_module, after_taken, Ignored, IsKept}
+use Rattle.fio_ends.proofs.Names.{◌≡◌, ◌∙◌, ◌+◌, ◌<◌, ◌≤◌, ◌&&◌, ◌||◌, inl, inr, ℕ, Bool, true, false, not, List, [], ◌∷◌, ◌++◌, length, Option, Some, None, is_some, same_Some, refl, ap, sym, subst, arith, if◌then◌else◌, ◌==◌, slice_get, slice_get_within, nat_lt, Answer, Command, Block, command_in, command_octets, IsCommand, says_again, says_more, says_error, all_present, InputItem, ArrayVec, Settings, AreInRange, Life, Scanned, LineSynced, Raised, life_of, life_after_command, log_of, Transition, entry_of, MadeBlock, blocks_in, ContentFacts, InputAbove, content_with, Ended, Recorded, Sent, Gap, Event, SentFrame, Machine, start, after, after_sending, after_delivery_to_module, after_taken, Ignored, IsKept}
 use Rattle.fio_message.specs.declared.commands.Command.TheVariants as commands
 use Rattle.fio_message.specs.Blocks.{block_answer}
 use Rattle.fio_message.specs.Status.{error_status}
 use Rattle.fio_message.proofs.StatusBits.{error_back}
 use Rattle.fio_input.specs.Widening.{wide_time_of}
 use Rattle.fio_module.specs.Blocks.{end_of_blocks}
-use Rattle.fio_check.specs.ContentSaid.{SentItem, accepts_items, are_some, items_for, items_sent, opens}
-use Rattle.fio_check.specs.ContentFacts.{content_begun, input_below_clear, input_with_entry}
+use Rattle.fio_check.specs.ContentSaid.{SentItem, accepts_items, item_for, items_sent, opens}
+use Rattle.fio_check.specs.ContentFacts.{coming, content_begun, input_below_clear, input_ended, input_with_entry}
+use Rattle.fio_check.specs.ContentKnown.{input_coming}
+use Rattle.fio_check.proofs.ContentNext.{item_parts}
 use Rattle.fio_link.specs.declared.event.Event.TheVariants as events
 use Rattle.fio_ends.specs.ContentRuns.{Always, ContentNeverAccuses, KeepsRule}
 use Rattle.fio_ends.proofs.Alternating.{NoneOf}
-use Rattle.fio_ends.proofs.AlternateKept.{clear_open}
+use Rattle.fio_ends.proofs.SettledAgain.{MadeThen, hidden_then, made_then, settles_open}
+use Rattle.fio_ends.proofs.SteadyKept.{clear_open}
 use Rattle.fio_ends.proofs.Answered.{Says, says_of}
 use Rattle.fio_ends.proofs.BlockPlaces.{end_at, ends_within, is_next}
-use Rattle.fio_ends.proofs.BlockWalk.{IsWalk, entry_event, walk}
+use Rattle.fio_ends.proofs.BlockWalk.{IsWalk, entry_event, gap_keeps, walk}
 use Rattle.fio_ends.proofs.ContentBegun.{begun_input}
 use Rattle.fio_ends.proofs.ContentFrame.{heard_keeps}
 use Rattle.fio_ends.proofs.ContentHeld.{content_never_accuses}
@@ -24,7 +27,7 @@ use Rattle.fio_ends.proofs.Sends.{read_back}
 use Rattle.fio_ends.proofs.Settled.{HasItem, KeepsItem, item-quiet, item-received, item-sent, item-taken, setting_of}
 use Rattle.fio_ends.proofs.Taken.{blocks_stay}
 use Rattle.fio_ends.proofs.Watching.{IsSilent, NoneHidden, input_at, rest_at}
-use Rattle.fio_ends.proofs.Shut.{KeepsBoth, ShutHolds, none_shut, shut-sent, silent-command, silent-further, silent-quiet}
+use Rattle.fio_ends.proofs.Shut.{KeepsBoth, KeepsShut, ShutHolds, none_shut, shut-sent, silent-command, silent-further, silent-quiet}
 
 module _ (settings : Settings) (range : AreInRange settings) (first : ℕ) (begin : Machine) where
   -- ---- the CPU takes a block
@@ -66,25 +69,25 @@ module _ (settings : Settings) (range : AreInRange settings) (first : ℕ) (begi
         let input_low = input_at now (block.start + k) transition logged in (
           none_shut (facts.inputs transition.input).shut
               (λ is. (subst (NoneOf transition.input) (rest_at (log_of now) (block.start + k) transition logged) ((q transition.input input_low).shut is).1.none).0 refl),
-          λ input low. by_if (block.start + (k + 1)) input (facts.inputs input) (wide_time_of answer.stamp (entry_of transition).stamp) transition.level facts
+          λ input low. (let k = by_if (block.start + (k + 1)) input (input_coming input (coming facts (entry_event answer.stamp transition)) (facts.inputs input)) (wide_time_of answer.stamp (entry_of transition).stamp) transition.level facts
               ((input == transition.input) && nat_lt input 64)
-              (both_further facts (block.start + k) (block.start + (k + 1)) (omega arith) (transition ∷ rest) rest q input low),
+              (let b = both_further facts (block.start + k) (block.start + (k + 1)) (omega arith) (transition ∷ rest) rest q input low in record { item = b.item; shut = b.shut }) in
+              record { item = k.item; shut = k.shut }),
         )
 
-    -- at a clear block an item that was taken is settled
-    settle : (input : ℕ) → input < 64 → block.more ≡ false → says_again answer.status ≡ false → (above : InputAbove) (taken : Bool) → above.taken ≡ taken
+    -- at a block that settles the input an item that was taken is in force
+    settle : (input : ℕ) → input < 64 → NoneHidden now block.end input → (above : InputAbove) (taken : Bool) → above.taken ≡ taken
         → (item : Option SentItem) → above.item ≡ item
         → KeepsBoth now machine.to_module machine.last_to_module block.end input above
         → KeepsBoth now machine.to_module machine.last_to_module block.end input (input_below_clear above (if taken then item else None))
-    settle input low all anew above false is item item_is k = record { item = k.item; shut = k.shut }
-    settle input low all anew above true is None item_is k = record { item = k.item; shut = k.shut }
-    settle input low all anew above true is (Some item) item_is k = record {
+    settle input low opens above false is item item_is k = record { item = k.item; shut = k.shut }
+    settle input low opens above true is None item_is k = record { item = k.item; shut = k.shut }
+    settle input low opens above true is (Some item) item_is k = record {
       item = k.item;
       shut = λ ignored.
-          (let has = (k.item.taken_one is item item_is).1 in
-          let o = clear_open settings range first begin from machine place number answer block known t input low all anew in (
+          (let has = (k.item.taken_one is item item_is).1 in (
             λ place frame high there. absurd (omega (arith, t.received, slice_get_within machine.to_module place frame there)),
-            silent (has.ignore ∙ ignored) o.1,
+            silent (has.ignore ∙ ignored) opens,
           ));
     }
       where
@@ -92,22 +95,41 @@ module _ (settings : Settings) (range : AreInRange settings) (first : ℕ) (begi
         silent is (inl s) = s
         silent is (inr w) = absurd (cc (sym is ∙ w.1.opened))
 
-    pub both_ended : (facts : ContentFacts) (more again : Bool) → says_more answer.status ≡ more → says_again answer.status ≡ again → Both block.end [] facts
-        → Both block.end [] (content_with facts (Ended answer.status answer.stamp))
-    both_ended facts true again more_is again_is q = rw more_is q
-    both_ended facts false true more_is again_is q = rw (more_is, again_is) q
-    both_ended facts false false more_is again_is q = rw (more_is, again_is) (λ input low.
-        settle input low (sym t.carried.more ∙ more_is) again_is (facts.inputs input) (facts.inputs input).taken refl (facts.inputs input).item refl (q input low))
+    both_settled : (input : ℕ) → input < 64 → (settling : Bool) (above : InputAbove) → (settling ≡ true → NoneHidden now block.end input)
+        → KeepsBoth now machine.to_module machine.last_to_module block.end input above
+        → KeepsBoth now machine.to_module machine.last_to_module block.end input (input_ended settling above)
+    both_settled input low true above opens k = settle input low (opens refl) above above.taken refl above.item refl k
+    both_settled input low false above opens k = k
 
-    both_walk : IsWalk Ignored settings now machine.round answer block Both (ShutHolds settings (after_taken machine place answer))
+    pub both_ended : (facts : ContentFacts) → MadeThen settings now block facts → (more again : Bool) → says_more answer.status ≡ more → says_again answer.status ≡ again
+        → Both block.end [] facts → Both block.end [] (content_with facts (Ended answer.status answer.stamp))
+    both_ended facts made true again more_is again_is q = rw more_is (λ input low. (let k = q input low in record { item = k.item; shut = k.shut }))
+    both_ended facts made false true more_is again_is q = rw (more_is, again_is) (λ input low.
+        (let k = q input low in
+        let settled = both_settled input low (facts.clear && not (facts.since_poll input)) (input_coming input (coming facts (Ended answer.status answer.stamp)) (facts.inputs input))
+        (λ is. (let s = settles_open facts.clear (facts.since_poll input) is in hidden_then input low settings now facts.since_poll block (made s.0) s.1 (sym t.carried.more ∙ more_is)))
+        (record { item = k.item; shut = k.shut }) in
+        record { item = settled.item; shut = settled.shut }))
+    both_ended facts made false false more_is again_is q = rw (more_is, again_is) (λ input low.
+        (let k = q input low in
+        let settled = both_settled input low true (input_coming input (coming facts (Ended answer.status answer.stamp)) (facts.inputs input))
+        (λ is. (clear_open settings range first begin from machine place number answer block known t input low (sym t.carried.more ∙ more_is) again_is).1)
+        (record { item = k.item; shut = k.shut }) in
+        record { item = settled.item; shut = settled.shut }))
+
+    -- and what is known of when the block was made
+    abbrev pub BothMade : ℕ → List Transition → ContentFacts → Type 0
+    BothMade upto rest facts = Both upto rest facts × MadeThen settings now block facts
+
+    both_walk : IsWalk (KeepsRule Ignored) content_with settings now machine.round answer block BothMade (ShutHolds settings (after_taken machine place answer))
     both_walk = record {
-      gap = both_gap;
-      entry = both_entry;
+      gap = λ facts forward q. (both_gap facts forward q.0, q.1);
+      entry = λ k transition rest facts at logged q. (let e = both_entry k transition rest facts at logged q.0 in (e.0, (e.1, q.1)));
       ended = λ facts q. (
         tt,
         (let upto = (is_next settings now machine.round block t.made).ends in
             subst (λ n. (input : ℕ) → input < 64 → KeepsBoth now machine.to_module machine.last_to_module n input ((content_with facts (Ended answer.status answer.stamp)).inputs input)) upto
-            (both_ended facts (says_more answer.status) (says_again answer.status) refl refl q)),
+            (both_ended facts q.1 (says_more answer.status) (says_again answer.status) refl refl q.0)),
       );
     }
 
@@ -142,9 +164,10 @@ module _ (settings : Settings) (range : AreInRange settings) (first : ℕ) (begi
       let f : SentFrame = record { octets = command_octets command; round = machine.round } in
       record {
         item = item-sent machine.to_module machine.last_to_module input (facts.inputs input).named (facts.inputs input).item (facts.inputs input).taken low (life_of machine.history) f command (read_back command within)
-            (are_some (items_for input (items_sent command))) (are_some (items_for input (items_sent command)) || false) refl k.item;
-        shut = shut-sent machine.to_module machine.last_to_module (end_at settings (life_of machine.history) machine.round) input (facts.inputs input).shut low (life_of machine.history) f command (read_back command within)
-            (opens (items_for input (items_sent command))) refl k.shut;
+            (facts.inputs input) (item_for input (items_sent command)) refl refl refl k.item;
+        shut = subst (KeepsShut (life_of machine.history) (machine.to_module ++ f ∷ []) machine.last_to_module (end_at settings (life_of machine.history) machine.round) input) (sym (item_parts (facts.inputs input) (item_for input (items_sent command))).shut)
+            (shut-sent machine.to_module machine.last_to_module (end_at settings (life_of machine.history) machine.round) input (facts.inputs input).shut low (life_of machine.history) f command (read_back command within)
+            (opens (item_for input (items_sent command))) refl k.shut);
       })
 
   pub both-receives : (machine : Machine) (facts : ContentFacts) (place : ℕ) (frame : SentFrame) → IsKept settings first machine → machine.last_to_module < place + 1
@@ -205,8 +228,8 @@ module _ (settings : Settings) (range : AreInRange settings) (first : ℕ) (begi
       (λ is.
       (let parts = both_true (accepts_items answer) (facts.inputs input).named is in
       let a = accepting h.life command answer (says_of settings from machine facts place command answer h) parts.0 in
-      let some : are_some (items_for input a.0.items) ≡ true =
-      ap (λ c. are_some (items_for input (items_sent c))) (sym a.1) ∙ sym (h.awaits.named input) ∙ parts.1 in
+      let some : is_some (item_for input a.0.items) ≡ true =
+      ap (λ c. is_some (item_for input (items_sent c))) (sym a.1) ∙ sym (h.awaits.named input) ∙ parts.1 in
       item-taken machine.to_module machine.last_to_module input (facts.inputs input).named (facts.inputs input).item (facts.inputs input).taken low h.life (life_of machine.history) a.0
       (subst (IsSentLast machine.to_module) a.1 h.sent_last) h.received (subst (λ c. IsSince c h.life (life_of machine.history)) a.1 h.since) a.2 some parts.1 k)) k
 
@@ -225,11 +248,13 @@ module _ (settings : Settings) (range : AreInRange settings) (first : ℕ) (begi
       (heard_keeps facts answer).ignored,
       λ input low. (let k = p input low in record { item = item-heard from machine facts place command answer h input low k.item; shut = k.shut }),
     );
-    takes = λ state from machine facts place rest number answer block known t holds p.
-        walk Ignored settings (life_of machine.history) machine.round answer block (Both from machine place number answer block known t)
+    takes = λ state from machine facts place rest number answer block known t polls holds p.
+        walk (KeepsRule Ignored) content_with (gap_keeps Ignored) settings (life_of machine.history) machine.round answer block (BothMade from machine place number answer block known t)
         (ShutHolds settings (after_taken machine place answer)) (both_walk from machine place number answer block known t)
-        t.made t.carried facts ((heard_keeps facts (block_answer answer)).ignored) (λ input low. (let k = p input low in
-        record { item = record { taken_one = k.item.taken_one; sent_last = λ is. absurd (cc is) }; shut = k.shut }));
+        t.made t.carried facts ((heard_keeps facts (block_answer answer)).ignored) (
+          λ input low. (let k = p input low in record { item = record { taken_one = k.item.taken_one; sent_last = λ is. absurd (cc is) }; shut = k.shut }),
+          made_then settings range first begin from machine place number answer block known t facts polls,
+        );
   }
 
 -- at the start of both ends each input is ignored, as the item above says

@@ -1,5 +1,5 @@
 -- The least filters that can be in force for the changes of an input that are still to be recorded.
-use Rattle.fio_ends.proofs.Names.{◌≡◌, ◌∙◌, ◌+◌, ◌-◌, ◌<◌, ◌≤◌, ◌&&◌, inl, inr, ℕ, Bool, true, false, List, [], ◌∷◌, ◌++◌, length, Option, Some, None, refl, ap, sym, subst, arith, append-nil, if◌then◌else◌, ◌==◌, slice_get, slice_get_within, AllByRecursion, nat_lt, nat_tests, same_Some, Command, command_in, InputItem, ArrayVec, Life, Occurrence, Scanned, LineSynced, Raised, Commanded, life_after_command, all_present, log_of, log_of-with_command, Transition, FilterPair, SentFrame, get_after_push, get_in_front}
+use Rattle.fio_ends.proofs.Names.{◌≡◌, ◌∙◌, ◌+◌, ◌-◌, ◌<◌, ◌≤◌, inl, inr, ℕ, Bool, true, false, List, [], ◌∷◌, ◌++◌, length, Option, Some, None, refl, ap, sym, subst, arith, append-nil, if◌then◌else◌, slice_get, slice_get_within, AllByRecursion, same_Some, Command, command_in, InputItem, ArrayVec, Life, Occurrence, Scanned, LineSynced, Raised, Commanded, life_after_command, all_present, log_of, log_of-with_command, Transition, FilterPair, SentFrame, get_after_push, get_in_front}
 use Rattle.std.proofs.lemmas.Bool.{cases_lt}
 use Rattle.fio_message.specs.declared.commands.Command.TheVariants as commands
 use Rattle.fio_input.specs.FilterHistory.{applied_items, last_item_of, setting_by}
@@ -7,25 +7,27 @@ use Rattle.fio_input.specs.FilterRule.{Setting, filter_in_force}
 use Rattle.fio_module.specs.Log.{transitions_below}
 use Rattle.fio_module.proofs.ListParts.{get_in_back}
 use Rattle.fio_module.proofs.ScanTransitions.{IsOfScan, of_scan}
-use Rattle.fio_check.specs.ContentAbove.{least_of, lesser, one_sample}
-use Rattle.fio_check.specs.ContentSaid.{filters_of, items_for, items_sent}
+use Rattle.fio_check.specs.ContentAbove.{least_with, one_sample}
+use Rattle.fio_check.specs.ContentSaid.{item_for, items_sent}
+use Rattle.fio_ends.proofs.FirstPolls.{LeavesInput}
 use Rattle.fio_ends.proofs.Following.{GoesOn, IsNoCommand, goes_on-more}
 use Rattle.fio_ends.proofs.Lives.{logged_since}
-use Rattle.fio_ends.proofs.Settled.{setting-since, setting_of}
-use Rattle.fio_ends.proofs.Watching.{last_or}
+use Rattle.fio_ends.proofs.Settled.{setting_of}
+use Rattle.fio_ends.proofs.SettledAgain.{setting-unnamed}
+use Rattle.fio_ends.proofs.Watching.{item_is}
 
 -- these filters are no more than those of a setting
 pub record AreNoMore (pair : FilterPair) (setting : Setting) : Type 0 where
   pub leading : pair.leading ≤ filter_in_force setting.leading
   pub trailing : pair.trailing ≤ filter_in_force setting.trailing
 
--- nor than those of items
-abbrev pub AreBelowItems : FilterPair → List InputItem → Type 0
-AreBelowItems pair items =
-    AllByRecursion (λ item. (pair.leading ≤ filter_in_force item.leading) × (pair.trailing ≤ filter_in_force item.trailing)) items
+-- nor than those of an item, if there is one
+abbrev pub AreBelowItem : FilterPair → Option InputItem → Type 0
+AreBelowItem pair None = Unit {0}
+AreBelowItem pair (Some item) = (pair.leading ≤ filter_in_force item.leading) × (pair.trailing ≤ filter_in_force item.trailing)
 
 abbrev pub BelowCommand : FilterPair → ℕ → Option Command → Type 0
-BelowCommand pair input command = (items : ArrayVec InputItem) → command ≡ Some (commands.ConfigureInputs items) → AreBelowItems pair (items_for input items.items)
+BelowCommand pair input command = (items : ArrayVec InputItem) → command ≡ Some (commands.ConfigureInputs items) → AreBelowItem pair (item_for input items.items)
 
 -- a transition was logged where the filters were no less
 pub record IsLoggedWith (pair : FilterPair) (now : Life) (transition : Transition) : Type 0 where
@@ -49,22 +51,17 @@ record IsLower (lower pair : FilterPair) : Type 0 where
   pub leading : lower.leading ≤ pair.leading
   pub trailing : lower.trailing ≤ pair.trailing
 
-least-lower : (pair : FilterPair) (items : List InputItem) → IsLower (least_of pair items) pair
-least-lower pair [] = record { leading = omega arith; trailing = omega arith }
-least-lower pair (item ∷ items) =
-    let l = least-lower (lesser pair (filters_of item)) items in
-    record { leading = omega (arith, l.leading); trailing = omega (arith, l.trailing) }
+least-lower : (pair : FilterPair) (item : Option InputItem) → IsLower (least_with pair item) pair
+least-lower pair None = record { leading = omega arith; trailing = omega arith }
+least-lower pair (Some item) = record { leading = omega arith; trailing = omega arith }
 
-below-lower : (lower pair : FilterPair) (items : List InputItem) → IsLower lower pair → AreBelowItems pair items → AreBelowItems lower items
-below-lower lower pair [] l all = tt
-below-lower lower pair (item ∷ items) l all =
-    ((omega (arith, l.leading, all.0.0), omega (arith, l.trailing, all.0.1)), below-lower lower pair items l all.1)
+below-lower : (lower pair : FilterPair) (item : Option InputItem) → IsLower lower pair → AreBelowItem pair item → AreBelowItem lower item
+below-lower lower pair None l all = tt
+below-lower lower pair (Some item) l all = (omega (arith, l.leading, all.0), omega (arith, l.trailing, all.1))
 
-least-below : (pair : FilterPair) (items : List InputItem) → AreBelowItems (least_of pair items) items
-least-below pair [] = tt
-least-below pair (item ∷ items) =
-    let l = least-lower (lesser pair (filters_of item)) items in
-    ((omega (arith, l.leading), omega (arith, l.trailing)), least-below (lesser pair (filters_of item)) items)
+least-below : (pair : FilterPair) (item : Option InputItem) → AreBelowItem (least_with pair item) item
+least-below pair None = tt
+least-below pair (Some item) = (omega arith, omega arith)
 
 no_more-lower : (lower pair : FilterPair) (setting : Setting) → IsLower lower pair → AreNoMore pair setting → AreNoMore lower setting
 no_more-lower lower pair setting l a = record { leading = omega (arith, l.leading, a.leading); trailing = omega (arith, l.trailing, a.trailing) }
@@ -92,7 +89,7 @@ with-more pair now occurrence transition w = record {
 pub least-begins : (life : Life) (frames : List SentFrame) (last upto input : ℕ) → KeepsLeast life frames last upto input one_sample
 least-begins life frames last upto input = record {
   now = record { leading = omega arith; trailing = omega arith };
-  coming = λ place frame low at items is. one_below (items_for input items.items);
+  coming = λ place frame low at items is. one_below (item_for input items.items);
   logged = λ k transition low at of_input.
       (let l = logged_since [] life k transition (record { more = life; is = sym (append-nil life) }) (omega arith) at in
       record {
@@ -104,9 +101,9 @@ least-begins life frames last upto input = record {
       });
 }
   where
-    one_below : (items : List InputItem) → AreBelowItems one_sample items
-    one_below [] = tt
-    one_below (item ∷ items) = ((omega arith, omega arith), one_below items)
+    one_below : (item : Option InputItem) → AreBelowItem one_sample item
+    one_below None = tt
+    one_below (Some item) = (omega arith, omega arith)
 
 -- ---- event by event
 
@@ -144,51 +141,30 @@ module _ (frames : List SentFrame) (last upto input : ℕ) (pair : FilterPair) (
 
   -- a command is sent
   pub least-sent : (life : Life) (f : SentFrame) (command : Command) → command_in f.octets ≡ Some command → KeepsLeast life frames last upto input pair
-      → KeepsLeast life (frames ++ f ∷ []) last upto input (least_of pair (items_for input (items_sent command)))
+      → KeepsLeast life (frames ++ f ∷ []) last upto input (least_with pair (item_for input (items_sent command)))
   least-sent life f command reads p =
-      let items = items_for input (items_sent command) in
-      let l = least-lower pair items in
+      let item = item_for input (items_sent command) in
+      let l = least-lower pair item in
       record {
-        now = no_more-lower (least_of pair items) pair (setting_of input life) l p.now;
+        now = no_more-lower (least_with pair item) pair (setting_of input life) l p.now;
         coming = λ place frame high at.
-            elim (get_after_push frames f place frame at) as (λ _. BelowCommand (least_of pair items) input (command_in frame.octets)) [
-              | inl old ↦ (λ sent is. below-lower (least_of pair items) pair (items_for input sent.items) l (p.coming place frame high old sent is))
-              | inr new ↦ subst (λ (f : SentFrame). BelowCommand (least_of pair items) input (command_in f.octets)) (sym new.1) this
+            elim (get_after_push frames f place frame at) as (λ _. BelowCommand (least_with pair item) input (command_in frame.octets)) [
+              | inl old ↦ (λ sent is. below-lower (least_with pair item) pair (item_for input sent.items) l (p.coming place frame high old sent is))
+              | inr new ↦ subst (λ (f : SentFrame). BelowCommand (least_with pair item) input (command_in f.octets)) (sym new.1) this
             ];
-        logged = λ k transition high at of_input. with-lower (least_of pair items) pair life transition l (p.logged k transition high at of_input);
+        logged = λ k transition high at of_input. with-lower (least_with pair item) pair life transition l (p.logged k transition high at of_input);
       }
     where
-      this : BelowCommand (least_of pair (items_for input (items_sent command))) input (command_in f.octets)
+      this : BelowCommand (least_with pair (item_for input (items_sent command))) input (command_in f.octets)
       this sent spells =
           let same : command ≡ commands.ConfigureInputs sent = same_Some _ _ (sym reads ∙ spells) in
-          subst (λ c. AreBelowItems (least_of pair (items_for input (items_sent command))) (items_for input (items_sent c))) same (least-below pair (items_for input (items_sent command)))
+          subst (λ c. AreBelowItem (least_with pair (item_for input (items_sent command))) (item_for input (items_sent c))) same (least-below pair (item_for input (items_sent command)))
 
   -- the module receives a command
-  by_item : (item : InputItem) (items : List InputItem) (named : Bool)
-      → AreBelowItems pair (if named && nat_lt input 64 then item ∷ items_for input items else items_for input items)
-      → AreBelowItems pair (items_for input items) × (named ≡ true → (pair.leading ≤ filter_in_force item.leading) × (pair.trailing ≤ filter_in_force item.trailing))
-  by_item item items true all =
-      let there : nat_lt input 64 ≡ true = grind (arith, nat_tests) in
-      let both = subst (λ b. AreBelowItems pair (if b then item ∷ items_for input items else items_for input items)) there all in
-      (both.1, λ is. both.0)
-  by_item item items false all = (all, λ is. absurd (cc is))
-
-  last_below : (items : List InputItem) (latest : InputItem) → last_item_of input items ≡ Some latest → AreBelowItems pair (items_for input items)
-      → (pair.leading ≤ filter_in_force latest.leading) × (pair.trailing ≤ filter_in_force latest.trailing)
-  last_below [] latest is all = absurd (cc is)
-  last_below (item ∷ items) latest is all =
-      let kept = by_item item items (item.input == input) all in
-      elim (last_or (last_item_of input items) item latest (item.input == input) is) as
-      (λ _. (pair.leading ≤ filter_in_force latest.leading) × (pair.trailing ≤ filter_in_force latest.trailing)) [
-        | inl later ↦ last_below items latest later kept.0
-        | inr here ↦
-            subst (λ (i : InputItem). (pair.leading ≤ filter_in_force i.leading) × (pair.trailing ≤ filter_in_force i.trailing)) here.1 (kept.1 here.0)
-      ]
-
-  set_below : (applied : Bool) (items : List InputItem) (found : Option InputItem) (setting : Setting) → AreBelowItems pair (items_for input items)
+  set_below : (applied : Bool) (items : List InputItem) (found : Option InputItem) (setting : Setting) → AreBelowItem pair (item_for input items)
       → AreNoMore pair setting → last_item_of input (if applied then items else []) ≡ found → AreNoMore pair (setting_by found setting)
   set_below applied items None setting all a is = a
-  set_below true items (Some item) setting all a is = (let b = last_below items item is all in record { leading = b.0; trailing = b.1 })
+  set_below true items (Some item) setting all a is = (let b = subst (AreBelowItem pair) (item_is input low items ∙ is) all in record { leading = b.0; trailing = b.1 })
   set_below false items (Some item) setting all a is = absurd (cc is)
 
   now-command : (life : Life) (command : Option Command) → BelowCommand pair input command → AreNoMore pair (setting_of input life)
@@ -220,17 +196,17 @@ module _ (frames : List SentFrame) (last upto input : ℕ) (pair : FilterPair) (
     logged = λ k transition high at of_input. p.logged k transition (omega arith) at of_input;
   }
 
--- ---- where an item was settled, and all of the log at a command is recorded
+-- ---- where an item was settled, and all of the log at a life is recorded
 
-module _ (input : ℕ) (pair : FilterPair) (life : Life) (filters : AreNoMore pair (setting_of input life)) where
-  pub logged_quietly : (more : List Occurrence) → AllByRecursion IsNoCommand more → (k : ℕ) (transition : Transition) → length (log_of life) ≤ k
+module _ (input : ℕ) (low : input < 64) (pair : FilterPair) (life : Life) (filters : AreNoMore pair (setting_of input life)) where
+  pub logged_left : (more : List Occurrence) → AllByRecursion (LeavesInput input) more → (k : ℕ) (transition : Transition) → length (log_of life) ≤ k
       → slice_get (log_of (more ++ life)) k ≡ Some transition → transition.input ≡ input → IsLoggedWith pair (more ++ life) transition
-  logged_quietly [] quiet k transition low at of_input = absurd (omega (arith, low, slice_get_within (log_of life) k transition at))
-  logged_quietly (Scanned raw ∷ more) quiet k transition low at of_input =
+  logged_left [] leaves k transition since at of_input = absurd (omega (arith, since, slice_get_within (log_of life) k transition at))
+  logged_left (Scanned raw ∷ more) leaves k transition since at of_input =
       let before = more ++ life in
       let log = log_of before in
       elim (cases_lt k (length log)) as (λ _. IsLoggedWith pair (Scanned raw ∷ before) transition) [
-        | inl old ↦ with-more pair before (Scanned raw) transition (logged_quietly more quiet.1 k transition low (get_in_front log (transitions_below 64 raw before) k transition old at) of_input)
+        | inl old ↦ with-more pair before (Scanned raw) transition (logged_left more leaves.1 k transition since (get_in_front log (transitions_below 64 raw before) k transition old at) of_input)
         | inr new ↦
             record {
               raw = raw;
@@ -238,9 +214,7 @@ module _ (input : ℕ) (pair : FilterPair) (life : Life) (filters : AreNoMore pa
               upto = record { more = []; is = refl };
               of_scan = of_scan 64 raw before (k - length log) transition (get_in_back log (transitions_below 64 raw before) k transition new at);
               filters = subst (λ i. AreNoMore pair (setting_of i before)) (sym of_input)
-                  (subst (AreNoMore pair) (sym (setting-since more life input quiet.1)) filters);
+                  (subst (AreNoMore pair) (sym (setting-unnamed input low more life leaves.1)) filters);
             }
       ]
-  logged_quietly (LineSynced ∷ more) quiet k transition low at of_input = with-more pair (more ++ life) LineSynced transition (logged_quietly more quiet.1 k transition low at of_input)
-  logged_quietly (Raised mask ∷ more) quiet k transition low at of_input = with-more pair (more ++ life) (Raised mask) transition (logged_quietly more quiet.1 k transition low at of_input)
-  logged_quietly (Commanded command ∷ more) quiet k transition low at of_input = absurd quiet.0
+  logged_left (other ∷ more) leaves k transition since at of_input = with-more pair (more ++ life) other transition (logged_left more leaves.1 k transition since at of_input)

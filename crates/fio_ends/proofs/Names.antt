@@ -7,7 +7,7 @@ pub use Rattle.std.proofs.lemmas.Option.{same_Some, slice_get_within}
 pub use Rattle.std.specs.Bool.{beq}
 pub use Rattle.std.specs.List.{AllByRecursion, flat_map, list_any}
 pub use Rattle.std.specs.Option.{option_map_or}
-pub use Rattle.std.specs.Prelude.{fold, option_map, nat_lt, ◌==◌, nat_le}
+pub use Rattle.std.specs.Prelude.{fold, is_some, option_and_then, option_map, nat_lt, ◌==◌, nat_le}
 pub use Rattle.arrayvec.specs.ArrayVec.{ArrayVec}
 pub use Rattle.fio_message.specs.Answers.{answer_octets}
 pub use Rattle.fio_message.specs.Blocks.{Block}
@@ -35,11 +35,11 @@ pub use Rattle.fio_cpu.specs.Record.{item_of, items_of_block}
 pub use Rattle.fio_cpu.specs.declared.record.Item.{Item}
 pub use Rattle.fio_cpu.specs.declared.record.Item.TheVariants.{Entry, Gap}
 pub use Rattle.fio_check.proofs.KeptFacts.{facts_next, seen_at}
-pub use Rattle.fio_check.specs.ContentAbove.{ContentFacts, InputAbove}
+pub use Rattle.fio_check.specs.ContentKnown.{ContentFacts, InputAbove}
 pub use Rattle.fio_check.specs.ContentSaid.{FilterPair}
 pub use Rattle.fio_check.specs.ContentCheckers.{ContentKept, kept_at_start, kept_with}
 pub use Rattle.fio_check.specs.ContentEvents.{ContentEvent, Ended, Heard, LineEvent, Recorded, Sent, content_event_at, content_events, events_above, events_below, events_in, events_of_block, events_of_lines, events_of_log, number_after}
-pub use Rattle.fio_check.specs.ContentFacts.{content_with, no_content}
+pub use Rattle.fio_check.specs.ContentFacts.{content_step, content_with, no_content}
 pub use Rattle.fio_check.specs.ContentRules.{rule_broken_by}
 pub use Rattle.fio_check.specs.Facts.{facts_with, no_facts, number_due, facts_at, number_polled}
 pub use Rattle.fio_check.specs.Lines.{TranscriptLine}

@@ -2,12 +2,18 @@
 use Rattle.fio_ends.proofs.Names.{◌≡◌, arith, ℕ, List, [], ◌∷◌, ◌++◌, None, refl, sym, subst, AllByRecursion, Settings, AreInRange, facts_with, no_facts, standard_limits, Facts, Limits, Event, Machine, start, refusal, after, Leads, IsNotRestart, HaveNoRestart, IsKept, kept_all, kept, CpuFrame, frames_at, frames_from, due_after, IsPrompt, ArePrompt, IsWithinRanges, Life, Scanned, LineSynced, Raised, SuitModule}
 use Rattle.fio_module.specs.Life as module_events
 use Rattle.fio_link.specs.declared.event.Event.TheVariants as events
-use Rattle.fio_ends.specs.PromptRuns.{BeginsWithCommand, HasNoBreach, IsGood, NeverAccuses, NeverAccusesLater}
+use Rattle.fio_ends.specs.PromptRuns.{HasNoBreach, IsGood, NeverAccuses}
 use Rattle.fio_ends.proofs.GoodLines.{KeepRules, good_if_none, nothing_found, said_by}
 use Rattle.fio_ends.proofs.Following.{Follows, Keeps, facts_below, from_after, follows-history, follows-start, may_begin, may_send}
 use Rattle.fio_ends.proofs.Sends.{sends-poll, sends-other}
 use Rattle.fio_ends.proofs.Receives.{follows-to_module}
 use Rattle.fio_ends.proofs.Hears.{keeps-to_cpu}
+
+-- the first event is a command of the CPU's end
+abbrev pub BeginsWithCommand : List Event → Type 0
+BeginsWithCommand (events.Poll ∷ events) = Unit {0}
+BeginsWithCommand (events.Send command ∷ events) = Unit {0}
+BeginsWithCommand events = ⊥
 
 module _ (settings : Settings) (range : AreInRange settings) (first : ℕ) where
   -- an event that adds no line
@@ -119,14 +125,3 @@ never_accuses settings first events machine range run lines has limits suit =
 pub is_good : NeverAccuses IsGood
 is_good settings first events machine range run lines has suit =
     good_if_none lines (never_accuses settings first events machine range run lines has standard_limits suit)
-
--- nor in a log that begins later
-pub never_accuses_later : NeverAccusesLater HasNoBreach
-never_accuses_later settings first before later machine last range run leads begins lines has limits suit =
-    let r = reaches settings range first before later [] start machine last 0 no_facts (kept settings range first [] start refl tt) (follows-start settings first)
-    leads run.is_run run.no_restart run.within run.prompt in
-    nothing_found limits lines (subst (KeepRules limits no_facts) (sym has) (later_keep settings range first limits suit later machine last begins r))
-
-pub is_good_later : NeverAccusesLater IsGood
-is_good_later settings first before later machine last range run leads begins lines has suit =
-    good_if_none lines (never_accuses_later settings first before later machine last range run leads begins lines has standard_limits suit)

@@ -13,7 +13,7 @@ use Rattle.fio_ends.proofs.Heard.{heard_as}
 use Rattle.fio_ends.proofs.Following.{AreBefore, IsBlockFor, Answers, Stage, Follows, GoesOn, goes_on-more}
 
 -- the polls received with one of a round before are of rounds before
-before_received : (frames : List SentFrame) (polls : List ℕ) (round below place : ℕ) (frame : SentFrame) (polled : Option ℕ)
+pub before_received : (frames : List SentFrame) (polls : List ℕ) (round below place : ℕ) (frame : SentFrame) (polled : Option ℕ)
     → slice_get frames place ≡ Some frame → poll_in frame.octets ≡ polled → place < below
     → AreBefore frames polls round below → AreBefore frames (polls_with polled frame.round polls) round below
 before_received frames polls round below place frame None at is low b = b

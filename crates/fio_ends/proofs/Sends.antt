@@ -19,7 +19,7 @@ pub said_of : (command : Command) → IsCommand command
 said_of command within = ap (λ read. observation_of read None) (read_back command within)
 
 -- polls sent before one more frame, below its place
-before_more : (frames : List SentFrame) (f : SentFrame) (polls : List ℕ) (round : ℕ)
+pub before_more : (frames : List SentFrame) (f : SentFrame) (polls : List ℕ) (round : ℕ)
     → AreBefore frames polls round (length frames) → AreBefore (frames ++ f ∷ []) polls round (length frames)
 before_more frames f polls round b =
     record {
@@ -32,7 +32,7 @@ before_more frames f polls round b =
     }
 
 -- and all of them, where that frame is no poll
-before_other : (frames : List SentFrame) (f : SentFrame) (polls : List ℕ) (round : ℕ) → poll_in f.octets ≡ None
+pub before_other : (frames : List SentFrame) (f : SentFrame) (polls : List ℕ) (round : ℕ) → poll_in f.octets ≡ None
     → AreBefore frames polls round (length frames)
     → AreBefore (frames ++ f ∷ []) polls round (length (frames ++ f ∷ []))
 before_other frames f polls round none b =

@@ -1,12 +1,14 @@
 -- An item of an input that was taken is the one that the module has.
-use Rattle.fio_ends.proofs.Names.{◌≡◌, ◌∙◌, ◌+◌, ◌<◌, ◌≤◌, ◌&&◌, inl, inr, ℕ, Bool, true, false, not, List, [], ◌∷◌, ◌++◌, length, Option, Some, None, refl, ap, sym, subst, arith, if◌then◌else◌, ◌==◌, option_map, slice_get, slice_get_within, AllByRecursion, nat_lt, nat_tests, same_Some, Command, command_in, InputItem, ArrayVec, Life, Occurrence, Scanned, LineSynced, Raised, Commanded, life_after_command, filter_events, all_present, input_setting, SentFrame, get_after_push}
-use Rattle.std.specs.Option.{option_or}
+use Rattle.fio_ends.proofs.Names.{◌≡◌, ◌∙◌, ◌+◌, ◌<◌, ◌≤◌, inl, inr, ℕ, Bool, true, false, List, [], ◌∷◌, ◌++◌, length, Option, Some, None, refl, ap, sym, subst, arith, if◌then◌else◌, option_map, is_some, InputAbove, slice_get, slice_get_within, AllByRecursion, same_Some, Command, command_in, InputItem, ArrayVec, Life, Occurrence, Scanned, LineSynced, Raised, Commanded, life_after_command, filter_events, all_present, input_setting, SentFrame, get_after_push}
 use Rattle.fio_message.specs.declared.commands.Command.TheVariants as commands
 use Rattle.fio_input.specs.FilterHistory.{last_item_of, setting_by}
 use Rattle.fio_input.specs.FilterRule.{Setting, filter_in_force}
-use Rattle.fio_check.specs.ContentSaid.{SentItem, are_some, item_kept, items_for, items_sent, last_item}
+use Rattle.fio_check.specs.ContentFacts.{input_with_item, unnamed}
+use Rattle.fio_check.specs.ContentSaid.{SentItem, item_for, item_kept, items_sent}
 use Rattle.fio_ends.proofs.ContentFrame.{last_of}
+use Rattle.fio_ends.proofs.FirstPolls.{NamesNot, NoneNames}
 use Rattle.fio_ends.proofs.Following.{IsNoCommand, IsSentLast, IsSince}
+use Rattle.fio_ends.proofs.Watching.{item_is}
 
 -- the setting of an input after a life
 abbrev pub setting_of : ℕ → Life → Setting
@@ -18,68 +20,19 @@ pub record HasItem (life : Life) (input : ℕ) (item : SentItem) : Type 0 where
   pub leading : filter_in_force (setting_of input life).leading ≡ item.filters.leading
   pub trailing : filter_in_force (setting_of input life).trailing ≡ item.filters.trailing
 
--- this command has no item of an input
-abbrev pub NamesNot : ℕ → Option Command → Type 0
-NamesNot input command = (items : ArrayVec InputItem) → command ≡ Some (commands.ConfigureInputs items) → are_some (items_for input items.items) ≡ false
-
--- nor has a frame that is still to be received
-abbrev pub NoneNames : List SentFrame → ℕ → ℕ → Type 0
-NoneNames frames last input =
-    (place : ℕ) (frame : SentFrame) → last ≤ place → slice_get frames place ≡ Some frame → NamesNot input (command_in frame.octets)
-
 -- what is known of the items of an input
 pub record KeepsItem (life : Life) (frames : List SentFrame) (last input : ℕ) (named : Bool) (item : Option SentItem) (taken : Bool) : Type 0 where
   pub taken_one : taken ≡ true → (kept : SentItem) → item ≡ Some kept → NoneNames frames last input × HasItem life input kept
-  pub sent_last : named ≡ true → (items : ArrayVec InputItem) → IsSentLast frames (commands.ConfigureInputs items) → are_some (items_for input items.items) ≡ true
-      → item ≡ last_item None (items_for input items.items)
+  pub sent_last : named ≡ true → (items : ArrayVec InputItem) → IsSentLast frames (commands.ConfigureInputs items) → is_some (item_for input items.items) ≡ true
+      → item ≡ option_map item_kept (item_for input items.items)
 
 -- ---- items
 
-last-some : (before : Option SentItem) (items : List InputItem) → are_some items ≡ true → last_item before items ≡ last_item None items
-last-some before [] is = absurd (cc is)
-last-some before (item ∷ items) is = refl
-
--- the last of the items of an input, by the whole list
 module _ (input : ℕ) (low : input < 64) where
-  by_item : (before : Option SentItem) (item : InputItem) (items : List InputItem) (found : Option InputItem) (named : Bool)
-      → last_item (if named then Some (item_kept item) else before) (items_for input items) ≡ option_or (option_map item_kept found) (if named then Some (item_kept item) else before)
-      → last_item before (if named && nat_lt input 64 then item ∷ items_for input items else items_for input items)
-      ≡ option_or (option_map item_kept (option_or found (if named then Some item else None))) before
-  by_item before item items found true rest =
-      let there : nat_lt input 64 ≡ true = grind (arith, nat_tests) in
-      ap (λ b. last_item before (if b then item ∷ items_for input items else items_for input items)) there ∙ rest ∙ by found
-    where
-      by : (found : Option InputItem) → option_or (option_map item_kept found) (Some (item_kept item)) ≡ option_or (option_map item_kept (option_or found (Some item))) before
-      by None = refl
-      by (Some other) = refl
-  by_item before item items found false rest = rest ∙ by found
-    where
-      by : (found : Option InputItem) → option_or (option_map item_kept found) before ≡ option_or (option_map item_kept (option_or found None)) before
-      by None = refl
-      by (Some other) = refl
+  pub none_last : (items : List InputItem) → item_for input items ≡ None → last_item_of input items ≡ None
+  none_last items none = sym (item_is input low items) ∙ none
 
-  last_is : (before : Option SentItem) (items : List InputItem) → last_item before (items_for input items) ≡ option_or (option_map item_kept (last_item_of input items)) before
-  last_is before [] = refl
-  last_is before (item ∷ items) =
-      by_item before item items (last_item_of input items) (item.input == input)
-      (last_is (if item.input == input then Some (item_kept item) else before) items)
-
-  -- no item of it
-  none_by : (item : InputItem) (items : List InputItem) (named : Bool) → are_some (if named && nat_lt input 64 then item ∷ items_for input items else items_for input items) ≡ false
-      → (named ≡ false) × (are_some (items_for input items) ≡ false)
-  none_by item items true none =
-      let there : nat_lt input 64 ≡ true = grind (arith, nat_tests) in
-      absurd (cc (sym (ap (λ b. are_some (if b then item ∷ items_for input items else items_for input items)) there) ∙ none))
-  none_by item items false none = (refl, none)
-
-  pub none_last : (items : List InputItem) → are_some (items_for input items) ≡ false → last_item_of input items ≡ None
-  none_last [] none = refl
-  none_last (item ∷ items) none =
-      let n = none_by item items (item.input == input) none in
-      ap (λ found. option_or found (if item.input == input then Some item else None)) (none_last items n.1)
-      ∙ ap (λ (b : Bool). if b then Some item else None) n.0
-
-  none_applied : (applied : Bool) (items : List InputItem) → are_some (items_for input items) ≡ false → last_item_of input (if applied then items else []) ≡ None
+  none_applied : (applied : Bool) (items : List InputItem) → item_for input items ≡ None → last_item_of input (if applied then items else []) ≡ None
   none_applied true items none = none_last items none
   none_applied false items none = refl
 
@@ -92,7 +45,7 @@ module _ (input : ℕ) (low : input < 64) where
 
   -- a configuration that is applied sets the last item of it
   set-item : (items : ArrayVec InputItem) (life : Life) (found : Option InputItem) (kept : SentItem) → all_present items.items ≡ true
-      → last_item_of input items.items ≡ found → option_or (option_map item_kept found) None ≡ Some kept
+      → last_item_of input items.items ≡ found → option_map item_kept found ≡ Some kept
       → HasItem (Commanded (commands.ConfigureInputs items) ∷ life) input kept
   set-item items life None kept present is at = absurd (cc at)
   set-item items life (Some item) kept present is at =
@@ -146,49 +99,45 @@ module _ (frames : List SentFrame) (last input : ℕ) (named : Bool) (item : Opt
     sent_last = k.sent_last;
   }
 
-  pub item-sent : (life : Life) (f : SentFrame) (command : Command) → command_in f.octets ≡ Some command → (here now : Bool) → are_some (items_for input (items_sent command)) ≡ here
+  pub item-sent : (life : Life) (f : SentFrame) (command : Command) → command_in f.octets ≡ Some command → (above : InputAbove) (sent : Option InputItem)
+      → above.item ≡ item → above.taken ≡ taken → item_for input (items_sent command) ≡ sent
       → KeepsItem life frames last input named item taken
-      → KeepsItem life (frames ++ f ∷ []) last input now (last_item item (items_for input (items_sent command))) (not here && taken)
-  item-sent life f command reads here now said k = record {
-    taken_one = λ is kept at. by here said is kept at;
+      → KeepsItem life (frames ++ f ∷ []) last input (input_with_item (unnamed above) sent).named (input_with_item (unnamed above) sent).item (input_with_item (unnamed above) sent).taken
+  item-sent life f command reads above (Some one) item_is taken_is said k = record {
+    taken_one = λ is. absurd (cc is);
     sent_last = λ is items sent some.
         (let same : command ≡ commands.ConfigureInputs items = same_Some _ _ (sym reads ∙ last_of frames f (commands.ConfigureInputs items) sent) in
-        ap (λ c. last_item item (items_for input (items_sent c))) same ∙ last-some item (items_for input items.items) some);
+        ap (option_map item_kept) (sym said ∙ ap (λ c. item_for input (items_sent c)) same));
+  }
+  item-sent life f command reads above None item_is taken_is said k = record {
+    taken_one = λ is kept at.
+        (let t = k.taken_one (sym taken_is ∙ is) kept (sym item_is ∙ at) in (
+          λ place frame low there.
+              elim (get_after_push frames f place frame there) as (λ _. NamesNot input (command_in frame.octets)) [
+                | inl old ↦ t.0 place frame low old
+                | inr new ↦ subst (λ (f : SentFrame). NamesNot input (command_in f.octets)) (sym new.1) none_here
+              ],
+          t.1,
+        ));
+    sent_last = λ is. absurd (cc is);
   }
     where
-      none_here : are_some (items_for input (items_sent command)) ≡ false → NamesNot input (command_in f.octets)
-      none_here none items spells =
+      none_here : NamesNot input (command_in f.octets)
+      none_here items spells =
           let same : command ≡ commands.ConfigureInputs items = same_Some _ _ (sym reads ∙ spells) in
-          ap (λ c. are_some (items_for input (items_sent c))) (sym same) ∙ none
-
-      no_items : (items : List InputItem) → are_some items ≡ false → last_item item items ≡ item
-      no_items [] none = refl
-      no_items (first ∷ items) none = absurd (cc none)
-
-      by : (here : Bool) → are_some (items_for input (items_sent command)) ≡ here → (not here && taken) ≡ true → (kept : SentItem)
-          → last_item item (items_for input (items_sent command)) ≡ Some kept → NoneNames (frames ++ f ∷ []) last input × HasItem life input kept
-      by true said is kept at = absurd (cc is)
-      by false said is kept at =
-          let t = k.taken_one is kept (sym (no_items (items_for input (items_sent command)) said) ∙ at) in (
-            λ place frame low there.
-                elim (get_after_push frames f place frame there) as (λ _. NamesNot input (command_in frame.octets)) [
-                  | inl old ↦ t.0 place frame low old
-                  | inr new ↦ subst (λ (f : SentFrame). NamesNot input (command_in f.octets)) (sym new.1) (none_here said)
-                ],
-            t.1,
-          )
+          ap (λ c. item_for input (items_sent c)) (sym same) ∙ said
 
   -- the answer is heard that the configuration was taken
   pub item-taken : (life now : Life) (items : ArrayVec InputItem) → IsSentLast frames (commands.ConfigureInputs items) → last ≡ length frames
       → IsSince (commands.ConfigureInputs items) life now → all_present items.items ≡ true
-      → are_some (items_for input items.items) ≡ true → named ≡ true → KeepsItem now frames last input named item taken → KeepsItem now frames last input false item true
+      → is_some (item_for input items.items) ≡ true → named ≡ true → KeepsItem now frames last input named item taken → KeepsItem now frames last input false item true
   item-taken life now items sent all since present some is_named k = record {
     taken_one = λ is kept at. (
       λ place frame high there. absurd (omega (arith, all, slice_get_within frames place frame there)),
       has-same (Commanded (commands.ConfigureInputs items) ∷ life) now input kept
           (ap (setting_of input) since.is ∙ setting-since since.more (Commanded (commands.ConfigureInputs items) ∷ life) input since.none)
           (set-item input low items life (last_item_of input items.items) kept present refl
-          (sym (last_is input low None items.items) ∙ sym (k.sent_last is_named items sent some) ∙ at)),
+          (ap (option_map item_kept) (sym (item_is input low items.items)) ∙ sym (k.sent_last is_named items sent some) ∙ at)),
     );
     sent_last = λ is. absurd (cc is);
   }

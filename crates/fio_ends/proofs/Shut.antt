@@ -1,21 +1,21 @@
 -- An input that is shut: it is ignored, and nothing that is still to be received opens it.
-use Rattle.fio_ends.proofs.Names.{◌≡◌, ◌≢◌, ◌∙◌, ◌-◌, ◌<◌, ◌≤◌, ◌&&◌, ◌||◌, inl, inr, ℕ, Bool, true, false, not, List, [], ◌∷◌, ◌++◌, length, drop, Option, Some, None, refl, ap, sym, subst, arith, if◌then◌else◌, ◌==◌, slice_get, nat_lt, nat_tests, same_Some, Command, command_in, all_present, InputItem, ArrayVec, Settings, Life, Occurrence, Scanned, LineSynced, Raised, Commanded, life_of, life_after_command, log_of, ContentFacts, InputAbove, SentFrame, Machine, get_after_push}
+use Rattle.fio_ends.proofs.Names.{◌≡◌, ◌≢◌, ◌∙◌, ◌-◌, ◌<◌, ◌≤◌, ◌&&◌, inl, inr, ℕ, Bool, true, false, not, List, [], ◌∷◌, ◌++◌, length, drop, Option, Some, None, refl, ap, sym, subst, if◌then◌else◌, slice_get, same_Some, Command, command_in, all_present, InputItem, ArrayVec, Settings, Life, Occurrence, Scanned, LineSynced, Raised, Commanded, life_of, life_after_command, log_of, log_of-with_command, ContentFacts, InputAbove, SentFrame, Machine, get_after_push}
 use Rattle.fio_message.specs.declared.commands.Command.TheVariants as commands
 use Rattle.fio_input.specs.FilterHistory.{applied_items, last_item_of, setting_by}
 use Rattle.fio_input.specs.FilterRule.{Setting}
 use Rattle.fio_module.proofs.ListParts.{each-drop}
-use Rattle.fio_check.specs.ContentSaid.{items_for, items_sent, opens}
+use Rattle.fio_check.specs.ContentSaid.{item_for, items_sent, opens}
 use Rattle.fio_ends.proofs.Alternating.{NoneOf}
 use Rattle.fio_ends.proofs.BlockPlaces.{end_at}
 use Rattle.fio_ends.proofs.Following.{IsNoCommand}
 use Rattle.fio_ends.proofs.Settled.{KeepsItem, setting_of}
-use Rattle.fio_ends.proofs.Watching.{IsSilent, drop_on, last_or, or_left, or_right, silent-scan}
+use Rattle.fio_ends.proofs.Watching.{IsSilent, drop_on, item_is, silent-scan}
 
 -- ---- what is shut
 
 -- this command does not open an input
 abbrev pub KeepsShutBy : ℕ → Option Command → Type 0
-KeepsShutBy input command = (items : ArrayVec InputItem) → command ≡ Some (commands.ConfigureInputs items) → opens (items_for input items.items) ≡ false
+KeepsShutBy input command = (items : ArrayVec InputItem) → command ≡ Some (commands.ConfigureInputs items) → opens (item_for input items.items) ≡ false
 
 abbrev pub NoneOpens : List SentFrame → ℕ → ℕ → Type 0
 NoneOpens frames last input =
@@ -26,43 +26,29 @@ abbrev pub KeepsShut : Life → List SentFrame → ℕ → ℕ → ℕ → Bool 
 KeepsShut life frames last upto input shut = shut ≡ true → NoneOpens frames last input × IsSilent life upto input
 
 module _ (input : ℕ) (low : input < 64) where
-  by_item : (item : InputItem) (items : List InputItem) (named : Bool)
-      → opens (if named && nat_lt input 64 then item ∷ items_for input items else items_for input items) ≡ false
-      → (opens (items_for input items) ≡ false) × (named ≡ true → not item.ignore ≡ false)
-  by_item item items true none =
-      let there : nat_lt input 64 ≡ true = grind (arith, nat_tests) in
-      let both : (not item.ignore || opens (items_for input items)) ≡ false =
-      ap (λ b. opens (if b then item ∷ items_for input items else items_for input items)) (sym there) ∙ none in
-      (or_right (not item.ignore) (opens (items_for input items)) both, λ is. or_left (not item.ignore) (opens (items_for input items)) both)
-  by_item item items false none = (none, λ is. absurd (cc is))
-
   is_shut : (b : Bool) → not b ≡ false → b ≡ true
   is_shut true is = refl
   is_shut false is = absurd (cc is)
 
-  last_keeps_shut : (items : List InputItem) (last : InputItem) → last_item_of input items ≡ Some last → opens (items_for input items) ≡ false → last.ignore ≡ true
-  last_keeps_shut [] last is none = absurd (cc is)
-  last_keeps_shut (item ∷ items) last is none =
-      let kept = by_item item items (item.input == input) none in
-      elim (last_or (last_item_of input items) item last (item.input == input) is) as (λ _. last.ignore ≡ true) [
-        | inl later ↦ last_keeps_shut items last later kept.0
-        | inr here ↦ ap (λ (i : InputItem). i.ignore) (sym here.1) ∙ is_shut item.ignore (kept.1 here.0)
-      ]
-
-  stays_ignored : (applied : Bool) (items : List InputItem) (found : Option InputItem) (setting : Setting) → opens (items_for input items) ≡ false
+  stays_ignored : (applied : Bool) (items : List InputItem) (found : Option InputItem) (setting : Setting) → opens (item_for input items) ≡ false
       → setting.ignore ≡ true → last_item_of input (if applied then items else []) ≡ found → (setting_by found setting).ignore ≡ true
   stays_ignored applied items None setting none ignored is = ignored
-  stays_ignored true items (Some item) setting none ignored is = last_keeps_shut items item is none
+  stays_ignored true items (Some item) setting none ignored is = is_shut item.ignore (ap opens (sym (item_is input low items ∙ is)) ∙ none)
   stays_ignored false items (Some item) setting none ignored is = absurd (cc is)
+
+  pub ignored-command : (life : Life) (command : Option Command) → KeepsShutBy input command → (setting_of input life).ignore ≡ true
+      → (setting_of input (life_after_command command life)).ignore ≡ true
+  ignored-command life None keeps ignored = ignored
+  ignored-command life (Some (commands.ConfigureInputs items)) keeps ignored =
+      stays_ignored (all_present items.items) items.items (last_item_of input (applied_items items.items)) (setting_of input life) (keeps items refl) ignored refl
+  ignored-command life (Some other) keeps ignored = ignored
 
   pub silent-command : (life : Life) (upto : ℕ) (command : Option Command) → KeepsShutBy input command → IsSilent life upto input
       → IsSilent (life_after_command command life) upto input
-  silent-command life upto None keeps s = s
-  silent-command life upto (Some (commands.ConfigureInputs items)) keeps s = record {
-    ignored = stays_ignored (all_present items.items) items.items (last_item_of input (applied_items items.items)) (setting_of input life) (keeps items refl) s.ignored refl;
-    none = s.none;
+  silent-command life upto command keeps s = record {
+    ignored = ignored-command life command keeps s.ignored;
+    none = subst (λ log. NoneOf input (drop upto log)) (sym (log_of-with_command command life)) s.none;
   }
-  silent-command life upto (Some other) keeps s = record { ignored = s.ignored; none = s.none }
 
 pub silent-quiet : (life : Life) (occurrence : Occurrence) (upto input : ℕ) → IsNoCommand occurrence → upto ≤ length (log_of life) → IsSilent life upto input
     → IsSilent (occurrence ∷ life) upto input
@@ -79,7 +65,7 @@ silent-further life upto further input le s = record {
 }
 
 module _ (frames : List SentFrame) (last upto input : ℕ) (shut : Bool) (low : input < 64) where
-  pub shut-sent : (life : Life) (f : SentFrame) (command : Command) → command_in f.octets ≡ Some command → (opened : Bool) → opens (items_for input (items_sent command)) ≡ opened
+  pub shut-sent : (life : Life) (f : SentFrame) (command : Command) → command_in f.octets ≡ Some command → (opened : Bool) → opens (item_for input (items_sent command)) ≡ opened
       → KeepsShut life frames last upto input shut → KeepsShut life (frames ++ f ∷ []) last upto input (not opened && shut)
   shut-sent life f command reads true said k is = absurd (cc is)
   shut-sent life f command reads false said k is =
@@ -95,7 +81,7 @@ module _ (frames : List SentFrame) (last upto input : ℕ) (shut : Bool) (low : 
       this : KeepsShutBy input (command_in f.octets)
       this items spells =
           let same : command ≡ commands.ConfigureInputs items = same_Some _ _ (sym reads ∙ spells) in
-          ap (λ c. opens (items_for input (items_sent c))) (sym same) ∙ said
+          ap (λ c. opens (item_for input (items_sent c))) (sym same) ∙ said
 
 -- ---- both
 

@@ -1,17 +1,16 @@
 -- The stamps that the CPU hears, and the scans when the module received their commands.
-use Rattle.fio_ends.proofs.Names.{◌≡◌, ◌∙◌, ◌≤◌, ◌&&◌, ℕ, Bool, true, false, not, List, [], ◌∷◌, ◌++◌, length, Option, Some, None, refl, ap, sym, subst, arith, if◌then◌else◌, AllByRecursion, is_some_and, same_Some, length-append, Answer, Command, Block, LoadCounter, answered_block, says_again, Settings, Life, Occurrence, Commanded, life_of, scans_of, ContentFacts, Clock, Event, Machine}
+use Rattle.fio_ends.proofs.Names.{◌≡◌, ◌∙◌, ◌≤◌, ℕ, false, List, [], ◌∷◌, ◌++◌, length, Option, Some, None, refl, ap, sym, subst, arith, if◌then◌else◌, AllByRecursion, is_some_and, same_Some, length-append, Answer, Command, Block, LoadCounter, answered_block, says_again, Life, Occurrence, Commanded, life_of, scans_of, ContentFacts, Clock, Event, Machine}
 use Rattle.std.specs.Prelude.{option_and_then}
 use Rattle.fio_message.specs.Blocks.{block_answer}
 use Rattle.fio_message.specs.declared.answers.Answer.TheVariants as answers
 use Rattle.fio_message.specs.declared.commands.Command.TheVariants as commands
 use Rattle.fio_module.specs.Life.{counter_of}
 use Rattle.fio_check.specs.ContentSaid.{is_before, stamp_of}
-use Rattle.fio_check.specs.ContentRules.{breaks_answer}
-use Rattle.fio_ends.specs.ContentPremises.{NoLoadTakesEffect, StampsAreNear, scans_asked, scans_stamped}
+use Rattle.fio_check.specs.ContentRules.{breaks_answer, without_excuse}
+use Rattle.fio_ends.specs.ContentPremises.{scans_asked, scans_stamped}
 use Rattle.fio_ends.proofs.Answered.{Says}
 use Rattle.fio_ends.proofs.Clocks.{clock, offset_of}
 use Rattle.fio_ends.proofs.Following.{GoesOn, IsNoCommand, IsSince}
-use Rattle.fio_ends.proofs.Steady.{IsSteady, loaded_after}
 
 -- ---- the command that is answered
 
@@ -44,16 +43,14 @@ since-now command other life now s = by s.more s.is s.none
 
 -- ---- what is kept
 
--- what the rule reads of the events above: whether a load was sent, the scans at which the command sent last was received, and
+-- what the rule reads of the events above: the scans at which the command sent last was received, and
 -- those of the latest stamp
 pub record ClockState : Type 0 where
-  pub loaded : Bool
   pub asked : ℕ
   pub before : Option ℕ
 
 abbrev pub clock_after : ClockState → Machine → Event → ClockState
 clock_after state machine event = record {
-  loaded = loaded_after state.loaded machine event;
   asked = scans_asked machine state.asked event;
   before = scans_stamped machine state.asked state.before event;
 }
@@ -66,34 +63,28 @@ pub record IsStamped (offset : ℕ) (from : Life) (before : Option ℕ) (stamp :
   pub within : scans ≤ scans_of from
 
 pub record KeepsClock (begin : Life) (state : ClockState) (from : Life) (machine : Machine) (facts : ContentFacts) : Type 0 where
-  pub loaded_is : facts.loaded ≡ state.loaded
-  pub steady : IsSteady state.loaded begin (life_of machine.history)
-  pub stamped : state.loaded ≡ false → (stamp : ℕ) → facts.clock ≡ Some stamp → IsStamped (offset_of begin) from state.before stamp
-  pub received : machine.last_to_module ≡ length machine.to_module → (command : Command) (life : Life) → IsSince command life (life_of machine.history)
-      → GoesOn from life → state.asked ≡ scans_of life
+  pub stamped : (stamp : ℕ) → facts.clock ≡ Some stamp → IsStamped (offset_of begin) from state.before stamp
 
--- what is asked of the rest of a log
-pub record AsksClock (settings : Settings) (first : ℕ) (state : ClockState) (machine : Machine) (later : List Event) : Type 0 where
-  pub no_load : state.loaded ≡ false → NoLoadTakesEffect settings first machine later
-  pub near : StampsAreNear settings first machine state.asked state.before later
+-- the command sent last was received after a life with so many scans
+abbrev pub IsAsked : ℕ → Life → Machine → Type 0
+IsAsked asked from machine = machine.last_to_module ≡ length machine.to_module → (command : Command) (life : Life) → IsSince command life (life_of machine.history)
+    → GoesOn from life → asked ≡ scans_of life
 
 -- ---- an answer
 
 pub clock_is : (facts : ContentFacts) (answer : Answer)
-    → breaks_answer facts answer Clock ≡ (not facts.loaded && is_some_and (stamp_of answer) (λ stamp. is_some_and facts.clock (is_before stamp)))
+    → breaks_answer (without_excuse facts) answer Clock ≡ is_some_and (stamp_of answer) (λ stamp. is_some_and facts.clock (is_before stamp))
 clock_is facts (answers.Status flags receive transmit stamp) = refl
 clock_is facts (answers.LoadCounter status) = refl
 clock_is facts (answers.ConfigureInputs status) = refl
 clock_is facts (answers.Watchdog status) = refl
 clock_is facts other = refl
 
-pub none_before : (loaded : Bool) (stamp above : Option ℕ)
-    → (loaded ≡ false → (s c : ℕ) → stamp ≡ Some s → above ≡ Some c → is_before s c ≡ false)
-    → (not loaded && is_some_and stamp (λ s. is_some_and above (is_before s))) ≡ false
-none_before true stamp above kept = refl
-none_before false None above kept = refl
-none_before false (Some s) None kept = refl
-none_before false (Some s) (Some c) kept = kept refl s c refl refl
+pub none_before : (stamp above : Option ℕ) → ((s c : ℕ) → stamp ≡ Some s → above ≡ Some c → is_before s c ≡ false)
+    → is_some_and stamp (λ s. is_some_and above (is_before s)) ≡ false
+none_before None above kept = refl
+none_before (Some s) None kept = refl
+none_before (Some s) (Some c) kept = kept s c refl refl
 
 -- the stamp of an answer is the counter after the life
 pub stamp_says : (life : Life) (command : Command) (answer : Answer) → Says life command answer → (stamp : ℕ) → stamp_of answer ≡ Some stamp → stamp ≡ counter_of life

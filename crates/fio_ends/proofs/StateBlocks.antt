@@ -1,80 +1,92 @@
 -- The events of a block that the CPU takes keep the rule `state`, and what is known of the states that were asked for.
-use Rattle.fio_ends.proofs.Names.{◌≡◌, ◌+◌, ◌≤◌, ℕ, List, Some, refl, arith, Block, Settings, AreInRange, Life, life_of, scans_of, Transition, MadeBlock, ContentFacts, content_with, Heard, Recorded, Gap, Machine, after_taken, State}
+use Rattle.fio_ends.proofs.Names.{◌≡◌, ◌+◌, ◌++◌, ◌≤◌, ℕ, Bool, true, false, List, [], ◌∷◌, Option, Some, None, refl, arith, if◌then◌else◌, Block, Settings, AreInRange, Life, life_of, scans_of, Transition, MadeBlock, ContentFacts, content_step, Heard, Recorded, Gap, Machine, after_taken, State}
 use Rattle.fio_message.specs.Blocks.{block_answer}
 use Rattle.fio_link.specs.declared.event.Event.TheVariants as events
-use Rattle.fio_ends.specs.ContentPremises.{IsNearStates, WaitBriefly}
-use Rattle.fio_ends.proofs.AlternateKept.{watch_gap}
+use Rattle.fio_ends.specs.ContentPremises.{BlocksAreNear, IsNearStates, blocks_taken}
+use Rattle.fio_ends.proofs.SteadyKept.{watch_gap}
 use Rattle.fio_ends.proofs.BlockPlaces.{end_at}
 use Rattle.fio_ends.proofs.BlockWalk.{IsWalk}
 use Rattle.fio_ends.proofs.ContentSteps.{IsKnown, Takes}
-use Rattle.fio_ends.proofs.SeenStates.{WatchAt, watch_another, watch_asked, watch_own, watch_since}
-use Rattle.fio_ends.proofs.SeenStates as lives
+use Rattle.fio_check.specs.ContentSaid.{Seen}
+use Rattle.fio_check.specs.ContentFacts.{content_step, is_aging}
+use Rattle.fio_check.specs.ContentRules.{without_excuse}
+use Rattle.fio_ends.specs.ContentRuns.{KeepsRule}
+use Rattle.fio_ends.proofs.Fulls.{waits_briefly}
+use Rattle.fio_ends.proofs.Shut.{silent-further}
+use Rattle.fio_ends.proofs.SettledAgain.{MadeThen}
 use Rattle.fio_ends.proofs.Steady.{IsSteady}
 use Rattle.fio_ends.proofs.StateKnown.{KeepsState, StateState, state_after}
 use Rattle.fio_ends.proofs.StateRests.{KeepsRest, seen_with}
 use Rattle.fio_ends.proofs.StateEntries.{entry_step}
 use Rattle.fio_ends.proofs.StateEnds.{end_keeps, ended}
 
-module _ (settings : Settings) (range : AreInRange settings) (first : ℕ) (begin : Machine) where
+module _ (settings : Settings) (range : AreInRange settings) (first : ℕ) (begin : Machine) (above : Option ℕ) where
   abbrev begin_life : Life
   begin_life = life_of begin.history
 
   module _ (state : StateState) (from : Life) (machine : Machine) (place number : ℕ) (answer : Block) (block : MadeBlock)
       (known : IsKnown settings first begin from machine) (t : Takes settings first from machine place number answer block)
-      (brief : WaitBriefly block) (steady : IsSteady state.loaded begin_life (life_of machine.history)) where
+      (blocks_near : BlocksAreNear above (blocks_taken settings begin machine ++ block ∷ [])) (steady : IsSteady begin_life (life_of machine.history)) where
     abbrev now : Life
     now = life_of machine.history
 
     abbrev Rest : ℕ → List Transition → ContentFacts → Type 0
-    Rest = KeepsRest settings begin state from machine block
+    Rest = KeepsRest settings begin above state from machine block
 
     -- a gap mark
     gap_step : (facts : ContentFacts) → end_at settings now machine.round ≤ block.start → Rest (end_at settings now machine.round) block.transitions facts
-        → Rest block.start block.transitions (content_with facts (Recorded Gap))
+        → Rest block.start block.transitions (content_step facts (Recorded Gap))
     gap_step facts forward q = record {
-      loaded_is = q.loaded_is;
-      clear_is = λ input level is. absurd (cc is);
+      full = q.full;
+      made = q.made;
+      bright = q.bright;
       below = λ clear. (let b = q.below clear in (omega (arith, b.0, forward), b.1));
-      watch = watch_gap settings range first begin from machine place number answer block known t facts forward q.watch;
-      seen = λ seen is.
-          (let r = q.seen seen is in
-          let s = r.is_seen in
-          record {
-            is_seen = seen_with begin_life from state.loaded state.seen (end_at settings now machine.round) block.start facts (content_with facts (Recorded Gap)) seen s
-                (λ input low.
-                lives.watch_gap s.life (end_at settings now machine.round) block.start input facts.clear (facts.inputs input).hidden (facts.inputs input).watched forward (s.watch input low));
-            near = r.near;
-            later = r.later;
-            made = r.made;
-          });
+      watch = λ input low. (let k = watch_gap settings range first begin from machine place number answer block known t facts forward q.watch input low in record { open_ones = k.open_ones; watched_ones = k.watched_ones });
+      seen = λ seen is. absurd (cc is);
+      told = λ input low. record {
+        told = λ level is. absurd (cc is);
+        unlogged = λ is. (let u = (q.told input low).unlogged is in (u.0, silent-further now (end_at settings now machine.round) block.start input forward u.1));
+      };
     }
 
     -- the block
-    pub state_walk : IsWalk State settings now machine.round answer block Rest
-        (KeepsState settings begin (state_after settings state machine (events.ToCpu (place + 1))) now (after_taken machine place answer))
+    pub state_walk : IsWalk (λ facts. KeepsRule State (without_excuse facts)) content_step settings now machine.round answer block Rest
+        (KeepsState settings begin above (state_after settings state machine (events.ToCpu (place + 1))) now (after_taken machine place answer))
     state_walk = record {
       gap = gap_step;
-      entry = entry_step settings range first begin state from machine place number answer block known t brief steady;
-      ended = λ facts q. (end_keeps settings range first begin state from machine place number answer block known t brief steady facts q facts.seen refl, ended settings range first begin state from machine place number answer block known t brief steady facts q);
+      entry = entry_step settings range first begin above state from machine place number answer block known t blocks_near steady;
+      ended = λ facts q. (end_keeps settings range first begin above state from machine place number answer block known t blocks_near steady facts q facts.seen refl, ended settings range first begin above state from machine place number answer block known t blocks_near steady facts q);
     }
 
+    -- states that are above the block's items: the block was made soon
+    still_heard : (aging : Bool) (above seen : Option Seen) (states : Seen) → (if aging then None else above) ≡ Some states → (aging ≡ false) × (above ≡ Some states)
+    still_heard true above seen states is = absurd (cc is)
+    still_heard false above seen states is = (refl, is)
+
     -- the block is heard
-    pub block_heard : (facts : ContentFacts) → KeepsState settings begin state from machine facts
+    pub block_heard : (facts : ContentFacts) → MadeThen settings now block facts → (facts.timely ≡ true → facts.clear ≡ true) → KeepsState settings begin above state from machine facts
         → ((scans : ℕ) → state.seen ≡ Some scans → IsNearStates scans block)
-        → Rest (end_at settings now machine.round) block.transitions (content_with facts (Heard (block_answer answer)))
-    block_heard facts p near = record {
-      loaded_is = p.loaded_is;
-      clear_is = p.clear_is;
+        → Rest (end_at settings now machine.round) block.transitions (content_step facts (Heard (block_answer answer)))
+    block_heard facts made bright p near = record {
+      full = p.full;
+      made = made;
+      bright = bright;
       below = p.below;
       watch = p.watch;
       seen = λ seen is.
-          (let s = p.seen seen is in
+          (let still = still_heard (is_aging facts (Some answer.stamp)) facts.seen facts.seen seen is in
+          let s = p.seen seen still.1 in
+          let timely = p.seen_timely seen still.1 in
           let n = near (scans_of s.life) s.left_is in
           record {
-            is_seen = seen_with begin_life from state.loaded state.seen (end_at settings now machine.round) (end_at settings now machine.round) facts
-                (content_with facts (Heard (block_answer answer))) seen s s.watch;
+            is_seen = seen_with begin_life from state.seen (end_at settings now machine.round) (end_at settings now machine.round) facts
+                (content_step facts (Heard (block_answer answer))) seen s s.watch;
+            brief = waits_briefly settings range first begin above from machine place number answer block known t blocks_near steady facts (p.full timely) still.0;
+            timely = timely;
+            pending = (let w = p.pending seen still.1 in record { inside = w.inside; goes_on = w.goes_on; tells = w.tells });
             near = n.entries;
             later = refl;
             made = n.made;
           });
+      told = λ input low. (let k = p.told input low in record { told = k.told; unlogged = k.unlogged });
     }

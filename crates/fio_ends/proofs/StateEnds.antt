@@ -1,37 +1,44 @@
 -- The end of a block that the CPU takes keeps the rule `state`, and what is known of the states that were asked for.
-use Rattle.fio_ends.proofs.Names.{◌≡◌, ◌∙◌, ◌+◌, ◌<◌, ◌≤◌, ◌&&◌, ◌||◌, inl, inr, ℕ, zero, suc, Bool, true, false, not, List, [], ◌∷◌, ◌++◌, length, Option, Some, None, refl, ap, sym, subst, arith, if◌then◌else◌, nat_lt, nat_tests, slice_get, same_Some, Answer, Block, answer_in, answered_block, block_in, says_again, says_more, Settings, AreInRange, Life, life_of, log_of, scans_of, Transition, MadeBlock, blocks_of, blocks_in, ContentFacts, content_with, Ended, Heard, ContentEvent, SentFrame, Machine, after_taken}
+use Rattle.fio_ends.proofs.Names.{◌≡◌, ◌∙◌, ◌+◌, ◌<◌, ◌≤◌, ◌&&◌, ◌||◌, inl, inr, ℕ, zero, suc, Bool, true, false, not, List, [], ◌∷◌, ◌++◌, length, Option, Some, None, refl, ap, sym, subst, arith, if◌then◌else◌, nat_lt, nat_tests, slice_get, slice_get_within, same_Some, Answer, Block, answer_in, answered_block, block_in, says_again, says_more, Settings, AreInRange, Life, life_of, log_of, scans_of, Transition, MadeBlock, blocks_of, blocks_in, ContentFacts, InputAbove, content_step, Ended, Heard, ContentEvent, SentFrame, Machine, after_taken}
 use Rattle.std.specs.Prelude.{is_some, option_and_then}
 use Rattle.std.proofs.lemmas.Bool.{cases_lt}
 use Rattle.fio_message.specs.declared.answers.Answer.TheVariants as answers
 use Rattle.fio_module.proofs.BlockLaws.{blocks_without_more_take_all}
 use Rattle.fio_module.proofs.LogOrder.{scans_within}
-use Rattle.fio_check.specs.ContentSaid.{Seen, is_before, states_heard}
-use Rattle.fio_check.specs.ContentFacts.{seen_below}
-use Rattle.fio_check.specs.ContentRules.{broken_state}
+use Rattle.fio_check.specs.ContentSaid.{Seen, is_before, states_heard, SentItem, comes_to}
+use Rattle.fio_check.specs.ContentFacts.{content_step, seen_below, coming, input_below_clear, input_ended, settled_now, settles}
+use Rattle.fio_check.specs.ContentKnown.{input_coming}
+use Rattle.fio_check.proofs.KeptContent.{ended_input}
+use Rattle.fio_check.specs.ContentRules.{broken_state, steady_state, without_excuse}
 use Rattle.fio_link.proofs.Events.{frame_at_place}
 use Rattle.fio_link.specs.declared.event.Event.TheVariants as events
-use Rattle.fio_ends.specs.ContentPremises.{AreNear, WaitBriefly, block_taken, comes_with, hears_states, scans_left, scans_seen}
-use Rattle.fio_ends.proofs.AlternateKept.{KeepsWatch, watch_ended}
+use Rattle.fio_ends.specs.ContentPremises.{BlocksAreNear, blocks_taken, AreNear, block_taken, comes_with, hears_states, scans_left, scans_seen}
+use Rattle.fio_ends.proofs.SteadyKept.{KeepsWatch, watch_ended, watched_below}
 use Rattle.fio_ends.proofs.BlockPlaces.{ends_within, is_next}
-use Rattle.fio_ends.proofs.Stamps.{none_since}
 use Rattle.fio_ends.proofs.Clocks.{clock, not_before, offset_of}
 use Rattle.fio_ends.proofs.ContentSteps.{IsKnown, Takes}
 use Rattle.fio_ends.proofs.BlockTimes.{block_time, clear_block, made_later}
+use Rattle.fio_ends.proofs.Fulls.{full_ended}
 use Rattle.fio_ends.proofs.Following.{GoesOn, goes_on-both}
 use Rattle.fio_ends.proofs.Lives.{log_grows, made_since, scans_grow}
 use Rattle.fio_ends.proofs.SeenStates.{WatchAt}
+use Rattle.fio_ends.proofs.SettledAgain.{IsLeftBetween, IsMadeThen, hidden-since, left_between, made_ends, settles_open}
 use Rattle.fio_ends.proofs.Steady.{IsSteady}
-use Rattle.fio_ends.proofs.StateKnown.{IsSeen, KeepsState, StateState, state_after}
-use Rattle.fio_ends.proofs.StateRule.{before_clock, keeps_state}
+use Rattle.fio_ends.proofs.StateKnown.{IsPending, IsSeen, KeepsState, StateState, state_after}
+use Rattle.fio_message.specs.Bits.{is_set}
+use Rattle.fio_check.specs.ContentKnown.{if_comes}
+use Rattle.fio_ends.proofs.Told.{GoesFrom, KeepsTold, TellsFrom, goes-then, told-comes}
+use Rattle.fio_ends.proofs.Watching.{NoneHidden, none_hidden-now, state_of}
+use Rattle.fio_ends.proofs.StateRule.{before_clock, keeps_state, states_bit}
 use Rattle.fio_ends.proofs.StateRests.{KeepsRest, SeenRest, logged_after, seen_with, watched_then}
 
-module _ (settings : Settings) (range : AreInRange settings) (first : ℕ) (begin : Machine) where
+module _ (settings : Settings) (range : AreInRange settings) (first : ℕ) (begin : Machine) (above : Option ℕ) where
   abbrev begin_life : Life
   begin_life = life_of begin.history
 
   module _ (state : StateState) (from : Life) (machine : Machine) (place number : ℕ) (answer : Block) (block : MadeBlock)
       (known : IsKnown settings first begin from machine) (t : Takes settings first from machine place number answer block)
-      (brief : WaitBriefly block) (steady : IsSteady state.loaded begin_life (life_of machine.history)) where
+      (blocks_near : BlocksAreNear above (blocks_taken settings begin machine ++ block ∷ [])) (steady : IsSteady begin_life (life_of machine.history)) where
     abbrev now : Life
     now = life_of machine.history
 
@@ -39,13 +46,13 @@ module _ (settings : Settings) (range : AreInRange settings) (first : ℕ) (begi
     offset = offset_of begin_life
 
     abbrev Known : ℕ → ContentFacts → Seen → Type 0
-    Known = IsSeen begin_life from state.loaded state.seen
+    Known = IsSeen begin_life from state.seen
 
     abbrev Rest : ℕ → List Transition → ContentFacts → Type 0
-    Rest = KeepsRest settings begin state from machine block
+    Rest = KeepsRest settings begin above state from machine block
 
     abbrev SeenYet : ℕ → List Transition → ContentFacts → Seen → Type 0
-    SeenYet = SeenRest begin_life state from block
+    SeenYet = SeenRest now machine.to_module machine.last_to_module begin_life state from block
 
     -- the life of the states, and now
     since_states : (life : Life) → GoesOn life from → GoesOn life now
@@ -107,13 +114,13 @@ module _ (settings : Settings) (range : AreInRange settings) (first : ℕ) (begi
       no_before : (seen : Seen) (s : Known block.end facts seen) → length (blocks_of settings begin_life) ≤ machine.round → AreNear (scans_of s.life) block.scans
           → scans_of s.life ≤ block.scans → is_before answer.stamp seen.stamp ≡ false
       no_before seen s few near no_earlier =
-          let time = block_time settings first begin from machine place number answer block known t (steady s.unloaded) few in
+          let time = block_time settings first begin from machine place number answer block known t steady few in
           ap (λ stamp. is_before stamp seen.stamp) time ∙ ap (is_before (clock offset block.scans)) s.stamp ∙ not_before offset (scans_of s.life) block.scans no_earlier near.before
 
       is_earlier : (seen : Seen) (s : Known block.end facts seen) → length (blocks_of settings begin_life) ≤ machine.round → AreNear (scans_of s.life) block.scans
           → block.scans < scans_of s.life → is_before answer.stamp seen.stamp ≡ true
       is_earlier seen s few near earlier =
-          let time = block_time settings first begin from machine place number answer block known t (steady s.unloaded) few in
+          let time = block_time settings first begin from machine place number answer block known t steady few in
           ap (λ stamp. is_before stamp seen.stamp) time ∙ ap (is_before (clock offset block.scans)) s.stamp ∙ before_clock offset block.scans (scans_of s.life) earlier near.after
 
       near_block : (seen : Seen) (r : SeenYet block.end [] facts seen) → block.more ≡ false → AreNear (scans_of r.is_seen.life) block.scans
@@ -124,34 +131,40 @@ module _ (settings : Settings) (range : AreInRange settings) (first : ℕ) (begi
       comes_whole false true is = absurd (cc is)
       comes_whole false false is = (refl, refl)
 
-      pub end_keeps : (seen : Option Seen) → facts.seen ≡ seen → broken_state facts event_end seen ≡ None
+      pub end_keeps : (seen : Option Seen) → facts.seen ≡ seen → broken_state (without_excuse facts) event_end seen ≡ None
       end_keeps None is = refl
-      end_keeps (Some seen) is = keeps_state facts event_end seen (λ comes input level low watched.
+      end_keeps (Some seen) is = keeps_state (without_excuse facts) event_end seen (λ comes input level low watched.
           (let r = q.seen seen is in
           let s = r.is_seen in
           let both = comes_whole (says_more answer.status) (is_before answer.stamp seen.stamp) comes in
           let whole : block.more ≡ false = sym t.carried.more ∙ both.0 in
-          let few = (q.below (q.clear_is input level watched)).1 in
+          let few = (q.below r.timely).1 in
           let near = near_block seen r whole in
           let no_earlier : scans_of s.life ≤ block.scans =
           elim (cases_lt block.scans (scans_of s.life)) as (λ _. scans_of s.life ≤ block.scans) [
             | inl earlier ↦ (let before = is_earlier seen s few near earlier in absurd (cc (before, both.1)))
             | inr le ↦ le
           ] in
-          watched_then begin_life from state.loaded state.seen block.end facts seen s input level low (took_all s.life (since_states s.life s.goes_on) few whole no_earlier) watched))
+          watched_then begin_life from state.seen block.end facts seen s input level low (took_all s.life (since_states s.life s.goes_on) few whole no_earlier) watched))
 
       -- the states are still above what follows the block
       pub record StillSeen (below : ContentFacts) (seen : Seen) : Type 0 where
         pub is_seen : Known block.end below seen
+        pub timely : below.timely ≡ true
+        pub pending : IsPending now machine.to_module machine.last_to_module block.end below is_seen.life
         pub stays : comes_with (scans_of is_seen.life) block ≡ false
 
       same_seen : (below : ContentFacts) (seen : Seen) (r : SeenYet block.end [] facts seen) → ((input : ℕ) → input < 64
-          → WatchAt r.is_seen.life block.end input below.clear (below.inputs input).hidden (below.inputs input).watched)
+          → WatchAt r.is_seen.life block.end input below.clear (below.inputs input).hidden (steady_state (below.inputs input).watched))
+          → (facts.timely ≡ true → below.timely ≡ true)
+          → ((input : ℕ) → input < 64 → (below.inputs input).touched ≡ false → TellsFrom now machine.to_module machine.last_to_module (length (log_of r.is_seen.life)) input (state_of input r.is_seen.life))
           → (not block.more && nat_lt (scans_of r.is_seen.life) block.scans) ≡ false → StillSeen below seen
-      same_seen below seen r watch stays =
+      same_seen below seen r watch bright tells stays =
           let s = r.is_seen in
           record {
-            is_seen = seen_with begin_life from state.loaded state.seen block.end block.end facts below seen s watch;
+            is_seen = seen_with begin_life from state.seen block.end block.end facts below seen s watch;
+            timely = bright r.timely;
+            pending = record { inside = r.pending.inside; goes_on = r.pending.goes_on; tells = tells };
             stays = ap (λ b. b || (not block.more && nat_lt (scans_of s.life) block.scans)) (sym r.later) ∙ stays;
           }
 
@@ -177,30 +190,78 @@ module _ (settings : Settings) (range : AreInRange settings) (first : ℕ) (begi
       before_if false above seen is = absurd (cc is)
 
       -- with C
-      still_more : says_more answer.status ≡ true → (below : ContentFacts) → ((life : Life) (input : ℕ) → input < 64 → WatchAt life block.end input facts.clear (facts.inputs input).hidden (facts.inputs input).watched
-          → WatchAt life block.end input below.clear (below.inputs input).hidden (below.inputs input).watched)
+      still_more : says_more answer.status ≡ true → (below : ContentFacts) → ((life : Life) (input : ℕ) → input < 64 → WatchAt life block.end input facts.clear (facts.inputs input).hidden (steady_state (facts.inputs input).watched)
+          → WatchAt life block.end input below.clear (below.inputs input).hidden (steady_state (below.inputs input).watched))
+          → (facts.timely ≡ true → below.timely ≡ true) → ((input : ℕ) → (below.inputs input).touched ≡ false → (facts.inputs input).touched ≡ false)
           → (above : Option Seen) → facts.seen ≡ above → (seen : Seen) → seen_below event_end above ≡ Some seen → StillSeen below seen
-      still_more more below same None is seen still = absurd (cc still)
-      still_more more below same (Some above) is seen still =
+      still_more more below same bright untouched None is seen still = absurd (cc still)
+      still_more more below same bright untouched (Some above) is seen still =
           let r = q.seen above is in
           let held : block.more ≡ true = sym t.carried.more ∙ more in
           let left : Some above ≡ Some seen = rw more at still in
           subst (StillSeen below) (same_Some _ _ left)
-          (same_seen below above r (λ input low. same r.is_seen.life input low (r.is_seen.watch input low)) (ap (λ m. not m && nat_lt (scans_of r.is_seen.life) block.scans) held))
+          (same_seen below above r (λ input low. same r.is_seen.life input low (r.is_seen.watch input low)) bright (λ input low un. r.pending.tells input low (untouched input un)) (ap (λ m. not m && nat_lt (scans_of r.is_seen.life) block.scans) held))
 
-      -- without C
-      still_whole : says_more answer.status ≡ false → (below : ContentFacts) → ((life : Life) (input : ℕ) → input < 64 → WatchAt life block.end input facts.clear (facts.inputs input).hidden (facts.inputs input).watched
-          → WatchAt life block.end input below.clear (below.inputs input).hidden (below.inputs input).watched)
-          → (above : Option Seen) → facts.seen ≡ above → (seen : Seen) → seen_below event_end above ≡ Some seen → StillSeen below seen
-      still_whole more below same None is seen still = absurd (cc still)
-      still_whole more below same (Some above) is seen still =
-          let r = q.seen above is in
-          let whole : block.more ≡ false = sym t.carried.more ∙ more in
+      -- one that is sent again, without C
+      module _ (more : says_more answer.status ≡ false) (r_above : Seen) (is : facts.seen ≡ Some r_above) (earlier : is_before answer.stamp r_above.stamp ≡ true) where
+        abbrev r : SeenYet block.end [] facts r_above
+        r = q.seen r_above is
+
+        whole : block.more ≡ false
+        whole = sym t.carried.more ∙ more
+
+        -- it was made before the states
+        made_before : block.scans < scans_of r.is_seen.life
+        made_before = elim (cases_lt block.scans (scans_of r.is_seen.life)) as (λ _. block.scans < scans_of r.is_seen.life) [
+          | inl less ↦ less
+          | inr le ↦ (let none = no_before r_above r.is_seen (q.below r.timely).1 (near_block r_above r whole) (omega (arith, le)) in absurd (cc (none, earlier)))
+        ]
+
+        m : IsMadeThen settings now facts.since_poll block
+        m = q.made (q.bright r.timely)
+
+        between : IsLeftBetween m.life r.is_seen.life now facts.since_poll
+        between = left_between settings now r.is_seen.life facts.since_poll block m (since_states r.is_seen.life r.is_seen.goes_on) made_before
+
+        -- what is known of an input then, by whether it is settled
+        watch_then : (input : ℕ) → input < 64 → (settling : Bool) → (settling ≡ true → facts.since_poll input ≡ false) → (above : InputAbove)
+            → WatchAt r.is_seen.life block.end input facts.clear above.hidden (steady_state above.watched)
+            → WatchAt r.is_seen.life block.end input facts.clear (input_ended settling above).hidden (steady_state (input_ended settling above).watched)
+        watch_then input low false free above w = w
+        watch_then input low true free above w = record {
+          open_ones = λ on none.
+              (let ends = made_ends input low settings now facts.since_poll block m whole in
+              subst (λ life. NoneHidden life block.end input) (sym between.is)
+              (hidden-since input low between.before m.life block.end (between.none_before input (free refl)) (omega (arith, ends)) (none_hidden-now m.life block.end input ends)));
+          watched_ones = λ level at. w.watched_ones level (ap steady_state (sym (watched_below above (settled_now above))) ∙ at);
+        }
+
+        tells_then : (input : ℕ) → input < 64 → (settling : Bool) → (settling ≡ true → facts.since_poll input ≡ false) → (above : InputAbove)
+            → (above.touched ≡ false → TellsFrom now machine.to_module machine.last_to_module (length (log_of r.is_seen.life)) input (state_of input r.is_seen.life))
+            → (input_ended settling above).touched ≡ false → TellsFrom now machine.to_module machine.last_to_module (length (log_of r.is_seen.life)) input (state_of input r.is_seen.life)
+        tells_then input low false free above tells un = tells un
+        tells_then input low true free above tells un = record {
+          names = λ place frame high there. absurd (omega (arith, t.received, slice_get_within machine.to_module place frame there));
+          goes = subst (λ life. GoesFrom life (length (log_of r.is_seen.life)) input (state_of input r.is_seen.life)) (sym between.now_is)
+              (goes-then input low between.more r.is_seen.life (between.none_more input (free refl)));
+        }
+
+      still_again : says_more answer.status ≡ false → says_again answer.status ≡ true
+          → (above : Option Seen) → facts.seen ≡ above → (seen : Seen) → seen_below event_end above ≡ Some seen → StillSeen (content_step facts event_end) seen
+      still_again more again None is seen still = absurd (cc still)
+      still_again more again (Some above) is seen still =
           let left : (if not (is_before answer.stamp above.stamp) then None else Some above) ≡ Some seen = rw more at still in
           let b = before_if (is_before answer.stamp above.stamp) above seen left in
-          subst (StillSeen below) b.1
-          (same_seen below above r (λ input low. same r.is_seen.life input low (r.is_seen.watch input low))
-          (ap (λ m. not m && nat_lt (scans_of r.is_seen.life) block.scans) whole ∙ not_later_made above r whole b.0))
+          let found = q.seen above is in
+          let w : block.more ≡ false = sym t.carried.more ∙ more in
+          subst (StillSeen (content_step facts event_end)) b.1 (rw (more, again)
+          (same_seen _ above found
+          (λ input low. watch_then more above is b.0 input low (facts.clear && not (facts.since_poll input)) (λ settling. (settles_open facts.clear (facts.since_poll input) settling).1)
+          (input_coming input (coming facts event_end) (facts.inputs input)) (found.is_seen.watch input low))
+          (λ clear. clear)
+          (λ input low un. tells_then more above is b.0 input low (facts.clear && not (facts.since_poll input)) (λ settling. (settles_open facts.clear (facts.since_poll input) settling).1)
+          (input_coming input (coming facts event_end) (facts.inputs input)) (λ un. found.pending.tells input low un) un)
+          (ap (λ m. not m && nat_lt (scans_of found.is_seen.life) block.scans) w ∙ not_later_made above found w b.0)))
 
       -- a clear block comes to them
       clear_comes : says_more answer.status ≡ false → says_again answer.status ≡ false → (below : ContentFacts)
@@ -220,30 +281,22 @@ module _ (settings : Settings) (range : AreInRange settings) (first : ℕ) (begi
 
       -- what is known below the end of the block
       pub record EndedParts (below : ContentFacts) : Type 0 where
-        pub loaded_is : below.loaded ≡ state.loaded
-        pub clear_is : (input : ℕ) (level : Bool) → (below.inputs input).watched ≡ Some level → below.clear ≡ true
-        pub below_clear : below.clear ≡ true → (length (log_of begin_life) ≤ block.end) × (length (blocks_of settings begin_life) ≤ machine.round)
+        pub below_timely : below.timely ≡ true → (length (log_of begin_life) ≤ block.end) × (length (blocks_of settings begin_life) ≤ machine.round)
         pub seen : (seen : Seen) → below.seen ≡ Some seen → StillSeen below seen
 
-      ended_parts : (more again : Bool) → says_more answer.status ≡ more → says_again answer.status ≡ again → EndedParts (content_with facts event_end)
+      ended_parts : (more again : Bool) → says_more answer.status ≡ more → says_again answer.status ≡ again → EndedParts (content_step facts event_end)
       ended_parts true again more_is again_is = rw more_is (record {
-        loaded_is = q.loaded_is;
-        clear_is = q.clear_is;
-        below_clear = q.below;
-        seen = λ seen still. still_more more_is _ (λ life input low w. record { open_ones = w.open_ones; watched_ones = w.watched_ones }) facts.seen refl seen still;
+        below_timely = q.below;
+        seen = λ seen still. still_more more_is _ (λ life input low w. record { open_ones = w.open_ones; watched_ones = w.watched_ones }) (λ clear. clear) (λ input un. un) facts.seen refl seen still;
       })
       ended_parts false true more_is again_is = rw (more_is, again_is) (record {
-        loaded_is = q.loaded_is;
-        clear_is = q.clear_is;
-        below_clear = q.below;
-        seen = λ seen still. still_whole more_is _ (λ life input low w. record { open_ones = w.open_ones; watched_ones = w.watched_ones }) facts.seen refl seen still;
+        below_timely = q.below;
+        seen = λ seen still. rw (more_is, again_is) at (still_again more_is again_is facts.seen refl seen still);
       })
       ended_parts false false more_is again_is =
           let c = clear_block settings first begin from machine place number answer block known t (sym t.carried.more ∙ more_is) again_is in
           rw (more_is, again_is) (record {
-            loaded_is = q.loaded_is;
-            clear_is = λ input level is. refl;
-            below_clear = λ clear. (c.log, c.blocks);
+            below_timely = λ timely. (c.log, c.blocks);
             seen = λ seen still. clear_comes more_is again_is _ facts.seen refl seen still;
           })
 
@@ -253,25 +306,62 @@ module _ (settings : Settings) (range : AreInRange settings) (first : ℕ) (begi
           ap (λ heard. if heard then Some state.asked else scans_left (block_taken settings machine (events.ToCpu (place + 1))) state.seen) hears_none
           ∙ ap (λ taken. scans_left taken state.seen) takes_block ∙ ap (scans_left (Some block)) is ∙ ap (λ comes. if comes then None else Some scans) stays
 
-      pub ended : KeepsState settings begin (state_after settings state machine (events.ToCpu (place + 1))) now (after_taken machine place answer) (content_with facts event_end)
+      -- what the states say of an input, if the record comes to them at the end, and if not
+      told_here : (above : Option Seen) → facts.seen ≡ above → (input : ℕ) → input < 64
+          → KeepsTold now machine.to_module machine.last_to_module block.end input (input_coming input (option_and_then (if_comes event_end) above) (facts.inputs input))
+      told_here None is input low = (let k = q.told input low in record { told = k.told; unlogged = k.unlogged })
+      told_here (Some seen) is input low = by (comes_to seen event_end) refl
+        where
+          by : (comes : Bool) → comes_to seen event_end ≡ comes
+              → KeepsTold now machine.to_module machine.last_to_module block.end input (input_coming input (if comes then Some seen else None) (facts.inputs input))
+          by false comes = (let k = q.told input low in record { told = k.told; unlogged = k.unlogged })
+          by true comes =
+              let r = q.seen seen is in
+              let s = r.is_seen in
+              let both = comes_whole (says_more answer.status) (is_before answer.stamp seen.stamp) comes in
+              let whole : block.more ≡ false = sym t.carried.more ∙ both.0 in
+              let few = (q.below r.timely).1 in
+              let near = near_block seen r whole in
+              let no_earlier : scans_of s.life ≤ block.scans =
+              elim (cases_lt block.scans (scans_of s.life)) as (λ _. scans_of s.life ≤ block.scans) [
+                | inl earlier ↦ (let before = is_earlier seen s few near earlier in absurd (cc (before, both.1)))
+                | inr le ↦ le
+              ] in
+              let all = took_all s.life (since_states s.life s.goes_on) few whole no_earlier in
+              let inside = r.pending.inside in
+              let here : length (log_of s.life) ≡ block.end = omega (arith, all, inside) in
+              let level : state_of input s.life ≡ is_set seen.levels input = sym (states_bit s.life input low) ∙ ap (λ levels. is_set levels input) (sym s.levels) in
+              told-comes input low now machine.to_module machine.last_to_module block.end (facts.inputs input) seen
+              (λ un. subst (TellsFrom now machine.to_module machine.last_to_module block.end input) level
+              (subst (λ n. TellsFrom now machine.to_module machine.last_to_module n input (state_of input s.life)) here (r.pending.tells input low un)))
+              (q.told input low)
+
+      told_below : (above : InputAbove) (item : Option SentItem) (input : ℕ) → KeepsTold now machine.to_module machine.last_to_module block.end input above
+          → KeepsTold now machine.to_module machine.last_to_module block.end input (input_below_clear above item)
+      told_below above None input k = record { told = k.told; unlogged = k.unlogged }
+      told_below above (Some item) input k = record { told = k.told; unlogged = k.unlogged }
+
+      told_end : (settling : Bool) (above : InputAbove) (input : ℕ) → KeepsTold now machine.to_module machine.last_to_module block.end input above
+          → KeepsTold now machine.to_module machine.last_to_module block.end input (input_ended settling above)
+      told_end true above input k = told_below above (settled_now above) input k
+      told_end false above input k = k
+
+      pub ended : KeepsState settings begin above (state_after settings state machine (events.ToCpu (place + 1))) now (after_taken machine place answer) (content_step facts event_end)
       ended =
           let parts = ended_parts (says_more answer.status) (says_again answer.status) refl refl in
           let upto = (is_next settings now machine.round block t.made).ends in
           record {
-            loaded_is = parts.loaded_is;
-            steady = steady;
-            clear_is = parts.clear_is;
-            below = λ clear. (let b = parts.below_clear clear in (omega (arith, b.0, upto), omega (arith, b.1)));
-            watch = subst (λ n. (input : ℕ) → input < 64 → KeepsWatch now machine.to_module machine.last_to_module n input (content_with facts event_end).clear
-                ((content_with facts event_end).inputs input).hidden ((content_with facts event_end).inputs input).watched) upto
-                (watch_ended settings range first begin from machine place number answer block known t facts (says_more answer.status) (says_again answer.status) refl refl q.watch);
-            received = λ all other life since goes_on. absurd (none_since other now life since goes_on);
+            full = full_ended settings range first begin above from machine place number answer block known t blocks_near steady facts q.full;
+            seen_timely = λ seen is. (parts.seen seen is).timely;
+            below = λ timely. (let b = parts.below_timely timely in (omega (arith, b.0, upto), omega (arith, b.1)));
+            watch = subst (λ n. (input : ℕ) → input < 64 → KeepsWatch now machine.to_module machine.last_to_module n input (content_step facts event_end).clear
+                ((content_step facts event_end).inputs input).hidden (steady_state ((content_step facts event_end).inputs input).watched)) upto
+                (watch_ended settings range first begin from machine place number answer block known t facts q.made (says_more answer.status) (says_again answer.status) refl refl q.watch);
             recorded = ends_within settings now (machine.round + 1);
             seen = λ seen is.
                 (let still = parts.seen seen is in
                 let s = still.is_seen in
                 record {
-                  unloaded = s.unloaded;
                   life = s.life;
                   begun = s.begun;
                   goes_on = since_states s.life s.goes_on;
@@ -279,7 +369,13 @@ module _ (settings : Settings) (range : AreInRange settings) (first : ℕ) (begi
                   levels = s.levels;
                   left_is = left_then (scans_of s.life) s.left_is still.stays;
                   watch = λ input low.
-                      subst (λ n. WatchAt s.life n input (content_with facts event_end).clear ((content_with facts event_end).inputs input).hidden ((content_with facts event_end).inputs input).watched)
+                      subst (λ n. WatchAt s.life n input (content_step facts event_end).clear ((content_step facts event_end).inputs input).hidden (steady_state ((content_step facts event_end).inputs input).watched))
                       upto (s.watch input low);
                 });
+            pending = λ seen is.
+                (let w = (parts.seen seen is).pending in
+                record { inside = omega (arith, w.inside, upto); goes_on = w.goes_on; tells = w.tells });
+            told = λ input low. subst (λ n. KeepsTold now machine.to_module machine.last_to_module n input ((content_step facts event_end).inputs input)) upto
+                (subst (KeepsTold now machine.to_module machine.last_to_module block.end input) (sym (ended_input facts answer.status answer.stamp input))
+                (told_end (settles facts input event_end) (input_coming input (coming facts event_end) (facts.inputs input)) input (told_here facts.seen refl input low)));
           }

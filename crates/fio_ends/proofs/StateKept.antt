@@ -1,88 +1,105 @@
 -- The rule `state` never accuses: where the record comes to the states that were asked for, it has all entries up to them and
 -- none later.
-use Rattle.fio_ends.proofs.Names.{◌≡◌, ◌∙◌, ◌+◌, ◌<◌, ◌≤◌, ◌||◌, ℕ, Bool, true, false, List, [], ◌∷◌, length, Option, Some, None, refl, ap, sym, subst, arith, if◌then◌else◌, ◌==◌, nat_tests, slice_get, AllByRecursion, Command, command_in, IsCommand, LoadCounter, Settings, AreInRange, Life, Occurrence, Scanned, LineSynced, Raised, Commanded, life_of, life_after_command, scans_of, blocks_in, end_of_blocks, ContentFacts, content_with, Sent, Event, SentFrame, Machine, start, after, after_sending, after_delivery_to_module, after_taken, State}
+use Rattle.fio_check.specs.ContentRules.{steady_state}
+use Rattle.fio_ends.proofs.Names.{fold, ◌++◌, MadeBlock, Block, events_of_block, ◌≡◌, command_octets, length-append, log_of, ◌∙◌, ◌+◌, ◌<◌, ◌≤◌, ◌||◌, ℕ, Bool, true, false, List, [], ◌∷◌, length, Option, Some, None, refl, ap, sym, subst, arith, if◌then◌else◌, slice_get, Command, command_in, IsCommand, Settings, AreInRange, Life, Occurrence, Scanned, LineSynced, Raised, Commanded, life_of, life_after_command, blocks_in, end_of_blocks, ContentFacts, InputAbove, InputItem, Sent, Event, SentFrame, Machine, start, after, after_sending, after_delivery_to_module, after_taken, State}
 use Rattle.fio_message.specs.Blocks.{block_answer}
-use Rattle.fio_message.specs.declared.commands.Command.TheVariants as commands
-use Rattle.fio_check.specs.ContentSaid.{Seen, ignores, items_for, items_sent}
-use Rattle.fio_check.specs.ContentFacts.{content_begun}
+use Rattle.fio_check.specs.ContentSaid.{ignores, item_for, items_sent}
+use Rattle.fio_check.specs.ContentFacts.{content_begun, content_step, input_with_item, unnamed}
+use Rattle.fio_check.proofs.ContentNext.{item_parts}
 use Rattle.fio_link.specs.declared.event.Event.TheVariants as events
-use Rattle.fio_ends.specs.ContentPremises.{HasNearStates, NoLoadTakesEffect, WaitBriefly, blocks_taken}
-use Rattle.fio_ends.specs.ContentRuns.{ContentNeverAccuses}
-use Rattle.fio_ends.proofs.AlternateKept.{watch_begun, watch-happens, watch-receives, watch-sends}
+use Rattle.fio_ends.specs.ContentPremises.{BlocksAreNear, StatesAreNear, blocks_taken, scans_above}
+use Rattle.fio_ends.specs.ContentRuns.{KeepsRule}
+use Rattle.fio_ends.proofs.SteadyKept.{still_steady, watch_begun, watch-happens, watch-receives, watch-sends}
 use Rattle.fio_ends.proofs.BlockPlaces.{end_at, ends_within}
-use Rattle.fio_ends.proofs.BlockWalk.{walk}
-use Rattle.fio_ends.proofs.Stamps.{none_since, since-back, since-now}
-use Rattle.fio_ends.proofs.ContentHeld.{timed_never_accuses}
-use Rattle.fio_ends.proofs.ContentSteps.{IsInvariant, IsKnown, IsPastBus, IsSending}
-use Rattle.fio_ends.proofs.Following.{GoesOn, IsNoCommand, IsSince, goes_on-both}
+use Rattle.fio_ends.proofs.BlockWalk.{gap_keeps, walk}
+use Rattle.fio_ends.proofs.ContentSteps.{IsKnown, IsPastBus, IsSending, Takes}
+use Rattle.fio_ends.proofs.ContentLines.{EachKeeps}
+use Rattle.fio_check.specs.ContentRules.{without_excuse}
+use Rattle.fio_ends.proofs.Following.{GoesOn, IsNoCommand, goes_on-both, goes_on-more}
+use Rattle.fio_ends.proofs.Fulls.{full_begun, full-happens, full-receives}
 use Rattle.fio_ends.proofs.SeenStates.{WatchAt}
-use Rattle.fio_ends.proofs.Steady.{loaded_by, loaded_sent, sends_no_load, steady-happens, steady-receives, unloaded_before}
-use Rattle.fio_ends.proofs.Taken.{brief_front, brief_last, asked_of, asks_on, blocks_stay}
+use Rattle.fio_ends.proofs.SettledAgain.{MadeThen}
+use Rattle.fio_ends.proofs.Steady.{IsSteady}
+use Rattle.fio_ends.proofs.Taken.{blocks_stay}
 use Rattle.fio_ends.proofs.StateBlocks.{block_heard, state_walk}
 use Rattle.fio_ends.proofs.StateEnds.{takes_block}
-use Rattle.fio_ends.proofs.StateHeard.{hears_any, state_kept}
+use Rattle.fio_ends.proofs.StateHeard.{state_kept}
 use Rattle.fio_ends.proofs.StateRests.{KeepsRest}
-use Rattle.fio_ends.proofs.StateKnown.{AsksState, IsSeen, KeepsState, StateState, state_after}
+use Rattle.fio_ends.proofs.ContentBegun.{begun_input}
+use Rattle.fio_ends.proofs.Lives.{log_grows}
+use Rattle.fio_ends.proofs.Sends.{read_back}
+use Rattle.fio_ends.proofs.Told.{KeepsTold, tells-quiet, tells-received, tells-sent, told-quiet, told-received, told-sent}
+use Rattle.fio_ends.proofs.Watching.{state_of}
+use Rattle.fio_ends.proofs.StateKnown.{IsPending, KeepsState, StateState, state_after}
 
-module _ (settings : Settings) (range : AreInRange settings) (first : ℕ) (begin : Machine) where
+module _ (settings : Settings) (range : AreInRange settings) (first : ℕ) (begin : Machine) (above : Option ℕ) where
   abbrev begin_life : Life
   begin_life = life_of begin.history
 
   -- ---- the invariant
 
-  received-happens : (state : StateState) (from : Life) (machine : Machine) (facts : ContentFacts) (now : Life) (occurrence : Occurrence) → IsNoCommand occurrence
-      → now ≡ occurrence ∷ life_of machine.history → KeepsState settings begin state from machine facts
-      → machine.last_to_module ≡ length machine.to_module → (command : Command) (life : Life) → IsSince command life now
-      → GoesOn from life → state.asked ≡ scans_of life
-  received-happens state from machine facts now occurrence quiet is p all command life since goes_on =
-      p.received all command life (since-back command life (life_of machine.history) occurrence quiet (subst (IsSince command life) is since)) goes_on
+  -- the log of an earlier life is no longer
+  shorter : (life now : Life) → GoesOn life now → length (log_of life) ≤ length (log_of now)
+  shorter life now g = (let grown = log_grows life now g in omega (arith, ap length grown.1, length-append (log_of life) grown.0))
 
-  state-happens : (state : StateState) (from : Life) (machine : Machine) (facts : ContentFacts) (event : Event) (rest : List Event) → IsPastBus event
-      → (state.loaded ≡ false → NoLoadTakesEffect settings first machine (event ∷ rest)) → KeepsState settings begin state from machine facts
-      → KeepsState settings begin (state_after settings state machine event) from (after settings first machine event) facts
-  state-happens state from machine facts (events.Scan raw) rest past none p = record {
-    loaded_is = p.loaded_is;
-    steady = steady-happens settings first state.loaded begin_life machine (events.Scan raw) rest past none p.steady;
-    clear_is = p.clear_is;
+  still-pending : (machine : Machine) (facts : ContentFacts) (occurrence : Occurrence) → IsNoCommand occurrence → (life : Life)
+      → IsPending (life_of machine.history) machine.to_module machine.last_to_module (end_at settings (life_of machine.history) machine.round) facts life
+      → IsPending (occurrence ∷ life_of machine.history) machine.to_module machine.last_to_module (end_at settings (life_of machine.history) machine.round) facts life
+  still-pending machine facts occurrence quiet life w = record {
+    inside = w.inside;
+    goes_on = goes_on-more life (life_of machine.history) occurrence w.goes_on;
+    tells = λ input low un. tells-quiet input low (life_of machine.history) machine.to_module machine.last_to_module (length (log_of life)) (state_of input life) occurrence quiet
+        (shorter life (life_of machine.history) w.goes_on) (w.tells input low un);
+  }
+
+  goes_on-command : (life now : Life) (command : Option Command) → GoesOn life now → GoesOn life (life_after_command command now)
+  goes_on-command life now None g = g
+  goes_on-command life now (Some command) g = goes_on-more life now (Commanded command) g
+
+  -- an input of which no item was sent with a command: it has none of it
+  untouched : (above : InputAbove) (item : Option InputItem) → (input_with_item (unnamed above) item).touched ≡ false → (item ≡ None) × (above.touched ≡ false)
+  untouched above None un = (refl, un)
+  untouched above (Some item) un = absurd (cc un)
+
+  pub state-happens : (state : StateState) (from : Life) (machine : Machine) (facts : ContentFacts) (event : Event) → IsPastBus event → KeepsState settings begin above state from machine facts
+      → KeepsState settings begin above (state_after settings state machine event) from (after settings first machine event) facts
+  state-happens state from machine facts (events.Scan raw) past p = record {
+    full = full-happens settings range first begin above machine facts (events.Scan raw) past p.full;
+    seen_timely = p.seen_timely;
     below = p.below;
     watch = watch-happens settings range first begin machine facts (events.Scan raw) past p.watch;
-    received = received-happens state from machine facts (Scanned raw ∷ life_of machine.history) (Scanned raw) tt refl p;
     recorded = p.recorded;
     seen = p.seen;
+    pending = λ seen is. still-pending machine facts (Scanned raw) tt (p.seen seen is).life (p.pending seen is);
+    told = λ input low. told-quiet input low (life_of machine.history) machine.to_module machine.last_to_module (end_at settings (life_of machine.history) machine.round) (facts.inputs input) (Scanned raw) tt (ends_within settings (life_of machine.history) machine.round) (p.told input low);
   }
-  state-happens state from machine facts events.LineSync rest past none p = record {
-    loaded_is = p.loaded_is;
-    steady = steady-happens settings first state.loaded begin_life machine events.LineSync rest past none p.steady;
-    clear_is = p.clear_is;
+  state-happens state from machine facts events.LineSync past p = record {
+    full = full-happens settings range first begin above machine facts events.LineSync past p.full;
+    seen_timely = p.seen_timely;
     below = p.below;
     watch = watch-happens settings range first begin machine facts events.LineSync past p.watch;
-    received = received-happens state from machine facts (LineSynced ∷ life_of machine.history) LineSynced tt refl p;
     recorded = p.recorded;
     seen = p.seen;
+    pending = λ seen is. still-pending machine facts LineSynced tt (p.seen seen is).life (p.pending seen is);
+    told = λ input low. told-quiet input low (life_of machine.history) machine.to_module machine.last_to_module (end_at settings (life_of machine.history) machine.round) (facts.inputs input) LineSynced tt (ends_within settings (life_of machine.history) machine.round) (p.told input low);
   }
-  state-happens state from machine facts (events.Raise mask) rest past none p = record {
-    loaded_is = p.loaded_is;
-    steady = steady-happens settings first state.loaded begin_life machine (events.Raise mask) rest past none p.steady;
-    clear_is = p.clear_is;
+  state-happens state from machine facts (events.Raise mask) past p = record {
+    full = full-happens settings range first begin above machine facts (events.Raise mask) past p.full;
+    seen_timely = p.seen_timely;
     below = p.below;
     watch = watch-happens settings range first begin machine facts (events.Raise mask) past p.watch;
-    received = received-happens state from machine facts (Raised mask ∷ life_of machine.history) (Raised mask) tt refl p;
     recorded = p.recorded;
     seen = p.seen;
+    pending = λ seen is. still-pending machine facts (Raised mask) tt (p.seen seen is).life (p.pending seen is);
+    told = λ input low. told-quiet input low (life_of machine.history) machine.to_module machine.last_to_module (end_at settings (life_of machine.history) machine.round) (facts.inputs input) (Raised mask) tt (ends_within settings (life_of machine.history) machine.round) (p.told input low);
   }
-  state-happens state from machine facts events.Poll rest past none p = absurd past
-  state-happens state from machine facts (events.Send command) rest past none p = absurd past
-  state-happens state from machine facts (events.ToModule index) rest past none p = absurd past
-  state-happens state from machine facts (events.ToCpu index) rest past none p = absurd past
-  state-happens state from machine facts events.Restart rest past none p = absurd past
+  state-happens state from machine facts events.Poll past p = absurd past
+  state-happens state from machine facts (events.Send command) past p = absurd past
+  state-happens state from machine facts (events.ToModule index) past p = absurd past
+  state-happens state from machine facts (events.ToCpu index) past p = absurd past
+  state-happens state from machine facts events.Restart past p = absurd past
 
   -- ---- a command is sent
-
-  -- states that are still above it: it is no load
-  seen_sent : (facts : ContentFacts) (command : Command) (loaded : Bool) (seen : Seen) → (content_with facts (Sent command)).seen ≡ Some seen
-      → (facts.seen ≡ Some seen) × (loaded_by loaded command ≡ loaded)
-  seen_sent facts (commands.LoadCounter load) loaded seen is = absurd (cc is)
-  seen_sent facts other loaded seen is = (is, refl)
 
   sent_seen : (state : StateState) (machine : Machine) (event : Event) (command : Command) → IsSending first machine event command
       → (state_after settings state machine event).seen ≡ state.seen
@@ -100,44 +117,61 @@ module _ (settings : Settings) (range : AreInRange settings) (first : ℕ) (begi
   watch_items life upto input clear hidden true watched w = record { open_ones = λ is none. absurd (cc none); watched_ones = λ level is. absurd (cc is) }
   watch_items life upto input clear hidden false watched w = w
 
-  still_watched : (ignoring : Bool) (watched : Option Bool) (level : Bool) → (if ignoring then None else watched) ≡ Some level → watched ≡ Some level
-  still_watched true watched level is = absurd (cc is)
-  still_watched false watched level is = is
+  watch_item : (life : Life) (upto input : ℕ) (clear : Bool) (above : InputAbove) (item : Option InputItem) → WatchAt life upto input clear above.hidden (steady_state above.watched)
+      → WatchAt life upto input clear (input_with_item (unnamed above) item).hidden (steady_state (input_with_item (unnamed above) item).watched)
+  watch_item life upto input clear above item w =
+      let below = watch_items life upto input clear above.hidden (ignores item) (steady_state above.watched) w in
+      record { open_ones = λ is none. below.open_ones is (sym (item_parts above item).hidden ∙ none); watched_ones = λ level is. below.watched_ones level (still_steady above item level is) }
 
-  state-sends : (state : StateState) (from : Life) (machine : Machine) (facts : ContentFacts) (event : Event) (command : Command) → IsKnown settings first begin from machine
-      → IsSending first machine event command → IsCommand command → KeepsState settings begin state from machine facts
-      → KeepsState settings begin (state_after settings state machine event) (life_of machine.history) (after_sending machine command) (content_with facts (Sent command))
+  was_steady : (above : InputAbove) (item : Option InputItem) (level : Bool) → steady_state (input_with_item (unnamed above) item).watched ≡ Some level → steady_state above.watched ≡ Some level
+  was_steady above item level is = by (ignores item) (still_steady above item level is)
+    where
+      by : (ignoring : Bool) → (if ignoring then None else steady_state above.watched) ≡ Some level → steady_state above.watched ≡ Some level
+      by true is = absurd (cc is)
+      by false is = is
+
+  pub state-sends : (state : StateState) (from : Life) (machine : Machine) (facts : ContentFacts) (event : Event) (command : Command) → IsKnown settings first begin from machine
+      → IsSending first machine event command → IsCommand command → KeepsState settings begin above state from machine facts
+      → KeepsState settings begin above (state_after settings state machine event) (life_of machine.history) (after_sending machine command) (content_step facts (Sent command))
   state-sends state from machine facts event command known may within p = record {
-    loaded_is = loaded_sent state.loaded facts command p.loaded_is ∙ sym (sends_no_load first state.loaded machine event command may);
-    steady = λ is. p.steady (unloaded_before first state.loaded machine event command may is);
-    clear_is = λ input level is. p.clear_is input level (still_watched (ignores (items_for input (items_sent command))) (facts.inputs input).watched level is);
+    full = p.full;
+    seen_timely = p.seen_timely;
     below = p.below;
-    watch = watch-sends settings range first begin machine facts command within p.watch;
-    received = λ all other life since goes_on. absurd (none_since other (life_of machine.history) life since goes_on);
+    watch = λ input low. (let k = watch-sends settings range first begin machine facts command within p.watch input low in record { open_ones = k.open_ones; watched_ones = k.watched_ones });
     recorded = ends_within settings (life_of machine.history) machine.round;
     seen = λ seen is.
-        (let still = seen_sent facts command state.loaded seen is in
-        let s = p.seen seen still.0 in
+        (let s = p.seen seen is in
         record {
-          unloaded = sends_no_load first state.loaded machine event command may ∙ still.1 ∙ s.unloaded;
           life = s.life;
           begun = s.begun;
           goes_on = goes_on-both s.life from (life_of machine.history) s.goes_on known.now;
           stamp = s.stamp;
           levels = s.levels;
           left_is = sent_seen state machine event command may ∙ s.left_is;
-          watch = λ input low. watch_items s.life (end_at settings (life_of machine.history) machine.round) input facts.clear (facts.inputs input).hidden
-              (ignores (items_for input (items_sent command))) (facts.inputs input).watched (s.watch input low);
+          watch = λ input low. watch_item s.life (end_at settings (life_of machine.history) machine.round) input facts.clear (facts.inputs input)
+              (item_for input (items_sent command)) (s.watch input low);
         });
+    pending = λ seen is.
+        (let w = p.pending seen is in
+        record {
+          inside = w.inside;
+          goes_on = w.goes_on;
+          tells = λ input low un.
+              (let none = untouched (facts.inputs input) (item_for input (items_sent command)) un in
+              tells-sent input low (life_of machine.history) machine.to_module machine.last_to_module (length (log_of (p.seen seen is).life)) (state_of input (p.seen seen is).life)
+              (record { octets = command_octets command; round = machine.round }) command (read_back command within) none.0 (w.tells input low none.1));
+        });
+    told = λ input low. told-sent input low (life_of machine.history) machine.to_module machine.last_to_module (end_at settings (life_of machine.history) machine.round) (facts.inputs input)
+        (record { octets = command_octets command; round = machine.round }) command (item_for input (items_sent command)) (read_back command within) refl (p.told input low);
   }
 
   -- ---- the module receives a frame
 
-  state-receives : (state : StateState) (from : Life) (machine : Machine) (facts : ContentFacts) (place : ℕ) (frame : SentFrame) → IsKnown settings first begin from machine
+  pub state-receives : (state : StateState) (from : Life) (machine : Machine) (facts : ContentFacts) (place : ℕ) (frame : SentFrame) → IsKnown settings first begin from machine
       → machine.last_to_module < place + 1 → slice_get machine.to_module place ≡ Some frame
-      → (place + 1 ≡ length machine.to_module → (command : Command) × (command_in frame.octets ≡ Some command)) → KeepsState settings begin state from machine facts
-      → KeepsState settings begin (state_after settings state machine (events.ToModule (place + 1))) from (after_delivery_to_module settings machine (place + 1) (Some frame)) facts
-  state-receives state from machine facts place frame known new at reads p =
+      → KeepsState settings begin above state from machine facts
+      → KeepsState settings begin above (state_after settings state machine (events.ToModule (place + 1))) from (after_delivery_to_module settings machine (place + 1) (Some frame)) facts
+  state-receives state from machine facts place frame known new at p =
       let now = life_of machine.history in
       let command = command_in frame.octets in
       let k = known.is_kept in
@@ -145,74 +179,63 @@ module _ (settings : Settings) (range : AreInRange settings) (first : ℕ) (begi
       let upto : end_at settings (life_after_command command now) machine.round ≡ end_at settings now machine.round =
       ap end_of_blocks (blocks_stay settings now command machine.round few) in
       record {
-        loaded_is = p.loaded_is;
-        steady = steady-receives state.loaded begin_life now command p.steady;
-        clear_is = p.clear_is;
+        full = full-receives settings range first begin above machine facts place frame k p.full;
+        seen_timely = p.seen_timely;
         below = λ clear. (let b = p.below clear in (omega (arith, b.0, upto), b.1));
         watch = watch-receives settings range first begin machine facts place frame k new at p.watch;
-        received = λ all other life since goes_on.
-            (let read = reads all in
-            let last : ((place + 1) == length machine.to_module) ≡ true = grind (arith, nat_tests) in
-            let is : life_after_command command now ≡ Commanded read.0 ∷ now = ap (λ c. life_after_command c now) read.1 in
-            let same = since-now other read.0 life now (subst (IsSince other life) is since) in
-            ap (λ b. if b then scans_of now else state.asked) last ∙ ap scans_of (sym same));
         recorded = (let r = p.recorded in omega (arith, r, upto));
-        seen = λ seen is. subst (λ n. IsSeen begin_life from state.loaded state.seen n facts seen) (sym upto) (p.seen seen is);
+        seen = λ seen is.
+            (let s = p.seen seen is in
+            record {
+              life = s.life;
+              begun = s.begun;
+              goes_on = s.goes_on;
+              stamp = s.stamp;
+              levels = s.levels;
+              left_is = s.left_is;
+              watch = λ input low. subst (λ n. WatchAt s.life n input facts.clear (facts.inputs input).hidden (steady_state (facts.inputs input).watched)) (sym upto) (s.watch input low);
+            });
+        pending = λ seen is.
+            (let w = p.pending seen is in
+            record {
+              inside = omega (arith, upto, w.inside);
+              goes_on = goes_on-command (p.seen seen is).life now command w.goes_on;
+              tells = λ input low un. tells-received input low now machine.to_module machine.last_to_module (length (log_of (p.seen seen is).life)) (state_of input (p.seen seen is).life) place frame (omega arith) at (w.tells input low un);
+            });
+        told = λ input low. subst (λ n. KeepsTold (life_after_command command now) machine.to_module (place + 1) n input (facts.inputs input)) (sym upto)
+            (told-received input low now machine.to_module machine.last_to_module (end_at settings now machine.round) (facts.inputs input) place frame (omega arith) at (p.told input low));
       }
 
-  state_is_invariant : IsInvariant settings first begin State StateState (record { loaded = false; asked = 0; seen = None }) (state_after settings) (AsksState settings first begin)
-      (KeepsState settings begin)
-  state_is_invariant = record {
-    goes_on = λ state machine event rest a. record { taken = asks_on settings first begin (AllByRecursion WaitBriefly) state.loaded machine event rest a.taken; near = a.near.1 };
-    begins = λ known. record {
-      loaded_is = refl;
-      steady = λ is. refl;
-      clear_is = λ input level is. absurd (cc is);
-      below = λ clear. absurd (cc clear);
-      watch = λ input low. record { open_ones = λ is none. absurd (cc is); watched_ones = λ level is. absurd (cc is) };
-      received = λ all command life since goes_on. absurd (none_since command begin_life life since goes_on);
-      recorded = ends_within settings begin_life begin.round;
-      seen = λ seen is. absurd (cc is);
-    };
-    happens = λ state from machine facts event rest known past asks p. state-happens state from machine facts event rest past asks.taken.no_load p;
-    sends = state-sends;
-    receives = λ state from machine facts place frame known new at reads p. state-receives state from machine facts place frame known new at reads p;
-    hears = λ state from machine facts place rest command answer known h asks p. hears_any settings first begin state from machine facts place command answer known h p;
-    takes = λ state from machine facts place rest number answer block known t asks p.
-        (let brief = brief_last (blocks_taken settings begin machine) block
-        (asked_of settings range first begin (AllByRecursion WaitBriefly) brief_front state.loaded from machine place number answer block rest known t asks.taken) in
-        let takes = takes_block settings range first begin state from machine place number answer block known t brief p.steady in
-        walk State settings (life_of machine.history) machine.round answer block (KeepsRest settings begin state from machine block)
-        (λ facts. KeepsState settings begin (state_after settings state machine (events.ToCpu (place + 1))) (life_of machine.history) (after_taken machine place answer) facts)
-        (state_walk settings range first begin state from machine place number answer block known t brief p.steady)
-        t.made t.carried facts (state_kept settings first begin facts (block_answer answer) facts.seen)
-        (block_heard settings range first begin state from machine place number answer block known t brief p.steady facts p (λ scans is. asks.near.0 scans block is takes)));
-  }
+  -- the CPU takes a block
+  pub state-takes : (state : StateState) (from : Life) (machine : Machine) (facts : ContentFacts) (place : ℕ) (rest : List Event) (number : ℕ) (answer : Block) (block : MadeBlock)
+      → (known : IsKnown settings first begin from machine) (t : Takes settings first from machine place number answer block)
+      → BlocksAreNear above (blocks_taken settings begin machine ++ block ∷ []) → StatesAreNear settings first machine state.asked state.seen (events.ToCpu (place + 1) ∷ rest)
+      → IsSteady begin_life (life_of machine.history) → MadeThen settings (life_of machine.history) block facts → (facts.timely ≡ true → facts.clear ≡ true)
+      → KeepsState settings begin above state from machine facts
+      → EachKeeps (λ facts. KeepsRule State (without_excuse facts)) content_step facts (events_of_block answer)
+      × KeepsState settings begin above (state_after settings state machine (events.ToCpu (place + 1))) (life_of machine.history) (after_taken machine place answer) (fold content_step facts (events_of_block answer))
+  state-takes state from machine facts place rest number answer block known t near states steady made bright p =
+      let takes = takes_block settings range first begin above state from machine place number answer block known t near steady in
+      walk (λ facts. KeepsRule State (without_excuse facts)) content_step (λ facts. gap_keeps State (without_excuse facts)) settings (life_of machine.history) machine.round answer block
+      (KeepsRest settings begin above state from machine block)
+      (λ facts. KeepsState settings begin above (state_after settings state machine (events.ToCpu (place + 1))) (life_of machine.history) (after_taken machine place answer) facts)
+      (state_walk settings range first begin above state from machine place number answer block known t near steady)
+      t.made t.carried facts (state_kept settings first begin above (without_excuse facts) (block_answer answer) facts.seen)
+      (block_heard settings range first begin above state from machine place number answer block known t near steady facts made bright p (λ scans is. states.0 scans block is takes))
 
 -- what the rule reads above a log
-abbrev state_above : Bool → StateState
-state_above begun = record { loaded = false; asked = 0; seen = None }
+abbrev pub state_above : StateState
+state_above = record { asked = 0; seen = None }
 
 -- at the start of both ends no states are asked for yet
-state_begun : (settings : Settings) → KeepsState settings start (state_above true) [] start content_begun
+pub state_begun : (settings : Settings) → KeepsState settings start (scans_above true) state_above [] start content_begun
 state_begun settings = record {
-  loaded_is = refl;
-  steady = λ is. refl;
-  clear_is = λ input level is. refl;
+  full = λ timely. full_begun settings;
+  seen_timely = λ seen is. absurd (cc is);
   below = λ clear. (omega arith, omega arith);
   watch = watch_begun settings;
-  received = λ all command life since goes_on. absurd (none_since command [] life since goes_on);
   recorded = omega arith;
   seen = λ seen is. absurd (cc is);
+  pending = λ seen is. absurd (cc is);
+  told = λ input low. subst (KeepsTold [] [] 0 0 input) (sym (begun_input input low)) (record { told = λ level is. absurd (cc is); unlogged = λ is. absurd (cc is) });
 }
-
-pub state_never_accuses : ContentNeverAccuses State HasNearStates
-state_never_accuses = timed_never_accuses State StateState state_above state_after HasNearStates
-    (λ begun settings first begin. AsksState settings first begin) (λ begun settings first begin. KeepsState settings begin)
-    (λ begun settings first machine last later premise. premise.no_load)
-    (λ begun settings first machine last later none leads unloaded premise. record {
-      taken = record { last = last; leads = leads; none = none; asked = premise.brief; no_load = λ is. unloaded };
-      near = premise.near;
-    })
-    (λ begun settings first begin range. state_is_invariant settings range first begin)
-    (λ settings first. state_begun settings)

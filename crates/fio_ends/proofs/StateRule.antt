@@ -4,7 +4,7 @@ use Rattle.fio_message.specs.Bits.{bit_of, is_set}
 use Rattle.fio_input.specs.FilterHistory.{input_state}
 use Rattle.fio_module.proofs.Words.{bit_at-word_of}
 use Rattle.fio_check.specs.ContentSaid.{Seen, comes_to, is_before, is_later}
-use Rattle.fio_check.specs.ContentRules.{differing, first_differing, state_breach}
+use Rattle.fio_check.specs.ContentRules.{differing, first_differing, state_breach, steady_state}
 use Rattle.fio_check.specs.Places.{earliest_above}
 use Rattle.fio_ends.proofs.Answered.{states_of}
 use Rattle.fio_ends.proofs.Clocks.{clock}
@@ -63,7 +63,7 @@ states_bit life input low = ap (λ b. b == 1) (bit_at-word_of 64 (λ i. input_st
     by false = refl
 
 -- states that no watched input differs from
-pub none_differs : (facts : ContentFacts) (seen : Seen) → ((input : ℕ) (level : Bool) → input < 64 → (facts.inputs input).watched ≡ Some level → level ≡ is_set seen.levels input)
+pub none_differs : (facts : ContentFacts) (seen : Seen) → ((input : ℕ) (level : Bool) → input < 64 → steady_state (facts.inputs input).watched ≡ Some level → level ≡ is_set seen.levels input)
     → first_differing facts seen ≡ None
 unfolding first_differing
 none_differs facts seen same = none-found 64 (omega arith)
@@ -74,19 +74,19 @@ none_differs facts seen same = none-found 64 (omega arith)
     alike false true is = absurd (cc is)
     alike false false is = refl
 
-    by : (input : ℕ) → input < 64 → (watched : Option Bool) → (facts.inputs input).watched ≡ watched → is_some_and watched (λ level. not (beq level (is_set seen.levels input))) ≡ false
+    by : (input : ℕ) → input < 64 → (watched : Option Bool) → steady_state (facts.inputs input).watched ≡ watched → is_some_and watched (λ level. not (beq level (is_set seen.levels input))) ≡ false
     by input low None is = refl
     by input low (Some level) is = alike level (is_set seen.levels input) (same input level low is)
 
     none-found : (count : ℕ) → count ≤ 64 → earliest_above (differing facts seen) count ≡ None
     none-found zero few = refl
     none-found (suc count) few =
-        let none = by count (omega (arith, few)) (facts.inputs count).watched refl in
+        let none = by count (omega (arith, few)) (steady_state (facts.inputs count).watched) refl in
         rw (none-found count (omega (arith, few)), none) refl
 
 -- so the rule is kept, if this is so where the record comes to them
 pub keeps_state : (facts : ContentFacts) (event : ContentEvent) (seen : Seen)
-    → (comes_to seen event ≡ true → (input : ℕ) (level : Bool) → input < 64 → (facts.inputs input).watched ≡ Some level → level ≡ is_set seen.levels input)
+    → (comes_to seen event ≡ true → (input : ℕ) (level : Bool) → input < 64 → steady_state (facts.inputs input).watched ≡ Some level → level ≡ is_set seen.levels input)
     → state_breach (comes_to seen event) (first_differing facts seen) ≡ None
 keeps_state facts event seen same = by (comes_to seen event) refl
   where

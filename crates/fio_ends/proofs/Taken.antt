@@ -1,13 +1,12 @@
 -- What is asked of the blocks that the CPU takes in a log is asked of those that it has taken so far.
-use Rattle.fio_ends.proofs.Names.{◌≡◌, ◌∙◌, ◌+◌, ◌≤◌, ℕ, Bool, true, false, List, [], ◌∷◌, ◌++◌, length, take, drop, Option, Some, None, refl, ap, sym, subst, arith, append-nil, append_assoc, length-take, if◌then◌else◌, slice_get, slice_get_within, AllByRecursion, Block, Command, command_in, Settings, AreInRange, Life, life_of, life_after_command, MadeBlock, newest_poll, is_new, blocks_of, next_block, Event, Machine, Leads, HaveNoRestart, after, blocks_in, take_one_more, after_taken, IsKept, kept_all, carries_own}
+use Rattle.fio_ends.proofs.Names.{◌≡◌, ◌∙◌, ◌+◌, ◌≤◌, ℕ, Bool, true, false, List, [], ◌∷◌, ◌++◌, length, take, drop, Option, Some, None, refl, ap, sym, subst, arith, append-nil, append_assoc, length-take, if◌then◌else◌, slice_get, slice_get_within, Block, Command, command_in, Settings, AreInRange, Life, life_of, life_after_command, MadeBlock, newest_poll, is_new, blocks_of, next_block, Event, Machine, Leads, HaveNoRestart, after, blocks_in, take_one_more, after_taken, IsKept, kept_all, carries_own}
 use Rattle.std.proofs.lemmas.List.{take-append-le, drop-append-le}
 use Rattle.fio_message.specs.declared.commands.Command.TheVariants as commands
 use Rattle.fio_link.specs.declared.event.Event.TheVariants as events
 use Rattle.fio_link.proofs.Events.{IsKeptByEvents}
 use Rattle.fio_link.proofs.OneLifeRows.{kept_in_life}
-use Rattle.fio_ends.specs.ContentPremises.{NoLoadTakesEffect, WaitBriefly, blocks_taken}
+use Rattle.fio_ends.specs.ContentPremises.{blocks_taken}
 use Rattle.fio_ends.proofs.ContentSteps.{IsKnown, Takes}
-use Rattle.fio_ends.proofs.Steady.{loaded_after, no_load_on}
 
 -- the first blocks of a life stay the first
 pub blocks_stay : (settings : Settings) (life : Life) (command : Option Command) (round : ℕ) → round ≤ length (blocks_of settings life)
@@ -22,15 +21,6 @@ blocks_stay settings life (Some (commands.Poll number)) round few = if-new (is_n
     if-new false = refl
 blocks_stay settings life (Some other) round few = refl
 
--- entries that wait briefly in blocks do so in the first of them, and in the last
-pub brief_front : (front more : List MadeBlock) → AllByRecursion WaitBriefly (front ++ more) → AllByRecursion WaitBriefly front
-brief_front [] more all = tt
-brief_front (block ∷ front) more all = (all.0, brief_front front more all.1)
-
-pub brief_last : (blocks : List MadeBlock) (block : MadeBlock) → AllByRecursion WaitBriefly (blocks ++ block ∷ []) → WaitBriefly block
-brief_last [] block all = all.0
-brief_last (first ∷ blocks) block all = brief_last blocks block all.1
-
 -- all blocks that the CPU has taken
 abbrev all_taken : Settings → Machine → List MadeBlock
 all_taken settings machine = take machine.round (blocks_in settings machine)
@@ -39,23 +29,15 @@ abbrev Adds : Settings → Machine → Machine → Type 0
 Adds settings machine later = (more : List MadeBlock) × (all_taken settings later ≡ all_taken settings machine ++ more)
 
 module _ (settings : Settings) (first : ℕ) (begin : Machine) (B : List MadeBlock → Type 0) where
-  -- this is asked of the blocks taken in a log, and of loads
-  pub record Asks (loaded : Bool) (machine : Machine) (later : List Event) : Type 0 where
+  -- this is asked of the blocks taken in a log
+  pub record Asks (machine : Machine) (later : List Event) : Type 0 where
     pub last : Machine
     pub leads : Leads settings first machine later last
     pub none : HaveNoRestart later
     pub asked : B (blocks_taken settings begin last)
-    pub no_load : loaded ≡ false → NoLoadTakesEffect settings first machine later
 
-  pub asks_on : (loaded : Bool) (machine : Machine) (event : Event) (rest : List Event) → Asks loaded machine (event ∷ rest)
-      → Asks (loaded_after loaded machine event) (after settings first machine event) rest
-  asks_on loaded machine event rest a = record {
-    last = a.last;
-    leads = a.leads.1;
-    none = a.none.1;
-    asked = a.asked;
-    no_load = no_load_on settings first loaded machine event rest a.no_load;
-  }
+  pub asks_on : (machine : Machine) (event : Event) (rest : List Event) → Asks machine (event ∷ rest) → Asks (after settings first machine event) rest
+  asks_on machine event rest a = record { last = a.last; leads = a.leads.1; none = a.none.1; asked = a.asked }
 
 module _ (settings : Settings) (range : AreInRange settings) (first : ℕ) where
   adds_rows : (begin : Machine) → IsKeptByEvents settings first (IsKept settings first) (Adds settings begin)
@@ -105,10 +87,10 @@ module _ (settings : Settings) (range : AreInRange settings) (first : ℕ) where
 
     -- so it is asked of those taken so far, and of the block that is taken
     pub asked_of : ((front more : List MadeBlock) → B (front ++ more) → B front)
-        → (loaded : Bool) (from : Life) (machine : Machine) (place number : ℕ) (answer : Block) (block : MadeBlock) (rest : List Event)
+        → (from : Life) (machine : Machine) (place number : ℕ) (answer : Block) (block : MadeBlock) (rest : List Event)
         → IsKnown settings first begin from machine → Takes settings first from machine place number answer block
-        → Asks settings first begin B loaded machine (events.ToCpu (place + 1) ∷ rest) → B (blocks_taken settings begin machine ++ block ∷ [])
-    asked_of fronts loaded from machine place number answer block rest known t a =
+        → Asks settings first begin B machine (events.ToCpu (place + 1) ∷ rest) → B (blocks_taken settings begin machine ++ block ∷ [])
+    asked_of fronts from machine place number answer block rest known t a =
         let event = events.ToCpu (place + 1) in
         let next = after_taken machine place answer in
         let blocks = blocks_in settings machine in

@@ -1,15 +1,14 @@
 -- What is known of the changes of an input that are still to be recorded, as a module's life goes on.
-use Rattle.fio_ends.proofs.Names.{◌≡◌, ◌≢◌, ◌∙◌, ◌+◌, ◌-◌, ◌<◌, ◌≤◌, ◌&&◌, ◌||◌, ◌⊎◌, inl, inr, ℕ, zero, suc, Bool, true, false, not, List, [], ◌∷◌, ◌++◌, length, take, drop, Option, Some, None, refl, ap, sym, subst, arith, if◌then◌else◌, ◌==◌, slice_get, AllByRecursion, take-append-drop, nat_lt, nat_tests, Life, Occurrence, Scanned, LineSynced, Raised, Commanded, Command, filter_events, life_after_command, Transition, log_of, InputItem, ArrayVec, all_present, input_setting, length-append, same_Some}
+use Rattle.fio_ends.proofs.Names.{◌≡◌, ◌≢◌, ◌∙◌, ◌+◌, ◌-◌, ◌<◌, ◌≤◌, ◌||◌, ◌⊎◌, inl, inr, ℕ, zero, suc, Bool, true, false, not, List, [], ◌∷◌, ◌++◌, length, take, drop, Option, Some, None, refl, ap, sym, subst, arith, if◌then◌else◌, slice_get, AllByRecursion, take-append-drop, nat_lt, nat_tests, Life, Occurrence, Scanned, LineSynced, Raised, Commanded, Command, filter_events, life_after_command, Transition, log_of, InputItem, ArrayVec, all_present, input_setting, length-append, same_Some}
 use Rattle.std.proofs.lemmas.List.{drop-append-le, drop-drop}
 use Rattle.std.proofs.Math.ListN.{drop_of_length-le}
-use Rattle.std.specs.Option.{option_or}
 use Rattle.fio_message.specs.declared.commands.Command.TheVariants as commands
 use Rattle.fio_input.specs.FilterHistory.{applied_items, input_state, last_item_of, setting_by}
 use Rattle.fio_input.specs.FilterRule.{Setting}
 use Rattle.fio_input.proofs.History.{state-configure}
 use Rattle.fio_module.specs.Log.{transitions_below}
 use Rattle.fio_module.proofs.ListParts.{each-append, each-drop}
-use Rattle.fio_check.specs.ContentSaid.{ignores, items_for}
+use Rattle.fio_check.specs.ContentSaid.{ignores, item_for}
 use Rattle.fio_module.proofs.NewLevels.{later_log}
 use Rattle.fio_module.proofs.ScanTransitions.{logged}
 use Rattle.fio_ends.proofs.Following.{IsNoCommand}
@@ -67,7 +66,7 @@ none_hidden-scan life raw upto input within low (inr watched) = inr (watched.0, 
 
 -- this command does not ignore an input
 abbrev pub KeepsOpen : ℕ → Option Command → Type 0
-KeepsOpen input command = (items : ArrayVec InputItem) → command ≡ Some (commands.ConfigureInputs items) → ignores (items_for input items.items) ≡ false
+KeepsOpen input command = (items : ArrayVec InputItem) → command ≡ Some (commands.ConfigureInputs items) → ignores (item_for input items.items) ≡ false
 
 pub or_left : (a b : Bool) → (a || b) ≡ false → a ≡ false
 or_left true b is = absurd (cc is)
@@ -77,43 +76,21 @@ pub or_right : (a b : Bool) → (a || b) ≡ false → b ≡ false
 or_right true b is = absurd (cc is)
 or_right false b is = is
 
--- the last item that names an input is this one, or one after it
-pub last_or : (found : Option InputItem) (item last : InputItem) (named : Bool) → option_or found (if named then Some item else None) ≡ Some last
-    → (found ≡ Some last) ⊎ ((named ≡ true) × (item ≡ last))
-last_or (Some other) item last named is = inl is
-last_or None item last true is = inr (refl, same_Some _ _ is)
-last_or None item last false is = absurd (cc is)
+-- the last item of an input is the one that the module applies
+pub item_is : (input : ℕ) → input < 64 → (items : List InputItem) → item_for input items ≡ last_item_of input items
+item_is input low items = let there : nat_lt input 64 ≡ true = grind (arith, nat_tests) in ap (λ b. if b then last_item_of input items else None) there
 
--- the last item that names an input is one of those of the input
+-- an item that is applied, or none, and the setting that it leaves
 module _ (input : ℕ) (low : input < 64) where
-  by_item : (item : InputItem) (items : List InputItem) (named : Bool) → (item.input == input) ≡ named
-      → ignores (if named && nat_lt input 64 then item ∷ items_for input items else items_for input items) ≡ false
-      → (ignores (items_for input items) ≡ false) × (named ≡ true → item.ignore ≡ false)
-  by_item item items true named none =
-      let there : nat_lt input 64 ≡ true = grind (arith, nat_tests) in
-      let both : (item.ignore || ignores (items_for input items)) ≡ false =
-      ap (λ b. ignores (if b then item ∷ items_for input items else items_for input items)) (sym there) ∙ none in
-      (or_right item.ignore (ignores (items_for input items)) both, λ is. or_left item.ignore (ignores (items_for input items)) both)
-  by_item item items false named none = (none, λ is. absurd (cc is))
-
-  last_keeps_open : (items : List InputItem) (last : InputItem) → last_item_of input items ≡ Some last → ignores (items_for input items) ≡ false → last.ignore ≡ false
-  last_keeps_open [] last is none = absurd (cc is)
-  last_keeps_open (item ∷ items) last is none =
-      let kept = by_item item items (item.input == input) refl none in
-      elim (last_or (last_item_of input items) item last (item.input == input) is) as (λ _. last.ignore ≡ false) [
-        | inl later ↦ last_keeps_open items last later kept.0
-        | inr here ↦ ap (λ (i : InputItem). i.ignore) (sym here.1) ∙ kept.1 here.0
-      ]
-
   -- so an item that is applied does not ignore it, or its setting stays
-  setting_kept : (applied : Bool) (items : List InputItem) (found : Option InputItem) (setting : Setting) → ignores (items_for input items) ≡ false
+  setting_kept : (applied : Bool) (items : List InputItem) (found : Option InputItem) (setting : Setting) → ignores (item_for input items) ≡ false
       → last_item_of input (if applied then items else []) ≡ found
       → ((setting_by found setting).ignore ≡ false) ⊎ (setting_by found setting ≡ setting)
   setting_kept applied items None setting none is = inr refl
-  setting_kept true items (Some item) setting none is = inl (last_keeps_open items item is none)
+  setting_kept true items (Some item) setting none is = inl (ap ignores (sym (item_is input low items ∙ is)) ∙ none)
   setting_kept false items (Some item) setting none is = absurd (cc is)
 
-  none_hidden-opened : (life : Life) (upto : ℕ) (items : ArrayVec InputItem) → ignores (items_for input items.items) ≡ false
+  none_hidden-opened : (life : Life) (upto : ℕ) (items : ArrayVec InputItem) → ignores (item_for input items.items) ≡ false
       → NoneHidden life upto input → NoneHidden (Commanded (commands.ConfigureInputs items) ∷ life) upto input
   none_hidden-opened life upto items none hidden =
       let state = state-configure input items.items (filter_events life) in
@@ -146,7 +123,7 @@ module _ (input : ℕ) (low : input < 64) where
             },
           )
 
-  watched-opened : (life : Life) (upto : ℕ) (level : Bool) (items : ArrayVec InputItem) → ignores (items_for input items.items) ≡ false
+  watched-opened : (life : Life) (upto : ℕ) (level : Bool) (items : ArrayVec InputItem) → ignores (item_for input items.items) ≡ false
       → IsWatched life upto input level → IsWatched (Commanded (commands.ConfigureInputs items) ∷ life) upto input level
   watched-opened life upto level items none w =
       record {

@@ -157,8 +157,7 @@ pub record AreRun (settings : Settings) (first : ℕ) (events : List Event) (las
   pub sound : IsSoundRun settings first events machine
   pub items : last.items ≡ map flat_record_item machine.items
 
--- Any calls, from the start of a module and of a poller on, are a run, where as many entries may wait as the
--- promises of the link need.
+-- Any calls, from the start of a module and of a poller on, are a run, whatever the limits of the module.
 abbrev pub CallsAreRuns : Type 0
 CallsAreRuns =
     (id first : ℕ) (limits : Limits) (device : SizedModule) (ring : List (List ℕ)) (calls : List Call)

@@ -1,41 +1,41 @@
--- What is asked of a log, so that a rule on content that reads times accuses no right link.
+-- What is asked of a log, so that the rules on content that read times accuse no right link.
 use Rattle.std.specs.Prelude.{◌≡◌, ℕ, ◌+◌, ◌^◌, ◌<◌, ◌==◌, Bool, ◌≤◌, ◌&&◌, ◌||◌, true, false, List, [], ◌∷◌, Option, Some, None, drop, is_some, length, nat_lt, not, option_and_then, slice_get, take, if◌then◌else◌}
-use Rattle.std.specs.List.{AllByRecursion, flat_map, list_any}
+use Rattle.std.specs.List.{flat_map, list_any}
 use Rattle.fio_message.specs.declared.commands.Command.TheVariants.{LoadCounter}
 use Rattle.fio_message.specs.Decoding.{answer_in, block_in}
-use Rattle.fio_input.specs.Counter.{asked_number}
 use Rattle.fio_module.specs.Settings.{Settings}
-use Rattle.fio_module.specs.Life.{counter_events, life_of, scans_of}
+use Rattle.fio_module.specs.Life.{life_of, loads_of, scans_of}
 use Rattle.fio_module.specs.Log.{Transition}
 use Rattle.fio_module.specs.Blocks.{MadeBlock}
 use Rattle.fio_check.specs.ContentSaid.{stamp_of, states_heard}
 use Rattle.fio_check.specs.ContentEvents.{Heard}
 use Rattle.fio_link.specs.Claims.{blocks_in}
 use Rattle.fio_link.specs.declared.event.Event.{Event}
-use Rattle.fio_link.specs.declared.event.Event.TheVariants.{LineSync, Send, ToCpu, ToModule}
+use Rattle.fio_link.specs.declared.event.Event.TheVariants.{Send, ToCpu, ToModule}
 use Rattle.fio_link.specs.Link.{Machine, after, item_numbered}
 
--- No load that was sent before these events takes effect in them: until they send one, none is asked for at a line sync.
-abbrev pub NoLoadTakesEffect : Settings → ℕ → Machine → List Event → Type 0
-NoLoadTakesEffect settings first machine [] = Unit {0}
-NoLoadTakesEffect settings first machine (Send (LoadCounter load) ∷ events) = Unit {0}
-NoLoadTakesEffect settings first machine (LineSync ∷ events) =
-    (asked_number (counter_events (life_of machine.history)) ≡ None)
-    × NoLoadTakesEffect settings first (after settings first machine LineSync) events
-NoLoadTakesEffect settings first machine (event ∷ events) =
-    NoLoadTakesEffect settings first (after settings first machine event) events
+-- how many loads of the counter an event sends
+abbrev pub loads_sent : Event → ℕ
+loads_sent (Send (LoadCounter load)) = 1
+loads_sent event = 0
 
--- no load that was sent before a log takes effect in it: none was sent before one that begins with both ends
-abbrev pub NoEarlierLoad : Bool → Settings → ℕ → Machine → List Event → Type 0
-NoEarlierLoad begun settings first machine events = begun ≡ false → NoLoadTakesEffect settings first machine events
+-- at each of these events no more loads of the counter have taken effect since the module started than so many, and those that
+-- are sent among the events above it
+abbrev pub LoadsAreSent : Settings → ℕ → ℕ → Machine → List Event → Type 0
+LoadsAreSent settings first most machine [] = Unit {0}
+LoadsAreSent settings first most machine (event ∷ events) =
+    (loads_of (life_of machine.history) ≤ most)
+    × LoadsAreSent settings first (most + loads_sent event) (after settings first machine event) events
+
+-- No more loads of the counter take effect in a log than are sent in it. One that was sent before takes no effect in it; or one
+-- that is sent in it takes none. In a log that begins with both ends it is so.
+abbrev pub NoMoreLoads : Bool → Settings → ℕ → Machine → List Event → Type 0
+NoMoreLoads begun settings first machine events =
+    begun ≡ false → LoadsAreSent settings first (loads_of (life_of machine.history)) machine events
 
 -- the blocks that the CPU takes from one machine of a run on to another
 abbrev pub blocks_taken : Settings → Machine → Machine → List MadeBlock
 blocks_taken settings begin last = drop begin.round (take last.round (blocks_in settings last))
-
--- fewer than 65,536 scans lie between each entry of a block and the making of the block
-abbrev pub WaitBriefly : MadeBlock → Type 0
-WaitBriefly block = AllByRecursion (λ transition. block.scans < transition.scans + 2 ^ 16) block.transitions
 
 -- fewer than 2^31 scans lie between these, if there are any, and those
 abbrev pub IsNear : Option ℕ → ℕ → Type 0
@@ -46,33 +46,15 @@ IsNear (Some before) scans = scans < before + 2 ^ 31
 abbrev pub scans_above : Bool → Option ℕ
 scans_above begun = if begun then Some 0 else None
 
--- the scans of the last of these entries, or what is before them
-abbrev pub scans_of_last : Option ℕ → List Transition → Option ℕ
-scans_of_last before [] = before
-scans_of_last before (transition ∷ transitions) = scans_of_last (Some transition.scans) transitions
-
--- the scans of the entry or of the block without C that is the latest below a block
+-- the scans of the latest block without C below a block
 abbrev pub scans_below : Option ℕ → MadeBlock → Option ℕ
-scans_below before block =
-    if block.more then scans_of_last before block.transitions else Some block.scans
+scans_below before block = if block.more then before else Some block.scans
 
--- each entry is near the one before it, and the first near what is before it
-abbrev pub EntriesAreNear : Option ℕ → List Transition → Type 0
-EntriesAreNear before [] = Unit {0}
-EntriesAreNear before (transition ∷ transitions) =
-    IsNear before transition.scans × EntriesAreNear (Some transition.scans) transitions
-
--- each entry of these blocks is near the latest entry or block without C before it
+-- each of these blocks is made near the latest block without C before it
 abbrev pub BlocksAreNear : Option ℕ → List MadeBlock → Type 0
 BlocksAreNear before [] = Unit {0}
 BlocksAreNear before (block ∷ blocks) =
-    EntriesAreNear before block.transitions × BlocksAreNear (scans_below before block) blocks
-
--- what the rules `order` and `fresh` ask of a log
-pub record HasNearEntries (begun : Bool) (settings : Settings) (first : ℕ) (begin : Machine) (later : List Event) (last : Machine) : Type 0 where
-  pub no_load : NoEarlierLoad begun settings first begin later
-  pub brief : AllByRecursion WaitBriefly (blocks_taken settings begin last)
-  pub near : BlocksAreNear (scans_above begun) (blocks_taken settings begin last)
+    IsNear before block.scans × BlocksAreNear (scans_below before block) blocks
 
 -- ---- successive stamps
 
@@ -99,11 +81,6 @@ StampsAreNear settings first machine asked before (event ∷ events) =
     × StampsAreNear settings first (after settings first machine event) (scans_asked machine asked event)
     (scans_stamped machine asked before event) events
 
--- what the rule `clock` asks of a log
-pub record HasNearStamps (begun : Bool) (settings : Settings) (first : ℕ) (begin : Machine) (later : List Event) (last : Machine) : Type 0 where
-  pub no_load : NoEarlierLoad begun settings first begin later
-  pub near : StampsAreNear settings first begin 0 (scans_above begun) later
-
 -- ---- successive entries of an input
 
 -- fewer than 2^32 scans lie between these, if there are any, and those
@@ -122,12 +99,6 @@ InputsAreNear latest [] = Unit {0}
 InputsAreNear latest (transition ∷ transitions) =
     IsWithinAge (latest transition.input) transition.scans
     × InputsAreNear (latest_with latest transition) transitions
-
--- what the rule `apart` asks of a log
-pub record HasNearInputs (begun : Bool) (settings : Settings) (first : ℕ) (begin : Machine) (later : List Event) (last : Machine) : Type 0 where
-  pub no_load : NoEarlierLoad begun settings first begin later
-  pub brief : AllByRecursion WaitBriefly (blocks_taken settings begin last)
-  pub near : InputsAreNear (λ input. None) (flat_map (λ block. block.transitions) (blocks_taken settings begin last))
 
 -- ---- the states that were asked for
 
@@ -187,15 +158,13 @@ StatesAreNear settings first machine asked seen (event ∷ events) =
     × StatesAreNear settings first (after settings first machine event) (scans_asked machine asked event)
     (scans_seen settings machine asked seen event) events
 
--- what the rule `state` asks of a log
-pub record HasNearStates (begun : Bool) (settings : Settings) (first : ℕ) (begin : Machine) (later : List Event) (last : Machine) : Type 0 where
-  pub no_load : NoEarlierLoad begun settings first begin later
-  pub brief : AllByRecursion WaitBriefly (blocks_taken settings begin last)
-  pub near : StatesAreNear settings first begin 0 None later
+-- ---- a log
 
--- what all rules ask of a log
+-- What the rules on time ask of a log: no more loads of the counter take effect in it than are sent in it, and what is compared
+-- is near.
 pub record HasNearTimes (begun : Bool) (settings : Settings) (first : ℕ) (begin : Machine) (later : List Event) (last : Machine) : Type 0 where
-  pub entries : HasNearEntries begun settings first begin later last
-  pub stamps : HasNearStamps begun settings first begin later last
-  pub inputs : HasNearInputs begun settings first begin later last
-  pub states : HasNearStates begun settings first begin later last
+  pub loads : NoMoreLoads begun settings first begin later
+  pub blocks : BlocksAreNear (scans_above begun) (blocks_taken settings begin last)
+  pub stamps : StampsAreNear settings first begin 0 (scans_above begun) later
+  pub inputs : InputsAreNear (λ input. None) (flat_map (λ block. block.transitions) (blocks_taken settings begin last))
+  pub states : StatesAreNear settings first begin 0 None later

@@ -1,10 +1,10 @@
 -- Prompt runs: no frame is delivered twice, and an answer reaches the CPU directly after its command or never.
-use Rattle.std.specs.Prelude.{◌≡◌, ℕ, ◌+◌, ◌<◌, ◌≤◌, ◌==◌, List, [], ◌∷◌, ◌++◌, length, None, if◌then◌else◌}
+use Rattle.std.specs.Prelude.{◌≡◌, ℕ, ◌+◌, ◌<◌, ◌≤◌, ◌==◌, Bool, true, false, List, [], ◌∷◌, ◌++◌, length, None, if◌then◌else◌}
 use Rattle.std.specs.List.{AllByRecursion}
 use Rattle.fio_message.specs.Commands.{IsCommand}
 use Rattle.fio_module.specs.Settings.{Settings, AreInRange}
-use Rattle.fio_check.specs.Checkers.{found_at}
-use Rattle.fio_check.specs.Lines.{TranscriptLine}
+use Rattle.fio_check.specs.Checkers.{checker_anywhere, found_at, found_from}
+use Rattle.fio_check.specs.Lines.{TranscriptLine, from_first_command}
 use Rattle.fio_check.specs.Rules.{standard_limits}
 use Rattle.fio_check.specs.Verdicts.{verdict_on}
 use Rattle.fio_check.specs.declared.limits.Limits.{Limits}
@@ -79,18 +79,40 @@ NeverAccuses IsRight =
 
 -- ---- a log that begins later
 
--- the first event is a command of the CPU's end
-abbrev pub BeginsWithCommand : List Event → Type 0
-BeginsWithCommand (Poll ∷ events) = Unit {0}
-BeginsWithCommand (Send command ∷ events) = Unit {0}
-BeginsWithCommand events = ⊥
+-- the CPU's end sends a command
+abbrev pub is_command : Event → Bool
+is_command Poll = true
+is_command (Send command) = true
+is_command other = false
+
+-- these events from the first command on
+abbrev pub events_from_command : List Event → List Event
+events_from_command [] = []
+events_from_command (event ∷ events) = if is_command event then event ∷ events else events_from_command events
+
+-- the machine at which that command is sent
+abbrev pub machine_at_command : Settings → ℕ → Machine → List Event → Machine
+machine_at_command settings first machine [] = machine
+machine_at_command settings first machine (event ∷ events) = if is_command event
+    then machine
+    else machine_at_command settings first (after settings first machine event) events
+
+-- a checker that was started for a log that begins anywhere finds nothing in these lines, with such limits
+abbrev pub HasNoBreachAnywhere : Settings → List TranscriptLine → Type 0
+HasNoBreachAnywhere settings lines =
+    (limits : Limits) → SuitModule settings limits →
+    (place : ℕ) → place < length lines → found_from (checker_anywhere limits) lines place ≡ None
+
+-- this holds of the lines from the first command on
+abbrev pub FromCommand : (Settings → List TranscriptLine → Type 0) → Settings → List TranscriptLine → Type 0
+FromCommand IsRight settings lines = IsRight settings (from_first_command lines)
 
 -- Nor is there a false accusation in a log that begins later: so it is with what the CPU's end logs of a prompt run from any
--- command on.
+-- event on.
 abbrev pub NeverAccusesLater : (Settings → List TranscriptLine → Type 0) → Type 0
 NeverAccusesLater IsRight =
     (settings : Settings) (first : ℕ) (before later : List Event) (machine last : Machine) →
     AreInRange settings → IsPromptRun settings first (before ++ later) last →
-    Leads settings first start before machine → BeginsWithCommand later →
+    Leads settings first start before machine →
     (lines : List TranscriptLine) → HaveFrames lines (frames_from settings first machine later) →
     IsRight settings lines

@@ -1,10 +1,14 @@
 //! Laws of the definitions: each function states one in its contract, and does nothing.
 ghost use Rattle.fio_check.specs.declared.content_rules.ContentRule.TheVariants.{Accepted, Alternate, Apart, Cleared, Clock, Done, Fresh, Ignored, Order, State, Watchdog};
 ghost use Rattle.fio_ends.specs.Calls.{CallsAreRuns};
-ghost use Rattle.fio_ends.specs.ContentPremises.{HasNearEntries, HasNearInputs, HasNearStamps, HasNearStates, HasNearTimes};
+ghost use Rattle.fio_ends.specs.ContentPremises.{HasNearTimes};
 ghost use Rattle.fio_ends.specs.ContentRuns.{AccusesNone, Always, ContentNeverAccuses};
+ghost use Rattle.fio_ends.specs.LineRuns.{EachFrameMayCome, EachStruckFrameMayCome, HeadlineOverLines, LinesAreRuns, LinesBringRecords};
+ghost use Rattle.fio_ends.specs.Lines.{AtCpu, AtModule};
+ghost use Rattle.fio_ends.specs.Explainable.{AccusedAreNotExplainable};
+ghost use Rattle.fio_ends.specs.PollLogs.{AreOfBothKinds, LogsOfPollsAreDecided, WholeLogsOfPollsAreDecided};
 ghost use Rattle.fio_ends.specs.Pollers.{GoodIsOfPoller};
-ghost use Rattle.fio_ends.specs.PromptRuns.{HasNoBreach, IsGood, NeverAccuses, NeverAccusesLater};
+ghost use Rattle.fio_ends.specs.PromptRuns.{FromCommand, HasNoBreach, HasNoBreachAnywhere, IsGood, NeverAccuses, NeverAccusesLater};
 ghost use Rattle.fio_ends.specs.RunRecords.{KeepsRecord};
 
 /// A good transcript is that of a right CPU's end: a poller that starts with the first poll's number has
@@ -21,11 +25,14 @@ pub fn prompt_runs_are_good()
     ensures standard { NeverAccuses IsGood }
 {}
 
-/// No false accusation in a log that begins later: so it is with what the CPU's end logs from any command of a prompt run on.
-#[tactic(auto, using(crate::proofs::PromptRuns::never_accuses_later, crate::proofs::PromptRuns::is_good_later))]
+/// No false accusation in a log that begins later: so it is with what the CPU's end logs from any event of a prompt run on. A
+/// checker that is started for such logs finds nothing, nor does one that starts at the first command; with the limits of TEES
+/// 2009, or if more may wait, the transcript from that command on is good.
+#[tactic(auto, using(crate::proofs::LaterLogs::never_accuses_anywhere, crate::proofs::LaterLogs::never_accuses_later, crate::proofs::LaterLogs::is_good_later))]
 pub fn later_logs_are_good()
-    ensures any { NeverAccusesLater HasNoBreach }
-    ensures standard { NeverAccusesLater IsGood }
+    ensures anywhere { NeverAccusesLater HasNoBreachAnywhere }
+    ensures any { NeverAccusesLater (FromCommand HasNoBreach) }
+    ensures standard { NeverAccusesLater (FromCommand IsGood) }
 {}
 
 /// The record of a prompt run's transcript is that of the run's CPU, item by item: a poller that starts with
@@ -35,7 +42,7 @@ pub fn prompt_runs_are_recorded()
     ensures { KeepsRecord }
 {}
 
-/// The rule `done` never accuses: what the CPU's end logs of a prompt run, from the start of both ends or from any command on,
+/// The rule `done` never accuses: what the CPU's end logs of a prompt run, from the start of both ends or from any event on,
 /// keeps it.
 #[tactic(auto, using(crate::proofs::AnswersKept::done_never_accuses))]
 pub fn done_never_accuses()
@@ -60,25 +67,25 @@ pub fn watchdog_never_accuses()
     ensures { ContentNeverAccuses Watchdog Always }
 {}
 
-/// The rule `clock` never accuses of a log in which no load that was sent before takes effect, and fewer than 2^31 scans lie
-/// between successive stamps, and before the first one of a log that begins with both ends.
-#[tactic(auto, using(crate::proofs::ClockKept::clock_never_accuses))]
+/// The rule `clock` never accuses of a log with near times: no more loads of the counter take effect in it than are sent in it;
+/// and fewer than 2^31 scans lie between successive stamps; between a block without C and each block up to the next one without
+/// C; between the states that were asked for and each entry and block below them, till the record comes to them; and fewer than
+/// 2^32 between successive entries of an input. The start of both ends, if the log begins there, counts as such a block.
+#[tactic(auto, using(crate::proofs::TimesKept::clock_never_accuses))]
 pub fn clock_never_accuses()
-    ensures { ContentNeverAccuses Clock HasNearStamps }
+    ensures { ContentNeverAccuses Clock HasNearTimes }
 {}
 
-/// The rule `order` never accuses of a log in which no load that was sent before takes effect, an entry waits for fewer than
-/// 65,536 scans, and it comes fewer than 2^31 scans after the latest entry or block without C above it, or after the start of
-/// both ends, if the log begins there.
-#[tactic(auto, using(crate::proofs::FloorsKept::order_never_accuses))]
+/// The rule `order` never accuses, of the same logs.
+#[tactic(auto, using(crate::proofs::TimesKept::order_never_accuses))]
 pub fn order_never_accuses()
-    ensures { ContentNeverAccuses Order HasNearEntries }
+    ensures { ContentNeverAccuses Order HasNearTimes }
 {}
 
 /// The rule `fresh` never accuses, of the same logs.
-#[tactic(auto, using(crate::proofs::FloorsKept::fresh_never_accuses))]
+#[tactic(auto, using(crate::proofs::TimesKept::fresh_never_accuses))]
 pub fn fresh_never_accuses()
-    ensures { ContentNeverAccuses Fresh HasNearEntries }
+    ensures { ContentNeverAccuses Fresh HasNearTimes }
 {}
 
 /// The rule `alternate` never accuses, of any log, whatever its times.
@@ -93,25 +100,51 @@ pub fn ignored_never_accuses()
     ensures { ContentNeverAccuses Ignored Always }
 {}
 
-/// The rule `apart` never accuses of a log in which no load that was sent before takes effect, an entry waits for fewer than
-/// 65,536 scans, and it comes fewer than 2^32 scans after the latest one of its input.
-#[tactic(auto, using(crate::proofs::ApartKept::apart_never_accuses))]
+/// The rule `apart` never accuses, of logs with near times.
+#[tactic(auto, using(crate::proofs::TimesKept::apart_never_accuses))]
 pub fn apart_never_accuses()
-    ensures { ContentNeverAccuses Apart HasNearInputs }
+    ensures { ContentNeverAccuses Apart HasNearTimes }
 {}
 
-/// The rule `state` never accuses of a log in which no load that was sent before takes effect, an entry waits for fewer than
-/// 65,536 scans, and fewer than 2^31 scans lie between the states that were asked for and each entry and block that is recorded
-/// below them, till the record comes to them.
-#[tactic(auto, using(crate::proofs::StateKept::state_never_accuses))]
+/// Nor does the rule `state`, of the same logs.
+#[tactic(auto, using(crate::proofs::TimesKept::state_never_accuses))]
 pub fn state_never_accuses()
-    ensures { ContentNeverAccuses State HasNearStates }
+    ensures { ContentNeverAccuses State HasNearTimes }
 {}
 
-/// So a checker of content accuses no right link, from the start of both ends or from any command on, if all this holds.
+/// So a checker of content accuses no right link, from the start of both ends or from any event on, if all this holds. Of a
+/// log that begins later it is asked from the first command on.
 #[tactic(auto, using(crate::proofs::FaultsOfLogs::accuses_none))]
 pub fn content_accuses_no_right_link()
     ensures { AccusesNone HasNearTimes }
+{}
+
+/// Each log that the checker of content accuses is one that no right link explains, whatever its samples, losses and earlier
+/// configurations.
+#[tactic(auto, using(crate::proofs::ExplainableLogs::accused_not_explainable))]
+pub fn accused_logs_are_not_explainable()
+    ensures { AccusedAreNotExplainable }
+{}
+
+/// Of logs of polls exactly those are accused that no right link explains. In such a log only polls and requests for the states
+/// are answered, and no load and no configuration is sent. Each block is without C and F, and made fewer than 65,536 scans
+/// after the one before. One request at most is answered between two blocks, later than the first was made, and a block comes
+/// below it. The log begins with a clear block, whatever came before.
+#[tactic(auto, using(crate::proofs::PollLogs::logs_of_polls_are_decided))]
+pub fn logs_of_polls_are_decided()
+    ensures { LogsOfPollsAreDecided }
+{}
+
+/// There are such logs of both kinds: one that a right link explains, and one that none explains.
+#[tactic(auto, using(crate::proofs::PollExamples::of_both_kinds))]
+pub fn logs_of_polls_are_of_both_kinds()
+    ensures { AreOfBothKinds }
+{}
+
+/// So it is with such logs that begin with both ends, if no request is answered.
+#[tactic(auto, using(crate::proofs::WholePollLogs::whole_logs_of_polls_are_decided))]
+pub fn whole_logs_of_polls_are_decided()
+    ensures { WholeLogsOfPollsAreDecided }
 {}
 
 /// Any calls of the exports of one module, whatever its limits, with its ring, and of one poller, with
@@ -121,4 +154,40 @@ pub fn content_accuses_no_right_link()
 #[tactic(auto, using(crate::proofs::Calls::calls_are_runs))]
 pub fn calls_are_runs()
     ensures { CallsAreRuns }
+{}
+
+/// What both ends do over two lines of octets is a run of the link, whatever a line brings between two flags: a frame whole and
+/// in order, a frame that is struck in a way that the frame check finds, or noise; also where octets are lost, frames do not
+/// come, and the module restarts. So what holds of each run holds over lines.
+#[tactic(auto, using(crate::proofs::LineRuns::lines_are_runs))]
+pub fn lines_are_runs()
+    ensures { LinesAreRuns }
+{}
+
+/// The headline holds over lines: without restarts the CPU's record is the module's transition log from its start through the
+/// last block taken, each entry once and in order, and entries are missing only at gap marks.
+#[tactic(auto, using(crate::proofs::LineRuns::headline_over_lines))]
+pub fn headline_holds_over_lines()
+    ensures { HeadlineOverLines }
+{}
+
+/// The premise shuts out no frame: directly after a flag a line may bring each frame that was written to it whole, if none
+/// after it came before.
+#[tactic(auto, using(crate::proofs::LinePremises::frames_to_module, crate::proofs::LinePremises::frames_to_cpu))]
+pub fn lines_may_bring_each_frame()
+    ensures to_module { EachFrameMayCome (λ ends. ends.to_module) AtModule }
+    ensures to_cpu { EachFrameMayCome (λ ends. ends.to_cpu) AtCpu }
+{}
+
+/// Directly after a flag a line may bring any frame that was struck.
+#[tactic(auto, using(crate::proofs::LinePremises::struck_to_module, crate::proofs::LinePremises::struck_to_cpu))]
+pub fn lines_may_bring_struck_frames()
+    ensures to_module { EachStruckFrameMayCome (λ ends. ends.to_module) AtModule }
+    ensures to_cpu { EachStruckFrameMayCome (λ ends. ends.to_cpu) AtCpu }
+{}
+
+/// The premises can be met: there are lines over which the CPU's record gains something.
+#[tactic(auto, using(crate::proofs::LineExamples::lines_bring_records))]
+pub fn lines_bring_records()
+    ensures { LinesBringRecords }
 {}

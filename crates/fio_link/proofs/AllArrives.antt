@@ -62,14 +62,17 @@ module _ (settings : Settings) (range : AreInRange settings) (first : ℕ) (mach
           whole = whole settings range first machine opened filter scans most f.some IsFew older ends keeps (behinds scans pauses) receipts receipt last later r near f.few_open;
           times = times settings range first machine opened filter scans most f.some IsFew older ends keeps (behinds scans pauses) receipts receipt last later r near f.few_open;
           through = through settings range first machine opened filter scans most f.some IsFew older ends keeps (behinds scans pauses) receipts receipt last later r near f.few_open;
-          at = λ between now t. record {
-            late = late settings range first machine opened filter scans most f.some IsFew older ends keeps (behinds scans pauses) receipts receipt last later r near f.few_open between now t;
-            exactly = exactly settings range first machine opened filter scans most f.some IsFew older ends keeps (behinds scans pauses) receipts receipt last later r near f.few_open between now t
-                (kept_up later f.few_open (r.near near)) p.some_wait;
-            levels = levels settings range first machine opened filter scans most f.some IsFew older ends keeps (behinds scans pauses) receipts receipt last later r near f.few_open between now t;
-            keeps_up = λ stretch few is stay. kept_up (stretch ++ later) stay
-                (near_now settings range first machine opened filter scans most f.some IsFew older ends keeps (behinds scans pauses) receipts receipt last later r near f.few_open between now t stretch few is);
-          };
+          at = λ between now t.
+              let x = exactly settings range first machine opened filter scans most f.some IsFew older ends keeps (behinds scans pauses) receipts receipt last later r near f.few_open between now t
+              (kept_up later f.few_open (r.near near)) p.some_wait in
+              record {
+                late = late settings range first machine opened filter scans most f.some IsFew older ends keeps (behinds scans pauses) receipts receipt last later r near f.few_open between now t;
+                exactly = x.0;
+                levels_exactly = x.1;
+                levels = levels settings range first machine opened filter scans most f.some IsFew older ends keeps (behinds scans pauses) receipts receipt last later r near f.few_open between now t;
+                keeps_up = λ stretch few is stay. kept_up (stretch ++ later) stay
+                    (near_now settings range first machine opened filter scans most f.some IsFew older ends keeps (behinds scans pauses) receipts receipt last later r near f.few_open between now t stretch few is);
+              };
         }
 
   pub all_arrives_where_kept_up_with : AllArrivesWhereKeptUpWith settings first machine

@@ -1,10 +1,10 @@
 -- Links that are kept up with for each input deliver all.
 use Rattle.fio_link.proofs.Names.{◌≡◌, ℕ, ◌+◌, ◌-◌, ◌*◌, ◌≤◌, List, [], ◌∷◌, ◌++◌, length, drop, ap, sym, subst, ◌∙◌, arith, inl, inr, append_assoc, cases_lt, mul-le-mul_left, append_cancel_right, Settings, AreInRange, Life, life_of, filter_events, log_of, newest_end, waiting_of, nothing_left, AtEachTime, scans_behind, holds_now, Machine, Pause, left_behind}
 use Rattle.fio_module.specs.KeepingUp.{KeepsUp}
-use Rattle.fio_module.specs.FiltersThatDiffer.{KeepsUpForEach}
-use Rattle.fio_input.specs.FiltersThatDiffer.{Plan, IsAsPlanned, StaysAsPlanned}
+use Rattle.fio_input.specs.FiltersThatDiffer.{Plan, IsAsPlanned, StaysAsPlanned, most_reports}
+use Rattle.fio_input.proofs.FiltersThatDiffer.{most_reports-more}
 use Rattle.fio_module.proofs.Pace.{each_before}
-use Rattle.fio_module.proofs.KeptUpForEach.{kept_up_for_each}
+use Rattle.fio_module.proofs.KeptUpForEach.{KeepsUpForEach, kept_up_for_each}
 use Rattle.fio_link.specs.KeptUp.{receipts_of}
 use Rattle.fio_link.specs.ForEach.{IsPolledInTimeForEach, ArrivesForEach, AllArrivesForEach}
 use Rattle.fio_link.proofs.MadeBlocks.{each-map}
@@ -14,9 +14,9 @@ use Rattle.fio_link.proofs.KeptUp.{Reached, reached}
 use Rattle.fio_link.proofs.KeptUpArrives.{whole, times, late, levels, near_now}
 
 -- what waits for each input, as if each scan reported a block of changes
-as_one : (settings : Settings) (scans : ℕ) (life later : Life) → scans_behind scans later life ≤ 2 * scans
-    → KeepsUpForEach settings scans life later → KeepsUp settings settings.per_block 1 scans life later
-as_one settings scans life later near k =
+as_one : (settings : Settings) (plan : Plan) (scans : ℕ) (life later : Life) → scans_behind scans later life ≤ 2 * scans
+    → KeepsUpForEach settings plan scans life later → KeepsUp settings settings.per_block 1 scans life later
+as_one settings plan scans life later near k =
     let behind = scans_behind scans later life in
     let turned : settings.per_block * (behind + (1 - 1)) ≡ behind * settings.per_block = grind arith in
     record {
@@ -48,25 +48,22 @@ module _ (settings : Settings) (range : AreInRange settings) (first : ℕ) (mach
   abbrev IsNear : Life → Type 0
   IsNear l = AtEachTime (λ l. scans_behind scans l life ≤ most) l
 
-  some_wait : 1 ≤ settings.waiting
-  some_wait = omega (arith, p.room, range.some_per_block)
-
   nearer : (l : Life) → IsNear l → AtEachTime (λ l. scans_behind scans l life ≤ 2 * scans) l
   nearer [] near = omega (arith, p.few_untaken)
   nearer (occurrence ∷ l) near = (let here = near.0 in omega (arith, p.few_untaken), nearer l near.1)
 
-  for_each : (l : Life) → IsFew l → IsNear l → AtEachTime (KeepsUpForEach settings scans life) l
+  for_each : (l : Life) → IsFew l → IsNear l → AtEachTime (KeepsUpForEach settings plan scans life) l
   for_each l stay near =
-      kept_up_for_each settings plan scans 2 life l some_wait (record {
+      kept_up_for_each settings plan scans most life l p.some_wait (record {
         few_change = record { nothing_waits = p.few_change.nothing_waits; as_planned = stay; enough = p.few_change.enough };
-        behind = nearer l near;
+        behind = near;
         room = p.room;
       })
 
-  each_as_one : (l : Life) → AtEachTime (λ l. scans_behind scans l life ≤ 2 * scans) l → AtEachTime (KeepsUpForEach settings scans life) l
+  each_as_one : (l : Life) → AtEachTime (λ l. scans_behind scans l life ≤ 2 * scans) l → AtEachTime (KeepsUpForEach settings plan scans life) l
       → AtEachTime (KeepsUp settings settings.per_block 1 scans life) l
-  each_as_one [] near each = as_one settings scans life [] near each
-  each_as_one (occurrence ∷ l) near each = (as_one settings scans life (occurrence ∷ l) near.0 each.0, each_as_one l near.1 each.1)
+  each_as_one [] near each = as_one settings plan scans life [] near each
+  each_as_one (occurrence ∷ l) near each = (as_one settings plan scans life (occurrence ∷ l) near.0 each.0, each_as_one l near.1 each.1)
 
   keeps : (l : Life) → IsFew l → IsNear l → AtEachTime (KeepsUp settings settings.per_block 1 scans life) l
   keeps l stay near = each_as_one l (nearer l near) (for_each l stay near)
@@ -75,7 +72,7 @@ module _ (settings : Settings) (range : AreInRange settings) (first : ℕ) (mach
   older l before stay = each_before (IsAsPlanned plan) l before life stay
 
   ends : newest_end settings life ≡ length (log_of life)
-  ends = nothing_left settings some_wait life (ap length p.few_change.nothing_waits)
+  ends = nothing_left settings p.some_wait life (ap length p.few_change.nothing_waits)
 
   some : 1 ≤ 1
   some = omega arith
@@ -114,12 +111,14 @@ module _ (settings : Settings) (range : AreInRange settings) (first : ℕ) (mach
           levels = λ input level before samples after is new long.
               levels settings range first machine settings.per_block 1 scans most some IsFew older ends keeps behinds receipts receipt last later r near stay scans now t
               input level before samples after is new (omega arith);
-          few_wait = λ stretch blocks few is stay_on.
+          few_wait = λ stretch is stay_on.
               let near_then = near_now settings range first machine settings.per_block 1 scans most some IsFew older ends keeps behinds receipts receipt last later r near stay scans now t stretch (omega arith) is in
               let here = holds_now (λ l. scans_behind scans l life ≤ most) (stretch ++ later) near_then in
-              let k = holds_now (KeepsUpForEach settings scans life) (stretch ++ later) (for_each (stretch ++ later) stay_on near_then) in
+              let k = holds_now (KeepsUpForEach settings plan scans life) (stretch ++ later) (for_each (stretch ++ later) stay_on near_then) in
               let same : life_of now.history ≡ (stretch ++ later) ++ life = is ∙ sym (append_assoc stretch later life) in
-              subst (λ l. length (waiting_of settings l) ≤ blocks * settings.per_block) (sym same) (k.few_wait blocks (omega arith));
+              let reported : length (waiting_of settings ((stretch ++ later) ++ life)) ≤ most_reports plan (scans_behind scans (stretch ++ later) life) = k.few_reported in
+              let more : most_reports plan (scans_behind scans (stretch ++ later) life) ≤ most_reports plan most = most_reports-more plan (scans_behind scans (stretch ++ later) life) most here in
+              subst (λ l. length (waiting_of settings l) ≤ most_reports plan most) (sym same) (omega arith);
         };
       }
 

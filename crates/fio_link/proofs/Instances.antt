@@ -1,6 +1,6 @@
 -- A link whose module has restarted and that is kept up with, by computation: 64 open inputs with filters of 5, and two
 -- clean rounds, the first with the answer to a poll whose own was lost.
-use Rattle.fio_link.proofs.Names.{◌≡◌, ℕ, ◌≤◌, List, [], ◌∷◌, ◌++◌, None, length, refl, ap, sym, subst, ◌∙◌, arith, ConfigureInputs, Poll, OpenHaveFiltersOf, NoneIsApplied, Settings, standard_settings, Life, Commanded, life_of, filter_events, waiting_of, opened, none_applied, Event, Machine, start, refusal, after, Leads, IsRun, clean_round, IsWithin, LeadsInTime, next_round, HasTakenAll, transitions_arrived, past_lives, Pause}
+use Rattle.fio_link.proofs.Names.{◌≡◌, ℕ, ◌+◌, ◌≤◌, List, [], ◌∷◌, ◌++◌, None, length, refl, ap, sym, subst, ◌∙◌, arith, ConfigureInputs, Poll, OpenHaveFiltersOf, NoneIsApplied, Settings, standard_settings, Life, Commanded, life_of, filter_events, waiting_of, opened, none_applied, Event, Machine, start, refusal, after, Leads, IsRun, clean_round, IsWithin, LeadsInTime, next_round, HasTakenAll, transitions_arrived, past_lives, Pause}
 use Rattle.fio_message.specs.Bits.{is_set}
 use Rattle.fio_message.specs.Decoding.{message_in}
 use Rattle.fio_input.specs.Delivery.{OpenKeepFiltersOf, sum_below}
@@ -177,6 +177,10 @@ enough2 : most_reports (one_group 64 5) 15 ≤ 255
 unfolding sum_below
 enough2 = omega arith
 
+room2 : most_reports (one_group 64 5) (15 + 15) ≤ 1024
+unfolding sum_below
+room2 = omega arith
+
 abbrev both_pauses : List Pause
 both_pauses = whole ∷ kept ∷ []
 
@@ -209,7 +213,6 @@ heard_in_time scans = omega (arith, round2.2)
 pub kept_up_after_a_restart : IsKeptUpAfterRestarts (standard_settings 0) 64 5 15 15 1 2 255
 kept_up_after_a_restart =
     record {
-      room = omega arith;
       first = 0;
       events = restarting ++ (dense 5 0 4 ++ settling);
       machine = settled1;
@@ -227,9 +230,10 @@ kept_up_after_a_restart =
         from = from2;
         heard_near = heard_in_time _;
       };
-      in_time = record { inputs = omega arith; few_untaken = omega arith; in_time = in_time2; from = from2; heard_in_time = heard_in_time 15 };
+      in_time = record { some_wait = omega arith; room = omega arith; in_time = in_time2; from = from2; heard_in_time = heard_in_time 15 };
       for_each = record {
-        room = omega arith;
+        some_wait = omega arith;
+        room = room2;
         few_untaken = omega arith;
         in_time = in_time2;
         all_taken = taken1;

@@ -15,7 +15,7 @@ use Rattle.fio_link.proofs.Grown.{grows, scans_grown}
 use Rattle.fio_link.proofs.Settled.{recorded_end}
 use Rattle.fio_link.proofs.Arrivals.{made_since, whole_since, times_since, young_now, waits_from_end}
 use Rattle.fio_link.proofs.AnyTime.{lacks_only_young_since}
-use Rattle.fio_link.proofs.NewLevels.{records_new_levels}
+use Rattle.fio_link.proofs.NewLevels.{records_new_levels, records-later}
 use Rattle.fio_link.proofs.LeftOver.{none_left}
 use Rattle.fio_link.proofs.KeptUp.{Reached}
 
@@ -107,9 +107,22 @@ module _ (settings : Settings) (range : AreInRange settings) (first : ℕ) (base
             subst (λ n. IsLacking n filter) all
             (lacks_only_young_since settings range first filter (behind 0 + r.so_far) left base last now some r.all_taken.answered r.at_end young since_last)
 
-        -- and exactly so late
+        abbrev HasTime : Type 0
+        HasTime = (loads_of (life_of last.history) ≡ loads_of life) × (most + filter ≤ 65537)
+
+        -- new levels are recorded, if what the record lacked is no older than so many scans
+        levels_by : (rest : ℕ) → AllByRecursion (IsYoung rest 1 (life_of last.history)) (drop (end_recorded settings last) (log_of (life_of last.history)))
+            → RecordsNewLevels (left + rest + 1) base now HasTime
+        levels_by rest recent =
+            records-later base now (left + rest + 1) (left + rest + 1) ((loads_of (life_of last.history) ≡ loads_of life) × (most + (filter - 1) + 1 ≤ 65537)) HasTime (omega arith)
+            (λ in_time. (in_time.0, let few = in_time.1 in omega arith))
+            (records_new_levels settings range first 1 (most + (filter - 1)) rest left base last now (omega arith) r.at_end.is_open r.all_taken.answered whole
+            (λ none few. times none (omega arith)) recent since_last)
+
+        -- and exactly so late, and new levels are recorded so early
         pub exactly : IsKeptUp settings opened filter scans most life later → 1 ≤ settings.waiting
-            → LacksOnlyYoungExactly settings opened filter scans (between + behind 0) now
+            → (x : LacksOnlyYoungExactly settings opened filter scans (between + behind 0) now)
+            × RecordsNewLevels (scans * x.blocks + (between + behind 0) + 1 - filter * (settings.per_block * x.blocks / opened)) base now HasTime
         exactly k some_wait =
             let before = life_of last.history in
             let x = holds_now (KeepsUpExactly settings opened filter scans life) later (kept_up_keeps_up_exactly settings opened filter scans most life later range some_wait k) in
@@ -122,19 +135,25 @@ module _ (settings : Settings) (range : AreInRange settings) (first : ℕ) (base
             let low = r.now in
             let whole_time = all in
             let log = drop (end_recorded settings now) (log_of (life_of now.history)) in
-            elim (cases_lt (made_up + (behind 0 + r.so_far)) gone) as (λ _. LacksOnlyYoungExactly settings opened filter scans (between + behind 0) now) [
+            elim (cases_lt (made_up + (behind 0 + r.so_far)) gone) as (λ _.
+            (x : LacksOnlyYoungExactly settings opened filter scans (between + behind 0) now)
+            × RecordsNewLevels (scans * x.blocks + (between + behind 0) + 1 - filter * (settings.per_block * x.blocks / opened)) base now HasTime) [
               | inl more ↦
                   let recent = each-map _ (IsYoung (behind 0 + r.so_far) 1 before) (λ transition is. omega arith) (drop (end_recorded settings last) (log_of before)) there in
                   let old = lacks_only_young_since settings range first 1 (behind 0 + r.so_far) left base last now (omega arith) r.all_taken.answered r.at_end recent since_last in
                   let none_gone : filter * (settings.per_block * 0 / opened) ≡ 0 =
                   ap (λ n. filter * (n / opened)) (mul-zero settings.per_block) ∙ ap (λ n. filter * n) (zero-div opened) ∙ mul-zero filter in
-                  let none_made : scans * 0 ≡ 0 = mul-zero scans in
-                  record { blocks = 0; young = each-map (IsYoung (left + (behind 0 + r.so_far)) 1 (life_of now.history)) _ (λ transition is. omega arith) log old }
+                  let none_made : scans * 0 ≡ 0 = mul-zero scans in (
+                    record { blocks = 0; young = each-map (IsYoung (left + (behind 0 + r.so_far)) 1 (life_of now.history)) _ (λ transition is. omega arith) log old },
+                    records-later base now (left + (behind 0 + r.so_far) + 1) _ HasTime HasTime (omega arith) (λ in_time. in_time) (levels_by (behind 0 + r.so_far) recent),
+                  )
               | inr less ↦
                   let rest = made_up + (behind 0 + r.so_far) - gone in
                   let recent = each-map _ (IsYoung rest 1 before) (λ transition is. omega arith) (drop (end_recorded settings last) (log_of before)) there in
-                  let old = lacks_only_young_since settings range first 1 rest left base last now (omega arith) r.all_taken.answered r.at_end recent since_last in
-                  record { blocks = x.blocks; young = each-map (IsYoung (left + rest) 1 (life_of now.history)) _ (λ transition is. omega arith) log old }
+                  let old = lacks_only_young_since settings range first 1 rest left base last now (omega arith) r.all_taken.answered r.at_end recent since_last in (
+                    record { blocks = x.blocks; young = each-map (IsYoung (left + rest) 1 (life_of now.history)) _ (λ transition is. omega arith) log old },
+                    records-later base now (left + rest + 1) _ HasTime HasTime (omega arith) (λ in_time. in_time) (levels_by rest recent),
+                  )
             ]
 
         -- and new levels are recorded

@@ -30,7 +30,6 @@ pub use Rattle.fio_module.proofs.Losses.{holds_now, nothing_is_lost}
 pub use Rattle.fio_module.proofs.NewLevels.{later_log, scans_of-append}
 pub use Rattle.fio_module.proofs.Outages.{ends-grow}
 pub use Rattle.fio_module.proofs.Pace.{nothing_left}
-pub use Rattle.fio_module.proofs.Polling.{has_room}
 pub use Rattle.fio_module.proofs.Stretches.{blocks_new, blocks_old, log-grown, behind_more, behind_each, after_block}
 pub use Rattle.fio_module.specs.Blocks.{MadeBlock, blocks_of, last_end, newest_end, newest_poll, is_new, next_block, end_of_blocks, waiting_of, waiting_from, count_from, start_after}
 pub use Rattle.fio_module.specs.Delivery.{AtEachTime, FewBeyond, NeverTooMany}
@@ -40,7 +39,7 @@ pub use Rattle.fio_module.specs.Life.{Received, Restart, History, Life, life_of,
 pub use Rattle.fio_module.specs.Log.{Transition, log_of, whole_log, entry_of, transition_at}
 pub use Rattle.fio_module.specs.Replies.{answer_if}
 pub use Rattle.fio_module.specs.Sendings.{Sending, answer_of_sending, latest_sending, is_out_of_sequence, first_sending, repeat_of}
-pub use Rattle.fio_module.specs.Settings.{Settings, AreInRange, HasRoom, standard_settings}
+pub use Rattle.fio_module.specs.Settings.{Settings, AreInRange, standard_settings}
 pub use Rattle.fio_cpu.specs.Record.{item_of, items_of_block}
 pub use Rattle.fio_cpu.specs.declared.record.Item.{Item}
 pub use Rattle.fio_link.specs.Claims.{blocks_in, IsInTime, IsTimed, sources_of}

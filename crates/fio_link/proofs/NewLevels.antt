@@ -18,6 +18,19 @@ get_from_take (suc n) (y ∷ xs) (suc k) x low is = get_from_take n xs k x (omeg
 get_from_map : {A B : Type 0} (f : A → B) (xs : List A) (k : ℕ) (x : A) → slice_get xs k ≡ Some x → slice_get (map f xs) k ≡ Some (f x)
 get_from_map f xs k x is = slice_get-map f xs k ∙ ap (option_map f) is
 
+-- what is recorded so early is recorded no later, and with its time under more premises
+pub records-later : (machine now : Machine) (early late : ℕ) (in_time premises : Type 0) → early ≤ late → (premises → in_time)
+    → RecordsNewLevels early machine now in_time → RecordsNewLevels late machine now premises
+records-later machine now early late in_time premises less enough levels input level before samples after is new long =
+    let r = levels input level before samples after is new (omega arith) in
+    let g = r.gained in
+    record {
+      place = r.place;
+      transition = r.transition;
+      logged = r.logged;
+      gained = record { place = g.place; since = g.since; there = g.there; timed = λ same. g.timed (enough same) };
+    }
+
 -- if the record has gained everything at the end of a clean round, and what it lacked then, some scans before now, was young
 module _ (settings : Settings) (range : AreInRange settings) (first filter most behind between : ℕ) (machine last now : Machine) (some : 1 ≤ filter)
     (o : IsOpen settings range first last) (all_taken : next_round last.polls ≡ last.round)

@@ -1,9 +1,10 @@
 -- How long pauses may be, and what is in time.
-use Rattle.fio_link.proofs.Names.{◌≡◌, ℕ, zero, suc, ◌+◌, ◌-◌, ◌*◌, ◌≤◌, List, [], ◌∷◌, ◌++◌, length, drop, refl, arith, mul-le-mul_left, Settings, AreInRange, Life, life_of, scans_of, has_room, Machine, after, clean_round, LeadsOn, Pause, left_behind, BeginNear}
+use Rattle.fio_link.proofs.Names.{◌≡◌, ℕ, zero, suc, ◌+◌, ◌-◌, ◌*◌, ◌≤◌, List, [], ◌∷◌, ◌++◌, length, drop, refl, arith, mul-le-mul_left, Settings, Life, life_of, scans_of, Machine, after, clean_round, LeadsOn, Pause, left_behind, BeginNear}
 use Rattle.fio_link.specs.declared.event.Event.TheVariants as events
 use Rattle.fio_link.specs.KeptUp.{AreInTime, RoundIsInTime, RoundWithNothingBetweenIsAfter, Arrives, AllArrivesWhereKeptUpWith, AllArrivesInTime, OutagesArePossible, RoundsCatchUp, StandardLimitsHaveRoom}
 use Rattle.fio_link.proofs.MadeBlocks.{each-map}
 use Rattle.fio_link.proofs.Grown.{grows, scans_grown, leads_on-then}
+use Rattle.fio_link.proofs.NewLevels.{records-later}
 
 -- after pauses in time the blocks are no further behind than a lost answer can keep them
 pub left_in_time : (scans untaken : ℕ) (pauses : List Pause) → AreInTime scans untaken pauses → left_behind scans pauses ≤ untaken
@@ -79,23 +80,21 @@ arrives-later settings first opened filter scans most behind more machine receip
           record {
             late = each-map _ _ (λ transition is. omega arith) _ l.late;
             exactly = record { blocks = l.exactly.blocks; young = each-map _ _ (λ transition is. omega arith) _ l.exactly.young };
-            levels = λ input level before samples after is new long. l.levels input level before samples after is new (omega arith);
+            levels = records-later machine now (between + behind 0 + filter) (between + more 0 + filter) _ _ (omega arith) (λ in_time. in_time) l.levels;
+            levels_exactly = records-later machine now _ _ _ _ (omega arith) (λ in_time. in_time) l.levels_exactly;
             keeps_up = λ stretch few. l.keeps_up stretch (omega arith);
           };
     }
 
 -- if a link is polled in time
-pub all_arrives_in_time : (settings : Settings) → AreInRange settings → (first : ℕ) (machine : Machine)
+pub all_arrives_in_time : (settings : Settings) (first : ℕ) (machine : Machine)
     → AllArrivesWhereKeptUpWith settings first machine → AllArrivesInTime settings first machine
-all_arrives_in_time settings range first machine arrive wide opened filter scans untaken pauses receipt last later p =
-    let f = p.from.few_change in
+all_arrives_in_time settings first machine arrive opened filter scans untaken pauses receipt last later p =
     let low : (n : ℕ) → left_behind scans (drop n pauses) ≤ untaken = λ n. left_in_time scans untaken (drop n pauses) (in_time-drop scans untaken n pauses p.in_time) in
-    let two = has_room settings range wide filter scans 2 opened f.some (omega arith) p.inputs f.enough in
-    let twice : opened * (scans + untaken + (filter - 1)) ≤ opened * (2 * scans + (filter - 1)) = mul-le-mul_left opened (omega (arith, p.few_untaken)) in
     arrives-later settings first opened filter scans (scans + untaken) (λ n. left_behind scans (drop n pauses)) (λ n. untaken) machine _ receipt last later low
     (arrive opened filter scans (scans + untaken) pauses receipt last later (record {
-      some_wait = omega (arith, wide);
-      room = omega arith;
+      some_wait = p.some_wait;
+      room = p.room;
       near = begin_in_time scans untaken (scans + untaken) (omega arith) pauses p.in_time;
       from = p.from;
       heard_near = let left = low 0 in omega (arith, p.heard_in_time);

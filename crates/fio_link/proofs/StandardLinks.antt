@@ -1,5 +1,7 @@
 -- The standard link is never late.
-use Rattle.fio_link.proofs.Names.{ℕ, ◌+◌, ◌≤◌, List, ◌∷◌, drop, arith, AreInRange, standard_settings, Life, life_of, filter_events, Event, Machine, LeadsInTime, Pause, left_behind, BeginNear}
+use Rattle.fio_link.proofs.Names.{ℕ, ◌+◌, ◌*◌, ◌≤◌, List, ◌∷◌, drop, arith, mul-le-mul_right, AreInRange, standard_settings, Life, life_of, filter_events, Event, Machine, LeadsInTime, Pause, left_behind, BeginNear}
+use Rattle.std.proofs.Common.{◌/◌}
+use Rattle.std.proofs.Math.Nat.{le-div_iff_mul-le}
 use Rattle.fio_input.proofs.FewStayOpen.{all_may_open}
 use Rattle.fio_link.specs.KeptUp.{scans_of_pause, AreInTime, Arrives, receipts_of}
 use Rattle.fio_link.specs.StandardLinks.{IsStandardLink, StandardLinkIsNeverLater, StandardLinkRecordsNewLevels}
@@ -8,6 +10,7 @@ use Rattle.fio_link.specs.LostRounds.{LoseFewRounds}
 use Rattle.fio_link.proofs.LostRounds.{lost_rounds_are_possible}
 use Rattle.fio_link.proofs.Pauses.{begin_in_time}
 use Rattle.fio_link.proofs.MadeBlocks.{each-map}
+use Rattle.fio_link.proofs.NewLevels.{records-later}
 use Rattle.fio_link.proofs.Promises.{runs_are_sound}
 
 -- the standard settings are in their ranges
@@ -15,20 +18,20 @@ pub standard_in_range : (id : ℕ) → id ≤ 255 → AreInRange (standard_setti
 standard_in_range id fits = record { id_fits = fits; some_per_block = omega arith; few_per_block = omega arith }
 
 -- if the rounds leave the blocks no further behind than there is room for
-module _ (AreSuch : List Pause → Type 0) (most late : ℕ) (few : most ≤ 76) (long : most + 3 ≤ late)
-    (near : (pauses : List Pause) → AreSuch pauses → BeginNear 19 most pauses) where
+module _ (AreSuch : List Pause → Type 0) (scans most : ℕ) (fast : scans ≤ 19) (few : most ≤ 76)
+    (near : (pauses : List Pause) → AreSuch pauses → BeginNear scans most pauses) where
   -- all arrives
   arrives : (id first : ℕ) (events : List Event) (pauses : List Pause) (machine receipt last now : Machine)
       (later : Life) (next : Pause) (l : IsStandardLink id first events machine pauses receipt last later) → AreSuch (next ∷ pauses)
       → LeadsInTime (standard_settings id) first (scans_of_pause next) receipt last now
-      → Arrives (standard_settings id) first 64 5 19 most (λ rounds. left_behind 19 (drop rounds pauses)) machine
+      → Arrives (standard_settings id) first 64 5 scans most (λ rounds. left_behind scans (drop rounds pauses)) machine
       (receipts_of (standard_settings id) first machine pauses receipt last l.rounds) receipt last later
   arrives id first events pauses machine receipt last now later next l such t =
       let settings = standard_settings id in
       let begin = near (next ∷ pauses) such in
       let g = grows settings first last now t.leads_on.events t.leads_on.no_restart t.leads_on.leads in
       let count = scans_grown last now g.stretch g.life in
-      (runs_are_sound settings first events machine (standard_in_range id l.id_fits) l.is_run).delivers.kept_up_with 64 5 19 most pauses receipt last later (record {
+      (runs_are_sound settings first events machine (standard_in_range id l.id_fits) l.is_run).delivers.kept_up_with 64 5 scans most pauses receipt last later (record {
         some_wait = omega arith;
         room = omega arith;
         near = begin.1;
@@ -47,25 +50,42 @@ module _ (AreSuch : List Pause → Type 0) (most late : ℕ) (few : most ≤ 76)
       })
 
   -- so it is never later
-  pub never_later : StandardLinkIsNeverLater AreSuch late
-  never_later id first events pauses machine receipt last now later next l such t =
+  pub never_later : (late : ℕ) → most + 3 ≤ late → StandardLinkIsNeverLater AreSuch late
+  never_later late long id first events pauses machine receipt last now later next l such t =
       let a = arrives id first events pauses machine receipt last now later next l such t in
       let low = (near (next ∷ pauses) such).0 in
       (a.whole, each-map _ _ (λ transition is. omega arith) _ (a.at (scans_of_pause next) now t).late)
 
-  -- and records new levels
-  pub records_levels : StandardLinkRecordsNewLevels AreSuch late
-  records_levels id first events pauses machine receipt last now later next l such t input level before samples after is new old =
+  -- blocks make up for no more scans than their inputs need to report what these take
+  no_more : scans ≤ 15 → (blocks : ℕ) → scans * blocks ≤ 5 * (255 * blocks / 64)
+  no_more slow blocks =
+      let filled : 3 * blocks ≤ 255 * blocks / 64 = (le-div_iff_mul-le {k = 64} {x = 3 * blocks} {y = 255 * blocks} (omega arith)).1 (omega arith) in
+      let made_up : scans * blocks ≤ 15 * blocks = mul-le-mul_right blocks slow in
+      omega arith
+
+  -- so it is never later than the blocks are behind
+  pub never_later_exactly : (late : ℕ) → scans ≤ 15 → most ≤ late + 1 → StandardLinkIsNeverLater AreSuch late
+  never_later_exactly late slow long id first events pauses machine receipt last now later next l such t =
       let a = arrives id first events pauses machine receipt last now later next l such t in
       let low = (near (next ∷ pauses) such).0 in
-      let r = (a.at (scans_of_pause next) now t).levels input level before samples after is new (omega arith) in
-      let g = r.gained in
-      record {
-        place = r.place;
-        transition = r.transition;
-        logged = r.logged;
-        gained = record { place = g.place; since = g.since; there = g.there; timed = λ same. g.timed (same, omega arith) };
-      }
+      let x = (a.at (scans_of_pause next) now t).exactly in
+      let made_up = no_more slow x.blocks in
+      (a.whole, each-map _ _ (λ transition is. omega arith) _ x.young)
+
+  -- and records new levels
+  pub records_levels : (late : ℕ) → most + 3 ≤ late → StandardLinkRecordsNewLevels AreSuch late
+  records_levels late long id first events pauses machine receipt last now later next l such t =
+      let a = arrives id first events pauses machine receipt last now later next l such t in
+      let low = (near (next ∷ pauses) such).0 in
+      records-later machine now _ (late + 2) _ _ (omega arith) (λ same. (same, omega arith)) (a.at (scans_of_pause next) now t).levels
+
+  pub records_levels_exactly : (late : ℕ) → scans ≤ 15 → most ≤ late + 1 → StandardLinkRecordsNewLevels AreSuch late
+  records_levels_exactly late slow long id first events pauses machine receipt last now later next l such t =
+      let a = arrives id first events pauses machine receipt last now later next l such t in
+      let low = (near (next ∷ pauses) such).0 in
+      let i = a.at (scans_of_pause next) now t in
+      let made_up = no_more slow i.exactly.blocks in
+      records-later machine now _ (late + 2) _ _ (omega arith) (λ same. (same, omega arith)) i.levels_exactly
 
 -- in time
 pub near_in_time : (pauses : List Pause) → AreInTime 19 0 pauses → BeginNear 19 19 pauses
@@ -75,5 +95,5 @@ pub near_where_answers_are_lost : (pauses : List Pause) → AreInTime 19 19 paus
 near_where_answers_are_lost = begin_in_time 19 19 38 (omega arith)
 
 -- if at most 5 of each 100 rounds are lost, and rounds begin at most 12 scans apart
-pub near_where_rounds_are_lost : (pauses : List Pause) → LoseFewRounds 12 100 5 pauses → BeginNear 19 72 pauses
-near_where_rounds_are_lost pauses few = lost_rounds_are_possible 19 12 99 5 pauses few (omega arith) (omega arith)
+pub near_where_rounds_are_lost : (pauses : List Pause) → LoseFewRounds 12 100 5 pauses → BeginNear 15 72 pauses
+near_where_rounds_are_lost pauses few = lost_rounds_are_possible 15 12 99 5 pauses few (omega arith) (omega arith)

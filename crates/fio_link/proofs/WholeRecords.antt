@@ -1,5 +1,5 @@
 -- The record is whole if no block says that entries were lost.
-use Rattle.fio_link.proofs.Names.{◌≡◌, ℕ, suc, ◌+◌, ◌-◌, ◌≤◌, false, List, [], ◌∷◌, length, take, drop, map, refl, ap, sym, subst, ◌∙◌, arith, Contains, AllByRecursion, Settings, AreInRange, HasRoom, Life, life_of, entry_of, log_of, MadeBlock, blocks_of, NeverTooMany, nothing_is_lost, Machine, Piece, Gap, EntryPiece, piece_of, ArePieces, end_taken}
+use Rattle.fio_link.proofs.Names.{◌≡◌, ℕ, suc, ◌+◌, ◌-◌, ◌≤◌, false, List, [], ◌∷◌, length, take, drop, map, refl, ap, sym, subst, ◌∙◌, arith, Contains, AllByRecursion, Settings, AreInRange, Life, life_of, entry_of, log_of, MadeBlock, blocks_of, NeverTooMany, nothing_is_lost, Machine, Piece, Gap, EntryPiece, piece_of, ArePieces, end_taken}
 use Rattle.std.proofs.lemmas.Option.{slice_get_read}
 use Rattle.fio_module.specs.Delivery.{NoBlockLost}
 use Rattle.fio_module.proofs.Polling.{polled_often_stays_few}
@@ -67,18 +67,18 @@ whole_unless_full settings machine pieces few =
     ∙ ap (λ n. map EntryPiece (take n (map entry_of (log_of life)))) all
 
 -- if the module is polled often
-pub whole_where_polled_often : (settings : Settings) → AreInRange settings → HasRoom settings → (machine : Machine)
+pub whole_where_polled_often : (settings : Settings) → AreInRange settings → (machine : Machine)
     → RecordIsPieces settings machine → IsWholeWherePolledOften settings machine
-whole_where_polled_often settings range wide machine pieces opened filter scans life later is few often =
+whole_where_polled_often settings range machine pieces opened filter scans life later is few often =
     whole_unless_full settings machine pieces
-    (subst (NeverTooMany settings) (sym is) (polled_often_stays_few settings opened filter scans life later range wide often few))
+    (subst (NeverTooMany settings) (sym is) (polled_often_stays_few settings opened filter scans life later range often few))
 
 -- if it is polled often for each input
-pub whole_where_polled_for_each : (settings : Settings) → AreInRange settings → settings.per_block ≤ settings.waiting → (machine : Machine)
+pub whole_where_polled_for_each : (settings : Settings) (machine : Machine)
     → RecordIsPieces settings machine → IsWholeWherePolledForEach settings machine
-whole_where_polled_for_each settings range wide machine pieces plan scans life later is few often =
+whole_where_polled_for_each settings machine pieces plan scans life later is few often =
     whole_unless_full settings machine pieces
-    (subst (NeverTooMany settings) (sym is) ((polled_for_each_loses_none settings plan scans life later range wide often).stays few))
+    (subst (NeverTooMany settings) (sym is) ((polled_for_each_loses_none settings plan scans life later often).stays few))
 
 -- after an outage
 pub whole_after_outage : (settings : Settings) (machine : Machine)

@@ -124,5 +124,5 @@ module _ (settings : Settings) (range : AreInRange settings) (first : ℕ) (mach
 
   pub gains_all_for_each : (plan : Plan) (scans : ℕ) → GainsAllWhere (IsOftenForEach plan scans) settings first machine
   gains_all_for_each plan scans some s now later t is often =
-      gains_all some s now later t is (each_few settings (life_of machine.history) later
-      (polled_for_each_loses_none settings plan scans (life_of machine.history) later range often.0 often.1).each)
+      gains_all some s now later t is (each_few settings plan scans (life_of machine.history) later
+      (polled_for_each_loses_none settings plan scans (life_of machine.history) later often).each)

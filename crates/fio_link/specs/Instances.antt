@@ -1,7 +1,7 @@
 -- The premises can be met, so the laws say something: there is a link whose module has restarted and that is kept up with.
 use Rattle.std.specs.Prelude.{◌≡◌, ℕ, ◌+◌, List, length}
 use Rattle.fio_input.specs.FiltersThatDiffer.{Plan}
-use Rattle.fio_module.specs.Settings.{Settings, HasRoom}
+use Rattle.fio_module.specs.Settings.{Settings}
 use Rattle.fio_module.specs.Life.{Life}
 use Rattle.fio_link.specs.declared.event.Event.{Event}
 use Rattle.fio_link.specs.Link.{Machine, IsRun}
@@ -18,7 +18,6 @@ one_group opened filter =
 -- After `restarts` restarts of the module, from a settled point on, a link is kept up with for `rounds` rounds, in time, and
 -- in time by a plan of one group; and its record gains `gained` transitions.
 pub record IsKeptUpAfterRestarts (settings : Settings) (opened filter scans untaken restarts rounds gained : ℕ) : Type 0 where
-  pub room : HasRoom settings
   pub first : ℕ
   pub events : List Event
   pub machine : Machine

@@ -3,7 +3,7 @@ use Rattle.std.specs.Prelude.{◌≡◌, ℕ, ◌+◌, ◌-◌, ◌*◌, ◌/◌
 use Rattle.std.specs.List.{AllByRecursion}
 use Rattle.fio_message.specs.declared.limits.TheConstants.{INPUTS}
 use Rattle.fio_input.specs.Delivery.{FewStayOpen}
-use Rattle.fio_module.specs.Settings.{Settings, HasRoom, standard_settings}
+use Rattle.fio_module.specs.Settings.{Settings, standard_settings}
 use Rattle.fio_module.specs.Life.{Life, life_of, scans_of, loads_of, filter_events}
 use Rattle.fio_module.specs.Log.{log_of}
 use Rattle.fio_module.specs.Delivery.{FewChange}
@@ -149,6 +149,11 @@ pub record IsLateBy (settings : Settings) (opened filter scans most behind : ℕ
   pub levels :
       RecordsNewLevels (behind + filter) machine now
       ((loads_of (life_of last.history) ≡ loads_of (life_of machine.history)) × (most + filter ≤ 65537))
+  -- or, with blocks counted whole, at most j s + b - 1 - f (j `per_block` / k), for the same j
+  pub levels_exactly :
+      RecordsNewLevels
+      (scans * exactly.blocks + behind + 1 - filter * (settings.per_block * exactly.blocks / opened)) machine now
+      ((loads_of (life_of last.history) ≡ loads_of (life_of machine.history)) × (most + filter ≤ 65537))
   -- and the module is kept up with, as long as it is no further behind and few inputs stay open
   pub keeps_up :
       (stretch : Life) → behind ≤ most → life_of now.history ≡ stretch ++ (later ++ life_of machine.history)
@@ -182,18 +187,19 @@ AllArrivesWhereKeptUpWith settings first machine =
     machine (receipts_of settings first machine pauses receipt last kept.from.rounds) receipt last later
 
 -- Polled in time: the pauses are of at most as many scans as a round makes up for, at most `untaken` of them after a time
--- whose blocks the CPU had all taken. If no answer is lost, `untaken` is 0.
+-- whose blocks the CPU had all taken; and the buffer has room for what the open inputs can report in `scans` + `untaken`
+-- scans. If no answer is lost, `untaken` is 0.
 pub record IsPolledInTime (settings : Settings) (first opened filter scans untaken : ℕ)
     (machine : Machine) (pauses : List Pause) (receipt last : Machine) (later : Life) : Type 0 where
-  pub inputs : opened ≤ INPUTS
-  pub few_untaken : untaken ≤ scans
+  pub some_wait : 1 ≤ settings.waiting
+  pub room : opened * (scans + untaken + (filter - 1)) ≤ settings.waiting * filter
   pub in_time : AreInTime scans untaken pauses
   pub from : HasRounds settings first opened filter scans machine pauses receipt last later
   pub heard_in_time : IsWithin scans receipt last
 
 -- If a link is polled in time, everything arrives in time.
 abbrev pub AllArrivesInTime : Settings → ℕ → Machine → Type 0
-AllArrivesInTime settings first machine = HasRoom settings →
+AllArrivesInTime settings first machine =
     (opened filter scans untaken : ℕ) (pauses : List Pause) (receipt last : Machine) (later : Life)
     (polled : IsPolledInTime settings first opened filter scans untaken machine pauses receipt last later) →
     Arrives settings first opened filter scans (scans + untaken) (λ rounds. untaken)

@@ -24,7 +24,6 @@ StaysFew settings life later = AtEachTime (λ l. FewBeyond settings (l ++ life))
 abbrev pub IsRoomyOutage : ℕ → ℕ → Settings → Life → Life → Type 0
 IsRoomyOutage opened filter settings life later = IsOutage settings opened filter life later
 
--- polled often by the plan, and a whole block may wait
+-- polled often by the plan
 abbrev pub IsOftenForEach : Plan → ℕ → Settings → Life → Life → Type 0
-IsOftenForEach plan scans settings life later =
-    (settings.per_block ≤ settings.waiting) × IsPolledForEach settings plan scans life later
+IsOftenForEach plan scans settings life later = IsPolledForEach settings plan scans life later

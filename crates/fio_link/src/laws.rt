@@ -155,14 +155,14 @@ pub fn nothing_is_lost()
         GapsNameTimes settings machine) }
 {}
 
-/// Without restarts, if the module is polled often enough from a time on at which nothing waits, the record is the whole
-/// transition log through the last block taken, also if each input counts with the filters of its group. The same holds
-/// after an outage for which the buffer has room.
+/// Without restarts, if the module is polled often enough from a time on at which nothing waits, and the buffer has room for
+/// what comes between two blocks, the record is the whole transition log through the last block taken, also if each input
+/// counts with the filters of its group. The same holds after an outage for which the buffer has room.
 pub fn polled_often_is_whole()
     ensures polled_often { HoldsWithoutRestart (λ settings first machine.
-        HasRoom settings → IsWholeWherePolledOften settings machine) }
+        IsWholeWherePolledOften settings machine) }
     ensures for_each { HoldsWithoutRestart (λ settings first machine.
-        settings.per_block ≤ settings.waiting → IsWholeWherePolledForEach settings machine) }
+        IsWholeWherePolledForEach settings machine) }
     ensures outage { HoldsWithoutRestart (λ settings first machine.
         IsWholeAfterOutage settings machine) }
 {}
@@ -183,8 +183,8 @@ pub fn all_arrives_where_kept_up_with()
     ensures { HoldsWhateverRestarts AllArrivesWhereKeptUpWith }
 {}
 
-/// The same holds with b of n + u if the module receives the poll of a clean round at least every n scans, u of them after a
-/// time whose blocks the CPU had all taken; if no answer is lost, u is 0. At the end of a clean round the record then lacks
+/// The same holds with b and m of n + u if the module receives the poll of a clean round at least every n scans, u of them
+/// after a time whose blocks the CPU had all taken; if no answer is lost, u is 0. At the end of a clean round the record then lacks
 /// no transition that had been logged when the module received the poll two clean rounds earlier, or one round earlier if no
 /// answer is lost.
 pub fn all_arrives_in_time()
@@ -201,8 +201,8 @@ pub fn settled_links_lose_nothing()
 {}
 
 /// The same holds if the open inputs' filters differ, while these stay as planned. If the sum of 1 + (n - 1) / f over the
-/// inputs that may be open is at most `per_block`, none is later than n - 1 scans and no more than a block waits; if answers
-/// are lost, none is later than 2 n - 1 scans and no more than two blocks wait.
+/// inputs that may be open is at most `per_block` and no more than may wait, none is later than n - 1 scans, and no more
+/// wait than this sum; if answers are lost, the same holds with 2 n for n, and the sum for 2 n.
 pub fn all_arrives_for_each()
     ensures { HoldsWhateverRestarts AllArrivesForEach }
 {}
@@ -226,12 +226,12 @@ pub fn lost_rounds()
 /// Under the standard limits, with up to 64 open inputs and filters of at least 5, from a settled point on, after restarts
 /// too, nothing is lost. A transition is in the record at most 22 scans after its own with a clean round at least every 19
 /// scans; at most 41 if answers are lost; at most 79 if rounds each make up for 19 scans and the blocks are never more than
-/// 76 behind; and at most 75 if rounds begin at most 12 scans apart and at most 5 of each 100 successive ones are lost.
+/// 76 behind; and at most 71 if rounds begin at most 12 scans apart and at most 5 of each 100 successive ones are lost.
 pub fn standard_links_are_never_late()
     ensures no_answer_lost { StandardLinkIsNeverLater (AreInTime 19 0) 22 }
     ensures answers_lost { StandardLinkIsNeverLater (AreInTime 19 19) 41 }
     ensures kept_up { StandardLinkIsNeverLater (BeginNear 19 76) 79 }
-    ensures rounds_lost { StandardLinkIsNeverLater (LoseFewRounds 12 100 5) 75 }
+    ensures rounds_lost { StandardLinkIsNeverLater (LoseFewRounds 12 100 5) 71 }
 {}
 
 /// If an input then has a new level for a run of samples as long as its filter f, the change is in the record at most f - 1
@@ -240,7 +240,7 @@ pub fn standard_links_record_new_levels()
     ensures no_answer_lost { StandardLinkRecordsNewLevels (AreInTime 19 0) 22 }
     ensures answers_lost { StandardLinkRecordsNewLevels (AreInTime 19 19) 41 }
     ensures kept_up { StandardLinkRecordsNewLevels (BeginNear 19 76) 79 }
-    ensures rounds_lost { StandardLinkRecordsNewLevels (LoseFewRounds 12 100 5) 75 }
+    ensures rounds_lost { StandardLinkRecordsNewLevels (LoseFewRounds 12 100 5) 71 }
 {}
 
 /// Two of these bounds are reached: there are such links that lack a transition which is 22 scans old, and 41 if answers are
@@ -280,8 +280,8 @@ pub fn runs_lead_to_one_machine()
     ensures { LeadToOneMachine }
 {}
 
-/// The promises are for settings in their ranges, and those on delivery for settings with room. The standard settings, and
-/// those with any limits, are in their ranges and have room.
+/// The promises are for settings in their ranges. The standard settings, and those with any limits, are in their ranges, and
+/// have room for all that the open inputs can report while blocks keep up (law `kept_up` of `fio_module`).
 pub fn settings_are_in_range()
     ensures standard { (id : ℕ) → id ≤ 255 → AreInRange (standard_settings id) }
     ensures limits { (id : ℕ) (limits : Limits) → id ≤ 255

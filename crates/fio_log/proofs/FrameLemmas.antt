@@ -1,12 +1,13 @@
 -- Frames and the places where they are written, put together.
-use Rattle.std.proofs.Common.{◌≡◌, ◌≤◌, ◌<◌, ℕ, zero, suc, ◌+◌, ◌-◌, List, [], ◌∷◌, ◌++◌, length, take, drop, get_or, refl, ap, sym, ◌∙◌, arith, append-nil, append_assoc, length-append}
+use Rattle.std.proofs.Common.{◌≡◌, ◌≤◌, ◌<◌, ℕ, zero, suc, ◌+◌, ◌-◌, List, [], ◌∷◌, ◌++◌, length, take, drop, get_or, refl, ap, sym, ◌∙◌, arith, append-nil, append_assoc, inl, length-append}
 use Rattle.std.specs.List.{All}
 use Rattle.std.proofs.lemmas.List.{drop-append-le, length-drop, length-take-le, take-append-le, take_all, take_more}
 use Rattle.std.proofs.lemmas.List.Elements.{All-append, All-nil}
 use Rattle.std.proofs.Math.Seq.{drop-append-add}
 use Rattle.fio_log.specs.Frames.{AreAt, AreFramesAt, IsWithin, Log, row_place, row_places}
-use Rattle.fio_log.specs.Said.{IsWrittenAt}
-use Rattle.fio_log.specs.declared.joined.Row.{Row}
+use Rattle.fio_log.specs.LineRuns.{IsWrittenAt}
+use Rattle.fio_log.specs.Verdicts.{AreOfLine, ArePast}
+use Rattle.fio_log.specs.declared.judge.joined.Row.{Row}
 use Rattle.fio_log.specs.declared.places.Notation.{Notation}
 use Rattle.fio_log.specs.declared.places.Place.{Place}
 
@@ -134,3 +135,18 @@ row_places-more from line notation rows index blank place above places inside he
     more ∙ append_assoc above (row_places from notation (take index rows)) (place ∷ [])
     ∙ ap (λ ps. above ++ ps) (sym (rw (take_more rows index blank inside) (row_places-append from notation (take index rows) (get_or rows index blank)
     ∙ ap (λ p. row_places from notation (take index rows) ++ p ∷ []) last)))
+
+-- the places of rows are behind each place of the lines above
+pub rows-past : (above : Place) (line : ℕ) (notation : Notation) (rows : List Row) → above.line < line
+    → ArePast above (row_places line notation rows)
+rows-past above line notation [] below = tt
+rows-past above line notation (row ∷ rows) below = (
+  (inl below, omega arith),
+  rows-past (row_place line notation row) (line + 1) notation rows (omega arith),
+)
+
+-- the places of rows are those of their first line
+pub rows-of_line : (line : ℕ) (notation : Notation) (rows : List Row) → AreOfLine line (row_places line notation rows)
+rows-of_line line notation [] = tt
+rows-of_line line notation (row ∷ rows) =
+    (refl, omega arith, rows-past (row_place line notation row) (line + 1) notation rows (omega arith))

@@ -1,10 +1,13 @@
 pub mod Standing
 pub mod WrittenLemmas
 pub mod SayingLemmas
+pub mod SlotLemmas
 pub mod ReadingLemmas
 pub mod OwnTextLemmas
 pub mod RunLemmas
+pub mod WordLemmas
+pub mod LineLemmas
 pub mod FrameLemmas
-pub mod KeptLemmas
+pub mod MessageRunLemmas
 pub mod TellingLemmas
 pub mod OwnVerdictLemmas

@@ -1,12 +1,13 @@
 -- The frame that is read of a line: octets of more than 773 spell no message.
-use Rattle.std.proofs.Common.{◌≡◌, ◌≤◌, ℕ, ◌<◌, Bool, true, false, List, [], ◌∷◌, length, take, Option, Some, None, refl, ap, arith, nat_le, option_map, is_some, if◌then◌else◌}
+use Rattle.std.proofs.Common.{◌≡◌, ◌≤◌, ℕ, ◌<◌, Bool, true, false, List, [], ◌∷◌, length, take, Option, Some, None, inl, inr, refl, ap, sym, ◌∙◌, arith, nat_le, option_map, is_some, if◌then◌else◌}
+use Rattle.std.proofs.lemmas.Bool.Decides.{leb_tells}
 use Rattle.std.proofs.lemmas.Option.{same_Some}
 use Rattle.fio_message.specs.Answers.{answer_length}
 use Rattle.fio_message.specs.Commands.{command_length}
 use Rattle.fio_message.specs.Decoding.{answer_in, command_in, message_in}
 use Rattle.fio_message.specs.Reading.{answer_at, command_at}
 use Rattle.fio_log.specs.OwnTexts.{IsReadFrame, own_frame, spells_from}
-use Rattle.fio_log.specs.Sayings.{is_answer}
+use Rattle.fio_log.specs.Sayings.{is_answer, octets_kept_as, spells}
 use Rattle.fio_log.specs.declared.own_texts.OwnForm.{OwnForm}
 
 pub frame_read : (form : OwnForm) (line room : List ℕ) (from_cpu : Option Bool) (found : Option (List ℕ)) (count : ℕ)
@@ -41,3 +42,18 @@ too_long-spells from_cpu octets long =
       | None ↦ by_test (is_answer octets) _ _ heard sent
       | Some from ↦ by_test from _ _ sent heard
     ]
+
+-- a message is no longer than a frame holds
+pub spelled_short : (octets : List ℕ) → spells octets ≡ true → length octets ≤ 773
+spelled_short octets is = elim (leb_tells (length octets) 773) [
+  | inl within ↦ within.1
+  | inr above ↦
+      let no : false ≡ true = sym (too_long-spells None octets (omega (arith, above.1))) ∙ is in
+      absurd (cc)
+]
+
+-- a message is kept as its octets
+pub kept_as_spelled : (octets : List ℕ) → spells octets ≡ true → octets_kept_as octets ≡ octets
+unfolding message_in
+kept_as_spelled [] is = absurd (cc)
+kept_as_spelled (code ∷ octets) is = refl

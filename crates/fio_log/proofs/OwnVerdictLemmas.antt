@@ -1,4 +1,4 @@
--- What is told of a line by order: octets that spell a message of the end that sent them spell one by their first octet.
+-- The verdict on a line that is read by order: octets that spell a message of the end that sent them spell one by their first octet.
 use Rattle.std.proofs.Common.{◌≡◌, ◌≤◌, ◌<◌, ℕ, ◌+◌, Bool, true, false, List, [], ◌∷◌, length, take, Option, Some, None, refl, ap, sym, ◌∙◌, arith, is_some, nat_le, nat_lt, ◌&&◌, inl, inr, if◌then◌else◌}
 use Rattle.std.proofs.lemmas.Bool.Decides.{leb_tells, nat_tests}
 use Rattle.fio_message.specs.Answers.{answer_length}
@@ -9,7 +9,11 @@ use Rattle.fio_message.specs.declared.limits.TheConstants.{BODY_OCTETS}
 use Rattle.fio_message.proofs.KnownTypes.{answer_codes, command_codes}
 use Rattle.fio_log.specs.OwnTexts.{IsOwnFrame, spells_from}
 use Rattle.fio_log.specs.Sayings.{spells}
+use Rattle.fio_log.specs.OwnVerdicts.{own_form_of}
 use Rattle.fio_log.specs.declared.own_texts.OwnForm.{OwnForm}
+use Rattle.fio_log.specs.declared.own_texts.OwnForm.TheVariants as texts
+use Rattle.fio_log.specs.declared.verdict.Form.{Form}
+use Rattle.fio_log.specs.declared.verdict.Form.TheVariants as forms
 use Rattle.fio_log.proofs.OwnTextLemmas.{too_long-spells}
 
 and_false : {V : Type 0} (short : Bool) (read : V) → (if short && false then Some read else None) ≡ None
@@ -85,3 +89,15 @@ none-left told read within none = elim (leb_tells (told + 1) read) [
   | inl less ↦ absurd (none (omega (arith, less.1)))
   | inr more ↦ omega (arith, more.1, within)
 ]
+
+-- lines are read by order, or by the definition
+pub auto-form : (form : Form) → ((own : OwnForm) → own_form_of form ≡ Some own → ⊥) → form ≡ forms.Auto
+auto-form forms.Auto none = refl
+auto-form forms.Frames none = absurd (none texts.Frames refl)
+auto-form forms.Transcript none = absurd (none texts.Transcript refl)
+
+-- lines that are not read by the definition are read by order
+pub own-form : (form : Form) → ¬ (form ≡ forms.Auto) → (own : OwnForm) × (own_form_of form ≡ Some own)
+own-form forms.Auto other = absurd (other refl)
+own-form forms.Frames other = (texts.Frames, refl)
+own-form forms.Transcript other = (texts.Transcript, refl)

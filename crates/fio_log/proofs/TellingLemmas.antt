@@ -5,7 +5,7 @@ use Rattle.fio_log.specs.Chains.{IsPart, part_of}
 use Rattle.fio_log.specs.Frames.{AreFramesAt, AreJoined, IsWithin, Log, octets_in, row_places}
 use Rattle.fio_log.specs.Telling.{IsReaderOf, Telling, frames_of, places_of}
 use Rattle.fio_log.specs.declared.chains.Part.{Part}
-use Rattle.fio_log.specs.declared.joined.Joined.{Joined}
+use Rattle.fio_log.specs.declared.judge.joined.Joined.{Joined}
 use Rattle.fio_log.specs.declared.places.Place.{Place}
 use Rattle.fio_log.specs.declared.verdict.Form.TheVariants.{Auto}
 

@@ -25,3 +25,8 @@ abbrev pub is_letter : ℕ → Bool
 is_letter character =
     is_between 48 57 character || is_between 65 90 character || is_between 97 122 character || character == 95
     || nat_le 128 character
+
+-- whether a character may be between two words of a run: a blank, a tab, or one of `,-:;`
+abbrev pub is_separator : ℕ → Bool
+is_separator character =
+    character == 32 || character == 9 || character == 44 || character == 45 || character == 58 || character == 59

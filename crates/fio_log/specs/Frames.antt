@@ -1,17 +1,19 @@
 -- Frames of a log, and the places where they are written.
-use Rattle.std.specs.Prelude.{◌≡◌, ℕ, ◌+◌, ◌≤◌, List, [], ◌∷◌, ◌++◌, length, map, slice_range, IfSome}
+use Rattle.std.specs.Prelude.{◌≡◌, ℕ, ◌+◌, ◌≤◌, if◌then◌else◌, List, [], ◌∷◌, ◌++◌, length, map, slice_range}
 use Rattle.std.specs.List.{All}
-use Rattle.fio_log.specs.Said.{IsWrittenAt}
-use Rattle.fio_log.specs.declared.joined.Joined.{Joined}
-use Rattle.fio_log.specs.declared.joined.Row.{Row}
-use Rattle.fio_log.specs.declared.entries.Entries.{Entries}
-use Rattle.fio_log.specs.declared.entries.Entry.{Entry}
+use Rattle.fio_log.specs.Chains.{part_of}
+use Rattle.fio_log.specs.LineRuns.{IsWrittenAt}
+use Rattle.fio_log.specs.Sayings.{octets_kept_as}
+use Rattle.fio_log.specs.declared.judge.joined.Joined.{Joined}
+use Rattle.fio_log.specs.declared.judge.joined.Row.{Row}
+use Rattle.fio_log.specs.declared.judge.entries.Entries.{Entries}
+use Rattle.fio_log.specs.declared.judge.entries.Entry.{Entry}
 use Rattle.fio_log.specs.declared.judge.Judge.{Judge}
-use Rattle.fio_log.specs.declared.kept.Kept.{Kept}
+use Rattle.fio_log.specs.declared.judge.message_run.MessageRun.{MessageRun}
 use Rattle.fio_log.specs.declared.messages.Message.{Message}
 use Rattle.fio_log.specs.declared.places.Notation.{Notation}
 use Rattle.fio_log.specs.declared.places.Place.{Place}
-use Rattle.fio_log.specs.declared.telling.Frames.{Frames}
+use Rattle.fio_log.specs.declared.judge.tell.Frames.{Frames}
 
 -- the lines of a log, by their numbers from 1
 abbrev pub Log : Type 0
@@ -53,41 +55,58 @@ abbrev pub AreJoined : Log → Joined → Type 0
 AreJoined log joined = AreAt log joined.chain.octets.items (row_places joined.from joined.notation joined.rows.items)
 
 -- the place of a run in a line
-abbrev pub line_place : ℕ → Kept → Place
-line_place line kept =
-    record { line = line; start = kept.start; end = kept.end; notation = kept.notation }
+abbrev pub line_place : ℕ → MessageRun → Place
+line_place line run =
+    record { line = line; start = run.start; end = run.end; notation = run.notation }
 
 -- the places of a run: in the first line of its entry or, if that has several, in their rows
-abbrev pub run_places : ℕ → List Row → Kept → List Place
-run_places from [] kept = line_place from kept ∷ []
-run_places from (row ∷ rows) kept = row_places from kept.notation (row ∷ rows)
+abbrev pub run_places : ℕ → List Row → MessageRun → List Place
+run_places from [] run = line_place from run ∷ []
+run_places from (row ∷ rows) run = row_places from run.notation (row ∷ rows)
+
+-- the octets of a message
+abbrev pub octets_in : Message → List ℕ
+octets_in message = octets_kept_as message.kept.items
+
+-- the octets of a run's message
+abbrev pub message_of : MessageRun → List ℕ
+message_of run = octets_in run.message
 
 -- the message of a run is a part of octets
-abbrev pub IsMessageOf : List ℕ → Kept → Type 0
-IsMessageOf octets kept = IfSome kept.message (λ message. IsWithin octets message.octets.items)
+abbrev pub IsMessageOf : List ℕ → MessageRun → Type 0
+IsMessageOf octets run = IsWithin octets (message_of run)
 
 -- the message of a run is written at the places of the run
-abbrev pub IsRunOf : Log → ℕ → List Row → Kept → Type 0
-IsRunOf log from rows kept =
-    IfSome kept.message (λ message. AreFramesAt log (message.octets.items ∷ []) (run_places from rows kept))
+abbrev pub IsRunOf : Log → ℕ → List Row → MessageRun → Type 0
+IsRunOf log from rows run = AreFramesAt log (message_of run ∷ []) (run_places from rows run)
 
 -- the messages of an entry are written where its runs are
 abbrev pub IsEntryOf : Log → Entry → Type 0
-IsEntryOf log entry = All (IsRunOf log entry.from entry.rows.items) entry.kept.items
+IsEntryOf log entry = All (IsRunOf log entry.from entry.rows.items) entry.runs.items
 
 -- the messages of all entries are written where their runs are
 abbrev pub AreEntriesOf : Log → Entries → Type 0
-AreEntriesOf log entries = All (IsEntryOf log) entries.all.items
+AreEntriesOf log entries = All (IsEntryOf log) entries.slots.all.items
 
 -- What a judge keeps of a log is written in the log.
 pub record IsJudgeOf (log : Log) (judge : Judge) : Type 0 where
   pub entries : AreEntriesOf log judge.entries
   pub joined : AreJoined log judge.join.lines
 
--- the octets of a message
-abbrev pub octets_in : Message → List ℕ
-octets_in message = message.octets.items
-
 -- the messages of a verdict that are no chain are written at its places
 abbrev pub AreFramesOf : Log → Frames → Type 0
 AreFramesOf log frames = AreFramesAt log (map octets_in frames.messages.items) frames.places.items
+
+-- the frames of a verdict: those of the chain of the joined lines, or its messages
+abbrev pub frames_told : Joined → Frames → List (List ℕ)
+frames_told joined frames =
+    if frames.are_chain
+    then map (part_of joined.chain.octets.items) joined.chain.parts.items
+    else map octets_in frames.messages.items
+
+-- the places where they are written
+abbrev pub places_told : Joined → Frames → List Place
+places_told joined frames =
+    if frames.are_chain
+    then row_places joined.from joined.notation joined.rows.items
+    else frames.places.items

@@ -5,11 +5,12 @@ pub mod Numbers
 pub mod Literals
 pub mod Written
 pub mod Runs
-pub mod Checks
 pub mod Sayings
-pub mod Said
+pub mod LineRuns
 pub mod Lines
 pub mod Frames
+pub mod Keeping
+pub mod Verdicts
 pub mod Telling
 pub mod Chains
 pub mod OwnTexts

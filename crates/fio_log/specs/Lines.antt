@@ -64,6 +64,10 @@ abbrev pub held_first : ℕ → Held
 held_first octet =
     if octet == 27 then Escape else (if octet == 194 then NoBreak else (if octet == 239 then Mark else Nothing))
 
+-- whether an octet is printable: it adds itself to a line, and neither ends it nor begins what may be taken out
+abbrev pub is_plain : ℕ → Bool
+is_plain octet = is_between 32 126 octet
+
 -- what an octet by itself adds to the line
 abbrev pub own_text : ℕ → List ℕ
 own_text octet = if octet == 0 || octet == 27 || octet == 194 || octet == 239 then [] else octet ∷ []
@@ -74,9 +78,13 @@ pub record Making : Type 0 where
   pub held : Held
   pub ending : Ending
 
+-- a line that has not ended, and of which nothing is held
+abbrev pub open_line : Text → Making
+open_line text = record { text = text; held = Nothing; ending = Open }
+
 -- a line that has not begun
 abbrev pub no_line : Making
-no_line = record { text = no_text; held = Nothing; ending = Open }
+no_line = open_line no_text
 
 -- a line that is whole
 abbrev pub ended : Making → Ending → Making

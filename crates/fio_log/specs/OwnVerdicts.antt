@@ -1,20 +1,21 @@
--- What is told of a line of the texts that the program's own tools read: by what the line is, read by order.
+-- The verdict on a line of the texts that the program's own tools read: by what the line is, read by order.
 use Rattle.std.specs.Prelude.{◌≡◌, ℕ, Bool, true, false, List, [], ◌∷◌, Option, Some, None, map, take}
 use Rattle.fio_log.specs.Frames.{octets_in}
 use Rattle.fio_log.specs.Lines.{Making, Text, is_whole}
 use Rattle.fio_log.specs.OwnTexts.{IsOwnLine}
+use Rattle.fio_log.specs.Verdicts.{AreAgreed}
 use Rattle.fio_log.specs.declared.own_texts.OwnForm.{OwnForm}
 use Rattle.fio_log.specs.declared.own_texts.OwnForm.TheVariants as texts
 use Rattle.fio_log.specs.declared.own_texts.OwnLine.{OwnLine}
 use Rattle.fio_log.specs.declared.own_texts.OwnLine.TheVariants as lines
-use Rattle.fio_log.specs.declared.telling.Frames.{Frames}
-use Rattle.fio_log.specs.declared.telling.Told.{Told}
+use Rattle.fio_log.specs.declared.judge.tell.Frames.{Frames}
 use Rattle.fio_log.specs.declared.verdict.Form.{Form}
 use Rattle.fio_log.specs.declared.verdict.Form.TheVariants as forms
 use Rattle.fio_log.specs.declared.verdict.Kind.{Kind}
 use Rattle.fio_log.specs.declared.verdict.Kind.TheVariants as kinds
 use Rattle.fio_log.specs.declared.verdict.Reason.{Reason}
 use Rattle.fio_log.specs.declared.verdict.Reason.TheVariants as reasons
+use Rattle.fio_log.specs.declared.verdict.Verdict.{Verdict}
 
 -- the text whose lines are read by order
 abbrev pub own_form_of : Form → Option OwnForm
@@ -22,7 +23,7 @@ own_form_of forms.Auto = None
 own_form_of forms.Frames = Some texts.Frames
 own_form_of forms.Transcript = Some texts.Transcript
 
--- What is told of a line, by what it is, whether it is too long, and what room for the longest frame has of it. A skipped
+-- The verdict on a line, by what it is, whether it is too long, and what room for the longest frame has of it. A skipped
 -- line is blank. One that is too long, has no form of its text or spells no message is damaged. A frame is told alone.
 abbrev pub TellsOwn : OwnLine → Bool → List ℕ → Kind → Reason → List (List ℕ) → Type 0
 TellsOwn lines.Skipped is_long room kind reason frames =
@@ -36,15 +37,16 @@ TellsOwn (lines.Faulty count) false room kind reason frames =
 TellsOwn (lines.Frame count) false room kind reason frames =
     (kind ≡ kinds.Frames) × (reason ≡ reasons.None) × (frames ≡ take count room ∷ [])
 
--- What is told of a text is what `read_own_line` says of it as a line.
+-- The verdict on a text is what `read_own_line` says of it as a line.
 pub record IsOwnVerdict (form : OwnForm) (text : Text) (kind : Kind) (reason : Reason) (frames : List (List ℕ)) : Type 0 where
   pub line : OwnLine
   pub room : List ℕ
   pub read : IsOwnLine form text.octets room line
   pub told : TellsOwn line text.is_long room kind reason frames
 
--- The line that is made is whole, and what a reader is to tell of it is its verdict; the frames are no chain.
-pub record IsToldByOrder (form : OwnForm) (making : Making) (told : Told) (frames : Frames) : Type 0 where
+-- The line that is made is whole, and what a reader is to tell of it, by its number, is its verdict; the frames are no chain.
+pub record IsToldByOrder (form : OwnForm) (line : ℕ) (making : Making) (told : Verdict) (frames : Frames) : Type 0 where
   pub whole : is_whole making.ending ≡ true
   pub apart : frames.are_chain ≡ false
+  pub agreed : AreAgreed line told.kind told.reason (map octets_in frames.messages.items) frames.places.items
   pub verdict : IsOwnVerdict form making.text told.kind told.reason (map octets_in frames.messages.items)

@@ -1,6 +1,9 @@
 -- Runs of octets in a line.
-use Rattle.std.specs.Prelude.{◌≡◌, ℕ, ◌+◌, ◌-◌, ◌<◌, ◌≤◌, true, List, length, slice_range, take}
+use Rattle.std.specs.Prelude.{◌≡◌, ℕ, ◌+◌, ◌-◌, ◌%◌, ◌<◌, ◌≤◌, Bool, true, false, List, [], ◌∷◌, length, slice_index, slice_range, take}
+use Rattle.std.specs.List.{All}
+use Rattle.fio_log.specs.Digits.{is_separator}
 use Rattle.fio_log.specs.Readings.{octets_of}
+use Rattle.fio_log.specs.Words.{IsWord, may_begin}
 use Rattle.fio_log.specs.declared.octets.TheConstants.{RUN_OCTETS}
 use Rattle.fio_log.specs.Literals.{character_of, is_empty}
 use Rattle.fio_log.specs.Numbers.{is_break, is_closing, number_of}
@@ -34,6 +37,52 @@ pub record IsSpan (line : List ℕ) (from : ℕ) (run : Run) : Type 0 where
 pub record IsRun (line : List ℕ) (from : ℕ) (kept : List ℕ) (run : Run) : Type 0 where
   pub span : IsSpan line from run
   pub words : AreWords line run.start run.end kept
+
+-- the characters of a line from a place to another are separators
+abbrev pub AreSeparators : List ℕ → ℕ → ℕ → Type 0
+AreSeparators line from to = (place : ℕ) → from ≤ place → place < to → is_separator (slice_index line place) ≡ true
+
+-- Words with a mark are in a line from a place to an end: one after another, with nothing but separators between them.
+abbrev pub AreInRow : List ℕ → List ℕ → List ℕ → ℕ → List Word → ℕ → Type 0
+AreInRow line opening closing from [] to = from ≡ to
+AreInRow line opening closing from (word ∷ words) to =
+    (from ≤ word.place) × AreSeparators line from word.place × IsWord line opening closing word.place word
+    × AreInRow line opening closing word.end words to
+
+-- A word has the digits of octets: an even number or, if words are short, one or two.
+pub record HasDigits (is_short : Bool) (word : Word) : Type 0 where
+  pub whole : is_short ≡ false → (word.stop - word.start) % 2 ≡ 0
+  pub short : is_short ≡ true → word.stop - word.start ≤ 2
+
+-- Words with a mark and the digits of octets are in a line from a place to an end.
+abbrev pub AreOctetWords : List ℕ → List ℕ → List ℕ → Bool → ℕ → ℕ → Type 0
+AreOctetWords line opening closing is_short from to =
+    (words : List Word) × AreInRow line opening closing from words to × All (HasDigits is_short) words
+
+-- A run is whole words with a mark: it begins where a word may begin, and nothing continues its last word.
+pub record IsOfWords (line opening closing : List ℕ) (is_short : Bool) (run : Run) : Type 0 where
+  pub first : may_begin line opening run.start ≡ true
+  pub words : AreOctetWords line opening closing is_short run.start run.end
+
+-- All words with a mark that may begin in a line, from a place to another, have an odd number of digits: none spells octets
+-- of two digits each.
+abbrev pub AreOdd : List ℕ → List ℕ → List ℕ → ℕ → ℕ → Type 0
+AreOdd line opening closing from to =
+    (place : ℕ) → (word : Word) → from ≤ place → place < to → may_begin line opening place ≡ true
+    → IsWord line opening closing place word → (word.stop - word.start) % 2 ≡ 1
+
+-- whether a mark has characters
+abbrev pub is_marked : List ℕ → List ℕ → Bool
+is_marked [] [] = false
+is_marked opening closing = true
+
+-- A word of one digit is in a line at a place, where a word may begin, and has a mark: it is an octet by itself.
+pub record IsSingle (line opening closing : List ℕ) (place : ℕ) : Type 0 where
+  pub word : Word
+  pub here : IsWord line opening closing place word
+  pub first : may_begin line opening place ≡ true
+  pub one : word.stop ≡ word.start + 1
+  pub marked : is_marked opening closing ≡ true
 
 -- A string literal is in a line from a place to an end, and its octets are all the characters between its quotes.
 pub record IsLiteral (line : List ℕ) (place : ℕ) (octets : List ℕ) (end : ℕ) : Type 0 where

@@ -1,14 +1,14 @@
 -- What octets of a log say.
-use Rattle.std.specs.Prelude.{◌≡◌, ℕ, zero, suc, ◌+◌, ◌-◌, ◌*◌, ◌<◌, ◌≤◌, ◌==◌, ◌&&◌, ◌||◌, ◌⊎◌, Bool, true, false, nat_lt, if◌then◌else◌, List, length, Option, Some, None, is_some, slice_index, slice_range, MatchOption}
+use Rattle.std.specs.Prelude.{◌≡◌, ℕ, zero, suc, ◌+◌, ◌-◌, ◌*◌, ◌<◌, ◌≤◌, ◌==◌, ◌&&◌, ◌||◌, ◌⊎◌, Bool, true, false, nat_lt, if◌then◌else◌, List, [], ◌∷◌, length, Option, Some, None, is_some, slice_index, slice_range, MatchOption}
 use Rattle.std.specs.List.{prefix_len}
 use Rattle.fio_message.specs.Octets.{IsFrameLength}
 use Rattle.fio_message.specs.Commands.{command_length}
 use Rattle.fio_message.specs.Answers.{answer_length}
 use Rattle.fio_message.specs.Decoding.{command_in, answer_in}
-use Rattle.fio_message.specs.declared.types.TheConstants.{BLOCK_ANSWER, CONFIGURE_INPUTS}
+use Rattle.fio_message.specs.declared.types.TheConstants.{BLOCK_ANSWER, CONFIGURE_INPUTS, RAW_INPUTS}
 use Rattle.fio_message.specs.declared.faults.DecodeError.{DecodeError}
 use Rattle.fio_message.specs.declared.faults.DecodeError.TheVariants.{WrongLength}
-use Rattle.fio_log.specs.Checks.{frame_check_of}
+use Rattle.fio_wire.specs.Checks.{frame_check_of}
 use Rattle.fio_log.specs.declared.sayings.Saying.{Saying}
 use Rattle.fio_log.specs.declared.sayings.Saying.TheVariants.{NoMessage, Begins, Says}
 use Rattle.fio_log.specs.declared.sayings.TheConstants.{FLAG}
@@ -20,6 +20,11 @@ is_answer octets = nat_lt 127 (slice_index octets 0)
 -- whether octets spell a message: the decoder of its direction takes them
 abbrev pub spells : List ℕ → Bool
 spells octets = if is_answer octets then is_some (answer_in octets) else is_some (command_in octets)
+
+-- the octets of a message by those that are kept of it: none are kept of a command of one octet
+abbrev pub octets_kept_as : List ℕ → List ℕ
+octets_kept_as [] = RAW_INPUTS ∷ []
+octets_kept_as (code ∷ octets) = code ∷ octets
 
 -- how many octets a message has that begins with these, by its type and count
 abbrev pub length_of : List ℕ → Option ℕ
@@ -67,6 +72,17 @@ pub record IsSaid (octets : List ℕ) (from to : ℕ) (is_sure : Bool) : Type 0 
   pub place : MatchOption (framed octets)
       ((from ≡ 0) × (to ≡ length octets) × (is_sure ≡ is_counted octets))
       (λ end. (from ≡ flags_before octets + 2) × (to + 2 ≡ end) × (is_sure ≡ true))
+
+-- a message that octets say is a part of them, which spells it
+abbrev pub SaysPart : List ℕ → Saying → Type 0
+SaysPart octets saying =
+    (from to : ℕ) (is_sure : Bool) → saying ≡ Says from to is_sure
+    → (spells (slice_range octets from to) ≡ true) × (from ≤ to) × (to ≤ length octets)
+
+-- the message that octets say, if they say one
+abbrev pub message_said : List ℕ → Saying → Option (List ℕ)
+message_said octets (Says from to is_sure) = Some (slice_range octets from to)
+message_said octets other = None
 
 -- octets are no frame, and spell no message
 pub record SaysNone (octets : List ℕ) : Type 0 where

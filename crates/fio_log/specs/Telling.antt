@@ -1,21 +1,22 @@
 -- What a reader has read of a log, and of which lines it has returned the verdict.
-use Rattle.std.specs.Prelude.{◌≡◌, ℕ, ◌+◌, ◌≤◌, Bool, true, false, if◌then◌else◌, List, [], length, map}
+use Rattle.std.specs.Prelude.{◌≡◌, ℕ, ◌+◌, ◌≤◌, ◌==◌, ◌&&◌, Bool, true, false, if◌then◌else◌, List, [], length}
 use Rattle.std.specs.List.{All}
-use Rattle.fio_log.specs.Chains.{part_of}
-use Rattle.fio_log.specs.Frames.{AreFramesOf, IsJudgeOf, Log, octets_in, row_places}
+use Rattle.fio_log.specs.Frames.{AreFramesOf, IsJudgeOf, Log, frames_told, places_told}
 use Rattle.fio_log.specs.Lines.{Making, finished, is_whole, lines_after, only, with_making}
-use Rattle.fio_log.specs.Said.{IsSaidIn}
+use Rattle.fio_log.specs.LineRuns.{IsLineRun}
+use Rattle.fio_log.specs.Verdicts.{AreAgreed}
 use Rattle.fio_log.specs.declared.judge.Judge.{Judge}
 use Rattle.fio_log.specs.declared.places.Place.{Place}
-use Rattle.fio_log.specs.declared.said.Said.{Said}
-use Rattle.fio_log.specs.declared.telling.Frames.{Frames}
+use Rattle.fio_log.specs.declared.line_run.LineRun.{LineRun}
+use Rattle.fio_log.specs.declared.judge.tell.Frames.{Frames}
+use Rattle.fio_log.specs.declared.reader.TheConstants.{WAITING_LINES}
 use Rattle.fio_log.specs.declared.verdict.Form.{Form}
 use Rattle.fio_log.specs.declared.verdict.Form.TheVariants.{Auto}
 use Rattle.fio_log.specs.declared.verdict.Verdict.{Verdict}
 
 -- A reader: how it reads, the line that is being made, how many lines are read, how many verdicts are returned, whether the
 -- next one can be returned, and whether the log has ended; the frames of the last verdict, what is kept of the lines above,
--- whether the last line waits to be judged, and its runs.
+-- whether the last line waits to be searched for runs or to be judged, and its runs.
 pub record Telling : Type 0 where
   pub form : Form
   pub making : Making
@@ -25,22 +26,17 @@ pub record Telling : Type 0 where
   pub is_ended : Bool
   pub last : Frames
   pub judge : Judge
+  pub is_unread : Bool
   pub is_held : Bool
-  pub runs : List Said
+  pub runs : List LineRun
 
 -- the frames of the last verdict
 abbrev pub frames_of : Telling → List (List ℕ)
-frames_of telling =
-    if telling.last.are_chain
-    then map (part_of telling.judge.join.lines.chain.octets.items) telling.judge.join.lines.chain.parts.items
-    else map octets_in telling.last.messages.items
+frames_of telling = frames_told telling.judge.join.lines telling.last
 
 -- the places where they are written
 abbrev pub places_of : Telling → List Place
-places_of telling =
-    if telling.last.are_chain
-    then row_places telling.judge.join.lines.from telling.judge.join.lines.notation telling.judge.join.lines.rows.items
-    else telling.last.places.items
+places_of telling = places_told telling.judge.join.lines telling.last
 
 -- If the line that is being made is whole, it is the last line of the log that is read.
 abbrev pub IsLineOf : Log → Telling → Type 0
@@ -50,8 +46,12 @@ IsLineOf log telling = is_whole telling.making.ending ≡ true → telling.makin
 pub record IsReaderOf (log : Log) (telling : Telling) : Type 0 where
   pub line : IsLineOf log telling
   pub judge : IsJudgeOf log telling.judge
-  pub held : telling.is_held ≡ true → All (IsSaidIn (log telling.read)) telling.runs
+  pub held : telling.is_held ≡ true → All (IsLineRun (log telling.read)) telling.runs
   pub frames : telling.form ≡ Auto → AreFramesOf log telling.last
+
+-- whether the log of a reader has ended, and each verdict is returned
+abbrev pub has_told_all : Telling → Bool
+has_told_all telling = telling.is_ended && telling.told == telling.read
 
 -- how many lines are read: one more if the line is whole
 abbrev pub read_after : ℕ → Making → ℕ
@@ -76,12 +76,13 @@ pub record HasTold (before : Telling) (verdict : Verdict) (after : Telling) : Ty
   pub within : after.told ≤ after.read
   pub frames : length (frames_of after) ≡ verdict.frames
   pub places : length (places_of after) ≡ verdict.places
+  pub agreed : AreAgreed verdict.line verdict.kind verdict.reason (frames_of after) (places_of after)
   pub form : after.form ≡ before.form
   pub making : after.making ≡ before.making
   pub read : after.read ≡ before.read
   pub is_ended : after.is_ended ≡ before.is_ended
 
--- A reader has no verdict to return: nothing that its verdicts report has changed.
+-- A reader has no verdict to return: nothing that its verdicts report has changed. No more lines than may wait are without one.
 pub record HasNoMore (before after : Telling) : Type 0 where
   pub told : after.told ≡ before.told
   pub form : after.form ≡ before.form
@@ -89,3 +90,11 @@ pub record HasNoMore (before after : Telling) : Type 0 where
   pub read : after.read ≡ before.read
   pub is_ended : after.is_ended ≡ before.is_ended
   pub is_ready : after.is_ready ≡ false
+  pub waiting : after.read ≤ after.told + WAITING_LINES
+
+-- A verdict that can be returned stays as it was, and so do the frames of the last one: these are all that it rests on.
+pub record KeepsVerdict (before after : Telling) : Type 0 where
+  pub is_ready : after.is_ready ≡ before.is_ready
+  pub told : after.told ≡ before.told
+  pub judge : after.judge ≡ before.judge
+  pub last : after.last ≡ before.last

@@ -211,6 +211,11 @@ fn part_in(octets: &[u8], start: usize, end: usize) -> Option<Part>
     Some(Part { start, end })
 }
 
+/// Returns whether octets begin with a message whose length is known by its type and count.
+pub(crate) fn begins_with_message(octets: &[u8]) -> bool {
+    message_length(octets).is_some()
+}
+
 /// Returns how many octets the message has that octets begin with, if its length is known by its type and count.
 fn message_length(octets: &[u8]) -> Option<usize>
     ensures some { IfSome result (λ count. 0 < count) }

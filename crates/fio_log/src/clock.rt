@@ -18,9 +18,10 @@ pub struct Time {
 
 /// The forms of times: `Y` has four digits, `m` and `s` two, `M`, `D` and `h` one or two, `N` is the name of a month, `_` a
 /// gap, `E` the seconds or milliseconds since 1970, `F` seconds with a fraction.
-static FORMS: [&[u8]; 8] = [
+static FORMS: [&[u8]; 9] = [
     b"Y-M-D_h:m:s",
     b"Y/M/D_h:m:s",
+    b"Y.M.D_h:m:s",
     b"D.M.Y_h:m:s",
     b"M/D/Y_h:m:s",
     b"N_D_h:m:s",
@@ -37,8 +38,9 @@ pub fn time_in(line: &[u8]) -> Option<Time>
     ensures order { IfSome result (λ time. time.start ≤ time.end) }
     ensures within { IfSome result (λ time. time.end ≤ length line.now) }
 {
+    let mut is_free = true;
     for start in 0..line.len().min(TIME_OCTETS) {
-        if may_begin(line, start) {
+        if is_free && may_be_time(line, start) {
             let is_name = line[start].is_ascii_alphabetic();
             for form in &FORMS {
                 if is_name == matches!(*form, [b'N', ..])
@@ -48,19 +50,29 @@ pub fn time_in(line: &[u8]) -> Option<Time>
                 }
             }
         }
+        is_free = may_be_before(line[start]);
     }
     None
 }
 
-/// Returns whether a time may begin at `place`: at a digit or letter that is not after another, nor after `.`, `:`, `-` or `/`.
-fn may_begin(line: &[u8], place: usize) -> bool
+/// Returns whether a time may begin after a character: not after a digit or letter, nor after `.`, `:`, `-` or `/`.
+fn may_be_before(character: u8) -> bool {
+    !is_letter(character) && !matches!(character, b'.' | b':' | b'-' | b'/')
+}
+
+/// Returns whether a time can be at `place`: the first letter of a month, ten or thirteen digits, or digits and a sign of a
+/// form.
+fn may_be_time(line: &[u8], place: usize) -> bool
     requires { place < length line.now }
 {
-    let is_free = match line[..place].last() {
-        Some(before) => !is_letter(*before) && !matches!(*before, b'.' | b':' | b'-' | b'/'),
-        None => true,
-    };
-    is_free && line[place].is_ascii_alphanumeric()
+    if !is_decimal(line[place]) {
+        return matches!(
+            line[place].to_ascii_lowercase(),
+            b'a' | b'd' | b'f' | b'j' | b'm' | b'n' | b'o' | b's'
+        );
+    }
+    let (_number, end) = number_at(line, place, 14);
+    matches!(end - place, 10 | 13) || matches!(character(line, end), b'-' | b'/' | b'.' | b':')
 }
 
 /// Returns the time of the form `form` that begins at `start`.
@@ -78,20 +90,99 @@ fn time_at(line: &[u8], start: usize, form: &[u8]) -> Option<Time>
         second: 0,
         microseconds: 0,
     };
-    let mut end = start;
-    'signs: for sign in form {
-        end = part_end(line, end, *sign, &mut parts)?;
-    }
+    let usual = if matches!(form, [b'Y', b'-', ..]) {
+        usual_end(line, start, &mut parts)
+    } else {
+        None
+    };
+    let end = match usual {
+        Some(end) => end,
+        None => form_end(line, start, form, &mut parts)?,
+    };
     let end = fraction_end(line, end, &mut parts);
     if goes_on(line, end) {
         return None;
     }
-    set_half(line, end, &mut parts);
+    let end = half_end(line, end, &mut parts);
     (parts.hour < 24 && parts.minute < 60 && parts.month < 13).then_some(Time {
         start,
         end,
         microseconds: parts.total(),
     })
+}
+
+/// Sets the parts of a date and time that begin at `start` as in `2026-11-22 07:15:02`, and returns where they end: at once
+/// what the signs of the first form give.
+fn usual_end(line: &[u8], start: usize, parts: &mut Parts) -> Option<usize>
+    requires { start ≤ length line.now }
+    ensures order { IfSome result (λ end. start ≤ end) }
+    ensures within { IfSome result (λ end. end ≤ length line.now) }
+{
+    let [
+        a,
+        b,
+        c,
+        d,
+        b'-',
+        e,
+        f,
+        b'-',
+        g,
+        h,
+        gap,
+        i,
+        j,
+        b':',
+        k,
+        l,
+        b':',
+        m,
+        n,
+        ..
+    ] = *(&line[start..])
+    else {
+        return None;
+    };
+    let (century, year) = (two(a, b)?, two(c, d)?);
+    let (month, day) = (two(e, f)?, two(g, h)?);
+    let (hour, minute, second) = (two(i, j)?, two(k, l)?, two(m, n)?);
+    if !is_gap(gap) {
+        return None;
+    }
+    *parts = Parts {
+        year: 100 * century + year,
+        month,
+        day,
+        hour,
+        minute,
+        second,
+        microseconds: 0,
+    };
+    Some(start + 19)
+}
+
+/// Returns the number that two decimal digits spell.
+fn two(high: u8, low: u8) -> Option<u64>
+    ensures { IfSome result (λ number. number < 100) }
+{
+    if is_decimal(high) && is_decimal(low) {
+        Some(u64::from(high - b'0') * 10 + u64::from(low - b'0'))
+    } else {
+        None
+    }
+}
+
+/// Sets the parts of a time of the form `form` that begins at `start`, and returns where they end.
+fn form_end(line: &[u8], start: usize, form: &[u8], parts: &mut Parts) -> Option<usize>
+    requires { start ≤ length line.now }
+    ensures order { IfSome result (λ end. start ≤ end) }
+    ensures within { IfSome result (λ end. end ≤ length line.now) }
+{
+    let mut end = start;
+    'signs: for sign in form {
+        end = part_end(line, end, *sign, parts)?;
+    }
+    Some(end)
 }
 
 /// Sets the part of a time that begins at `place`, and returns where it ends.
@@ -138,7 +229,7 @@ fn number_at(line: &[u8], place: usize, most: usize) -> (u64, usize)
     let mut number = 0_u64;
     'digits: while end < line.len() && end - place < most && is_decimal(line[end]) {
         let digit = u64::from(line[end].wrapping_sub(b'0'));
-        number = number.saturating_mul(10).saturating_add(digit);
+        number = number.wrapping_mul(10).wrapping_add(digit);
         end += 1;
     }
     (number, end)
@@ -151,12 +242,15 @@ fn gap_end(line: &[u8], place: usize) -> Option<usize>
     ensures within { IfSome result (λ end. end ≤ length line.now) }
 {
     let mut end = place;
-    'signs: while end < line.len()
-        && matches!(line[end], b' ' | b'\t' | b'T' | b'_' | b',' | b';' | b'-')
-    {
+    'signs: while end < line.len() && is_gap(line[end]) {
         end += 1;
     }
     (end > place).then_some(end)
+}
+
+/// Returns whether a character may be between date and time.
+fn is_gap(character: u8) -> bool {
+    matches!(character, b' ' | b'\t' | b'T' | b'_' | b',' | b';' | b'-')
 }
 
 /// Sets the month whose name is at `place`, and returns where the name ends.
@@ -208,38 +302,62 @@ fn fraction_end(line: &[u8], place: usize, parts: &mut Parts) -> usize
     let mut scale = 100_000_u64;
     for character in &line[place + 1..end] {
         let digit = u64::from(character.wrapping_sub(b'0'));
-        microseconds = microseconds.saturating_add(digit.saturating_mul(scale));
+        microseconds = microseconds.wrapping_add(digit.wrapping_mul(scale));
         scale /= 10;
     }
     parts.microseconds = microseconds;
     end
 }
 
-/// Returns whether the characters at `place` continue a word or a number with colons.
+/// Returns whether the characters at `place` continue a word, a number with colons or one with points, or are a unit other
+/// than seconds.
 fn goes_on(line: &[u8], place: usize) -> bool
     requires { place ≤ length line.now }
 {
     match &line[place..] {
         [b'Z', ..] => false,
         [b':', next, ..] => digit(*next).is_some(),
+        [b'.', next, ..] => is_decimal(*next),
+        [b' ', rest @ ..] => is_unit(rest),
         [next, ..] => is_letter(*next),
         [] => false,
     }
 }
 
-/// Sets the hour by the half of a day, `AM` or `PM`, if one is at `place`.
-fn set_half(line: &[u8], place: usize, parts: &mut Parts)
+/// Returns whether a text begins with a unit of times that are shorter than seconds.
+fn is_unit(text: &[u8]) -> bool {
+    match *text {
+        [b'm' | b'u' | b'n', b's'] | [0xc2, 0xb5, b's'] | [0xce, 0xbc, b's'] => true,
+        [b'm' | b'u' | b'n', b's', next, ..]
+        | [0xc2, 0xb5, b's', next, ..]
+        | [0xce, 0xbc, b's', next, ..] => !is_letter(next),
+        _ => false,
+    }
+}
+
+/// Sets the hour by the half of a day, `AM` or `PM`, if one comes after blanks at `place`, and returns where it ends; else
+/// `place`.
+fn half_end(line: &[u8], place: usize, parts: &mut Parts) -> usize
     requires { place ≤ length line.now }
+    ensures order { place ≤ result }
+    ensures within { result ≤ length line.now }
 {
-    let mut place = place;
-    'blanks: while place < line.len() && line[place] == b' ' {
-        place += 1;
+    let mut end = place;
+    'blanks: while end < line.len() && line[end] == b' ' {
+        end += 1;
     }
-    if let [half, b'M' | b'm', ..] = &line[place..] {
-        match *half {
-            b'A' | b'a' => parts.hour %= 12,
-            b'P' | b'p' => parts.hour = parts.hour % 12 + 12,
-            _ => {}
-        }
+    let [half, b'M' | b'm', rest @ ..] = &line[end..] else {
+        return place;
+    };
+    if let [next, ..] = rest
+        && is_letter(*next)
+    {
+        return place;
     }
+    match *half {
+        b'A' | b'a' => parts.hour %= 12,
+        b'P' | b'p' => parts.hour = parts.hour % 12 + 12,
+        _ => return place,
+    }
+    end + 2
 }

@@ -1,6 +1,6 @@
 //! Characters of words, and the octets that hexadecimal digits spell.
 ghost use Rattle.std.specs.Prelude.{◌≡◌, ◌<◌, IfSome};
-ghost use Rattle.fio_log.specs.Digits.{digit_of, is_between, is_letter, octet_of};
+ghost use Rattle.fio_log.specs.Digits.{digit_of, is_between, is_letter, is_separator, octet_of};
 
 /// Returns the value of a hexadecimal digit of either case; `None` for any other character.
 pub fn digit(character: u8) -> Option<u8>
@@ -38,4 +38,11 @@ pub fn is_letter(character: u8) -> bool
     ensures { result ≡ is_letter character }
 {
     matches!(character, b'0'..=b'9' | b'A'..=b'Z' | b'a'..=b'z' | b'_' | 128..=255)
+}
+
+/// Returns whether a character may be between two words of a run: a blank, a tab, or one of `,-:;`.
+pub(crate) fn is_separator(character: u8) -> bool
+    ensures { result ≡ is_separator character }
+{
+    matches!(character, b' ' | b'\t' | b',' | b'-' | b':' | b';')
 }

@@ -11,31 +11,59 @@ pub enum Direction {
     Answer,
 }
 
-/// The words for a direction, in small letters: the first half is of commands. The arrows are U+2192 and U+2190.
-static WORDS: [&[u8]; 19] = [
-    b"tx",
-    b"sent",
-    b"send",
-    b"out",
-    b"write",
-    b"wrote",
-    b"cpu",
-    b"outgoing",
-    b">",
-    b"\xe2\x86\x92",
-    b"rx",
-    b"received",
-    b"recv",
-    b"in",
-    b"read",
-    b"fio",
-    b"incoming",
-    b"<",
-    b"\xe2\x86\x90",
+/// The words for a direction, in small letters. The arrows are U+2192 and U+2190.
+static WORDS: [(&[u8], Direction); 19] = [
+    (b"tx", Direction::Command),
+    (b"sent", Direction::Command),
+    (b"send", Direction::Command),
+    (b"out", Direction::Command),
+    (b"write", Direction::Command),
+    (b"wrote", Direction::Command),
+    (b"cpu", Direction::Command),
+    (b"outgoing", Direction::Command),
+    (b">", Direction::Command),
+    (b"\xe2\x86\x92", Direction::Command),
+    (b"rx", Direction::Answer),
+    (b"received", Direction::Answer),
+    (b"recv", Direction::Answer),
+    (b"in", Direction::Answer),
+    (b"read", Direction::Answer),
+    (b"fio", Direction::Answer),
+    (b"incoming", Direction::Answer),
+    (b"<", Direction::Answer),
+    (b"\xe2\x86\x90", Direction::Answer),
 ];
 
-/// How many of the words are of commands.
-const COMMANDS: usize = 10;
+/// How many frames are needed before the words of a log for the direction count against a message.
+const AGREED: u32 = 8;
+
+/// How many frames had the direction that their lines say, and how many the other one.
+#[derive(Clone, Copy, Debug, Default)]
+pub(crate) struct Agreement {
+    same: u32,
+    turned: u32,
+}
+
+impl Agreement {
+    /// Counts a frame whose line says a direction.
+    pub(crate) fn add(&mut self, said: Option<Direction>, own: Direction) {
+        match said {
+            Some(said) if said == own => self.same = self.same.saturating_add(1),
+            Some(_) => self.turned = self.turned.saturating_add(1),
+            None => {}
+        }
+    }
+
+    /// Returns whether the words of a line count against a message: all frames so far, eight or more, agreed with theirs, and
+    /// this one does not. In a log that was taken at the module all words are turned.
+    pub(crate) fn is_against(self, said: Option<Direction>, own: Direction) -> bool {
+        match said {
+            Some(said) if said == own => self.turned >= AGREED && self.same == 0,
+            Some(_) => self.same >= AGREED && self.turned == 0,
+            None => false,
+        }
+    }
+}
 
 /// The words of a text, as far as it was read.
 #[derive(Clone, Copy)]
@@ -69,23 +97,20 @@ impl Words {
         if self.has_others || self.is_number {
             None
         } else {
-            Some(direction_at(index))
+            direction_at(index)
         }
     }
 }
 
 /// Returns the direction of the word with an index.
-fn direction_at(index: usize) -> Direction {
-    if index < COMMANDS {
-        Direction::Command
-    } else {
-        Direction::Answer
-    }
+fn direction_at(index: usize) -> Option<Direction> {
+    let (_, direction) = WORDS.get(index)?;
+    Some(*direction)
 }
 
 /// Returns the direction that a word says.
 pub(crate) fn direction_of_word(word: &[u8]) -> Option<Direction> {
-    Some(direction_at(index_of(word)?))
+    direction_at(index_of(word)?)
 }
 
 /// Returns the direction that a text says, if it has one word for it, perhaps several times, no other word
@@ -96,19 +121,22 @@ pub(crate) fn direction_of(text: &[u8], gap: Gap) -> Option<Direction> {
         has_others: false,
         is_number: false,
     };
-    let mut start = 0;
-    for place in 0..text.len() {
-        let character = text[place];
-        let is_word = is_letter(character) || character == b'.' || gap.has(place);
-        if !is_word && start <= place {
-            words.add(&text[start..place]);
+    let (mut start, mut place) = (0, 0);
+    'words: while let Some(character) = text.get(place) {
+        if is_letter(*character) || *character == b'.' {
+            place += 1;
+        } else if gap.has(place) {
+            place = gap.end;
+        } else {
+            words.add(text.get(start..place)?);
             start = place + 1;
-            if character == b'>' || character == b'<' {
-                words.add(&[character]);
+            if matches!(*character, b'>' | b'<') {
+                words.add(&[*character]);
             }
-        }
-        if words.has_others {
-            return None;
+            if words.has_others {
+                return None;
+            }
+            place += 1;
         }
     }
     words.add(text.get(start..)?);
@@ -127,7 +155,7 @@ fn has_digit(word: &[u8]) -> bool {
 
 /// Returns the index of a word for a direction.
 fn index_of(word: &[u8]) -> Option<usize> {
-    for (index, known) in WORDS.iter().enumerate() {
+    for (index, (known, _)) in WORDS.iter().enumerate() {
         if is_same(word, known) {
             return Some(index);
         }

@@ -1,15 +1,15 @@
 //! Runs that are found in a line, in one of the notations.
 ghost use Rattle.std.specs.Prelude.{◌≡◌, ◌<◌, ◌≤◌, length, IfSome};
 ghost use Rattle.fio_log.specs.Runs.{IsRun};
-ghost use Rattle.fio_log.specs.Said.{IsWrittenAt};
+ghost use Rattle.fio_log.specs.LineRuns.{IsWrittenAt};
 
+use crate::around::{LITERAL_MARK, NUMBERS_MARK};
 use crate::literals::literal_at;
 use crate::marks::{MARKS, Mark};
 use crate::numbers::numbers_at;
 use crate::octets::Octets;
 use crate::places::Notation;
 use crate::runs::{Run, next_run};
-use crate::said::{LITERAL_MARK, NUMBERS_MARK};
 use crate::surroundings::Gap;
 use crate::ways::Ways;
 

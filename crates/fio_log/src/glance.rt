@@ -1,12 +1,40 @@
 //! One look at a line: which characters it has, so that no search looks for marks and words that it cannot have.
+ghost use Rattle.std.specs.Prelude.{◌<◌, length};
+
 use crate::digits::{digit, is_letter};
-use crate::marks::Mark;
+use crate::marks::{Mark, character};
+
+/// Characters of ASCII, a bit each.
+#[derive(Clone, Copy, Debug)]
+struct Characters {
+    /// Those below 64.
+    low: u64,
+    /// Those from 64 on.
+    high: u64,
+}
+
+impl Characters {
+    /// Returns the character `character` alone; none outside ASCII.
+    fn only(character: u8) -> Characters {
+        let (low, high) = match character {
+            0..64 => (1 << character, 0),
+            64..128 => (0, 1 << (character - 64)),
+            _ => (0, 0),
+        };
+        Characters { low, high }
+    }
+
+    /// Returns whether one of these is among others.
+    fn is_among(self, others: Characters) -> bool {
+        (self.low & others.low) | (self.high & others.high) != 0
+    }
+}
 
 /// What is seen of a line.
 #[derive(Clone, Copy, Debug)]
 pub(crate) struct Glance {
-    /// The characters of ASCII that it has, a bit each.
-    bits: u128,
+    /// The characters that it has.
+    seen: Characters,
     /// Whether it may have a word of one digit.
     pub has_single: bool,
 }
@@ -14,27 +42,25 @@ pub(crate) struct Glance {
 impl Glance {
     /// Looks at a line.
     pub(crate) fn of(line: &[u8]) -> Glance {
-        let mut bits = 0;
+        let (mut low, mut high) = (0, 0);
         let mut has_single = false;
-        let mut is_first = false;
-        let mut is_apart = true;
-        for character in line {
-            bits |= bit(*character);
-            let is_end = !is_letter(*character) || matches!(*character, b'h' | b'H');
-            has_single |= is_first && is_end;
-            is_first = is_apart && digit(*character).is_some();
-            is_apart = !is_letter(*character) || matches!(*character, b'x' | b'X');
+        for place in 0..line.len() {
+            let character = line[place];
+            let only = Characters::only(character);
+            low |= only.low;
+            high |= only.high;
+            has_single |= digit(character).is_some() && is_alone(line, place);
         }
         Glance {
-            bits,
-            has_single: has_single || is_first,
+            seen: Characters { low, high },
+            has_single,
         }
     }
 
     /// Returns whether the line has one of some characters.
     pub(crate) fn has_any(self, characters: &[u8]) -> bool {
         for character in characters {
-            if self.bits & bit(*character) != 0 {
+            if Characters::only(*character).is_among(self.seen) {
                 return true;
             }
         }
@@ -44,7 +70,7 @@ impl Glance {
     /// Returns whether the line has all characters of a text.
     fn has_all(self, text: &[u8]) -> bool {
         for character in text {
-            if self.bits & bit(*character) == 0 {
+            if !Characters::only(*character).is_among(self.seen) {
                 return false;
             }
         }
@@ -57,7 +83,16 @@ impl Glance {
     }
 }
 
-/// Returns the bit of a character, none outside ASCII.
-fn bit(character: u8) -> u128 {
-    if character < 128 { 1 << character } else { 0 }
+/// Returns whether the character at `place` may be a word of one digit: no letter is before it but the `x` of a mark, and none
+/// after it but an `h`.
+fn is_alone(line: &[u8], place: usize) -> bool
+    requires { place < length line.now }
+{
+    let is_apart = place == 0
+        || {
+            let before = line[place - 1];
+            !is_letter(before) || matches!(before, b'x' | b'X')
+        };
+    let after = character(line, place + 1);
+    is_apart && (!is_letter(after) || matches!(after, b'h' | b'H'))
 }

@@ -1,17 +1,41 @@
 //! The judge of a log's lines: which of their messages are frames.
+//!
+//! Each line becomes an entry in a slot of a ring (`entries`, `queue`, `slots`), unless it continues lines that are open
+//! (`open`, `join`, `close`). An entry is decided, or waits (`decide`, `pair`, `wait`), and then its verdict is told (`tell`,
+//! `damage`).
 ghost use Rattle.std.specs.Prelude.{◌≡◌, ℕ, List, IfSome};
 ghost use Rattle.std.specs.List.{All};
 ghost use Rattle.fio_log.specs.Frames.{IsJudgeOf, Log};
-ghost use Rattle.fio_log.specs.Said.{IsSaidIn};
+ghost use Rattle.fio_log.specs.LineRuns.{IsLineRun};
 
-use crate::deciding::Decider;
-use crate::decisions::State;
-use crate::entries::Entries;
-use crate::joins::{Going, Join, Joining};
-use crate::kept::{Kept, Seen};
-use crate::openings::{first_row, is_octet_row, last_run};
-use crate::said::{LineRuns, Said};
-use crate::sayings::Saying;
+pub(crate) mod close;
+mod damage;
+pub(crate) mod decide;
+pub(crate) mod decision;
+mod dump;
+pub(crate) mod entries;
+pub(crate) mod join;
+pub(crate) mod joined;
+pub(crate) mod message_run;
+pub(crate) mod open;
+pub(crate) mod pair;
+pub(crate) mod queue;
+pub(crate) mod remarks;
+pub(crate) mod shapes;
+pub(crate) mod slots;
+pub(crate) mod tell;
+pub(crate) mod vocabulary;
+mod wait;
+
+use crate::judge::decide::{Decider, RunKey};
+use crate::judge::decision::State;
+use crate::judge::entries::Entries;
+use crate::judge::join::{Going, Join, Joining};
+use crate::judge::message_run::MessageRun;
+use crate::judge::open::{first_of_stream, first_row, is_number, is_octet_row, last_run};
+use crate::judge::remarks::remark_on;
+use crate::judge::slots::Slot;
+use crate::line_run::{LineRun, LineRuns};
 use crate::verdict::{Kind, Reason};
 
 /// A line that is read.
@@ -31,7 +55,7 @@ impl Line<'_> {
         !self.is_long && self.text.iter().all(|octet| octet.is_ascii_whitespace())
     }
 
-    /// Returns whether it begins with a blank.
+    /// Returns whether the line is indented.
     fn is_indented(&self) -> bool {
         matches!(self.text, [b' ' | b'\t', ..])
     }
@@ -66,10 +90,21 @@ impl Judge {
         }
     }
 
+    /// Begins with an empty log.
+    pub(crate) fn clear(&mut self)
+        ensures { (log : Log) → IsJudgeOf log self.new }
+    {
+        self.entries.clear();
+        self.join.empty();
+        self.decider.clear();
+        self.step = None;
+        self.heading = None;
+    }
+
     /// Reads a line as one more of those that are open, and returns whether it is. If not, they are closed.
     pub(crate) fn goes_on(&mut self, line: Line, runs: &LineRuns) -> bool
         ensures { (log : Log) → IsJudgeOf log self.old → line.entry.text.now ≡ log line.entry.number
-            → All (IsSaidIn (log line.entry.number)) runs.now.said.items → IsJudgeOf log self.new }
+            → All (IsLineRun (log line.entry.number)) runs.now.all.items → IsJudgeOf log self.new }
     {
         let Some(slot) = self.decider.open else {
             return false;
@@ -79,7 +114,7 @@ impl Judge {
             self.close();
             return false;
         }
-        self.decider.queue.reach(slot, line.number);
+        self.decider.queue.get_mut(slot).until = line.number;
         if going == Going::Over {
             self.close();
         }
@@ -89,7 +124,7 @@ impl Judge {
     /// Reads a line as one more of those that are open, if it is the next one.
     fn join_line(&mut self, line: Line, runs: &LineRuns) -> Going
         ensures { (log : Log) → IsJudgeOf log self.old → line.entry.text.now ≡ log line.entry.number
-            → All (IsSaidIn (log line.entry.number)) runs.now.said.items → IsJudgeOf log self.new }
+            → All (IsLineRun (log line.entry.number)) runs.now.all.items → IsJudgeOf log self.new }
     {
         if self.join.lines.next_line() != Some(line.number) {
             return Going::No;
@@ -98,7 +133,8 @@ impl Judge {
             Joining::Rows => self
                 .join
                 .wrap(runs, line.is_indented(), &self.decider.shapes),
-            Joining::Octets => self.join.follow(runs, &mut self.step),
+            Joining::Stream => self.join.flow(runs),
+            Joining::Octets => { self.join.follow(runs, &self.decider.shapes, &mut self.step) }
             Joining::Dump => self.join.dump_line(line.text),
         }
     }
@@ -106,9 +142,9 @@ impl Judge {
     /// Reads a line that does not continue those above it.
     pub(crate) fn begin(&mut self, line: Line, runs: &LineRuns)
         ensures { (log : Log) → IsJudgeOf log self.old → line.entry.text.now ≡ log line.entry.number
-            → All (IsSaidIn (log line.entry.number)) runs.now.said.items → IsJudgeOf log self.new }
+            → All (IsLineRun (log line.entry.number)) runs.now.all.items → IsJudgeOf log self.new }
     {
-        let Some(slot) = self.decider.next_slot() else {
+        let Some(slot) = self.decider.next_slot(&mut self.entries) else {
             return;
         };
         if line.is_blank() {
@@ -118,7 +154,7 @@ impl Judge {
             return;
         }
         let heading = self.heading;
-        self.heading = if has_octets(runs) { None } else { runs.time };
+        self.heading = if runs.has_octets() { None } else { runs.time };
         self.put(slot, line, runs.time.or(heading));
         self.keep_runs(slot, line.number, runs);
         if line.is_long {
@@ -147,35 +183,50 @@ impl Judge {
     }
 
     /// Puts the entry of a line in the next slot.
-    fn put(&mut self, slot: usize, line: Line, time: Option<u64>)
+    fn put(&mut self, slot: Slot, line: Line, time: Option<u64>)
         ensures { (log : Log) → IsJudgeOf log self.old → IsJudgeOf log self.new }
     {
         self.entries.begin(slot, line.number, time);
-        self.decider.texts.set(slot, line.text);
-        self.decider.queue.push(slot, line.number);
+        self.decider.queue.push(slot, line.number, line.text);
     }
 
     /// Keeps the runs of a line in its entry.
-    fn keep_runs(&mut self, slot: usize, line: u64, runs: &LineRuns)
-        ensures { (log : Log) → IsJudgeOf log self.old → All (IsSaidIn (log line)) runs.now.said.items
+    fn keep_runs(&mut self, slot: Slot, line: u64, runs: &LineRuns)
+        ensures { (log : Log) → IsJudgeOf log self.old → All (IsLineRun (log line)) runs.now.all.items
             → IsJudgeOf log self.new }
     {
-        self.decider.seen.clear();
-        for said in runs.said.as_slice() {
-            let _room = self.decider.seen.try_push(Seen::of(said));
-            if !is_piece(said, runs)
-                && let Some(kept) = Kept::of_run(said)
-                && (kept.is_sure || !runs.is_over)
-            {
-                self.entries.keep(slot, line, kept);
-            }
+        self.decider.keys.clear();
+        for run in runs.all.as_slice() {
+            self.keep_message(slot, line, run, runs);
+        }
+        self.decider.remark = if self.entries.get(slot).runs.is_empty() {
+            remark_on(runs)
+        } else {
+            None
+        };
+    }
+
+    /// Keeps a run of a line in its entry, if it says a message and is no number beside a longer one.
+    fn keep_message(&mut self, slot: Slot, line: u64, run: &LineRun, runs: &LineRuns)
+        ensures { (log : Log) → IsJudgeOf log self.old → IsLineRun (log line) run.now → IsJudgeOf log self.new }
+    {
+        let key = RunKey::of(&run.around, run.octets.as_slice(), run.saying);
+        let _room = self.decider.keys.try_push(key);
+        if is_number(run, runs) {
+            return;
+        }
+        let Some(message) = MessageRun::of_line(run) else {
+            return;
+        };
+        if message.is_sure || !runs.is_over {
+            self.entries.keep(slot, line, message);
         }
     }
 
     /// Returns whether the next line may continue this one; if so, begins with it.
     fn opens(&mut self, line: Line, runs: &LineRuns) -> bool
         ensures { (log : Log) → IsJudgeOf log self.old → line.entry.text.now ≡ log line.entry.number
-            → All (IsSaidIn (log line.entry.number)) runs.now.said.items → IsJudgeOf log self.new }
+            → All (IsLineRun (log line.entry.number)) runs.now.all.items → IsJudgeOf log self.new }
     {
         if let Some(is_open) = self.join.begin_dump(line) {
             self.decider.forget_chain();
@@ -189,12 +240,15 @@ impl Judge {
     }
 
     /// Returns the run of a line that the next line may continue, and why.
-    fn first_of_several<'a>(&self, runs: &'a LineRuns) -> Option<(Joining, &'a Said)>
-        ensures { (line : List ℕ) → All (IsSaidIn line) runs.now.said.items
-            → IfSome result (λ found. IsSaidIn line found.1.now) }
+    fn first_of_several<'a>(&self, runs: &'a LineRuns) -> Option<(Joining, &'a LineRun)>
+        ensures { (line : List ℕ) → All (IsLineRun line) runs.now.all.items
+            → IfSome result (λ found. IsLineRun line found.1.now) }
     {
         if let Some(row) = first_row(runs) {
             return Some((Joining::Rows, row));
+        }
+        if let Some(row) = first_of_stream(runs) {
+            return Some((Joining::Stream, row));
         }
         let row = last_run(runs)?;
         if is_octet_row(row, runs, &self.decider.shapes) {
@@ -203,23 +257,4 @@ impl Judge {
             None
         }
     }
-}
-
-/// Returns whether a run of one octet is part of a message of the same line.
-fn is_piece(said: &Said, runs: &LineRuns) -> bool {
-    said.octets.len() == 1
-        && runs.said.as_slice().iter().any(|other| {
-            other.octets.len() > 1
-                && other.start <= said.start
-                && said.end <= other.end
-                && matches!(other.saying, Saying::Says { .. })
-        })
-}
-
-/// Returns whether a line has a run of two octets or more.
-fn has_octets(runs: &LineRuns) -> bool {
-    runs.said
-        .as_slice()
-        .iter()
-        .any(|said| said.octets.len() > 1)
 }

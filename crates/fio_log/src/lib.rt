@@ -9,14 +9,14 @@
 //! | find the octets that are written as hexadecimal words, with each mark of `MARKS` | `next_run` |
 //! | find those written as decimal numbers in brackets, or as a string literal | `numbers_at`, `literal_at` |
 //! | know what octets say: a message, the beginning of one, or none | `read_saying` |
-//! | compute the check of a frame | `frame_check` |
 //! | find the first time in a line | `time_in` |
 //!
 //! The definitions are in `specs/`, in this order: characters (`Digits`), words with their marks (`Words`), the octets that
 //! characters spell (`Readings`, `Numbers`, `Literals`) and the places where they are written (`Written`), runs (`Runs`),
-//! frame checks (`Checks`), what octets say (`Sayings`), lines (`Lines`), chains of messages (`Chains`), what a reader has
-//! read and returned (`Telling`). Only the code says what times are, and which messages are frames (`judge`, `deciding`). The
-//! laws are the contracts of `Reader` and of the module `laws`.
+//! what octets say (`Sayings`), the runs of a line (`LineRuns`), lines (`Lines`), chains of messages (`Chains`), frames and their
+//! places (`Frames`), what an entry keeps (`Keeping`), what a verdict says (`Verdicts`), what a reader has read and returned
+//! (`Telling`). Only the code says what times are, and which messages are frames (`judge`). The laws are
+//! the contracts of `Reader` and of the module `laws`.
 //!
 //! # Examples
 //!
@@ -31,24 +31,16 @@
 //! ```
 #![tactic(auto)]
 
+mod around;
 mod chains;
-mod checks;
 mod clock;
-mod closing;
-mod damage;
-mod deciding;
-mod decisions;
 mod digits;
 mod directions;
-mod entries;
 mod found;
-mod giving_up;
 mod glance;
-mod joined;
-mod joins;
 mod judge;
-mod kept;
 pub mod laws;
+mod line_run;
 mod line_runs;
 mod lines;
 mod literals;
@@ -58,28 +50,19 @@ mod messages;
 mod numbers;
 mod octets;
 mod offsets;
-mod openings;
 mod own_texts;
 mod own_verdicts;
-mod pairs;
 mod parts;
 mod places;
-mod queue;
 mod reader;
-mod remarks;
 mod runs;
-mod said;
 mod sayings;
-mod shapes;
 mod sides;
-mod styles;
+mod sources;
 mod surroundings;
-mod telling;
 mod verdict;
-mod vocabulary;
 mod ways;
 
-pub use checks::frame_check;
 pub use clock::{Time, time_in};
 pub use directions::Direction;
 pub use lines::{LINE_OCTETS, LineMaker};

@@ -2,18 +2,20 @@
 ghost use Rattle.std.specs.Prelude.{◌≡◌, ◌<◌, ◌≤◌, length, IfSome};
 ghost use Rattle.std.specs.List.{All};
 ghost use Rattle.fio_log.specs.Sayings.{IsSaying};
-ghost use Rattle.fio_log.specs.Said.{IsSaidIn, IsWrittenAt};
+ghost use Rattle.fio_log.specs.LineRuns.{IsLineRun, IsWrittenAt};
 
+use crate::around::{Around, LITERAL_MARK};
 use crate::clock::time_in;
 use crate::directions::direction_of;
 use crate::found::{Found, bracketed_at, next_words};
 use crate::glance::Glance;
+use crate::line_run::{LINE_SINGLES, LineRun, LineRuns};
 use crate::marks::MARKS;
 use crate::octets::Octets;
 use crate::places::Notation;
-use crate::said::{LINE_SINGLES, LITERAL_MARK, LineRuns, Said, Shape};
 use crate::sayings::{Saying, read_saying};
 use crate::sides::said_at;
+use crate::sources::numbers_in;
 use crate::surroundings::{Before, Gap, read_after};
 use std::mem;
 
@@ -30,7 +32,7 @@ struct Finder {
 
 /// Finds the runs of a line. It is no longer than `LINE_OCTETS`.
 pub(crate) fn read_line(line: &[u8], runs: &mut LineRuns)
-    ensures { All (IsSaidIn line.now) runs.new.said.items }
+    ensures { All (IsLineRun line.now) runs.new.all.items }
 {
     let time = time_in(line);
     runs.clear();
@@ -61,8 +63,8 @@ fn find_words(
     finder: &mut Finder,
     runs: &mut LineRuns,
 )
-    requires { All (IsSaidIn line.now) runs.old.said.items }
-    ensures { All (IsSaidIn line.now) runs.new.said.items }
+    requires { All (IsLineRun line.now) runs.old.all.items }
+    ensures { All (IsLineRun line.now) runs.new.all.items }
 {
     for mark in 0..LITERAL_MARK {
         if glance.may_have(MARKS[usize::from(mark)]) {
@@ -83,8 +85,8 @@ fn find_marked(
     finder: &mut Finder,
     runs: &mut LineRuns,
 )
-    requires { All (IsSaidIn line.now) runs.old.said.items }
-    ensures { All (IsSaidIn line.now) runs.new.said.items }
+    requires { All (IsLineRun line.now) runs.old.all.items }
+    ensures { All (IsLineRun line.now) runs.new.all.items }
 {
     let mut place = 0;
     'runs: while let Some(found) = next_words(line, place, finder.gap, mark, is_short, octets) {
@@ -95,8 +97,8 @@ fn find_marked(
 
 /// Keeps the literals and the numbers in brackets.
 fn find_in_brackets(line: &[u8], octets: &mut Octets, finder: &mut Finder, runs: &mut LineRuns)
-    requires { All (IsSaidIn line.now) runs.old.said.items }
-    ensures { All (IsSaidIn line.now) runs.new.said.items }
+    requires { All (IsLineRun line.now) runs.old.all.items }
+    ensures { All (IsLineRun line.now) runs.new.all.items }
 {
     for place in 0..line.len() {
         if let Some(found) = bracketed_at(line, place, octets) {
@@ -108,11 +110,11 @@ fn find_in_brackets(line: &[u8], octets: &mut Octets, finder: &mut Finder, runs:
 /// Keeps a run, unless it has one octet and says no message or finds no room.
 fn keep(line: &[u8], found: Found, octets: &mut Octets, finder: &mut Finder, runs: &mut LineRuns)
     requires written { IsWrittenAt line.now found.notation found.start found.end octets.old.items }
-    requires said { All (IsSaidIn line.now) runs.old.said.items }
-    ensures { All (IsSaidIn line.now) runs.new.said.items }
+    requires said { All (IsLineRun line.now) runs.old.all.items }
+    ensures { All (IsLineRun line.now) runs.new.all.items }
 {
     let saying = read_saying(octets.as_slice());
-    let has_room = runs.said.len() < LINE_SINGLES;
+    let has_room = runs.all.len() < LINE_SINGLES;
     if octets.len() > 1 || has_room && matches!(saying, Saying::Says { .. }) {
         if octets.len() > 1 && found.start < finder.gap.end {
             runs.time = None;
@@ -128,9 +130,9 @@ fn keep(line: &[u8], found: Found, octets: &mut Octets, finder: &mut Finder, run
 
 /// Returns whether a run is within a longer one that is kept.
 fn is_covered(found: Found, runs: &LineRuns) -> bool {
-    for said in runs.said.as_slice() {
-        let is_longer = said.start < found.start || found.end < said.end;
-        if said.start <= found.start && found.end <= said.end && is_longer {
+    for run in runs.all.as_slice() {
+        let is_longer = run.start < found.start || found.end < run.end;
+        if run.start <= found.start && found.end <= run.end && is_longer {
             return true;
         }
     }
@@ -148,48 +150,58 @@ fn keep_run(
 )
     requires written { IsWrittenAt line.now found.notation found.start found.end octets.old.items }
     requires saying { IsSaying octets.old.items saying }
-    requires said { All (IsSaidIn line.now) runs.old.said.items }
-    ensures { All (IsSaidIn line.now) runs.new.said.items }
+    requires said { All (IsLineRun line.now) runs.old.all.items }
+    ensures { All (IsLineRun line.now) runs.new.all.items }
 {
-    if runs.said.is_full() {
+    if runs.all.is_full() {
         runs.is_over |= !is_covered(found, runs);
         return;
     }
-    let text = &line[..found.start];
     finder.before.reach(line, finder.gap, found.start);
-    let mask = finder.before.mask;
-    let after = read_after(&line[found.end..], octets.as_slice());
-    runs.said.push(Said {
+    let around = around(line, found, octets.as_slice(), finder);
+    runs.all.push(LineRun {
         start: found.start,
         end: found.end,
+        notation: found.notation,
         octets: mem::replace(octets, Octets::new()),
         saying,
-        shape: Shape {
-            before: mask.sum(),
-            mark: found.mark,
-            after: after.sum,
-        },
+        around,
+    });
+}
+
+/// Returns what surrounds a run, up to which the line is read.
+fn around(line: &[u8], found: Found, octets: &[u8], finder: &Finder) -> Around
+    requires start { found.start ≤ length line.now }
+    requires end { found.end ≤ length line.now }
+{
+    let before = &line[..found.start];
+    let mask = finder.before.mask;
+    let after = read_after(&line[found.end..], octets);
+    let around = Around {
+        mark: found.mark,
         letters: mask.letters(),
         ways: found.ways,
-        notation: found.notation,
-        direction: direction_of(text, finder.gap),
+        numbers: numbers_in(before, finder.gap, octets.len()),
+        direction: direction_of(before, finder.gap),
         said: said_at(line, found.start),
         has_before: mask.has_text(),
         has_tail: after.has_tail,
         is_last: after.is_last,
-    });
+        ..Around::default()
+    };
+    around.with_sums(mask.sum(), after.sum)
 }
 
 /// Keeps the last run of the line if it has one octet and says no message: it may be a row of octets.
 fn keep_lone(line: &[u8], octets: &mut Octets, finder: &mut Finder, runs: &mut LineRuns)
-    requires { All (IsSaidIn line.now) runs.old.said.items }
-    ensures { All (IsSaidIn line.now) runs.new.said.items }
+    requires { All (IsLineRun line.now) runs.old.all.items }
+    ensures { All (IsLineRun line.now) runs.new.all.items }
 {
     let Some(lone) = finder.lone else {
         return;
     };
-    for said in &runs.said {
-        if !lone.is_later(said.start, said.end) {
+    for run in &runs.all {
+        if !lone.is_later(run.start, run.end) {
             return;
         }
     }

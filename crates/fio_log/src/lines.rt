@@ -1,6 +1,6 @@
 //! Lines of a log, from octets as they come.
-ghost use Rattle.std.specs.Prelude.{◌≡◌, ◌≤◌, ◌<◌, [], true, length, take};
-ghost use Rattle.fio_log.specs.Lines.{ended, finished, goes_on_held, held_first, held_next, held_octets, held_text, is_whole, lines_after, no_line, no_text, only, pushed, with_all, with_character, with_line_octet, with_making, with_octet};
+ghost use Rattle.std.specs.Prelude.{◌≡◌, ℕ, ◌≤◌, ◌<◌, [], true, length, slice_index, take};
+ghost use Rattle.fio_log.specs.Lines.{ended, finished, goes_on_held, held_first, held_next, held_octets, held_text, is_plain, is_whole, lines_after, no_line, no_text, only, open_line, pushed, with_all, with_character, with_line_octet, with_making, with_octet};
 
 use arrayvec::ArrayVec;
 use std::marker::Model;
@@ -134,12 +134,16 @@ impl LineText {
         }
     }
 
-    /// Appends octets.
+    /// Appends octets, as many as the line has room for.
     fn push_all(&mut self, octets: &[u8])
         ensures { self.new ≡ with_all self.old octets.now }
     {
-        for octet in octets {
-            self.push(*octet);
+        let room = self.octets.remaining_capacity();
+        if octets.len() <= room {
+            let _fits = self.octets.try_extend_from_slice(octets);
+        } else {
+            let _fits = self.octets.try_extend_from_slice(&octets[..room]);
+            self.is_long = true;
         }
     }
 }
@@ -176,8 +180,8 @@ impl LineMaker {
         }
     }
 
-    /// Begins the next line.
-    fn restart(&mut self)
+    /// Begins with no line.
+    pub(crate) fn restart(&mut self)
         ensures { self.new ≡ no_line }
     {
         self.text.clear();
@@ -236,6 +240,30 @@ impl LineMaker {
         }
     }
 
+    /// Returns whether the line has not ended and nothing is held.
+    fn is_clear(&self) -> bool
+        ensures { result ≡ true → self.now ≡ open_line self.now.text }
+    {
+        matches!((self.held, self.ending), (Held::Nothing, Ending::Open))
+    }
+
+    /// Reads the printable octets that a text begins with, or one octet that must be looked at, and returns how many it has
+    /// read.
+    fn add_some(&mut self, octets: &[u8]) -> usize
+        requires { 0 < length octets.now }
+        ensures forward { 0 < result }
+        ensures within { result ≤ length octets.now }
+        ensures lines { lines_after (only self.old) (take result octets.now) ≡ with_making [] self.new }
+    {
+        if !self.is_clear() || !is_plain(octets[0]) {
+            self.add(octets[0]);
+            return 1;
+        }
+        let count = plain_count(octets);
+        self.text.push_all(&octets[..count]);
+        count
+    }
+
     /// Reads octets until the line is whole or there are no more, and returns how many it has read.
     pub fn take(&mut self, octets: &[u8]) -> usize
         ensures within { result ≤ length octets.now }
@@ -245,8 +273,7 @@ impl LineMaker {
     {
         let mut count = 0;
         'octets: while count < octets.len() {
-            self.add(octets[count]);
-            count += 1;
+            count += self.add_some(&octets[count..]);
             if self.is_whole() {
                 break;
             }
@@ -288,4 +315,24 @@ impl LineMaker {
     {
         self.text.octets.as_slice()
     }
+}
+
+/// Returns how many printable octets a text begins with.
+fn plain_count(text: &[u8]) -> usize
+    ensures within { result ≤ length text.now }
+    ensures some { 0 < length text.now → is_plain (slice_index text.now 0) ≡ true → 0 < result }
+    ensures plain { (place : ℕ) → place < result → is_plain (slice_index text.now place) ≡ true }
+{
+    let mut count = 0;
+    'octets: while count < text.len() && is_plain(text[count]) {
+        count += 1;
+    }
+    count
+}
+
+/// Returns whether an octet is printable: it neither ends a line nor begins what may be taken out.
+fn is_plain(octet: u8) -> bool
+    ensures { result ≡ is_plain octet }
+{
+    matches!(octet, b' '..=b'~')
 }

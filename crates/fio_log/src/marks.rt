@@ -1,6 +1,8 @@
 //! Words of hexadecimal digits, with the marks that may be around them.
-ghost use Rattle.std.specs.Prelude.{◌≡◌, ◌≤◌, IfSome, length, slice_index};
+ghost use Rattle.std.specs.Prelude.{◌≡◌, ℕ, ◌≤◌, false, IfSome, Some, is_some, length, slice_index};
+ghost use Rattle.fio_log.specs.Digits.{digit_of};
 ghost use Rattle.fio_log.specs.Words.{AreDigits, IsWord, StandsAt, goes_on};
+ghost use Rattle.fio_log.specs.declared.marks.Word.{Word};
 
 use crate::digits::{digit, is_decimal, is_letter};
 
@@ -13,18 +15,17 @@ pub struct Mark {
     pub after: &'static [u8],
 }
 
-/// The marks that words may have: none, prefixes, suffixes, brackets and quotes.
-pub static MARKS: [Mark; 15] = [
+/// How many marks words may have.
+pub(crate) const MARK_COUNT: usize = 9;
+
+/// The marks that words may have: none, prefixes, a suffix, brackets, and a prefix in quotes.
+pub static MARKS: [Mark; MARK_COUNT] = [
     Mark {
         before: b"",
         after: b"",
     },
     Mark {
         before: b"0x",
-        after: b"",
-    },
-    Mark {
-        before: b"0X",
         after: b"",
     },
     Mark {
@@ -36,16 +37,8 @@ pub static MARKS: [Mark; 15] = [
         after: b"",
     },
     Mark {
-        before: b"%",
-        after: b"",
-    },
-    Mark {
         before: b"",
         after: b"h",
-    },
-    Mark {
-        before: b"",
-        after: b"H",
     },
     Mark {
         before: b"[",
@@ -62,18 +55,6 @@ pub static MARKS: [Mark; 15] = [
     Mark {
         before: b"'0x",
         after: b"'",
-    },
-    Mark {
-        before: b"\"0x",
-        after: b"\"",
-    },
-    Mark {
-        before: b"'",
-        after: b"'",
-    },
-    Mark {
-        before: b"\"",
-        after: b"\"",
     },
 ];
 
@@ -92,12 +73,16 @@ pub struct Word {
 
 /// Returns the word with the mark `mark` that begins at `place`, if nothing after it continues it.
 pub fn word_at(line: &[u8], place: usize, mark: Mark) -> Option<Word>
-    ensures { IfSome result (IsWord line.now mark.before.now mark.after.now place) }
+    ensures word { IfSome result (IsWord line.now mark.before.now mark.after.now place) }
+    ensures only { (word : Word) → IsWord line.now mark.before.now mark.after.now place word → result ≡ Some word }
 {
     let start = end_of(line, place, mark.before)?;
     let stop = digits_end(line, start);
+    if start == stop {
+        return None;
+    }
     let end = end_of(line, stop, mark.after)?;
-    if start == stop || goes_on(line, end) {
+    if goes_on(line, end) {
         return None;
     }
     Some(Word {
@@ -110,9 +95,14 @@ pub fn word_at(line: &[u8], place: usize, mark: Mark) -> Option<Word>
 
 /// Returns where `text` ends if it is at `place` of the line, else `None`.
 pub(crate) fn end_of(line: &[u8], place: usize, text: &[u8]) -> Option<usize>
-    ensures { IfSome result (StandsAt line.now text.now place) }
+    ensures text { IfSome result (StandsAt line.now text.now place) }
+    ensures only { (end : ℕ) → StandsAt line.now text.now place end → result ≡ Some end }
 {
-    let rest = line.get(place..)?.strip_prefix(text)?;
+    let rest = line.get(place..)?;
+    if text.is_empty() {
+        return Some(place);
+    }
+    let rest = rest.strip_prefix(text)?;
     Some(line.len() - rest.len())
 }
 
@@ -122,6 +112,7 @@ pub(crate) fn digits_end(line: &[u8], start: usize) -> usize
     ensures order { start ≤ result }
     ensures within { result ≤ length line.now }
     ensures digits { AreDigits line.now start result }
+    ensures all { is_some (digit_of (slice_index line.now result)) ≡ false }
 {
     let mut end = start;
     'digits: while end < line.len() && digit(line[end]).is_some() {

@@ -6,9 +6,14 @@ pub(crate) const NO_SUM: u64 = 0xcbf2_9ce4_8422_2325;
 
 const FACTOR: u64 = 0x0000_0100_0000_01b3;
 
+/// Returns a sum with one number more.
+pub(crate) fn summed(sum: u64, number: u64) -> u64 {
+    (sum ^ number).wrapping_mul(FACTOR)
+}
+
 /// Returns a sum with one character more.
-pub(crate) fn summed(sum: u64, character: u8) -> u64 {
-    (sum ^ u64::from(character)).wrapping_mul(FACTOR)
+pub(crate) fn with_character(sum: u64, character: u8) -> u64 {
+    summed(sum, u64::from(character))
 }
 
 /// Returns the sum of a text.
@@ -16,6 +21,11 @@ pub(crate) fn sum_of(text: &[u8]) -> u64 {
     let mut mask = Mask::new();
     mask.add_all(text);
     mask.sum()
+}
+
+/// Returns whether a character is of a word.
+pub(crate) fn is_in_word(character: u8) -> bool {
+    character == b'.' || is_letter(character)
 }
 
 /// Sums a text character by character. Each word that has a digit counts as `0`, capitals as small letters, several
@@ -55,12 +65,11 @@ impl Mask {
     /// Reads one character more.
     pub(crate) fn add(&mut self, character: u8) {
         match character {
+            _ if is_in_word(character) => self.add_to_word(character),
             b' ' | b'\t' => {
                 self.end_word();
                 self.has_blank = self.has_text;
             }
-            b'.' => self.add_to_word(character),
-            _ if is_letter(character) => self.add_to_word(character),
             _ => {
                 self.end_word();
                 self.add_sign(character);
@@ -69,7 +78,7 @@ impl Mask {
     }
 
     /// Reads all characters of a text.
-    fn add_all(&mut self, text: &[u8]) {
+    pub(crate) fn add_all(&mut self, text: &[u8]) {
         for character in text {
             self.add(*character);
         }
@@ -95,16 +104,16 @@ impl Mask {
     /// Adds a character to both sums, and the blank that is due before it.
     fn add_sign(&mut self, character: u8) {
         self.add_blank();
-        self.sum = summed(self.sum, character);
-        self.letters = summed(self.letters, character);
+        self.sum = with_character(self.sum, character);
+        self.letters = with_character(self.letters, character);
         self.has_text = true;
     }
 
     /// Adds the blank that is due.
     fn add_blank(&mut self) {
         if self.has_blank {
-            self.sum = summed(self.sum, b' ');
-            self.letters = summed(self.letters, b' ');
+            self.sum = with_character(self.sum, b' ');
+            self.letters = with_character(self.letters, b' ');
             self.has_blank = false;
         }
     }
@@ -119,7 +128,7 @@ impl Mask {
             self.word = self.sum;
         }
         self.has_digit |= is_decimal(character);
-        self.word = summed(self.word, character.to_ascii_lowercase());
+        self.word = with_character(self.word, character.to_ascii_lowercase());
     }
 
     /// Ends the word that is read.
@@ -129,11 +138,11 @@ impl Mask {
         }
         self.is_word = false;
         if self.has_digit {
-            self.sum = summed(self.sum, b'0');
-            self.letters = summed(self.letters, b'0');
+            self.sum = with_character(self.sum, b'0');
+            self.letters = with_character(self.letters, b'0');
         } else {
             self.sum = self.word;
-            self.letters = summed(self.letters, b'a');
+            self.letters = with_character(self.letters, b'a');
         }
     }
 }

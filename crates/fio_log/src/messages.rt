@@ -1,8 +1,8 @@
 //! Messages that a log says, and pairs of them.
-ghost use Rattle.std.specs.Prelude.{◌≡◌, false, true, IfNone, IfSome};
-ghost use Rattle.fio_log.specs.Sayings.{spells};
+ghost use Rattle.std.specs.Prelude.{◌≡◌, ◌↔◌, IsTrue, true};
+ghost use Rattle.fio_log.specs.Sayings.{octets_kept_as, spells};
 
-use crate::sayings::spelled;
+use crate::directions::Direction;
 use arrayvec::ArrayVec;
 use fio_message::FRAME_OCTETS;
 use fio_message::types::{
@@ -10,102 +10,81 @@ use fio_message::types::{
     IDENTIFY_ANSWER, POLL, RAW_INPUTS, SET_OUTPUTS_ANSWER, TRACK_INPUTS, TRACK_INPUTS_ANSWER,
 };
 
-/// The start and the prime of the sums of octets (FNV-1a).
-const SUM_START: u64 = 0xcbf2_9ce4_8422_2325;
-
-const SUM_PRIME: u64 = 0x0100_0000_01b3;
+/// The octets of the default message.
+const DEFAULT: &[u8] = &[RAW_INPUTS];
 
 /// Octets that spell a message.
 #[derive(Debug, Drop)]
 pub(crate) struct Message {
-    octets: ArrayVec<u8, FRAME_OCTETS>,
-    ghost spelled: { spells octets.items ≡ true },
+    /// The octets; none of the default one. So a default message is nothing but zeros, of which a reader can be made in its
+    /// place, and not on the stack.
+    kept: ArrayVec<u8, FRAME_OCTETS>,
+    ghost spelled: { spells (octets_kept_as kept.items) ≡ true },
 }
 
 impl Message {
-    /// Returns the message that octets spell; `None` if they spell none.
-    pub(crate) fn of(octets: &[u8]) -> Option<Message>
-        ensures same { IfSome result (λ message. message.octets.items ≡ octets.now) }
-        ensures none { IfNone result (spells octets.now ≡ false) }
+    /// Returns the message that octets spell.
+    #[tactic(auto, using(crate::proofs::OwnTextLemmas::spelled_short, crate::proofs::OwnTextLemmas::kept_as_spelled))]
+    pub(crate) fn of(octets: &[u8]) -> Message
+        requires { spells octets.now ≡ true }
+        ensures { octets_kept_as result.kept.items ≡ octets.now }
     {
-        spelled(octets).ok()?;
         let mut kept = ArrayVec::new();
-        kept.try_extend_from_slice(octets).ok()?;
-        Some(Message { octets: kept })
+        let _fits = kept.try_extend_from_slice(octets);
+        Message { kept }
     }
 
     /// Returns a copy.
-    pub(crate) fn copy(&self) -> Option<Message>
-        ensures { IfSome result (λ copy. copy.octets.items ≡ self.now.octets.items) }
+    pub(crate) fn copy(&self) -> Message
+        ensures { octets_kept_as result.kept.items ≡ octets_kept_as self.now.kept.items }
     {
-        let mut octets = ArrayVec::new();
-        octets.try_extend_from_slice(self.octets.as_slice()).ok()?;
-        Some(Message { octets })
+        Message::of(self.octets())
     }
 
     /// Returns the octets.
     pub(crate) fn octets(&self) -> &[u8]
-        ensures same { result.now ≡ self.now.octets.items }
+        ensures same { result.now ≡ octets_kept_as self.now.kept.items }
         ensures spelled { spells result.now ≡ true }
     {
-        self.octets.as_slice()
+        match self.kept.as_slice() {
+            [] => DEFAULT,
+            octets => octets,
+        }
+    }
+
+    /// Returns who sends it.
+    pub(crate) fn direction(&self) -> Direction {
+        self.octets()
+            .first()
+            .map_or(Direction::Command, |code| sender_of(*code))
+    }
+
+    /// Returns whether another message has the same octets.
+    pub(crate) fn is_same(&self, other: &Message) -> bool
+        ensures { IsTrue result ↔ (octets_kept_as self.now.kept.items ≡ octets_kept_as other.now.kept.items) }
+    {
+        self.octets() == other.octets()
+    }
+
+    /// Returns whether this is a command, and another message its answer: by their types, and for a poll and its block
+    /// by their number. Commands of open length have none, and one octet has none of open length.
+    pub(crate) fn is_answered_by(&self, answer: &Message) -> bool {
+        let ([command, number @ ..], [code, numbers @ ..]) = (self.octets(), answer.octets()) else {
+            return false;
+        };
+        *code >= ANSWER
+            && *code - ANSWER == *command
+            && !has_open_length(*command)
+            && (!number.is_empty() || !has_open_length(*code))
+            && (*command != POLL || number.first() == numbers.first())
     }
 }
 
 impl Default for Message {
     fn default() -> Message {
-        let mut octets = ArrayVec::new();
-        octets.push(RAW_INPUTS);
-        Message { octets }
-    }
-}
-
-/// What decides whether a message is the command or the answer of another.
-#[derive(Clone, Copy, Debug, Default, PartialEq, Eq)]
-pub(crate) struct Brief {
-    /// Its type.
-    code: u8,
-    /// The octet after it, 0 if there is none.
-    number: u8,
-    /// How many octets it has.
-    length: usize,
-    /// The sum of them.
-    sum: u64,
-}
-
-impl Brief {
-    /// Returns the brief of a message.
-    pub(crate) fn of(octets: &[u8]) -> Brief {
-        let mut sum = SUM_START;
-        for octet in octets {
-            sum = (sum ^ u64::from(*octet)).wrapping_mul(SUM_PRIME);
+        Message {
+            kept: ArrayVec::new(),
         }
-        let (code, number) = match *octets {
-            [code, number, ..] => (code, number),
-            [code] => (code, 0),
-            [] => (0, 0),
-        };
-        Brief {
-            code,
-            number,
-            length: octets.len(),
-            sum,
-        }
-    }
-
-    /// Returns whether this is a command, and another message its answer: by their types, and for a poll and its block
-    /// by their number. Commands of open length have none, and one octet has none of open length.
-    pub(crate) fn is_answered_by(self, answer: Brief) -> bool {
-        answer.code >= ANSWER
-            && answer.code - ANSWER == self.code
-            && !has_open_length(self.code)
-            && (self.length > 1 || !has_open_length(answer.code))
-            && (self.code != POLL || self.number == answer.number)
-    }
-
-    /// Returns whether the length of the message is known by its type and count.
-    pub(crate) fn has_known_length(self) -> bool {
-        !has_open_length(self.code)
     }
 }
 
@@ -122,4 +101,13 @@ pub(crate) fn has_open_length(code: u8) -> bool {
             | CONTROLLER_ID_ANSWER
             | IDENTIFY_ANSWER
     )
+}
+
+/// Returns who sends messages of a type.
+pub(crate) fn sender_of(code: u8) -> Direction {
+    if code < ANSWER {
+        Direction::Command
+    } else {
+        Direction::Answer
+    }
 }

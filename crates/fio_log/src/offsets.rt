@@ -2,13 +2,13 @@
 ghost use Rattle.std.specs.Prelude.{◌≡◌, ◌≤◌, length, true, IfSome};
 ghost use Rattle.fio_log.specs.Runs.{AreWords, IsRun};
 
+use crate::around::LITERAL_MARK;
 use crate::digits::digit;
 use crate::glance::Glance;
 use crate::marks::{MARKS, digits_end};
 use crate::masks::sum_of;
 use crate::octets::Octets;
 use crate::runs::{Run, next_run};
-use crate::said::{LITERAL_MARK, Shape};
 
 /// The fewest and the most digits of an offset.
 const LEAST_DIGITS: usize = 4;
@@ -49,18 +49,20 @@ pub(crate) struct OffsetRow {
     /// Where they begin, and where they end.
     pub start: usize,
     pub end: usize,
-    /// The shape before them. What is after them does not count.
-    pub shape: Shape,
+    /// The sum of the line before them. What is after them does not count.
+    pub before: u64,
+    /// Their mark.
+    pub mark: u8,
 }
 
 /// Returns the row of a dump that a line is, and writes its octets to `octets`: an offset of 4 to 16 digits, perhaps with
-/// `0x` before it and `:` after it, and octets after a blank or `:`, or nothing.
+/// `0x` before it and `:` after it, and octets after a blank or `:`, or nothing. Words may come before an offset with `:`.
 pub(crate) fn offset_row(line: &[u8], octets: &mut Octets) -> Option<OffsetRow>
     ensures order { IfSome result (λ row. row.start ≤ row.end) }
     ensures within { IfSome result (λ row. row.end ≤ length line.now) }
     ensures written { IfSome result (λ row. row.has_octets ≡ true → AreWords line.now row.start row.end octets.new.items) }
 {
-    let start = prefix_end(line);
+    let start = offset_start(line);
     let end = digits_end(line, start);
     if end - start < LEAST_DIGITS || end - start > MOST_DIGITS {
         return None;
@@ -73,7 +75,8 @@ pub(crate) fn offset_row(line: &[u8], octets: &mut Octets) -> Option<OffsetRow>
             has_octets: false,
             start: place,
             end: place,
-            shape: Shape::default(),
+            before: 0,
+            mark: 0,
         });
     }
     let (mark, run) = longest_run(line, place, octets)?;
@@ -82,15 +85,40 @@ pub(crate) fn offset_row(line: &[u8], octets: &mut Octets) -> Option<OffsetRow>
         has_octets: true,
         start: run.start,
         end: run.end,
-        shape: Shape {
-            before: sum_of(&line[..run.start]),
-            mark,
-            after: 0,
-        },
+        before: sum_of(&line[..run.start]),
+        mark,
     })
 }
 
-/// Returns where the digits of an offset begin: after blanks and perhaps `0x`.
+/// Returns where the digits of an offset begin: those of the first word after a blank that can be an offset and has `:` after
+/// it, unless the line begins with such a one; else at the beginning of the line.
+fn offset_start(line: &[u8]) -> usize
+    ensures { result ≤ length line.now }
+{
+    let first = prefix_end(line);
+    let end = digits_end(line, first);
+    if end - first < LEAST_DIGITS || line.get(end).copied() != Some(b':') {
+        for place in 0..line.len() {
+            if is_marked_offset(line, place) {
+                return place;
+            }
+        }
+    }
+    first
+}
+
+/// Returns whether a word that can be an offset begins at a place of a line after a blank, with `:` and a blank after it.
+fn is_marked_offset(line: &[u8], place: usize) -> bool
+    requires { place ≤ length line.now }
+{
+    if !matches!(&line[..place], [.., b' ']) {
+        return false;
+    }
+    let end = digits_end(line, place);
+    end - place >= LEAST_DIGITS && matches!(&line[end..], [b':', b' ', ..])
+}
+
+/// Returns where the digits of an offset at the beginning of a line begin: after blanks and perhaps `0x`.
 fn prefix_end(line: &[u8]) -> usize
     ensures { result ≤ length line.now }
 {
@@ -126,17 +154,21 @@ fn offset_end(line: &[u8], end: usize) -> Option<usize>
     }
 }
 
-/// Returns the longest run that begins at a place of a line, and its mark, and writes its octets.
+/// Returns the longest run of words without single digits that begins at a place of a line, and its mark, and writes its octets.
+/// `None` if a word of one digit goes on with it: a digit may be lost there.
 fn longest_run(line: &[u8], place: usize, octets: &mut Octets) -> Option<(u8, Run)>
     ensures { IfSome result (λ found. IsRun line.now place octets.new.items found.1) }
 {
     let (mark, is_short) = longest_at(line, place, octets)?;
+    if is_short {
+        return None;
+    }
     let words = *MARKS.get(usize::from(mark))?;
-    let run = next_run(line, place, words, is_short, octets)?;
+    let run = next_run(line, place, words, false, octets)?;
     Some((mark, run))
 }
 
-/// Returns the mark of the longest run that begins at a place of a line, and whether its words have one or two digits.
+/// Returns the mark of the longest run that begins at a place of a line, and whether one of its words has one digit.
 fn longest_at(line: &[u8], place: usize, octets: &mut Octets) -> Option<(u8, bool)> {
     let glance = Glance::of(line);
     let (mut longest, mut end) = (None, place);
@@ -159,7 +191,7 @@ fn longest_at(line: &[u8], place: usize, octets: &mut Octets) -> Option<(u8, boo
 }
 
 /// Returns the value of digits in a base; `None` if one is no digit of it.
-fn value_of(digits: &[u8], base: u64) -> Option<u64> {
+pub(crate) fn value_of(digits: &[u8], base: u64) -> Option<u64> {
     let mut value = 0_u64;
     for character in digits {
         let digit = u64::from(digit(*character)?);

@@ -1,17 +1,18 @@
 //! Verdicts of lines that are read by order as those of the program's own texts.
-ghost use Rattle.std.specs.Prelude.{◌≡◌, [], ◌∷◌, false, map, true};
+ghost use Rattle.std.specs.Prelude.{◌≡◌, [], ◌∷◌, false, length, map, true};
 ghost use Rattle.fio_log.specs.Frames.{octets_in};
 ghost use Rattle.fio_log.specs.OwnVerdicts.{IsOwnVerdict, own_form_of};
 ghost use Rattle.fio_log.specs.Sayings.{spells};
+ghost use Rattle.fio_log.specs.Verdicts.{AreAgreed, AreOfLine};
 
 use crate::directions::Direction;
 use crate::judge::Line;
+use crate::judge::tell::Frames;
 use crate::messages::Message;
 use crate::own_texts::{OwnForm, OwnLine, read_own_line};
 use crate::places::{Notation, Place};
 use crate::sides::said_at;
-use crate::telling::{Frames, Told};
-use crate::verdict::{Form, Kind, Reason};
+use crate::verdict::{Form, Kind, Reason, Verdict};
 use fio_message::FRAME_OCTETS;
 
 impl Form {
@@ -37,26 +38,13 @@ impl OwnForm {
     }
 }
 
-impl Told {
-    /// Returns what is told of a line without a time.
-    fn of(kind: Kind, reason: Reason, said: Option<Direction>) -> Told
-        ensures kind { result.kind ≡ kind }
-        ensures reason { result.reason ≡ reason }
-    {
-        Told {
-            kind,
-            reason,
-            time: None,
-            said,
-        }
-    }
-}
-
 impl Frames {
     /// Tells what a line of an own text is, and takes its frame.
-    pub(crate) fn tell_own(&mut self, form: OwnForm, line: Line) -> Told
+    pub(crate) fn tell_own(&mut self, form: OwnForm, line: Line) -> Verdict
         ensures own { IsOwnVerdict form (record { octets = line.entry.text.now; is_long = line.entry.is_long }) result.kind result.reason
             (map octets_in self.new.messages.items) }
+        ensures agreed { AreAgreed line.entry.number result.kind result.reason (map octets_in self.new.messages.items) self.new.places.items }
+        ensures line { result.line ≡ line.entry.number }
         ensures apart { self.new.are_chain ≡ false }
     {
         self.messages.clear();
@@ -65,13 +53,18 @@ impl Frames {
         let said = form.said(line.text);
         let mut room = [0; FRAME_OCTETS];
         match read_own_line(form, line.text, &mut room) {
-            OwnLine::Skipped => Told::of(Kind::Blank, Reason::None, said),
-            _ if line.is_long => Told::of(Kind::Damaged, Reason::TooLong, said),
-            OwnLine::Bad => Told::of(Kind::Damaged, Reason::BadLine, said),
-            OwnLine::Faulty { .. } => Told::of(Kind::Damaged, Reason::NoMessage, said),
+            OwnLine::Skipped => Verdict::of(line.number, Kind::Blank, Reason::None, said),
+            _ if line.is_long => Verdict::of(line.number, Kind::Damaged, Reason::TooLong, said),
+            OwnLine::Bad => Verdict::of(line.number, Kind::Damaged, Reason::BadLine, said),
+            OwnLine::Faulty { .. } => Verdict::of(
+                line.number,
+                Kind::Damaged,
+                Reason::NoMessage,
+                said,
+            ),
             OwnLine::Frame { count } => {
                 self.take_own(form, line, &room[..count]);
-                Told::of(Kind::Frames, Reason::None, said)
+                Verdict::of(line.number, Kind::Frames, Reason::None, said)
             }
         }
     }
@@ -79,21 +72,23 @@ impl Frames {
     /// Takes the frame of a line.
     fn take_own(&mut self, form: OwnForm, line: Line, octets: &[u8])
         requires none { self.old.messages.items ≡ [] }
+        requires unplaced { self.old.places.items ≡ [] }
         requires spelled { spells octets.now ≡ true }
         ensures frame { map octets_in self.new.messages.items ≡ octets.now ∷ [] }
+        ensures placed { length self.new.places.items ≡ 1 }
+        ensures order { AreOfLine line.entry.number self.new.places.items }
         ensures apart { self.new.are_chain ≡ self.old.are_chain }
     {
-        let Some(message) = Message::of(octets) else {
-            return;
+        let end = line.text.len();
+        let front = match form {
+            OwnForm::Frames => 0,
+            OwnForm::Transcript => 2,
         };
-        self.messages.push(message);
-        let _fits = self.places.try_push(Place {
+        self.messages.push(Message::of(octets));
+        self.places.push(Place {
             line: line.number,
-            start: match form {
-                OwnForm::Frames => 0,
-                OwnForm::Transcript => 2,
-            },
-            end: line.text.len(),
+            start: end.min(front),
+            end,
             notation: Notation::Words,
         });
     }

@@ -3,7 +3,7 @@
 /// The days from 1 March of the year 0 to 1970.
 const DAYS_TO_1970: u64 = 719_468;
 
-/// The parts of a time. A day of 0 says that it has no date.
+/// The parts of a time. A day of 0 says that it has no date. None has more than 14 digits, so no product below wraps.
 #[derive(Clone, Copy)]
 pub(crate) struct Parts {
     pub year: u64,
@@ -45,22 +45,22 @@ impl Parts {
             self.month - 3
         };
         let leaps = year / 4 - year / 100 + year / 400;
-        let days = year.saturating_mul(365).saturating_add(leaps);
-        let in_year = month.saturating_mul(153).saturating_add(2) / 5;
+        let days = year.wrapping_mul(365).wrapping_add(leaps);
+        let in_year = month.wrapping_mul(153).wrapping_add(2) / 5;
         let all = days
-            .saturating_add(in_year)
-            .saturating_add(self.day)
+            .wrapping_add(in_year)
+            .wrapping_add(self.day)
             .saturating_sub(1);
         all.saturating_sub(DAYS_TO_1970)
     }
 
     /// Returns the microseconds since 1970, or since midnight.
     pub(crate) fn total(&self) -> u64 {
-        let hours = self.days().saturating_mul(24).saturating_add(self.hour);
-        let minutes = hours.saturating_mul(60).saturating_add(self.minute);
-        let seconds = minutes.saturating_mul(60).saturating_add(self.second);
+        let hours = self.days().wrapping_mul(24).wrapping_add(self.hour);
+        let minutes = hours.wrapping_mul(60).wrapping_add(self.minute);
+        let seconds = minutes.wrapping_mul(60).wrapping_add(self.second);
         seconds
-            .saturating_mul(1_000_000)
-            .saturating_add(self.microseconds)
+            .wrapping_mul(1_000_000)
+            .wrapping_add(self.microseconds)
     }
 }

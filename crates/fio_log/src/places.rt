@@ -1,4 +1,6 @@
 //! Places of a log where octets are written.
+ghost use Rattle.std.specs.Prelude.{◌≡◌, true};
+ghost use Rattle.fio_log.specs.Verdicts.{AreOfLine, ArePast, IsPast};
 
 /// How octets are written at a place.
 #[derive(Clone, Copy, Debug, Default, PartialEq, Eq)]
@@ -23,4 +25,38 @@ pub struct Place {
     pub end: usize,
     /// How the octets are written.
     pub notation: Notation,
+}
+
+/// Returns whether the first place is in a line, and each next one behind the one above it.
+pub(crate) fn are_of_line(places: &[Place], line: u64) -> bool
+    ensures { result ≡ true → AreOfLine line places.now }
+{
+    match places {
+        [] => true,
+        [first, next @ ..] => first.line == line
+            && first.start <= first.end
+            && are_past(*first, next),
+    }
+}
+
+/// Returns whether places are behind another, each behind the one above it.
+fn are_past(above: Place, places: &[Place]) -> bool
+    ensures { result ≡ true → ArePast above places.now }
+{
+    let mut last = above;
+    'places: for place in places {
+        if !is_past(last, *place) {
+            return false;
+        }
+        last = *place;
+    }
+    true
+}
+
+/// Returns whether a place is behind another.
+fn is_past(above: Place, place: Place) -> bool
+    ensures { result ≡ true → IsPast above place }
+{
+    let is_below = above.line < place.line || above.line == place.line && above.end <= place.start;
+    is_below && place.start <= place.end
 }

@@ -1,23 +1,30 @@
 //! The reader of a log: octets to lines, and lines to verdicts.
 ghost use Rattle.std.specs.Prelude.{◌≡◌, ◌+◌, ◌≤◌, ◌<◌, ◌↔◌, true, false, IfSome, IsSome, MatchOption, Some, [], get_or, length, slice_index_or, take};
 ghost use Rattle.fio_log.specs.Lines.{finished, is_whole, no_line};
-ghost use Rattle.fio_log.specs.Said.{IsSaidIn};
+ghost use Rattle.fio_log.specs.LineRuns.{IsLineRun};
 ghost use Rattle.fio_log.specs.Sayings.{spells};
 ghost use Rattle.std.specs.List.{All};
 ghost use Rattle.fio_log.specs.Frames.{AreFramesAt, AreFramesOf, IsJudgeOf, Log};
 ghost use Rattle.fio_log.specs.OwnVerdicts.{IsOwnVerdict, own_form_of};
-ghost use Rattle.fio_log.specs.Telling.{HasNoMore, HasTaken, HasTold, IsLineOf, IsReaderOf, frames_of, places_of, read_at_end};
+ghost use Rattle.fio_log.specs.Verdicts.{AreAgreed};
+ghost use Rattle.fio_log.specs.Telling.{HasNoMore, HasTaken, HasTold, IsLineOf, IsReaderOf, KeepsVerdict, frames_of, has_told_all, places_of, read_at_end};
 ghost use Rattle.fio_log.specs.declared.own_texts.OwnForm.{OwnForm};
 ghost use Rattle.fio_log.specs.declared.verdict.Form.TheVariants.{Auto};
 
+use crate::chains::CHAIN_OCTETS;
+use crate::judge::slots::ENTRIES;
+use crate::judge::tell::Frames;
 use crate::judge::{Judge, Line};
+use crate::line_run::LineRuns;
 use crate::line_runs::read_line;
 use crate::lines::LineMaker;
 use crate::places::Place;
-use crate::said::LineRuns;
-use crate::telling::{Frames, Told};
-use crate::verdict::{Form, Verdict};
+use crate::verdict::{Form, Kind, Reason, Verdict};
 use std::marker::Model;
+
+/// The most lines that are read and have no verdict, while none can be fetched: those of all entries that are kept, each of which
+/// has a row in each of its lines but perhaps the last one.
+pub(crate) const WAITING_LINES: u64 = (ENTRIES * (CHAIN_OCTETS + 1)) as u64;
 
 /// A reader of a log. It takes the octets of the log, and returns a verdict of each line, in order.
 ///
@@ -30,9 +37,11 @@ pub struct Reader {
     frames: Frames,
     form: Form,
     /// The verdict of the last line, if it is read by order.
-    own: Told,
+    own: Verdict,
     read: u64,
     told: u64,
+    /// Whether the last line is still to be read, after the verdicts that were ready at the end of the log are fetched.
+    is_unread: bool,
     /// Whether the last line is still to be judged, after the verdicts of those above it are fetched.
     is_held: bool,
     is_ready: bool,
@@ -57,8 +66,9 @@ impl Model for Reader {
       is_ended = r.is_ended;
       last = r.frames;
       judge = r.judge;
+      is_unread = r.is_unread;
       is_held = r.is_held;
-      runs = r.runs.said.items;
+      runs = r.runs.all.items;
     } };
 
     ghost invariant = { λ r. (r.told ≤ r.read)
@@ -66,7 +76,8 @@ impl Model for Reader {
         × (r.is_ended ≡ true → r.told < r.read → r.is_ready ≡ true)
         × (r.is_held ≡ true → is_whole r.maker.ending ≡ true)
         × ((own : OwnForm) → own_form_of r.form ≡ Some own → r.told < r.read
-        → (r.is_ready ≡ true) × (r.told + 1 ≡ r.read) × IsToldByOrder own r.maker r.own r.frames) };
+        → (r.is_ready ≡ true) × (r.told + 1 ≡ r.read) × IsToldByOrder own r.read r.maker r.own r.frames)
+        × (r.is_unread ≡ true → is_whole r.maker.ending ≡ true) };
 }
 
 impl Reader {
@@ -85,25 +96,43 @@ impl Reader {
             judge: Judge::new(),
             frames: Frames::new(),
             form,
-            own: Told::none(),
+            own: Verdict::of(0, Kind::Blank, Reason::None, None),
             read: 0,
             told: 0,
+            is_unread: false,
             is_held: false,
             is_ready: false,
             is_ended: false,
         }
     }
 
-    /// Starts again with another log.
-    pub fn start(&mut self, form: Form)
+    /// Starts again with another log of the same form.
+    pub fn start_again(&mut self)
         ensures line { self.new.making ≡ no_line }
         ensures none_read { self.new.read ≡ 0 }
         ensures none_told { self.new.told ≡ 0 }
         ensures open { self.new.is_ended ≡ false }
-        ensures form { self.new.form ≡ form }
+        ensures form { self.new.form ≡ self.old.form }
         ensures kept { (log : Log) → IsReaderOf log self.new }
     {
-        *self = Reader::new(form);
+        self.maker.restart();
+        self.runs.clear();
+        self.judge.clear();
+        self.frames.clear();
+        self.own = Verdict::of(0, Kind::Blank, Reason::None, None);
+        self.read = 0;
+        self.told = 0;
+        self.is_unread = false;
+        self.is_held = false;
+        self.is_ready = false;
+        self.is_ended = false;
+    }
+
+    /// Returns whether the log has ended, and each verdict is fetched.
+    pub fn has_told_all(&self) -> bool
+        ensures { result ≡ has_told_all self.now }
+    {
+        self.is_ended && self.told == self.read
     }
 
     /// Takes octets of the log until they end a line or there are no more, and returns how many it has taken. It takes none
@@ -129,8 +158,8 @@ impl Reader {
         count
     }
 
-    /// Ends the log: the line that is made is its last one, if it has octets. Then each line has its verdict. Of the verdicts
-    /// that can be fetched before, one with several frames of several lines may be lost: it is fetched as `TooLong`.
+    /// Ends the log: the line that is made is its last one, if it has octets. Then each line has its verdict. A verdict that
+    /// can be fetched before stays as it is.
     pub fn end(&mut self)
         ensures ended { self.new.is_ended ≡ true }
         ensures line { self.old.is_ended ≡ false → self.old.read < u64.MAX
@@ -138,15 +167,18 @@ impl Reader {
             × (self.new.read ≡ read_at_end self.old.read self.old.making) }
         ensures told { self.new.told ≡ self.old.told }
         ensures form { self.new.form ≡ self.old.form }
+        ensures ready { self.old.is_ready ≡ true → KeepsVerdict self.old self.new }
         ensures kept { (log : Log) → IsReaderOf log self.old → IsLineOf log self.new → IsReaderOf log self.new }
     {
         self.finish_line();
         self.is_ended = true;
-        self.is_ready = self.told < self.read;
-        self.refresh();
+        if !self.is_ready {
+            self.is_ready = self.told < self.read;
+            self.refresh();
+        }
     }
 
-    /// Ends the line that is being made, and reads it if it has octets, unless the log has ended.
+    /// Ends the line that is being made, and counts it if it has octets, unless the log has ended.
     fn finish_line(&mut self)
         ensures line { self.old.is_ended ≡ false → self.old.read < u64.MAX
             → (self.new.making ≡ finished self.old.making)
@@ -154,18 +186,15 @@ impl Reader {
         ensures told { self.new.told ≡ self.old.told }
         ensures ended { self.new.is_ended ≡ self.old.is_ended }
         ensures form { self.new.form ≡ self.old.form }
+        ensures ready { self.old.is_ready ≡ true → KeepsVerdict self.old self.new }
         ensures kept { (log : Log) → IsReaderOf log self.old → IsLineOf log self.new → IsReaderOf log self.new }
     {
-        if self.is_ended || self.read == u64::MAX {
-            return;
-        }
-        self.judge_held();
-        if self.maker.is_whole() {
+        if self.is_ended || self.read == u64::MAX || self.maker.is_whole() {
             return;
         }
         self.maker.finish();
         if self.maker.is_whole() {
-            self.read_line();
+            self.count_line();
         }
     }
 
@@ -184,23 +213,58 @@ impl Reader {
         ensures kept { (log : Log) → IsJudgeOf log self.old.judge → (self.old.form ≡ Auto → AreFramesOf log self.old.last)
             → IsLineOf log self.new → IsReaderOf log self.new }
     {
-        self.read += 1;
-        let line = Line {
-            number: self.read,
-            text: self.maker.octets(),
-            is_long: self.maker.is_long(),
-        };
-        if let Some(form) = self.form.own() {
-            self.own = self.frames.tell_own(form, line);
-            self.is_ready = true;
-            return;
-        }
-        read_runs(line, &mut self.runs);
-        self.is_held = !self.judge.goes_on(line, &self.runs);
+        self.count_line();
+        self.read_unread();
         self.refresh();
     }
 
-    /// Judges the line that is held.
+    /// Counts the line that is whole. By order it gets its verdict; otherwise it is still to be read.
+    fn count_line(&mut self)
+        requires room { self.old.read < u64.MAX }
+        requires open { self.old.is_ended ≡ false }
+        requires whole { is_whole self.old.making.ending ≡ true }
+        requires none { self.old.is_held ≡ false }
+        requires told { (own : OwnForm) → own_form_of self.old.form ≡ Some own → self.old.told ≡ self.old.read }
+        ensures line { self.new.making ≡ self.old.making }
+        ensures read { self.new.read ≡ self.old.read + 1 }
+        ensures told { self.new.told ≡ self.old.told }
+        ensures ended { self.new.is_ended ≡ self.old.is_ended }
+        ensures form { self.new.form ≡ self.old.form }
+        ensures auto { self.old.form ≡ Auto → KeepsVerdict self.old self.new }
+        ensures kept { (log : Log) → IsJudgeOf log self.old.judge → (self.old.form ≡ Auto → AreFramesOf log self.old.last)
+            → IsLineOf log self.new → IsReaderOf log self.new }
+    {
+        self.read += 1;
+        match self.form.own() {
+            Some(form) => {
+                self.own = self
+                    .frames
+                    .tell_own(form, last_line(&self.maker, self.read));
+                self.is_ready = true;
+            }
+            None => self.is_unread = true,
+        }
+    }
+
+    /// Reads the runs of the last line, unless that was done: it continues those above it, or is held.
+    fn read_unread(&mut self)
+        ensures line { self.new.making ≡ self.old.making }
+        ensures read { self.new.read ≡ self.old.read }
+        ensures told { self.new.told ≡ self.old.told }
+        ensures ended { self.new.is_ended ≡ self.old.is_ended }
+        ensures form { self.new.form ≡ self.old.form }
+        ensures none { self.new.is_unread ≡ false }
+        ensures kept { (log : Log) → IsReaderOf log self.old → IsReaderOf log self.new }
+    {
+        if self.is_unread {
+            self.is_unread = false;
+            let line = last_line(&self.maker, self.read);
+            read_runs(line, &mut self.runs);
+            self.is_held = !self.judge.goes_on(line, &self.runs);
+        }
+    }
+
+    /// Judges the last line, unless that was done or it continues those above it.
     fn judge_held(&mut self)
         ensures line { self.new.making ≡ self.old.making }
         ensures read { self.new.read ≡ self.old.read }
@@ -208,22 +272,21 @@ impl Reader {
         ensures ended { self.new.is_ended ≡ self.old.is_ended }
         ensures form { self.new.form ≡ self.old.form }
         ensures none { self.new.is_held ≡ false }
+        ensures unread { self.new.is_unread ≡ false }
         ensures kept { (log : Log) → IsReaderOf log self.old → IsReaderOf log self.new }
     {
+        self.read_unread();
         if self.is_held {
             self.is_held = false;
-            let line = Line {
-                number: self.read,
-                text: self.maker.octets(),
-                is_long: self.maker.is_long(),
-            };
-            self.judge.begin(line, &self.runs);
+            self.judge
+                .begin(last_line(&self.maker, self.read), &self.runs);
         }
     }
 
-    /// Judges the line that is held, and after the end what waits, once no verdict is left to be fetched; then finds
+    /// Reads and judges the last line, and after the end what waits, once no verdict is left to be fetched; then finds
     /// whether there is one.
     fn refresh(&mut self)
+        ensures waiting { self.new.is_ready ≡ false → self.new.read ≤ self.new.told + WAITING_LINES }
         ensures line { self.new.making ≡ self.old.making }
         ensures read { self.new.read ≡ self.old.read }
         ensures told { self.new.told ≡ self.old.told }
@@ -241,13 +304,39 @@ impl Reader {
         }
         let next = self.told + 1;
         if !self.judge.is_decided(next) {
+            self.read_unread();
+        }
+        if !self.judge.is_decided(next) {
             self.judge_held();
         }
         self.judge.give_up_old();
         if self.is_ended && !self.judge.is_decided(next) {
             self.judge.finish();
         }
-        self.is_ready = self.is_ended || self.judge.is_decided(next);
+        self.is_ready = self.is_ended
+            || self.judge.is_decided(next)
+            || self.read - self.told > WAITING_LINES;
+    }
+
+    /// Returns whether there is a verdict to return. Nothing changes if that is known.
+    fn is_due(&mut self) -> bool
+        ensures waiting { result ≡ false → self.new.read ≤ self.new.told + WAITING_LINES }
+        ensures some { result ≡ true → self.new.told < self.new.read }
+        ensures ready { self.old.is_ready ≡ true → result ≡ true }
+        ensures none { result ≡ false → self.new.is_ready ≡ false }
+        ensures all { result ≡ false → self.new.is_ended ≡ true → self.new.told ≡ self.new.read }
+        ensures line { self.new.making ≡ self.old.making }
+        ensures read { self.new.read ≡ self.old.read }
+        ensures told { self.new.told ≡ self.old.told }
+        ensures ended { self.new.is_ended ≡ self.old.is_ended }
+        ensures form { self.new.form ≡ self.old.form }
+        ensures kept { (log : Log) → IsReaderOf log self.old → IsReaderOf log self.new }
+    {
+        let was_ready = self.is_ready;
+        if !was_ready || self.is_ended {
+            self.refresh();
+        }
+        was_ready || self.is_ready
     }
 
     /// Returns the verdict of the next line; `None` if more octets decide on it, or if each line that is read has its
@@ -264,29 +353,28 @@ impl Reader {
         ensures written { (log : Log) → IsReaderOf log self.old → self.old.form ≡ Auto
             → AreFramesAt log (frames_of self.new) (places_of self.new) }
     {
-        let was_ready = self.is_ready;
-        self.refresh();
-        if !was_ready && !self.is_ready {
+        if !self.is_due() {
             return None;
         }
-        let told = self.tell_line(self.told + 1);
+        let verdict = self.tell_line(self.told + 1);
+        let lines = &self.judge.join.lines;
+        let (frames, places) = (self.frames.count(lines), self.frames.place_count(lines));
         self.told += 1;
         self.is_ready = self.told < self.read
             && (self.is_ended || self.form != Form::Auto || self.judge.is_decided(self.told + 1));
         Some(Verdict {
             line: self.told,
-            kind: told.kind,
-            reason: told.reason,
-            frames: self.frame_count(),
-            places: self.place_count(),
-            time: told.time,
-            said: told.said,
+            frames,
+            places,
+            ..verdict
         })
     }
 
     /// Returns the verdict of a line, and takes its frames.
-    fn tell_line(&mut self, line: u64) -> Told
-        requires { self.old.told < self.old.read }
+    fn tell_line(&mut self, line: u64) -> Verdict
+        requires within { self.old.told < self.old.read }
+        requires next { line ≡ self.old.told + 1 }
+        ensures agreed { AreAgreed line result.kind result.reason (frames_of self.new) (places_of self.new) }
         ensures line { self.new.making ≡ self.old.making }
         ensures read { self.new.read ≡ self.old.read }
         ensures told { self.new.told ≡ self.old.told }
@@ -299,33 +387,37 @@ impl Reader {
         ensures kept { (log : Log) → IsReaderOf log self.old → IsReaderOf log self.new }
     {
         if self.form == Form::Auto {
-            self.judge.tell(line, &mut self.frames)
+            self.tell_judged(line)
         } else {
-            self.own
+            self.tell_own()
         }
     }
 
-    /// Returns how many frames the last verdict has.
-    fn frame_count(&self) -> usize
-        ensures { result ≡ length (frames_of self.now) }
+    /// Returns the verdict of a line that the judge has read, and takes its frames.
+    fn tell_judged(&mut self, line: u64) -> Verdict
+        requires { self.old.form ≡ Auto }
+        ensures agreed { AreAgreed line result.kind result.reason (frames_of self.new) (places_of self.new) }
+        ensures line { self.new.making ≡ self.old.making }
+        ensures read { self.new.read ≡ self.old.read }
+        ensures told { self.new.told ≡ self.old.told }
+        ensures ended { self.new.is_ended ≡ self.old.is_ended }
+        ensures form { self.new.form ≡ self.old.form }
+        ensures kept { (log : Log) → IsReaderOf log self.old → IsReaderOf log self.new }
     {
-        if self.frames.are_chain {
-            self.judge.join.lines.chain.len()
-        } else {
-            self.frames.messages.len()
-        }
+        self.judge.tell(line, &mut self.frames)
     }
 
-    /// Returns how many places the last verdict has.
-    #[tactic(auto, using(crate::proofs::FrameLemmas::length_row_places))]
-    fn place_count(&self) -> usize
-        ensures { result ≡ length (places_of self.now) }
+    /// Returns the verdict of the last line, which is read by order; its frames are taken.
+    fn tell_own(&self) -> Verdict
+        requires { self.now.told < self.now.read }
+        ensures agreed { (own : OwnForm) → own_form_of self.now.form ≡ Some own → AreAgreed (self.now.told + 1)
+            result.kind result.reason (frames_of self.now) (places_of self.now) }
+        ensures own { (own : OwnForm) → own_form_of self.now.form ≡ Some own
+            → IsOwnVerdict own self.now.making.text result.kind result.reason (frames_of self.now) }
+        ensures last { (own : OwnForm) → own_form_of self.now.form ≡ Some own
+            → (self.now.told + 1 ≡ self.now.read) × (is_whole self.now.making.ending ≡ true) }
     {
-        if self.frames.are_chain {
-            self.judge.join.lines.rows.len()
-        } else {
-            self.frames.places.len()
-        }
+        self.own
     }
 
     /// Returns a frame of the last verdict, until the next call that changes the reader.
@@ -357,9 +449,22 @@ impl Reader {
     }
 }
 
+/// Returns the line that is made, with its number.
+fn last_line(maker: &LineMaker, number: u64) -> Line<'_>
+    ensures number { result.number ≡ number }
+    ensures text { result.text.now ≡ maker.now.text.octets }
+    ensures long { result.is_long ≡ maker.now.text.is_long }
+{
+    Line {
+        number,
+        text: maker.octets(),
+        is_long: maker.is_long(),
+    }
+}
+
 /// Finds the runs of a line; none in a line that is too long.
 fn read_runs(line: Line, runs: &mut LineRuns)
-    ensures { All (IsSaidIn line.entry.text.now) runs.new.said.items }
+    ensures { All (IsLineRun line.entry.text.now) runs.new.all.items }
 {
     if line.is_long {
         runs.clear();

@@ -1,18 +1,17 @@
 //! Runs: the longest sequences of octets in a line that are written as hexadecimal words.
-ghost use Rattle.std.specs.Prelude.{◌≤◌, ◌<◌, IfSome, length};
-ghost use Rattle.fio_log.specs.Runs.{IsBehind, IsRun, IsSpan};
+ghost use Rattle.std.specs.Prelude.{◌≡◌, ◌≤◌, ◌<◌, ◌+◌, ◌-◌, ◌%◌, IfNone, IfSome, MatchOption, false, length, true};
+ghost use Rattle.fio_log.specs.Runs.{AreOctetWords, AreOdd, AreSeparators, IsBehind, IsOfWords, IsRun, IsSingle, IsSpan, is_marked};
+ghost use Rattle.fio_log.specs.Words.{IsWord, is_first, may_begin};
+ghost use Rattle.fio_log.specs.declared.marks.Word.{Word};
 
-use crate::digits::{digit, is_letter};
+use crate::digits::{digit, is_letter, is_separator};
 use crate::marks::{Mark, Word, word_at};
 use crate::octets::{Octets, read_words};
-
-/// The mark of words that may come after a letter.
-const BACKSLASH: &[u8] = b"\\x";
 
 /// What is between two words.
 #[derive(Clone, Copy, Debug, PartialEq, Eq)]
 pub struct Separator {
-    /// Its sign: a blank, a tab, one of `,;:-|`, or 0 for none.
+    /// Its sign: a blank, a tab, one of `,;:-`, or 0 for none.
     pub sign: u8,
     /// Whether a blank is before the sign.
     pub before: bool,
@@ -52,16 +51,21 @@ pub fn next_run(
     is_short: bool,
     octets: &mut Octets,
 ) -> Option<Run>
-    ensures { IfSome result (IsRun line.now from octets.new.items) }
+    ensures run { IfSome result (IsRun line.now from octets.new.items) }
+    ensures words { IfSome result (IsOfWords line.now mark.before.now mark.after.now is_short) }
+    ensures first { is_short ≡ false → MatchOption result
+        (AreOdd line.now mark.before.now mark.after.now from (length line.now))
+        (λ run. AreOdd line.now mark.before.now mark.after.now from run.start) }
+    ensures single { is_short ≡ true → IsSingle line.now mark.before.now mark.after.now from
+        → MatchOption result ⊥ (λ run. run.start ≡ from) }
 {
-    let opening = mark.before.first().copied();
     let mut place = from;
     'places: while place < line.len() {
-        if !is_first(line[place], opening) {
+        if !is_first(mark.before, line[place]) || !may_begin(line, mark.before, place) {
             place += 1;
             continue;
         }
-        place = match run_from(line, place, mark, is_short) {
+        place = match run_at(line, place, mark, is_short) {
             Some(run) if is_short && !is_short_run(run, mark) => run.next,
             Some(run) => {
                 read_words(&line[run.start..run.end], octets);
@@ -73,49 +77,47 @@ pub fn next_run(
     None
 }
 
-/// Returns whether a word can begin with `character`, if its mark begins with `opening`.
-fn is_first(character: u8, opening: Option<u8>) -> bool {
-    match opening {
-        Some(opening) => character == opening,
+/// Returns whether a word whose mark begins with `opening` can begin with a character.
+fn is_first(opening: &[u8], character: u8) -> bool
+    ensures { result ≡ is_first opening.now character }
+{
+    match opening.first() {
+        Some(first) => character == *first,
         None => digit(character).is_some(),
     }
 }
 
-/// Returns whether words of one or two digits are a run: one has one digit, and there are several words or a mark.
-fn is_short_run(run: Run, mark: Mark) -> bool {
-    run.has_single && (run.words > 1 || !mark.before.is_empty() || !mark.after.is_empty())
-}
-
-/// Returns the run that begins at `place`, if a word may begin there.
-fn run_from(line: &[u8], place: usize, mark: Mark, is_short: bool) -> Option<Run>
-    ensures { IfSome result (IsSpan line.now place) }
+/// Returns whether a word whose mark begins with `opening` may begin at `place`: not after a letter, digit or point, unless
+/// its mark begins with a backslash.
+fn may_begin(line: &[u8], opening: &[u8], place: usize) -> bool
+    requires { place < length line.now }
+    ensures { result ≡ may_begin line.now opening.now place }
 {
-    if may_begin(line, place, mark) {
-        run_at(line, place, mark, is_short)
-    } else {
-        None
-    }
+    place == 0
+        || matches!(opening, [b'\\', ..])
+        || !(is_letter(line[place - 1]) || line[place - 1] == b'.')
 }
 
-/// Returns whether a word may begin at `place`: not after a letter, digit or point, unless its mark begins with a
-/// backslash.
-fn may_begin(line: &[u8], place: usize, mark: Mark) -> bool {
-    match line[..place.min(line.len())].last() {
-        Some(last) => mark.before == BACKSLASH || !is_letter(*last) && *last != b'.',
-        None => true,
-    }
+/// Returns whether words of one or two digits are a run: one has one digit, and there are several words or a mark.
+fn is_short_run(run: Run, mark: Mark) -> bool
+    ensures { run.has_single ≡ true → is_marked mark.before.now mark.after.now ≡ true → result ≡ true }
+{
+    run.has_single && (run.words > 1 || !mark.before.is_empty() || !mark.after.is_empty())
 }
 
 /// Returns the run that begins with the word at `place`.
 fn run_at(line: &[u8], place: usize, mark: Mark, is_short: bool) -> Option<Run>
-    ensures { IfSome result (IsSpan line.now place) }
+    ensures span { IfSome result (IsSpan line.now place) }
+    ensures here { IfSome result (λ run. run.start ≡ place) }
+    ensures words { IfSome result (λ run.
+        AreOctetWords line.now mark.before.now mark.after.now is_short place run.end) }
+    ensures odd { is_short ≡ false → IfNone result ((word : Word)
+        → IsWord line.now mark.before.now mark.after.now place word → (word.stop - word.start) % 2 ≡ 1) }
+    ensures single { is_short ≡ true → (word : Word) → IsWord line.now mark.before.now mark.after.now place word
+        → word.stop ≡ word.start + 1 → MatchOption result ⊥ (λ run. run.has_single ≡ true) }
 {
     let first = word_at(line, place, mark)?;
-    let width = if is_short {
-        0
-    } else {
-        first.stop - first.start
-    };
+    let width = width_of(first, is_short);
     if width % 2 == 1 || !fits(line, first, width) {
         return None;
     }
@@ -146,10 +148,27 @@ fn run_at(line: &[u8], place: usize, mark: Mark, is_short: bool) -> Option<Run>
     Some(run)
 }
 
+/// Returns the width of a run that begins with a word: 0 if its words are short.
+fn width_of(first: Word, is_short: bool) -> usize
+    requires { first.start < first.stop }
+    ensures whole { is_short ≡ false → result ≡ first.stop - first.start }
+    ensures short { is_short ≡ true → result ≡ 0 }
+{
+    if is_short {
+        0
+    } else {
+        first.stop - first.start
+    }
+}
+
 /// Returns whether a word fits those of a width.
 fn fits(line: &[u8], word: Word, width: usize) -> bool
     requires order { word.start < word.stop }
     requires within { word.stop ≤ length line.now }
+    ensures own { 0 < width → width ≡ word.stop - word.start → result ≡ true }
+    ensures single { width ≡ 0 → word.stop ≡ word.start + 1 → result ≡ true }
+    ensures whole { result ≡ true → 0 < width → width % 2 ≡ 0 → (word.stop - word.start) % 2 ≡ 0 }
+    ensures short { result ≡ true → width ≡ 0 → word.stop - word.start ≤ 2 }
 {
     let digits = word.stop - word.start;
     if width > 0 {
@@ -163,7 +182,13 @@ fn fits(line: &[u8], word: Word, width: usize) -> bool
 fn next_word(line: &[u8], run: Run, last: Word, mark: Mark) -> Option<(Word, Separator)>
     requires order { last.start < last.stop }
     requires within { last.end ≤ length line.now }
-    ensures { IfSome result (λ found. IsBehind line.now last.end found.0) }
+    ensures order { IfSome result (λ found. IsBehind line.now last.end found.0) }
+    ensures word { IfSome result (λ found.
+        IsWord line.now mark.before.now mark.after.now found.0.place found.0) }
+    ensures between { IfSome result (λ found. AreSeparators line.now last.end found.0.place) }
+    ensures whole { IfSome result (λ found.
+        0 < run.width → run.width % 2 ≡ 0 → (found.0.stop - found.0.start) % 2 ≡ 0) }
+    ensures short { IfSome result (λ found. run.width ≡ 0 → found.0.stop - found.0.start ≤ 2) }
 {
     let digits = last.stop - last.start;
     if run.width > 0 && (digits < run.width || run.width > 8) {
@@ -195,12 +220,11 @@ fn may_begin_next(line: &[u8], run: Run, last: Word, mark: Mark) -> bool
 /// blanks count as one.
 fn separator_at(line: &[u8], place: usize, is_eighth: bool) -> Option<(Separator, usize)>
     requires { place ≤ length line.now }
-    ensures { IfSome result (λ found. (place ≤ found.1) × (found.1 ≤ length line.now)) }
+    ensures order { IfSome result (λ found. (place ≤ found.1) × (found.1 ≤ length line.now)) }
+    ensures between { IfSome result (λ found. AreSeparators line.now place found.1) }
 {
     let mut end = place;
-    'signs: while end < line.len()
-        && matches!(line[end], b' ' | b'\t' | b',' | b';' | b':' | b'-' | b'|')
-    {
+    'signs: while end < line.len() && is_separator(line[end]) {
         end += 1;
     }
     let (sign, before, behind) = match *(&line[place..end]) {

@@ -4,9 +4,9 @@ ghost use Rattle.fio_message.specs.declared.faults.DecodeError.{DecodeError};
 ghost use Rattle.fio_message.specs.Refusals.{Refuses};
 ghost use Rattle.fio_log.specs.Sayings.{IsSaying, flags_before, frame_end, is_answer, is_checked, is_counted, length_of, needed_of, spells};
 
-use crate::checks::frame_check;
 use fio_message::types::{BLOCK_ANSWER, CONFIGURE_INPUTS};
 use fio_message::{DecodeError, FRAME_OCTETS, read_answer, read_command};
+use fio_wire::frame_check;
 
 /// The flag before and after the frames of SDLC.
 pub(crate) const FLAG: u8 = 0x7e;

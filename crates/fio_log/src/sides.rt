@@ -1,7 +1,7 @@
 //! Who sent the octets of a line, as the line says.
-use crate::decisions::State;
+ghost use Rattle.std.specs.Prelude.{◌<◌, ◌≤◌, length};
+
 use crate::directions::{Direction, direction_of_word};
-use crate::judge::Judge;
 
 /// Returns the direction that a line says of the octets at a place: by the sign of a transcript at its beginning, else by the
 /// last word before them that says one.
@@ -40,17 +40,31 @@ fn part_of(character: u8) -> Part {
 fn last_said(text: &[u8]) -> Option<Direction> {
     let mut said = None;
     let mut start = 0;
-    for place in 0..text.len() {
-        let end = place + 1;
-        let part = part_of(text[place]);
-        let word = text.get(start..end)?;
-        let goes_on = text.get(end).is_some_and(|next| part_of(*next) == part);
-        if !goes_on || matches!(*word, [.., 0xe2, 0x86, 0x90 | 0x92]) {
-            said = said_by(part, word).or(said);
-            start = end;
+    'words: while start < text.len() {
+        let part = part_of(text[start]);
+        let end = word_end(text, start, part);
+        if part != Part::Other {
+            said = said_by(part, &text[start..end]).or(said);
         }
+        start = end;
     }
     said
+}
+
+/// Returns where the word ends that begins at a place of a text. Each arrow of one character is a word.
+fn word_end(text: &[u8], start: usize, part: Part) -> usize
+    requires { start < length text.now }
+    ensures forward { start < result }
+    ensures within { result ≤ length text.now }
+{
+    let mut end = start + 1;
+    'characters: while end < text.len() && part_of(text[end]) == part {
+        if part == Part::Wide && matches!(&text[start..end], [.., 0xe2, 0x86, 0x90 | 0x92]) {
+            return end;
+        }
+        end += 1;
+    }
+    end
 }
 
 /// Returns the direction that a word says. The arrows are U+2192 and U+2190.
@@ -62,18 +76,5 @@ fn said_by(part: Part, word: &[u8]) -> Option<Direction> {
         (Part::Signs, [.., b'>']) if !word.contains(&b'<') => Some(Direction::Command),
         (Part::Signs, [b'<', ..]) if !word.contains(&b'>') => Some(Direction::Answer),
         _ => None,
-    }
-}
-
-impl Judge {
-    /// Returns the direction that the line of the entry in a slot says, if octets of a message are written in it.
-    pub(crate) fn said(&self, slot: usize) -> Option<Direction> {
-        let entry = self.entries.get(slot)?;
-        let index = match self.decider.queue.get(slot)?.state {
-            State::Chain => return self.join.around.said,
-            State::Both(index, _) | State::Taken(index) => index,
-            _ => entry.possible()?,
-        };
-        entry.kept.as_slice().get(index)?.said
     }
 }

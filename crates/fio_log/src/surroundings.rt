@@ -1,5 +1,5 @@
 //! What surrounds a run in its line.
-ghost use Rattle.std.specs.Prelude.{◌≤◌, length};
+ghost use Rattle.std.specs.Prelude.{◌≡◌, ◌<◌, true};
 
 use crate::masks::{Mask, sum_of};
 
@@ -14,7 +14,9 @@ pub(crate) struct Gap {
 
 impl Gap {
     /// Returns whether a place is in it.
-    pub(crate) fn has(self, place: usize) -> bool {
+    pub(crate) fn has(self, place: usize) -> bool
+        ensures { result ≡ true → place < self.end }
+    {
         self.start <= place && place < self.end
     }
 }
@@ -36,18 +38,25 @@ impl Before {
         }
     }
 
-    /// Reads a line up to a place, its time as a number.
-    pub(crate) fn reach(&mut self, line: &[u8], gap: Gap, start: usize)
-        requires { start ≤ length line.now }
-    {
-        if start < self.place {
+    /// Reads a line up to a place. Its time counts as one digit, as each word with digits does.
+    pub(crate) fn reach(&mut self, line: &[u8], gap: Gap, end: usize) {
+        if end < self.place {
             *self = Before::new();
         }
-        for place in self.place..start {
-            let character = if gap.has(place) { b'0' } else { line[place] };
-            self.mask.add(character);
+        self.read(line, gap.start.min(end));
+        if self.place < gap.end.min(end) {
+            self.mask.add(b'0');
+            self.place = gap.end.min(end);
         }
-        self.place = start;
+        self.read(line, end);
+    }
+
+    /// Reads the text up to a place, unless that was read.
+    fn read(&mut self, line: &[u8], end: usize) {
+        if let Some(text) = line.get(self.place..end) {
+            self.mask.add_all(text);
+            self.place = end;
+        }
     }
 }
 
@@ -67,7 +76,7 @@ pub(crate) fn read_after(text: &[u8], octets: &[u8]) -> After {
     let rest = if is_column(text, octets) {
         &text[..0]
     } else {
-        within_separators(text)
+        within(text, b" \t,;\\")
     };
     After {
         sum: sum_of(rest),
@@ -86,23 +95,29 @@ fn has_tail(text: &[u8]) -> bool {
     false
 }
 
-/// Returns a text without the separators at its ends.
-fn within_separators(text: &[u8]) -> &[u8] {
+/// Returns a text without some characters at its ends.
+fn within<'a>(text: &'a [u8], edges: &[u8]) -> &'a [u8] {
     let mut rest = text;
-    'front: while let [b' ' | b'\t' | b',' | b';' | b'\\', others @ ..] = rest {
+    'front: while let [first, others @ ..] = rest
+        && edges.contains(first)
+    {
         rest = others;
     }
-    'back: while let [others @ .., b' ' | b'\t' | b',' | b';' | b'\\'] = rest {
+    'back: while let [others @ .., last] = rest
+        && edges.contains(last)
+    {
         rest = others;
     }
     rest
 }
 
-/// Returns whether a text is a column of the characters of octets: apart from them, no longer, and with each of those
-/// that can be printed, in their order.
+/// Returns whether a text is a column of the characters of octets: apart from them, and either just these, or about as many
+/// characters, of which no two are of one word. Damage may have changed them.
 fn is_column(text: &[u8], octets: &[u8]) -> bool {
     let is_apart = matches!(text, [b'\t' | b'|', ..] | [b' ', b' ' | b'|', ..]);
-    is_apart && column_length(text) <= octets.len().saturating_add(1) && has_in_order(text, octets)
+    is_apart
+        && (shows(text, octets)
+            || column_length(text).abs_diff(octets.len()) <= 1 && !has_word(text))
 }
 
 /// Returns how many characters a column has, without blanks and bars at its ends.
@@ -121,26 +136,36 @@ fn column_length(text: &[u8]) -> usize {
     length
 }
 
-/// Returns whether a text has each octet that can be printed, in their order.
-fn has_in_order(text: &[u8], octets: &[u8]) -> bool {
-    let mut rest = text;
-    for octet in octets {
-        if octet.is_ascii_graphic() {
-            match after_first(rest, *octet) {
-                Some(others) => rest = others,
-                None => return false,
-            }
+/// Returns whether a text has two letters or digits of ASCII that follow each other.
+fn has_word(text: &[u8]) -> bool {
+    let mut is_within = false;
+    for character in text {
+        let is_letter = character.is_ascii_alphanumeric();
+        if is_within && is_letter {
+            return true;
         }
+        is_within = is_letter;
     }
-    true
+    false
 }
 
-/// Returns what is after the first of some character in a text.
-fn after_first(text: &[u8], wanted: u8) -> Option<&[u8]> {
-    for place in 0..text.len() {
-        if text[place] == wanted {
-            return Some(&text[place + 1..]);
+/// Returns whether a text has the characters of octets, and no others but blanks and bars at its ends. A point stands for an
+/// octet that cannot be printed.
+fn shows(text: &[u8], octets: &[u8]) -> bool {
+    let mut rest = within(text, b" \t|");
+    for octet in within(octets, b" |") {
+        match rest {
+            [first, others @ ..] if *first == shown(*octet) => rest = others,
+            _ => return false,
         }
     }
-    None
+    rest.is_empty()
+}
+
+/// Returns the character that a column has for an octet.
+fn shown(octet: u8) -> u8 {
+    match octet {
+        b' '..=b'~' => octet,
+        _ => b'.',
+    }
 }

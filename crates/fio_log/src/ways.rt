@@ -87,23 +87,22 @@ impl Ways {
         !self.is_any() && self.bits & !ONE_DIGIT == 0
     }
 
-    /// Returns whether it has words of one digit, and `known` has the same separators with words of two digits.
-    pub(crate) fn has_lost_a_digit(self, known: Ways) -> bool {
-        self.is_one_digit() && self.bits & !((known.bits & TWO_DIGITS) << 3) == 0
+    /// Returns whether its words are of two digits, and one begins with 0.
+    pub(crate) fn is_filled(self) -> bool {
+        ((self.bits & TWO_DIGITS) << 3) & !self.bits != 0
     }
 
-    /// Returns the ways of both sets. What `other` has with two digits it does not add with one.
+    /// Returns the ways of both sets.
     pub(crate) fn with(self, other: Ways) -> Ways {
-        let doubtful = (other.bits & TWO_DIGITS) << 3;
         Ways {
-            bits: self.bits | other.bits & !doubtful,
+            bits: self.bits | other.bits,
         }
     }
 }
 
-/// Returns the index of a separator, from 0 to 13. Blanks before a sign count as blanks after it.
+/// Returns the index of a separator, from 0 to 11. Blanks before a sign count as blanks after it.
 fn separator_index(separator: Separator) -> u32
-    ensures { result < 14 }
+    ensures { result < 12 }
 {
     let sign = match separator.sign {
         0 => return 0,
@@ -112,8 +111,7 @@ fn separator_index(separator: Separator) -> u32
         b',' => 4,
         b';' => 6,
         b':' => 8,
-        b'-' => 10,
-        _ => 12,
+        _ => 10,
     };
     if separator.before || separator.behind {
         sign + 1

@@ -1,5 +1,5 @@
 -- Laws of messages and their octets: each function of the module `laws` promises one of them.
-use Rattle.std.specs.Prelude.{◌≡◌, ◌↔◌, ℕ, ◌+◌, ◌*◌, ◌<◌, ◌≤◌, Bool, true, false, List, ◌∷◌, length, map, slice_index_or, Option, Some, None, Result, Ok, Err}
+use Rattle.std.specs.Prelude.{◌≡◌, ◌↔◌, ℕ, ◌+◌, ◌*◌, ◌%◌, ◌<◌, ◌≤◌, Bool, true, false, List, ◌∷◌, ◌++◌, length, Contains, map, slice_index_or, Option, Some, None, Result, Ok, Err}
 use Rattle.std.specs.Int.{IsBitSet}
 use Rattle.fio_message.specs.Octets.{IsOctets, IsFrameLength, entry_octets, inputs_octets}
 use Rattle.fio_message.specs.Commands.{SpellsCommand}
@@ -13,6 +13,7 @@ use Rattle.fio_message.specs.declared.commands.Command.{Command}
 use Rattle.fio_message.specs.declared.answers.Answer.{Answer}
 use Rattle.fio_message.specs.declared.answers.Answer.TheVariants as answers
 use Rattle.fio_message.specs.declared.fields.Entry.{Entry}
+use Rattle.fio_message.specs.declared.limits.TheConstants.{BODY_OCTETS}
 
 -- for commands and for answers alike, given which octets each message spells
 module _ {V : Type 0} (Spells : V → List ℕ → Type 0) where
@@ -57,6 +58,25 @@ module _ {V : Type 0} (Spells : V → List ℕ → Type 0) where
   AnswersWhatIsSpelled decoded =
       (octets : List ℕ) (message : V) → IsOctets octets
       → (decoded octets ≡ Ok message) ↔ Spells message octets
+
+  -- no message is a proper beginning of another, if its type is none of these
+  abbrev pub BeginsNoOther : List ℕ → Type 0
+  BeginsNoOther any_length =
+      (a b : V) (code octet : ℕ) (fields more : List ℕ) → (Contains any_length code → ⊥)
+      → Spells a (code ∷ fields) → Spells b (code ∷ (fields ++ octet ∷ more)) → ⊥
+
+  -- Two messages of one type differ in length by a multiple of three octets, if it is none of these types. So a message with
+  -- one octet put in or taken out after its type is none, nor with two, whatever else is changed after the type.
+  abbrev pub DiffersByThrees : List ℕ → Type 0
+  DiffersByThrees any_length =
+      (a b : V) (code : ℕ) (fields others : List ℕ) → (Contains any_length code → ⊥)
+      → Spells a (code ∷ fields) → Spells b (code ∷ others) → length fields % 3 ≡ length others % 3
+
+  -- octets with one of these types that fit in a frame are a message, whatever their length
+  abbrev pub TakesAnyLength : List ℕ → Type 0
+  TakesAnyLength any_length =
+      (code : ℕ) (fields : List ℕ) → Contains any_length code → IsOctets fields → length fields ≤ BODY_OCTETS
+      → (message : V) × Spells message (code ∷ fields)
 
 -- a decoder returns a fault exactly if the octets are refused for it
 abbrev pub AnswersRefusals :

@@ -1,14 +1,31 @@
 -- What waits if a module is kept up with, each input with its own filters: what the latest scans reported.
-use Rattle.fio_module.proofs.Names.{◌≡◌, ℕ, zero, suc, ◌+◌, ◌-◌, ◌*◌, ◌≤◌, Bool, true, false, [], ◌∷◌, ◌++◌, length, drop, Some, slice_get, refl, ap, sym, ◌∙◌, subst, arith, inl, inr, append_assoc, length-append, length-drop, cases_lt, Poll, ConfigureInputs, scans_in, Settings, Life, Occurrence, Scanned, Commanded, scans_of, filter_events, Transition, log_of, newest_poll, is_new, blocks_of, next_block, newest_end, waiting_from, AtEachTime, scans_behind, IsYoung}
+use Rattle.fio_module.proofs.Names.{◌≡◌, ℕ, zero, suc, ◌+◌, ◌-◌, ◌*◌, ◌≤◌, Bool, true, false, [], ◌∷◌, ◌++◌, length, drop, AllByRecursion, Some, slice_get, refl, ap, sym, ◌∙◌, subst, arith, inl, inr, append_assoc, length-append, length-drop, cases_lt, Poll, ConfigureInputs, scans_in, Settings, Life, Occurrence, Scanned, Commanded, scans_of, filter_events, Transition, log_of, newest_poll, is_new, blocks_of, next_block, newest_end, waiting_from, waiting_of, AtEachTime, FewBeyond, scans_behind, IsYoung}
 use Rattle.fio_input.specs.FiltersThatDiffer.{Plan, IsAsPlanned, StaysAsPlanned, most_reports}
 use Rattle.fio_input.proofs.FiltersThatDiffer.{reports_are_few_of_each, most_reports-more}
-use Rattle.fio_module.specs.FiltersThatDiffer.{KeepsUpForEach, IsKeptUpForEach}
+use Rattle.fio_module.specs.FiltersThatDiffer.{FewChangeEach}
 use Rattle.fio_module.proofs.Ages.{scans_in-append, was_logged}
 use Rattle.fio_module.proofs.ExactBounds.{no_scan}
 use Rattle.fio_module.proofs.Growth.{log-grows}
 use Rattle.fio_module.proofs.ListParts.{each-from_get, get_in_drop}
 use Rattle.fio_module.proofs.Pace.{each_before, each_since, nothing_left}
 use Rattle.fio_module.proofs.Stretches.{blocks_new, behind_new, end_after_block, log-grown}
+
+-- Kept up with, by the plan: few change, the blocks are never more than `most` scans behind, and the buffer has room for what
+-- the open inputs can report in these scans.
+pub record IsKeptUpForEach (settings : Settings) (plan : Plan) (scans most : ℕ) (life later : Life) : Type 0 where
+  pub few_change : FewChangeEach settings plan scans life later
+  pub behind : AtEachTime (λ l. scans_behind scans l life ≤ most) later
+  pub room : most_reports plan most ≤ settings.waiting
+
+-- What holds then, if the blocks are b scans behind: no more entries wait than are taken by the blocks that make up for b
+-- scans, nor than the open inputs can report in b scans; none is pushed out, and none that waits is older than b - 1 scans.
+pub record KeepsUpForEach (settings : Settings) (plan : Plan) (scans : ℕ) (life later : Life) : Type 0 where
+  pub few_wait :
+      (blocks : ℕ) → scans_behind scans later life ≤ blocks * scans
+      → length (waiting_of settings (later ++ life)) ≤ blocks * settings.per_block
+  pub few_reported : length (waiting_of settings (later ++ life)) ≤ most_reports plan (scans_behind scans later life)
+  pub few_beyond : FewBeyond settings (later ++ life)
+  pub young : AllByRecursion (IsYoung (scans_behind scans later life) 1 (later ++ life)) (waiting_of settings (later ++ life))
 
 -- a stretch in two parts, of which the first has at most n scans
 record Parts (n : ℕ) (since : Life) : Type 0 where
@@ -40,18 +57,23 @@ module _ (settings : Settings) (plan : Plan) (scans : ℕ) (life : Life) (enough
   abbrev IsPlanned : Life → Type 0
   IsPlanned later = StaysAsPlanned plan (filter_events later) (filter_events life)
 
-  -- `scans` scans report no more than a block takes
-  gained : (since before : Life) → IsPlanned (since ++ before) → scans_in (filter_events since) ≤ scans
-      → length (log_of (since ++ (before ++ life))) ≤ length (log_of (before ++ life)) + settings.per_block
-  gained since before stay few =
+  -- scans report no more than they can
+  reported : (most : ℕ) (since before : Life) → IsPlanned (since ++ before) → scans_in (filter_events since) ≤ most
+      → length (log_of (since ++ (before ++ life))) ≤ length (log_of (before ++ life)) + most_reports plan most
+  reported most since before stay few =
       let rest = before ++ life in
-      let more = most_reports-more plan (scans_in (filter_events since)) scans few in
-      elim (cases_lt 0 (scans_in (filter_events since))) as (λ _. length (log_of (since ++ rest)) ≤ length (log_of rest) + settings.per_block) [
+      let more = most_reports-more plan (scans_in (filter_events since)) most few in
+      elim (cases_lt 0 (scans_in (filter_events since))) as (λ _. length (log_of (since ++ rest)) ≤ length (log_of rest) + most_reports plan most) [
         | inl once ↦
             let reports = reports_are_few_of_each plan (filter_events since) (filter_events rest) (each_since (IsAsPlanned plan) since before life stay) once in
             omega (arith, log-grows since rest)
         | inr never ↦ omega (arith, no_scan since rest (omega arith))
       ]
+
+  -- `scans` scans report no more than a block takes
+  gained : (since before : Life) → IsPlanned (since ++ before) → scans_in (filter_events since) ≤ scans
+      → length (log_of (since ++ (before ++ life))) ≤ length (log_of (before ++ life)) + settings.per_block
+  gained since before stay few = let once = reported scans since before stay few in omega arith
 
   -- and a multiple of these scans no more than that many blocks take
   gained_in : (blocks : ℕ) (since before : Life) → IsPlanned (since ++ before) → scans_in (filter_events since) ≤ blocks * scans
@@ -138,9 +160,9 @@ module _ (settings : Settings) (plan : Plan) (scans : ℕ) (life : Life) (enough
       let t = taken later ends stay in
       taken-other later other t refl t.scanned
 
-  keeps_up : (blocks : ℕ) (later : Life) → blocks * settings.per_block ≤ settings.waiting → length (log_of life) ≤ newest_end settings life
-      → IsPlanned later → scans_behind scans later life ≤ blocks * scans → KeepsUpForEach settings scans life later
-  keeps_up blocks later room ends stay near =
+  keeps_up : (most : ℕ) (later : Life) → most_reports plan most ≤ settings.waiting → length (log_of life) ≤ newest_end settings life
+      → IsPlanned later → scans_behind scans later life ≤ most → KeepsUpForEach settings plan scans life later
+  keeps_up most later room ends stay near =
       let here = later ++ life in
       let t = taken later ends stay in
       let stay_split = subst IsPlanned t.split stay in
@@ -149,9 +171,11 @@ module _ (settings : Settings) (plan : Plan) (scans : ℕ) (life : Life) (enough
       let few = t.scanned in
       let old = t.ended in
       let count = length-drop (waiting_from settings here) (log_of here) in
-      let now = gained_in blocks t.since t.before stay_split (omega arith) in
+      let now = reported (scans_behind scans later life) t.since t.before stay_split few in
+      let more = most_reports-more plan (scans_behind scans later life) most near in
       record {
-        few_wait = λ n low. let most = gained_in n t.since t.before stay_split (omega arith) in omega arith;
+        few_wait = λ blocks low. let taken = gained_in blocks t.since t.before stay_split (omega arith) in omega arith;
+        few_reported = omega arith;
         few_beyond = omega arith;
         young = each-from_get (IsYoung (scans_behind scans later life) 1 here) (drop (waiting_from settings here) (log_of here))
             (λ k transition is. of_since t whole (waiting_from settings here + k) transition (omega arith) (get_in_drop (waiting_from settings here) (log_of here) k transition is));
@@ -173,17 +197,17 @@ module _ (settings : Settings) (plan : Plan) (scans : ℕ) (life : Life) (enough
             | inr never ↦ absurd (omega (arith, w.logged, no_scan w.upto rest (omega arith)))
           ]
 
-  keeps_each : (blocks : ℕ) (later : Life) → blocks * settings.per_block ≤ settings.waiting → length (log_of life) ≤ newest_end settings life
-      → IsPlanned later → AtEachTime (λ l. scans_behind scans l life ≤ blocks * scans) later
-      → AtEachTime (KeepsUpForEach settings scans life) later
-  keeps_each blocks [] room ends stay near = keeps_up blocks [] room ends stay near
-  keeps_each blocks (occurrence ∷ later) room ends stay near =
-      (keeps_up blocks (occurrence ∷ later) room ends stay near.0, keeps_each blocks later room ends (each_before (IsAsPlanned plan) (occurrence ∷ []) later life stay) near.1)
+  keeps_each : (most : ℕ) (later : Life) → most_reports plan most ≤ settings.waiting → length (log_of life) ≤ newest_end settings life
+      → IsPlanned later → AtEachTime (λ l. scans_behind scans l life ≤ most) later
+      → AtEachTime (KeepsUpForEach settings plan scans life) later
+  keeps_each most [] room ends stay near = keeps_up most [] room ends stay near
+  keeps_each most (occurrence ∷ later) room ends stay near =
+      (keeps_up most (occurrence ∷ later) room ends stay near.0, keeps_each most later room ends (each_before (IsAsPlanned plan) (occurrence ∷ []) later life stay) near.1)
 
 -- this holds at each time
-pub kept_up_for_each : (settings : Settings) (plan : Plan) (scans blocks : ℕ) (life later : Life) → 1 ≤ settings.waiting
-    → IsKeptUpForEach settings plan scans blocks life later → AtEachTime (KeepsUpForEach settings scans life) later
-kept_up_for_each settings plan scans blocks life later some k =
+pub kept_up_for_each : (settings : Settings) (plan : Plan) (scans most : ℕ) (life later : Life) → 1 ≤ settings.waiting
+    → IsKeptUpForEach settings plan scans most life later → AtEachTime (KeepsUpForEach settings plan scans life) later
+kept_up_for_each settings plan scans most life later some k =
     let f = k.few_change in
     let ends = nothing_left settings some life (ap length f.nothing_waits) in
-    keeps_each settings plan scans life f.enough blocks later k.room (omega arith) f.as_planned k.behind
+    keeps_each settings plan scans life f.enough most later k.room (omega arith) f.as_planned k.behind

@@ -32,7 +32,7 @@ pub use Rattle.fio_module.specs.Log.{Transition, entry_of, log_of, transition_at
 unfoldable pub use Rattle.fio_module.specs.Log.{transitions_below}
 pub use Rattle.fio_module.specs.Rings.{first_in}
 pub use Rattle.fio_module.specs.Sendings.{Sending, answer_of_sending, first_sending, is_out_of_sequence, latest_sending, repeat_of}
-pub use Rattle.fio_module.specs.Settings.{AreInRange, HasRoom, Settings, settings_with, standard_settings}
-pub use Rattle.fio_module.specs.State.{IsAfter, Obeys, Receives, octets_of_transition, sent_frame}
+pub use Rattle.fio_module.specs.Settings.{AreInRange, Settings, settings_with, standard_settings}
+pub use Rattle.fio_module.specs.State.{IsAfter, IsAfterHistory, Obeys, octets_of_transition, sent_frame}
 pub use Rattle.fio_module.specs.Waiting.{HoldsWaiting}
 unfoldable pub use Rattle.fio_module.specs.Waiting.{entries_below}

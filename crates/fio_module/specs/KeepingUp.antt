@@ -2,7 +2,7 @@
 use Rattle.std.specs.Prelude.{ℕ, ◌+◌, ◌-◌, ◌*◌, ◌≤◌, [], ◌∷◌, ◌++◌, length, if◌then◌else◌}
 use Rattle.std.specs.List.{AllByRecursion}
 use Rattle.fio_message.specs.declared.commands.Command.TheVariants.{Poll}
-use Rattle.fio_module.specs.Settings.{Settings, AreInRange}
+use Rattle.fio_module.specs.Settings.{Settings, AreInRange, HasRoom}
 use Rattle.fio_module.specs.Life.{Life, Scanned, Commanded, scans_of}
 use Rattle.fio_module.specs.Log.{Transition}
 use Rattle.fio_module.specs.Blocks.{newest_poll, is_new, waiting_of}
@@ -63,3 +63,12 @@ BlocksTakeTheRest =
     opened * scans ≤ settings.per_block * filter →
     (opened * (0 + (filter - 1)) ≤ 1 * (settings.per_block * filter))
     × (opened * (scans + (filter - 1)) ≤ 2 * (settings.per_block * filter))
+
+-- If two blocks may wait, and one entry more for each input, the buffer has room for what the open inputs can report in twice
+-- the scans that a block makes up for.
+abbrev pub TwoBlocksAreRoom : Type 0
+TwoBlocksAreRoom =
+    (settings : Settings) (opened filter scans : ℕ) →
+    HasRoom settings → opened ≤ INPUTS → 1 ≤ filter →
+    opened * scans ≤ settings.per_block * filter →
+    opened * (2 * scans + (filter - 1)) ≤ settings.waiting * filter

@@ -1,8 +1,7 @@
 -- The settings that a module is made with.
-use Rattle.std.specs.Prelude.{ℕ, ◌≤◌}
+use Rattle.std.specs.Prelude.{ℕ, ◌+◌, ◌*◌, ◌≤◌}
 use Rattle.fio_module.specs.Limits.{Limits, standard_limits}
-use Rattle.fio_message.specs.declared.limits.TheConstants.{BLOCK_ENTRIES}
-use Rattle.fio_module.specs.declared.limits.TheConstants.{STANDARD_WAITING}
+use Rattle.fio_message.specs.declared.limits.TheConstants.{BLOCK_ENTRIES, INPUTS}
 
 -- the identification octet, the most entries of one block, and the most that wait
 pub record Settings : Type 0 where
@@ -25,6 +24,6 @@ pub record AreInRange (settings : Settings) : Type 0 where
   pub some_per_block : 1 ≤ settings.per_block
   pub few_per_block : settings.per_block ≤ BLOCK_ENTRIES
 
--- at least as many may wait as in the standard settings
+-- two blocks may wait, and one entry more for each input
 abbrev pub HasRoom : Settings → Type 0
-HasRoom settings = STANDARD_WAITING ≤ settings.waiting
+HasRoom settings = 2 * settings.per_block + INPUTS ≤ settings.waiting

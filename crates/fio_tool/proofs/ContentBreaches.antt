@@ -1,5 +1,5 @@
 -- The first breach of a rule on content, found line by line.
-use Rattle.fio_tool.proofs.Names.{◌≡◌, ◌≤◌, ◌∙◌, ℕ, ◌+◌, inl, inr, Bool, true, false, List, [], ◌∷◌, ◌++◌, length, drop, take, Option, Some, None, refl, sym, ap, arith, append-nil, length-append, length-drop, ◌==◌, ◌%◌, option_map, if◌then◌else◌, flat_map, take-append-le, answer_in, answered_block, command_in, TranscriptLine, observation_of, fault_of_item, item_broken}
+use Rattle.fio_tool.proofs.Names.{◌≡◌, ◌≤◌, ◌∙◌, ℕ, ◌+◌, inl, inr, Bool, true, false, List, [], ◌∷◌, ◌++◌, length, drop, take, Option, Some, None, refl, sym, ap, subst, arith, append-nil, length-append, length-drop, ◌==◌, ◌%◌, option_map, if◌then◌else◌, flat_map, take-append-le, answer_in, answered_block, command_in, TranscriptLine, from_first_command, observation_of, fault_of_item, item_broken}
 use Rattle.std.specs.Option.{option_or}
 use Rattle.std.proofs.lemmas.Bool.Decides.{eqb_tells}
 use Rattle.fio_message.specs.Blocks.{Block}
@@ -9,13 +9,14 @@ use Rattle.fio_cpu.specs.Hearing.{after_hearing}
 use Rattle.fio_cpu.specs.Poller.{Polling}
 use Rattle.fio_cpu.specs.Record.{items_of_block}
 use Rattle.fio_cpu.specs.declared.record.Item.{Item}
-use Rattle.fio_check.specs.ContentAbove.{ContentFacts}
+use Rattle.fio_check.specs.ContentKnown.{ContentFacts}
 use Rattle.fio_check.specs.ContentCheckers.{ContentKept, breach_among, content_found, kept_at_start, kept_with}
 use Rattle.fio_check.specs.ContentEvents.{ContentEvent, LineEvent, events_below, events_in, content_events, events_of_block, events_of_lines, item_of_event, items_and_end, number_below, number_after}
-use Rattle.fio_check.specs.ContentRules.{ContentFault, content_fault_in, content_fault_at}
+use Rattle.fio_check.specs.ContentFaults.{ContentFault, content_fault_in, content_fault_at, first_fault_in}
 use Rattle.fio_check.specs.Facts.{number_polled}
 use Rattle.fio_check.specs.Places.{earliest_above}
 use Rattle.fio_check.specs.declared.content.ContentBreach.{ContentBreach}
+use Rattle.fio_check.proofs.ContentNext.{content_is_kept}
 use Rattle.fio_check.proofs.ContentCourse.{IsContentCourse, breach_within, fault_at, first_course, frame_broken, frame_course}
 use Rattle.fio_check.specs.Pollers.{poller_with}
 use Rattle.fio_tool.specs.Record.{items_of_cpu}
@@ -128,6 +129,7 @@ frame_step (Some cpu) number false octets = answer-step cpu (answer_in octets)
 
 -- ---- line by line
 
+-- a log from a command on, of which these lines are left
 pub record IsBrokenSoFar (lines rest : List TranscriptLine) (cpu : Option Polling) (kept : ContentKept) (broken : Option BrokenItem) : Type 0 where
   pub place : ℕ
   pub course : IsContentCourse (events_of_lines lines) place kept.facts (items_of_cpu cpu) (option_map (fault_of_item (items_of_cpu cpu)) broken)
@@ -141,7 +143,7 @@ pub broken_first : (lines : List TranscriptLine) (cpu : Option Polling) (kept : 
 broken_first lines cpu kept broken none nothing unbroken =
     let first : IsBrokenSoFar lines lines None (kept_at_start false) None = record {
       place = 0;
-      course = first_course (events_of_lines lines);
+      course = subst (λ facts. IsContentCourse (events_of_lines lines) 0 facts [] None) ((content_is_kept (events_of_lines lines)).first) (first_course (events_of_lines lines));
       left = refl;
       numbers = refl;
       fits = λ item is. absurd (cc);
@@ -220,11 +222,11 @@ broken_next lines rest line cpu cpu' kept kept' broken broken' cpu_is kept_is br
 
 -- no line remains
 pub broken_end : (lines : List TranscriptLine) (cpu : Option Polling) (kept : ContentKept) (broken : Option BrokenItem) → IsBrokenSoFar lines [] cpu kept broken
-    → option_map (fault_of_item (items_of_cpu cpu)) broken ≡ content_fault_in false lines
-broken_end lines cpu kept broken so_far =
+    → from_first_command lines ≡ lines → option_map (fault_of_item (items_of_cpu cpu)) broken ≡ content_fault_in false lines
+broken_end lines cpu kept broken so_far begins =
     let all = events_of_lines lines in
     let none = so_far.left in
     let within = so_far.course.within in
     let count = sym (length-drop so_far.place all) ∙ ap length none in
     let ended : so_far.place ≡ length all = omega (arith, count, within) in
-    sym so_far.course.broken_is ∙ ap (earliest_above (content_fault_at all)) ended
+    sym so_far.course.broken_is ∙ ap (earliest_above (content_fault_at all)) ended ∙ ap (λ from. first_fault_in (events_of_lines from)) (sym begins)

@@ -5,4 +5,5 @@ pub mod LongFrames
 pub mod CheckedLines
 pub mod ContentBreaches
 pub mod RecordedLines
+pub mod BegunLines
 pub mod FramesShown

@@ -1,8 +1,10 @@
--- What `record` writes for a text: the record of the transcript's CPU, judged by the rules on content.
+-- What `record` writes for a text: the record of the transcript's CPU, judged by the rules on content. The transcript may
+-- begin anywhere: what is heard above its first command is neither judged nor recorded.
 use Rattle.std.specs.Prelude.{ℕ, Bool, List, [], ◌++◌, ◌&&◌, codes, decimal, length, false, is_some, not, if◌then◌else◌, Option, Some, None, Result, Ok, Err}
 use Rattle.std.specs.List.{flat_map}
 use Rattle.std.specs.Option.{option_map_or}
-use Rattle.fio_check.specs.ContentRules.{ContentFault, content_fault_in, content_rule_name}
+use Rattle.fio_check.specs.ContentRules.{content_rule_name}
+use Rattle.fio_check.specs.ContentFaults.{ContentFault, content_fault_in}
 use Rattle.fio_check.specs.Lines.{TranscriptLine}
 use Rattle.fio_check.specs.Pollers.{poller_of}
 use Rattle.fio_check.specs.Verdicts.{verdict_on}
@@ -13,7 +15,7 @@ use Rattle.fio_cpu.specs.declared.record.Item.{Item}
 use Rattle.fio_show.specs.EntryLines.{item_line}
 use Rattle.fio_tool.specs.Check.{is_good, trace_error_text, verdict_text}
 use Rattle.fio_tool.specs.InputFaults.{is_too_long, too_long_text}
-use Rattle.fio_tool.specs.Transcript.{transcript_in}
+use Rattle.fio_tool.specs.Transcript.{transcript_from_command}
 use Rattle.fio_tool.specs.declared.transcript.lines.TraceError.{TraceError}
 
 -- ---- the record of a transcript's CPU
@@ -62,7 +64,7 @@ transcript_record (Err fault) = trace_error_text fault ++ codes "\n"
 -- the text that `record` writes for an input
 abbrev pub record_text : List ℕ → List ℕ
 record_text input =
-    if is_too_long input then too_long_text else transcript_record (transcript_in input)
+    if is_too_long input then too_long_text else transcript_record (transcript_from_command input)
 
 -- whether a transcript breaks no rule, and no rule on content
 abbrev pub is_record_kept : Result (List TranscriptLine) TraceError → Bool
@@ -71,4 +73,4 @@ is_record_kept (Err fault) = false
 
 -- whether `record` reports no fault
 abbrev pub is_record_good : List ℕ → Bool
-is_record_good input = not (is_too_long input) && is_record_kept (transcript_in input)
+is_record_good input = not (is_too_long input) && is_record_kept (transcript_from_command input)

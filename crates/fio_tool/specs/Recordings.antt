@@ -2,9 +2,9 @@
 use Rattle.std.specs.Prelude.{◌≡◌, ℕ, ◌+◌, false, List, Option, None, length, option_map, take}
 use Rattle.std.specs.Option.{option_or}
 use Rattle.fio_cpu.specs.declared.record.Item.{Item}
-use Rattle.fio_check.specs.ContentCheckers.{content_found, kept_at_start, kept_with}
-use Rattle.fio_check.specs.ContentKept.{content_kept}
-use Rattle.fio_check.specs.ContentRules.{ContentFault, content_fault_in}
+use Rattle.fio_check.specs.ContentCheckers.{checking_at_start, checking_with, found_in_frame}
+use Rattle.fio_check.specs.ContentKept.{content_checking}
+use Rattle.fio_check.specs.ContentFaults.{ContentFault, content_fault_in}
 use Rattle.fio_check.specs.Lines.{TranscriptLine}
 use Rattle.fio_check.specs.declared.content.ContentBreach.{ContentBreach}
 use Rattle.fio_check.specs.Pollers.{poller_of, poller_with}
@@ -29,7 +29,7 @@ fault_of_recording recording =
 -- the pass has not gone through any line
 pub record IsNoRecording (recording : Recording) : Type 0 where
   pub cpu : recording.cpu ≡ None
-  pub kept : content_kept recording.checker ≡ kept_at_start false
+  pub checking : content_checking recording.checker ≡ checking_at_start false
   pub broken : recording.broken ≡ None
 
 -- the pass has gone through these lines
@@ -49,7 +49,7 @@ item_broken line items breach = record {
 -- a step of the pass over a line
 pub record RecordsLine (before : Recording) (line : TranscriptLine) (after : Recording) : Type 0 where
   pub cpu : after.cpu ≡ poller_with before.cpu line
-  pub kept : content_kept after.checker ≡ kept_with (content_kept before.checker) line.from_cpu line.octets
+  pub checking : content_checking after.checker ≡ checking_with (content_checking before.checker) line.from_cpu line.octets
   pub broken : after.broken ≡ option_or before.broken
       (option_map (item_broken line.number (length (items_of_cpu before.cpu)))
-      (content_found (content_kept before.checker) line.from_cpu line.octets))
+      (found_in_frame (content_checking before.checker) line.from_cpu line.octets))

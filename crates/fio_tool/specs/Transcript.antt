@@ -4,7 +4,7 @@ use Rattle.std.specs.Prelude.{◌≡◌, ◌≤◌, ℕ, Bool, true, false, List
 use Rattle.std.specs.Option.{ok_or, option_or}
 use Rattle.fio_message.specs.declared.limits.TheConstants.{FRAME_OCTETS}
 use Rattle.fio_message.specs.Decoding.{answer_in, command_in}
-use Rattle.fio_check.specs.Lines.{TranscriptLine}
+use Rattle.fio_check.specs.Lines.{TranscriptLine, from_first_command}
 use Rattle.fio_check.specs.Verdicts.{verdict_on}
 use Rattle.fio_check.specs.declared.verdict.Verdict.{Verdict}
 use Rattle.fio_text.specs.FirstFaults.{values_or_fault}
@@ -47,6 +47,15 @@ line_in (number, line) = ok_or
 abbrev pub transcript_in : List ℕ → Result (List TranscriptLine) TraceError
 transcript_in text = values_or_fault (map line_in (numbered 1 (lines_of text)))
 
+-- what is read, from the first command on
+abbrev pub from_command : Result (List TranscriptLine) TraceError → Result (List TranscriptLine) TraceError
+from_command (Ok lines) = Ok (from_first_command lines)
+from_command (Err fault) = Err fault
+
+-- the lines of a transcript from the first command on, or the fault of the first line that is no frame
+abbrev pub transcript_from_command : List ℕ → Result (List TranscriptLine) TraceError
+transcript_from_command text = from_command (transcript_in text)
+
 -- some line is a frame, and so are all lines before it: room is requested only to keep such frames
 pub record HasFrameToKeep (text : List ℕ) : Type 0 where
   pub above : List TranscriptLine
@@ -62,3 +71,7 @@ verdict_of (Err fault) = Err fault
 -- the verdict on the transcript that a text is, or the fault of its first line that is no frame
 abbrev pub verdict_in : List ℕ → Result Verdict TraceError
 verdict_in text = verdict_of (transcript_in text)
+
+-- the verdict on the transcript from the first command on
+abbrev pub verdict_from_command : List ℕ → Result Verdict TraceError
+verdict_from_command text = verdict_of (transcript_from_command text)

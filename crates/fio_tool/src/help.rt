@@ -125,8 +125,9 @@ Writes:  what the CPU of the transcript recorded: `record N`, and then its N ite
            cleared    An answer 177 has none of the flags that its command clears.
            watchdog   An answer 186 has Y, if another 186 is above.
          docs/FORMATS.md says when each is judged. A transcript may begin anywhere in a
-         log. Where a line breaks a rule of fio2070 check or is no frame, what that writes,
-         and no record. For stamp and wide see fio2070 show --help.
+         log: what is heard above its first command is passed over. If a line from there
+         on breaks a rule of fio2070 check, or any line is no frame, that as check writes
+         it, and no record. For stamp and wide see fio2070 show --help.
 
 Exit status:
   0  the transcript keeps the rules

@@ -107,10 +107,27 @@ static void ends(void) {
     CHECK(fio2070_module_flags(module) == FIO2070_BIT_WAS_RESET && fio2070_module_errors(module).receive == 0);
 }
 
+static void wires(void) {
+    struct fio2070_wire *wire = (struct fio2070_wire *)fresh(sizeof *wire);
+    struct fio2070_wire_bits *bits = (struct fio2070_wire_bits *)fresh(sizeof *bits);
+    uint8_t *out = (uint8_t *)fresh(FIO2070_WIRE_LONGEST), *heard = room();
+    size_t count = fio2070_wire_write(0x14, 0x83, (const uint8_t *)"\x36\5", 2, out, FIO2070_WIRE_LONGEST);
+    CHECK(is_written(count, out, "\x7e\x14\x83\x36\5\xc4\x1b\x7e", 8));
+    fio2070_wire_start(wire, FIO2070_WIRE_ADDRESS, FIO2070_WIRE_CONTROL);
+    fio2070_wire_lose(wire);
+    CHECK(fio2070_wire_message_length(wire) == 0 && fio2070_wire_read_many(wire, out, count, heard) == count);
+    CHECK(*heard == FIO2070_WIRE_MESSAGE && is_written(fio2070_wire_message_length(wire), wire->octets + 2, "\x36\5", 2));
+    fio2070_wire_bits_start(bits, FIO2070_WIRE_ANY, FIO2070_WIRE_ANY);
+    heard = room();
+    CHECK(fio2070_wire_bits_read_many(bits, (const uint8_t *)"011111101011111100", 18, heard) == 17 && *heard == FIO2070_WIRE_DAMAGED);
+    CHECK(fio2070_wire_bits_message_length(bits) == 0);
+}
+
 int main(void) {
     reads();
     reads_numbers();
     writes();
     ends();
+    wires();
     return end_of_checks();
 }

@@ -160,9 +160,27 @@ static int is_judged(struct fio2070_checker *checker, struct fio2070_content_che
     return rule == breach.rule && rule <= last_rule;
 }
 
+/* Whatever the octets are, they are read to the end as a line; a message is heard as it was written. */
+static int is_framed(const uint8_t *octets, size_t length, uint8_t *line_end) {
+    static struct fio2070_wire wire;
+    static struct fio2070_wire_bits bits;
+    size_t room = 2 * length + 10, count, read;
+    uint8_t heard, *line = line_end - room;
+    fio2070_wire_start(&wire, FIO2070_WIRE_ADDRESS, FIO2070_WIRE_CONTROL);
+    fio2070_wire_bits_start(&bits, FIO2070_WIRE_ANY, FIO2070_WIRE_ANY);
+    for (read = 0; read < length;) read += fio2070_wire_read_many(&wire, octets + read, length - read, &heard);
+    for (read = 0; read < length;) read += fio2070_wire_bits_read_many(&bits, octets + read, length - read, &heard);
+    if (read != length) return 0;
+    count = fio2070_wire_write(FIO2070_WIRE_ADDRESS, FIO2070_WIRE_CONTROL, octets, length, line, room);
+    if (length == 0 || length > FIO2070_LONGEST_FRAME) return count == 0;
+    fio2070_wire_start(&wire, FIO2070_WIRE_ADDRESS, FIO2070_WIRE_CONTROL);
+    if (fio2070_wire_read_many(&wire, line, count, &heard) != count || heard != FIO2070_WIRE_MESSAGE) return 0;
+    return fio2070_wire_message_length(&wire) == length && memcmp(wire.octets + 2, octets, length) == 0;
+}
+
 int main(int arguments, char **words) {
     long buffers = arguments > 1 ? atol(words[1]) : 1000, number, failed = 0;
-    uint8_t *end = guarded_end(), *text_end = guarded_end(), *answer = guarded_end() - FIO2070_LONGEST_FRAME;
+    uint8_t *end = guarded_end(), *text_end = guarded_end(), *answer = guarded_end() - FIO2070_LONGEST_FRAME, *line_end = guarded_end();
     static struct fio2070_module device;
     struct fio2070_limits limits = FIO2070_STANDARD_LIMITS;
     static struct fio2070_checker checker;
@@ -179,6 +197,7 @@ int main(int arguments, char **words) {
         memcpy(start, octets, length);
         if (!reads_command(start, length, text_end) || !reads_answer(start, length, text_end) ||
             !is_heard(start, length) || !is_judged(&checker, &content, start, length) || !is_received(&device, start, length, answer) ||
+            !is_framed(start, length, line_end) ||
             memcmp(start, octets, length) != 0) {
             printf("buffer %ld of %lu octets\n", number, (unsigned long)length);
             failed++;

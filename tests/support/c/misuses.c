@@ -6,6 +6,7 @@ void drops(uint8_t *out, size_t room, char *text);
 const char *says(const struct fio2070_heard *heard);
 const char *rules(uint8_t rule, uint8_t content);
 const char *faults(uint8_t kind, uint8_t configured, uint8_t started, uint8_t type);
+const char *lines(struct fio2070_wire *wire, struct fio2070_wire_bits *bits, uint8_t *out);
 
 static const uint8_t frame[] = {0x36, 5};
 
@@ -110,6 +111,34 @@ const char *faults(uint8_t kind, uint8_t configured, uint8_t started, uint8_t ty
     case FIO2070_TYPE_IDENTIFY:
 #endif
         return "a command";
+    }
+    return "";
+}
+
+/* A line: 31 to 33 results that are dropped, 34 to 36 arguments of another kind, 37 a switch that forgets a value. */
+const char *lines(struct fio2070_wire *wire, struct fio2070_wire_bits *bits, uint8_t *out) {
+    uint8_t heard = FIO2070_WIRE_NOTHING;
+    if (fio2070_wire_write(FIO2070_WIRE_ADDRESS, FIO2070_WIRE_CONTROL, frame, sizeof frame, out, FIO2070_WIRE_LONGEST) == 0) return "";
+    if (fio2070_wire_bits_read(bits, 1) != FIO2070_WIRE_NOTHING || fio2070_wire_read_many(wire, out, 1, &heard) != 1) return "";
+#if MISUSE == 31
+    fio2070_wire_read(wire, *out);
+#elif MISUSE == 32
+    fio2070_wire_read_many(wire, out, 1, &heard);
+#elif MISUSE == 33
+    fio2070_wire_write(FIO2070_WIRE_ADDRESS, FIO2070_WIRE_CONTROL, frame, sizeof frame, out, FIO2070_WIRE_LONGEST);
+#elif MISUSE == 34
+    heard = fio2070_wire_read(bits, *out);
+#elif MISUSE == 35
+    heard = fio2070_wire_read(wire, out);
+#elif MISUSE == 36
+    if (fio2070_wire_read_many(wire, out, &heard, 1) != 1) return "";
+#endif
+    switch ((enum fio2070_wire_heard)heard) {
+    case FIO2070_WIRE_NOTHING: break;
+    case FIO2070_WIRE_MESSAGE: case FIO2070_WIRE_OTHER: return "a frame";
+#if MISUSE != 37
+    case FIO2070_WIRE_DAMAGED: return "damage";
+#endif
     }
     return "";
 }

@@ -2,22 +2,11 @@
 #ifndef RANDOM_FRAMES_H
 #define RANDOM_FRAMES_H
 
+#include "random_numbers.h"
+
 #include <stddef.h>
-#include <stdint.h>
 
 enum { LONGEST = 800 };
-
-static uint64_t random_state;
-
-/* xorshift64* */
-static uint64_t next_random(void) {
-    random_state ^= random_state >> 12;
-    random_state ^= random_state << 25;
-    random_state ^= random_state >> 27;
-    return random_state * UINT64_C(2685821657736338717);
-}
-
-static unsigned below(unsigned bound) { return (unsigned)((next_random() >> 33) % bound); }
 
 /* Fills the octets; most of them begin with a type and have a length near the one it needs, a third with the type of a
  * configuration or of a block. */

@@ -39,6 +39,19 @@ static void modules(void) {
     check(same(&one, &other, sizeof one), "octets of the module", __LINE__);
 }
 
+static void wires(void) {
+    static struct fio2070_wire one, other;
+    static struct fio2070_wire_bits bits, others;
+    fill(&one, &other, sizeof one);
+    fill(&bits, &others, sizeof bits);
+    fio2070_wire_start(&one, FIO2070_WIRE_ADDRESS, FIO2070_WIRE_ANY);
+    fio2070_wire_start(&other, FIO2070_WIRE_ADDRESS, FIO2070_WIRE_ANY);
+    fio2070_wire_bits_start(&bits, FIO2070_WIRE_ANY, FIO2070_WIRE_CONTROL);
+    fio2070_wire_bits_start(&others, FIO2070_WIRE_ANY, FIO2070_WIRE_CONTROL);
+    check(same(&one, &other, sizeof one), "wire", __LINE__);
+    check(same(&bits, &others, sizeof bits), "bits of the wire", __LINE__);
+}
+
 int main(void) {
     STARTS(counter_start, fio2070_counter);
     STARTS(checker_start, fio2070_checker);
@@ -46,5 +59,6 @@ int main(void) {
     STARTS(content_start_begun, fio2070_content_checker);
     STARTS(filters_start, fio2070_filters);
     modules();
+    wires();
     return end_of_checks();
 }

@@ -1,4 +1,4 @@
-// The worked examples by fio2070.hpp. The last line is `N passed, M failed`.
+// What fio2070.hpp alone has, and worked examples that tests/rows.json does not have. The last line is `N passed, M failed`.
 #include "fio2070.hpp"
 
 #include <cstdio>
@@ -18,13 +18,7 @@ static const List BLOCK = {0xb6, 5, 1, 0x8c, 3, 0xe7, 0, 0, 0, 3, 0xe8};
 
 static void reads_and_writes() {
     CHECK(octets(fio2070::encode::poll(5)) == List({0x36, 5}));
-    CHECK(octets(fio2070::encode::load_counter(65536)) == List({0x32, 0, 1, 0, 0}));
-    CHECK(octets(fio2070::encode::status(0x80)) == List({0x31, 0x80}));
-    CHECK(octets(fio2070::encode::watchdog(200)) == List({0x3a, 200}));
-    CHECK(fio2070::encode::raw_inputs()[0] == 52 && fio2070::encode::filtered_inputs()[0] == 53);
     CHECK(fio2070::encode::identify().size() == 1 && fio2070::encode::set_outputs({}).size() == 17);
-    CHECK(octets(*fio2070::encode::other_command(56, {})) == List({0x38}));
-    CHECK(!fio2070::encode::other_command(54, {}));
     const fio2070::ConfigurationItem items[] = {{12, 0, 5, 3}, {3, 1, 0, 0}};
     const std::array<fio2070::ConfigurationItem, 1> absent = {{{128, 0, 1, 1}}};
     auto configuration = fio2070::encode::configure_inputs(items);
@@ -35,7 +29,6 @@ static void reads_and_writes() {
     CHECK(fio2070::command_items(*configuration).size() == 2 && fio2070::command_items(*configuration)[1].ignore == 1);
     auto command = fio2070::decode_command(fio2070::encode::poll(5));
     CHECK(command && command->code == 54 && command->block == 5 && command.fault().kind() == FIO2070_FAULT_NONE);
-    CHECK(fio2070::show(fio2070::encode::poll(5)) == "poll block 5\n" && fio2070::show(List({7})) == "unknown type 7\n");
     auto nothing = fio2070::decode_command(List());
     CHECK(!nothing && !nothing.message() && nothing.fault().text() == "empty");
     auto answer = fio2070::decode_answer(BLOCK);
@@ -46,15 +39,8 @@ static void reads_and_writes() {
     CHECK(fio2070::read_block(BLOCK)->number == 5);
     auto entries = fio2070::block_entries(BLOCK);
     CHECK(entries.size() == 1 && entries[0].input == 12 && entries[0].state == 1 && entries[0].stamp == 999);
-    CHECK(fio2070::widen(0x10002, 0xfffe) == 0xfffe && fio2070::body(BLOCK).size() == 10 && fio2070::body({}).empty());
+    CHECK(fio2070::body(BLOCK).size() == 10 && fio2070::body({}).empty());
     CHECK(octets(*fio2070::encode::block_answer(5, entries, 0, 1000)) == BLOCK);
-    CHECK(octets(fio2070::encode::status_answer(0x80, 0, 1, 1000)) == List({0xb1, 0x80, 0, 1, 0, 0, 3, 0xe8}));
-    CHECK(octets(fio2070::encode::load_counter_answer(0xfe)) == List({0xb2, 0xfe}));
-    CHECK(octets(fio2070::encode::configure_inputs_answer(1)) == List({0xb3, 1}));
-    CHECK(octets(fio2070::encode::raw_inputs_answer(1, 2)) == List({0xb4, 1, 0, 0, 0, 0, 0, 0, 0, 0, 0, 0, 2}));
-    CHECK(octets(fio2070::encode::filtered_inputs_answer(1, 2)) == List({0xb5, 1, 0, 0, 0, 0, 0, 0, 0, 0, 0, 0, 2}));
-    CHECK(octets(fio2070::encode::watchdog_answer(1)) == List({0xba, 1}));
-    CHECK(octets(*fio2070::encode::other_answer(188, List({2}))) == List({0xbc, 2}));
 }
 
 static void reads_numbers() {
@@ -151,25 +137,6 @@ static void has_the_most() {
     CHECK(poller.record() == std::vector<fio2070::RecordItem>({{1, 0, 0, {}, 0, 0}, {0, 12, 1, {}, 999, 999}}));
 }
 
-static void has_words() {
-    CHECK(fio2070::rule_text(FIO2070_RULE_ADVANCE) == "advance" && fio2070::rule_text(FIO2070_RULE_NONE).empty());
-    CHECK(fio2070::content_rule_text(FIO2070_CONTENT_APART) == "apart" && fio2070::content_rule_text(12).empty());
-    fio2070::Poller poller(5);
-    CHECK(poller.hear(List({0xb3, 0})).text() == "other 179" && poller.hear(List()).text() == "unreadable empty");
-    CHECK(poller.hear(BLOCK).text() == "block entries 1 status 00" && poller.hear(BLOCK).text() == "stale 5");
-}
-
-static void checks() {
-    fio2070::Checker checker;
-    CHECK(checker.sent(fio2070::encode::poll(255)) == fio2070_breach());
-    CHECK(checker.sent(fio2070::encode::poll(0)) == fio2070_breach({FIO2070_RULE_ADVANCE, 1, 255, 0}));
-    CHECK(checker.sent(fio2070::encode::poll(5)) == fio2070_breach());
-    CHECK(checker.heard(BLOCK) == fio2070_breach());
-    CHECK(checker.heard(BLOCK) == fio2070_breach({FIO2070_RULE_PAIR, 0, 0, 0}));
-    CHECK(checker.sent(fio2070::encode::poll(6)) == fio2070_breach());
-    CHECK(checker.heard(BLOCK) == fio2070_breach({FIO2070_RULE_NUMBER, 1, 6, 5}));
-}
-
 template <typename Module>
 static void polls_a_module() {
     CHECK(!Module::start(2, 0));
@@ -228,6 +195,21 @@ static void has_little_room() {
     CHECK(moved->waiting() == 0);
 }
 
+/* With the standard limits no template argument is needed. */
+static void constructs_a_module() {
+    fio2070::Module module(2);
+    fio2070::Module<3> small(7, 1);
+    CHECK(octets(*module.receive(fio2070::encode::identify())) == List({0xbc, 2}));
+    CHECK(octets(*small.receive(fio2070::encode::identify())) == List({0xbc, 7}));
+    bool throws = false;
+    try {
+        fio2070::Module refused(2, 0);
+    } catch (const std::invalid_argument &) {
+        throws = true;
+    }
+    CHECK(throws);
+}
+
 static void has_parts() {
     fio2070::Counter counter;
     counter.tick();
@@ -242,24 +224,119 @@ static void has_parts() {
     CHECK(filters.filtered() == ~(std::uint64_t(1) << 12));
 }
 
-/* An entry of input 12 comes once more in the next block, after one of input 13. */
-static void judges_content() {
-    const std::uint8_t empty[] = {182, 255, 0, 0, 0, 0, 0, 5}, once[] = {182, 0, 1, 12, 0, 10, 0, 0, 0, 0, 11};
-    const std::uint8_t again[] = {182, 1, 2, 13, 0, 12, 12, 0, 13, 0, 0, 0, 0, 21};
-    fio2070::ContentChecker content;
-    content.sent(fio2070::encode::poll(255));
-    CHECK(content.heard(empty).rule == 0);
-    content.sent(fio2070::encode::poll(0));
-    CHECK(content.heard(once).rule == 0);
-    content.sent(fio2070::encode::poll(1));
-    fio2070_content_breach breach = content.heard(again);
-    CHECK(breach.rule == FIO2070_CONTENT_ALTERNATE && breach.items == 1 && breach.input == 12);
-    CHECK(breach == breach && breach != content.heard(again));
-    CHECK(content.heard(again).rule == 0);
-    CHECK(fio2070::Checker::within(1, 1)->heard(empty).rule == FIO2070_RULE_PAIR && !fio2070::Checker::within(0, 1));
+// Checkers that are not started with numbers.
+static void has_checkers() {
+    const std::uint8_t empty[] = {182, 255, 0, 0, 0, 0, 0, 5};
+    CHECK(fio2070::Checker().heard(empty) == fio2070_breach({FIO2070_RULE_PAIR, 0, 0, 0}));
+    CHECK(fio2070::Checker::anywhere()->heard(empty) == fio2070_breach());
     fio2070::ContentChecker begun = fio2070::ContentChecker::begun();
-    begun.sent(fio2070::encode::poll(0));
-    CHECK(begun.heard(once).rule == FIO2070_CONTENT_IGNORED);
+    const fio2070_content_breach refused = begun.heard(List({0xb3, 1}));
+    CHECK(refused == refused && refused != fio2070_content_breach());
+}
+
+// After the end of a log octets begin the next one.
+static void reads_logs() {
+    static fio2070::LogReader reader(FIO2070_LOG_TRANSCRIPT);
+    static fio2070_log_batch batch;
+    const std::string text = "> 3605\n3605";
+    const List log(text.begin(), text.end());
+    for (int turn = 0; turn < 2; turn++) {
+        CHECK(reader.read(log, batch) == log.size() && batch.verdict_count == 1 && batch.verdicts[0].line == 1);
+        CHECK(batch.verdicts[0].kind == FIO2070_LOG_SAYS && batch.verdicts[0].said == FIO2070_LOG_FROM_CPU);
+        reader.end();
+        CHECK(reader.read(log, batch) == 0 && batch.verdict_count == 1 && batch.verdicts[0].line == 2);
+        CHECK(batch.verdicts[0].reason == FIO2070_LOG_BAD_LINE);
+    }
+}
+
+// Octets of a text, such as one of bits.
+static List list_of(const std::string &text) { return {text.begin(), text.end()}; }
+
+static std::string bits_of(const List &octets) {
+    std::string bits;
+    int ones = 0;
+    for (std::uint8_t octet : octets) {
+        for (int place = 0; place < 8; place++) {
+            bool is_one = octet >> place & 1;
+            bits += is_one ? '1' : '0';
+            ones = is_one ? ones + 1 : 0;
+            if (ones == 5) bits += '0', ones = 0;
+        }
+    }
+    return bits;
+}
+
+// What a decoder says, in words: own frames, those of others, damage.
+static void append(std::string &words, const fio2070::WireHeard &heard) {
+    const char *kinds[] = {"", "own", "other", "damaged"};
+    words += (words.empty() ? "" : ", ") + std::string(kinds[heard.kind()]);
+    if (heard.kind() != FIO2070_WIRE_DAMAGED) {
+        words += " " + std::to_string(heard.address()) + " " + std::to_string(heard.control());
+        for (std::uint8_t octet : heard.message()) words += " " + std::to_string(octet);
+    }
+}
+
+// The same by one octet a call, and by the call for many.
+template <typename Decoder>
+static std::string said(const List &line, Decoder by_one) {
+    std::string one, many;
+    Decoder by_many = by_one;
+    for (std::uint8_t octet : line) {
+        if (auto heard = by_one.read(octet)) append(one, *heard);
+    }
+    fio2070::Octets rest = line;
+    while (auto heard = by_many.read(rest)) append(many, *heard);
+    return one == many && rest.empty() ? one : one + " by one, but by many " + many;
+}
+
+// Those of a module, and others.
+static const fio2070::Wire OWN(FIO2070_WIRE_ADDRESS, FIO2070_WIRE_CONTROL), OTHER(21, FIO2070_WIRE_CONTROL);
+static const fio2070::WireBits OWN_BITS(FIO2070_WIRE_ADDRESS, FIO2070_WIRE_CONTROL), OTHER_BITS(FIO2070_WIRE_ANY, 0);
+
+static void writes_a_line() {
+    CHECK(fio2070::wire_check(list_of("123456789")) == 0x906e && fio2070::wire_check({}) == 0);
+    CHECK(*fio2070::wire_frame({0x36, 0x7e}) == List({0x7e, 0x14, 0x83, 0x36, 0x7d, 0x5e, 0x90, 0xd6, 0x7e}));
+    CHECK(!fio2070::wire_frame({}) && !fio2070::wire_frame(List(774, 0)) && fio2070::wire_frame(List(773, 0x7e))->size() > 1550);
+    CHECK(said(*fio2070::wire_frame({0x7e, 0x7d}, 0x7d, 0x7e), fio2070::Wire(FIO2070_WIRE_ANY, 0x7e)) == "own 125 126 126 125");
+}
+
+static void reads_a_line() {
+    const List shared = {0x7e, 0x14, 0x83, 0x36, 1, 0xe0, 0x5d, 0x7e, 0x14, 0x83, 0x36, 2, 0x7b, 0x6f, 0x7e};
+    CHECK(said(shared, OWN) == "own 20 131 54 1, own 20 131 54 2");
+    CHECK(said(shared, OTHER) == "other 20 131 54 1, other 20 131 54 2");
+    CHECK(said(shared, fio2070::Wire(FIO2070_WIRE_ANY, 0)) == "other 20 131 54 1, other 20 131 54 2");
+    CHECK(said({0x7e, 0x14, 0x83, 0x36, 5, 0xc4, 0x1b, 0x7d, 0x7e}, OWN) == "damaged");
+    CHECK(said({0x7e, 0xff, 0xff, 0xff, 0xff, 0x7e}, OWN) == "damaged");
+    CHECK(said({0x14, 0x83, 0x36, 5, 0xc4, 0x1b, 0x7e, 0x7e}, OWN).empty() && said({}, OWN).empty());
+    fio2070::Wire wire = OWN;
+    const List frame = *fio2070::wire_frame({0x36, 5});
+    for (std::size_t place = 0; place <= frame.size(); place++) {
+        fio2070::Octets before(frame.data(), place), after(frame.data() + place, frame.size() - place), next = frame;
+        std::string words;
+        wire = OWN;
+        while (auto heard = wire.read(before)) append(words, *heard);
+        wire.lose();
+        while (auto heard = wire.read(after)) append(words, *heard);
+        while (auto heard = wire.read(next)) append(words, *heard);
+        CHECK(words == (place == 0 ? "own 20 131 54 5, own 20 131 54 5" :
+                        place < frame.size() ? "damaged, own 20 131 54 5" : "own 20 131 54 5, damaged, own 20 131 54 5"));
+    }
+    fio2070::Octets rest = shared;
+    auto first = wire.read(rest), second = wire.read(rest);
+    CHECK(first->is_message() && octets(first->message()) == List({0x36, 1}) && octets(second->message()) == List({0x36, 2}));
+}
+
+static void reads_a_line_of_bits() {
+    const std::string flag = "01111110", poll = bits_of({0x14, 0x83, 0x36, 5, 0xc4, 0x1b});
+    const std::string full = bits_of({0x14, 0x83, 0xff, 0xff, 0xa3, 0x5e});
+    CHECK(said(list_of("110" + flag + poll + flag), OWN_BITS) == "own 20 131 54 5");
+    CHECK(said(list_of(flag + poll + flag + poll + flag), OTHER_BITS) == "other 20 131 54 5, other 20 131 54 5");
+    CHECK(said(list_of(flag + poll + flag + flag.substr(1) + poll + flag), OWN_BITS) == "own 20 131 54 5, own 20 131 54 5");
+    CHECK(said(list_of(flag + poll + "1111111" + flag + "11111111" + flag + poll + flag), OWN_BITS) ==
+          "damaged, own 20 131 54 5");
+    CHECK(said(list_of(flag + poll + "0" + flag), OWN_BITS) == "damaged");
+    CHECK(said(list_of(flag + bits_of({0xff, 0xff, 0xff, 0xff}) + flag), OWN_BITS) == "damaged");
+    CHECK(full.size() == 51 && said(list_of(flag + full + flag), OWN_BITS) == "own 20 131 255 255");
 }
 
 int main() {
@@ -268,13 +345,16 @@ int main() {
     has_values();
     tells_values();
     has_the_most();
-    has_words();
-    checks();
     polls_a_module<fio2070::Module<>>();
     polls_a_module<fio2070::Module<1>>();
     has_little_room();
+    constructs_a_module();
     has_parts();
-    judges_content();
+    has_checkers();
+    reads_logs();
+    writes_a_line();
+    reads_a_line();
+    reads_a_line_of_bits();
     std::printf("%d passed, %d failed\n", passed, failed);
     return failed != 0;
 }

@@ -11,7 +11,6 @@ from support.stanzas import stanzas_of
 
 # No body breaks these: what the call returns is the only value of its type, or the ring that it is given the only one.
 ALONE = ['fio_world: World::module, its clause', 'fio_world: World::poller, its clause',
-         'fio_module: MemoryRing::new, same_place',
          *('fio_module: ModuleState::%s, same_memory' % name for name in ('restart', 'scan', 'poll', 'obey', 'carry_out'))]
 
 

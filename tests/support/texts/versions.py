@@ -12,8 +12,7 @@ from support.tables import TOP
 PLACES = [
     ('CHANGELOG.md', '## %s\n'),
     ('README.md', '| Version | %s ('),
-    ('bindings/python/backend.py', "'fio2070-%s'\n"),
-    ('bindings/python/backend.py', '\nVersion: %s\n'),
+    ('bindings/python/pyproject.toml', 'name = "fio2070"\nversion = "%s"\n'),
     ('bindings/rust/fio2070/Cargo.lock', 'name = "fio2070"\nversion = "%s"\n'),
     ('bindings/rust/fio2070/Cargo.toml', 'name = "fio2070"\nversion = "%s"\n'),
     ('crates/fio_tool/src/command_line.rt', 'VERSION: &str = "%s";\n'),

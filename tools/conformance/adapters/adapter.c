@@ -17,11 +17,11 @@ static uint64_t levels = ~(uint64_t)0;
 
 /* Takes the samples of the milliseconds since the last call. */
 static void catch_up(void) {
-    static long scanned;
+    static int64_t scanned;
     struct timespec now;
-    long ms;
+    int64_t ms;
     clock_gettime(CLOCK_MONOTONIC, &now);
-    ms = (long)now.tv_sec * 1000 + now.tv_nsec / 1000000;
+    ms = (int64_t)now.tv_sec * 1000 + now.tv_nsec / 1000000;
     for (scanned = scanned == 0 ? ms : scanned; scanned < ms; scanned++) fio2070_module_scan(&module, levels);
 }
 

@@ -16,7 +16,7 @@ def main():
         said = 'done'
         if word == 'frame':
             answer = module.receive(bytes.fromhex(rest))
-            said = 'none' if answer is None else 'answer ' + answer.hex()
+            said = 'answer ' + answer.hex() if answer else 'none'
         elif word == 'inputs':
             module.scan(int.from_bytes(bytes.fromhex(rest), 'little'))
         elif word == 'sync':

@@ -22,10 +22,12 @@ export const SIZE = {
   poller: 1,
   recordItem: 12,
   heard: 32,
-  contentChecker: 632,
+  contentChecker: 696,
   counter: 12,
   filters: 216,
   outputs: 16,
+  wire: 786,
+  wireBits: 792,
 };
 
 export const AT = {
@@ -49,4 +51,6 @@ export const AT = {
   heard: { kind: 0, code: 1, number: 2, status: 3, stamp: 4, items: 8, entries: 10, fault: 16 },
   counter: { value: 0, load: 4, is_asked: 8 },
   outputs: { levels: 0, controls: 8 },
+  wire: { octets: 0, phase: 777, held: 778, check: 780, address: 782, control: 784 },
+  wireBits: { octets: 0, phase: 777, ones: 778, pending: 779, value: 780, count: 781, full: 782, held: 784, check: 786, address: 788, control: 790 },
 };

@@ -6,6 +6,7 @@ import { BLOCK, FIRST_ANSWER, POLL, STATUS_BITS } from './library.js';
 import { DIRECTION } from './messagelist.js';
 import { recordOf } from './record.js';
 import { breachWords, ENDS, ruleOf, Rules } from './rules.js';
+import { isOfOneSide, sidesOf } from './sides.js';
 import { verdictOf } from './verdict.js';
 import { wordsOf } from './words.js';
 
@@ -13,11 +14,12 @@ export class Log {
   // `read` is what readLog gives. `end` says where the log was taken: what was sent there is what the CPU sent or heard. If it is
   // `auto`, most directions say which end it was.
   constructor(library, arena, name, read, end) {
-    const { messages, form, passed, doubts, isReversed } = read;
-    Object.assign(this, { library, name, form, passed, doubts, isReversed, hasTimes: messages.clocks.some((clock) => clock !== '') });
+    const { messages, form, passed, doubts, inTwoLines, isReversed } = read;
+    Object.assign(this, { library, name, form, passed, doubts, inTwoLines, isReversed, hasTimes: messages.clocks.some((clock) => clock !== '') });
     this.hasDirections = messages.sides.some((it) => it !== DIRECTION.none);
     Object.assign(this, { count: messages.count, starts: messages.starts, lengths: messages.lengths, lines: messages.lines,
-      times: messages.times, clocks: messages.clocks, sides: messages.sides, isPossible: messages.isPossible, damaged: messages.damaged });
+      times: messages.times, clocks: messages.clocks, sides: messages.sides, isPossible: messages.isPossible, isTurned: messages.isTurned,
+      damaged: messages.damaged, others: messages.others });
     this.arena = arena.hold(messages.octets.subarray(0, messages.end));
     this.poller = arena.poller;
     this.checker = arena.checker;
@@ -30,7 +32,8 @@ export class Log {
     this.isFaulty = new Uint8Array(this.count);
     this.breaches = new Map();
     this.decodeAll();
-    this.end = !this.hasDirections ? ENDS.bus : end !== ENDS.auto ? end : isReversed && !read.isOwn ? ENDS.module : ENDS.cpu;
+    this.isAuto = end === ENDS.auto;
+    this.end = !this.hasDirections ? ENDS.bus : !this.isAuto ? end : isReversed && !read.isOwn ? ENDS.module : ENDS.cpu;
     this.directions = this.directionsOf();
     this.judgeAll();
     this.record = recordOf(this);
@@ -56,15 +59,16 @@ export class Log {
     return wordsOf(this.library, this.address(place), this.lengths[place]);
   }
 
-  // What is written of a message: its lines, or the text of a damaged line.
+  // What is written of a message: its lines, or the text of a damaged line or of a frame with another address.
   written(place) {
-    return this.damaged.has(place) ? [this.damaged.get(place).text] : this.words(place);
+    const said = this.damaged.get(place) || this.others.get(place);
+    return said ? [said.text] : this.words(place);
   }
 
   // What a message that is only possible says stays out of counts, of what is judged, and of the record.
   decodeAll() {
     for (let place = 0; place < this.count; place++) {
-      if (this.isPossible[place]) continue;
+      if (this.isPossible[place] || this.others.has(place)) continue;
       const message = this.isBadLine(place) ? null : this.library.decode(this.address(place), this.lengths[place]);
       if (message === null || message.fault) {
         this.isFaulty[place] = 1;
@@ -79,7 +83,7 @@ export class Log {
 
   // The CPU sends commands. A transcript by order says itself who sent a frame.
   directionsOf() {
-    const own = (place) => this.isFaulty[place] ? DIRECTION.none : this.wayByType(place);
+    const own = (place) => this.isFaulty[place] || this.others.has(place) ? DIRECTION.none : this.wayByType(place);
     return Uint8Array.from({ length: this.count }, (_, place) => this.form === LOG_FORMS.transcript ? this.sides[place] : own(place));
   }
 
@@ -87,9 +91,11 @@ export class Log {
     return this.octets(place)[0] < FIRST_ANSWER ? DIRECTION.sent : DIRECTION.heard;
   }
 
-  // Where a message was logged: on the bus if nothing says who sent it.
+  // Where a message was logged: on the bus if nothing says who sent it, else as the directions down to it say.
   endOf(place) {
-    return this.sides[place] === DIRECTION.none ? ENDS.bus : this.end;
+    if (this.sides[place] === DIRECTION.none) return ENDS.bus;
+    if (!this.isAuto) return this.end;
+    return this.isTurned[place] ? ENDS.module : ENDS.cpu;
   }
 
   // Whether the CPU sent or heard a message, as it is judged: by its first octet if nothing says it.
@@ -110,12 +116,16 @@ export class Log {
     return this.hasDirections && this.end !== ENDS.bus;
   }
 
-  // Judges each message that is sure. A damaged line may have held a frame: nobody is accused for it up to the next poll.
+  // Judges each message that is sure. A damaged line may have held a frame: nobody is accused for it up to the next poll. What the
+  // CPU heard above the first command is not judged: the log begins below the command.
   judgeAll() {
     const rules = new Rules(this);
-    let judged = 0;
-    this.badLines = 0;
+    let judged = 0, isBegun = false;
+    this.logged = sidesOf(this);
+    this.badLines = this.aboveCommand = 0;
+    const isJudged = !isOfOneSide(this.logged);
     for (let place = 0; place < this.count; place++) {
+      if (this.others.has(place)) continue;
       if (this.damaged.has(place)) rules.lose();
       if (this.isBadLine(place)) {
         this.badLines += 1;
@@ -127,6 +137,11 @@ export class Log {
         continue;
       }
       judged += 1;
+      isBegun ||= this.judgedWay(place) === DIRECTION.sent;
+      if (!isJudged || !isBegun) {
+        this.aboveCommand += isJudged ? 1 : 0;
+        continue;
+      }
       const breach = rules.judge(place);
       if (breach) this.breaches.set(place, breach);
     }
@@ -159,18 +174,20 @@ export class Log {
 
   // Whether a message is a poll with no block answer directly below. Above a damaged line that is not known.
   isUnanswered(place) {
-    return this.codes[place] === POLL && this.codes[place + 1] !== BLOCK && !this.damaged.has(place + 1);
+    let next = place + 1;
+    while (this.others.has(next)) next += 1;
+    return this.codes[place] === POLL && this.codes[next] !== BLOCK && !this.damaged.has(next);
   }
 
   // The text that `show` writes of these messages.
   showText() {
     const line = (place) => this.isFaulty[place] ? [`line ${this.lines[place]}: ${this.words(place)[0]}`] : this.words(place);
-    return Array.from({ length: this.count }, (_, place) => line(place).join('\n') + '\n').join('');
+    return Array.from({ length: this.count }, (_, place) => this.others.has(place) ? '' : line(place).join('\n') + '\n').join('');
   }
 }
 
 function summaryOf(log) {
-  const counts = { messages: log.count, possible: 0, faults: 0, polls: 0, unanswered: 0, blocks: 0, entries: 0, repeats: 0, gaps: 0 };
+  const counts = { messages: log.count - log.others.size, others: log.others.size, possible: 0, faults: 0, polls: 0, unanswered: 0, blocks: 0, entries: 0, repeats: 0, gaps: 0 };
   for (let place = 0; place < log.count; place++) {
     const code = log.codes[place];
     counts.faults += log.isFaulty[place];

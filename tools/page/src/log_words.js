@@ -1,5 +1,5 @@
-// What is said of the lines of a log: why one gives no frame, by the number of the reason; and of which frames damage is
-// not seen. Written by tools/generate-messages.
+// What is said of the lines of a log: why one gives no frame, by the number of the reason; of which frames damage is not
+// seen; which directions are missing; and of what a line carried. Written by tools/generate-messages.
 
 export const REASONS = [
   '',
@@ -18,4 +18,17 @@ export const DOUBTS = {
   rows: 'an octet is in each row: where a row is missing, the rest may spell another message',
   numbers: '{count} frames have octets as numbers without zeros before them: a digit that is lost is not seen',
   loose: '{count} frames are of types that have any length: a cut in one of them is not seen',
+};
+export const SIDES = {
+  'commands': 'this log has the commands alone: the answers were not logged, so no rule is judged',
+  'answers': 'this log has the answers alone: the commands were not logged, so no rule is judged',
+  'not whole': 'no answer in this log is whole, so no rule is judged',
+  'silent': 'no answer came: the module is silent, or its direction was not logged',
+};
+export const LINE = {
+  damaged: 'no frame with a right check',
+  other: 'of address {address}, control octet {control}: not judged',
+  octets: 'no frame with a right check in the octets of this line',
+  bits: 'no frame with a right check in these bits, one a clock: if they are written eight to an octet, try the other order',
+  faster: 'no frame at one bit a clock, and nearly all bits last {count} samples or more: the sample clock is faster than the line, so sample on the clock of the line, or keep one sample of each bit',
 };

@@ -41,13 +41,19 @@ class Machine {
   }
 }
 
+// The octets of a build, which are in the page deflated.
+async function inflated(build) {
+  const deflated = Uint8Array.from(atob(build.deflated), (letter) => letter.charCodeAt(0));
+  const stream = new Blob([deflated]).stream().pipeThrough(new DecompressionStream('deflate'));
+  return new Uint8Array(await new Response(stream).arrayBuffer());
+}
+
 // Starts the first build that this browser can run; an Error says why none could.
 export async function startMachine(builds) {
   const reasons = [];
   for (const build of builds) {
     try {
-      const octets = Uint8Array.from(atob(build.base64), (letter) => letter.charCodeAt(0));
-      const { instance } = await WebAssembly.instantiate(octets, {});
+      const { instance } = await WebAssembly.instantiate(await inflated(build), {});
       return new Machine(instance.exports, build);
     } catch (reason) {
       reasons.push(build.bits + ' bits: ' + reason.message);

@@ -3,6 +3,7 @@
 import { byId } from './dom.js';
 import { InputsView } from './inputs.js';
 import { Library } from './library.js';
+import { readAny } from './line.js';
 import { Log } from './log.js';
 import { LogReader } from './log_reader.js';
 import { startMachine } from './machine.js';
@@ -10,7 +11,6 @@ import { MessagesView } from './messages.js';
 import { OpenView } from './open.js';
 import { PlanView } from './plan.js';
 import { PlayView } from './play.js';
-import { formOf, readLog } from './reader.js';
 import { Tabs } from './tabs.js';
 import { wordsOf } from './words.js';
 
@@ -61,11 +61,11 @@ function startViews(library) {
     messages.goTo(place);
   }, () => tabs.show('open'));
   tabs.whenShown((name) => name === 'inputs' && inputs.draw());
-  const open = (name, octets, end, form) => {
+  const open = (name, octets, end, form, own) => {
     trouble('');
-    const log = new Log(library, arena, name, readLog(library, logReader, octets, formOf(name, form)), end);
+    const log = new Log(library, arena, name, readAny(library, logReader, name, octets, form, own), end);
     tabs.show('messages');
-    messages.open(log, octets, () => open(name, octets, end, 'any'));
+    messages.open(log, octets, () => open(name, octets, end, 'any', own));
     inputs.open(log);
     document.documentElement.dataset.opened = name;
   };

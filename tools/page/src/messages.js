@@ -24,6 +24,7 @@ const FACTS = [
   ['broken', 'breach', (log, place) => log.isBroken(place), 'bad'],
   ['faults', 'faulty line', (log, place) => log.isFaulty[place] === 1, 'bad'],
   ['possible', 'possible message', (log, place) => log.isPossible[place] === 1, 'warn'],
+  ['others', 'other frame', (log, place) => log.others.has(place), 'warn'],
   ['gaps', 'gap mark', (log, place) => hasBit(log, place, STATUS_BITS.lost), 'bad'],
   ['repeats', 'repeated block', (log, place) => hasBit(log, place, STATUS_BITS.again), 'warn'],
   ['unanswered', 'unanswered poll', (log, place) => log.isUnanswered(place), 'warn'],
@@ -35,15 +36,24 @@ const FACTS = [
 const pluralOf = (noun) => noun.endsWith('y') ? noun.slice(0, -1) + 'ies' : noun.endsWith('h') ? noun + 'es' : noun + 's';
 // What is said of a log by its form, after its name.
 const FORMS = ['', ', read as frames', ', read as a transcript'];
-const SIGNS = { good: '✓', partly: '✓', broken: '✗', none: '?' };
+const SIGNS = { good: '✓', partly: '✓', unjudged: '?', broken: '✗', none: '?' };
 const hasBit = (log, place, bit) => log.codes[place] === BLOCK && (log.status[place] & bit) !== 0;
+
+// What helps, by the reason why lines are passed over.
+const CURES = {
+  [LOG_REASONS.exchanged]: ' (write the log with xxd or hexdump -C)',
+  [LOG_REASONS.twoMore]: ' (at “How is it written?” choose SDLC frames, without their check, or an expression)',
+};
 
 // How many lines are passed over, and why; the most frequent reasons first.
 function passedWords(passed) {
-  const reasons = passed.map((count, reason) => [count, REASONS[reason]]).filter(([count]) => count > 0).sort(([one], [other]) => other - one);
+  const reasons = passed.map((count, reason) => [count, REASONS[reason] + (CURES[reason] || '')]).filter(([count]) => count > 0).sort(([one], [other]) => other - one);
   const all = passed.reduce((sum, count) => sum + count, 0);
   return all === 0 ? '' : ` ${counted(all, 'line')} passed over: ${reasons.map(([count, words]) => `${withCommas(count)} ${words}`).join(', ')}.`;
 }
+
+// What stays doubtful, a sentence each.
+const doubtWords = (log) => log.doubts.map((words) => ` ${words[0].toUpperCase()}${words.slice(1)}.`).join('');
 
 export class MessagesView {
   // `textOf(octets)` gives the lines of a message, `back()` shows the view Open.
@@ -94,7 +104,7 @@ export class MessagesView {
     this.table.root.classList.toggle('has-times', log.hasTimes);
     this.table.root.classList.toggle('has-notes', hasNotes(log));
     this.table.root.classList.toggle('has-rules', log.breaches.size > 0);
-    this.table.root.classList.toggle('has-doubts', log.damaged.size > 0 || log.summary.possible > 0);
+    this.table.root.classList.toggle('has-doubts', log.damaged.size + log.others.size + log.summary.possible > 0);
     this.parts.forEach((part) => { part.hidden = false; });
     this.none.hidden = true;
     this.drawVerdict();
@@ -110,7 +120,7 @@ export class MessagesView {
     const { log } = this, hasOctets = log.passed.some((count, reason) => count > 0 && reason !== LOG_REASONS.noOctets);
     this.showNone(element('h2', {}, `No message was found in ${log.name}`), element('p', { id: 'no-log-kind' }, kindOf(file, hasOctets)),
       ...log.count === 0 ? [] : [element('p', {}, `${counted(log.count, 'line')} may have octets and could not be read, the first in line ${log.lines[0]}.`)],
-      element('p', { id: 'no-log-passed' }, passedWords(log.passed)),
+      element('p', { id: 'no-log-passed' }, `${passedWords(log.passed)}${doubtWords(log)}`),
       element('p', {}, 'What can be read:'), element('dl', { class: 'readable' },
         ...CAN_READ.flatMap(([what, text]) => [element('dt', {}, what), element('dd', {}, element('pre', {}, text))])));
   }
@@ -118,8 +128,7 @@ export class MessagesView {
   noteOf(log) {
     const turned = log.end === ENDS.module ? ' It was taken at the module: directions are turned, so that they are those of the CPU.' : '';
     const reversed = log.end === ENDS.cpu && log.isReversed ? ' Most directions are those of the other end: was it taken at the module?' : '';
-    const doubts = log.doubts.map((words) => ` ${words[0].toUpperCase()}${words.slice(1)}.`).join('');
-    return `${log.name}${FORMS[log.form]}.${passedWords(log.passed)}${turned}${reversed}${doubts}`;
+    return `${log.name}${FORMS[log.form]}.${passedWords(log.passed)}${turned}${reversed}${doubtWords(log)}`;
   }
 
   // The one verdict, a way to the first breach, and what was not judged.
@@ -196,7 +205,7 @@ export class MessagesView {
     const { log } = this;
     const kinds = [];
     if (log.directions[place] === DIRECTION.sent) kinds.push('sent');
-    if (log.isPossible[place]) kinds.push('possible');
+    if (log.isPossible[place] || log.others.has(place)) kinds.push('possible');
     else if (log.isBroken(place)) kinds.push('broken');
     else if (log.isFaulty[place]) kinds.push('faulty');
     else if (hasBit(log, place, STATUS_BITS.lost)) kinds.push('marked');

@@ -17,7 +17,7 @@ export function statusNotes(code, status) {
 }
 
 // Why a message is not judged, or a line gave none; empty if neither is so.
-export const doubtOf = (log, place) => log.isPossible[place] ? POSSIBLE : log.damaged.has(place) ? log.damaged.get(place).why : '';
+export const doubtOf = (log, place) => log.isPossible[place] ? POSSIBLE : (log.damaged.get(place) || log.others.get(place) || { why: '' }).why;
 
 export function noteOf(log, place) {
   const reason = log.reason(place), notes = statusNotes(log.codes[place], log.status[place]);
@@ -29,6 +29,6 @@ export function noteOf(log, place) {
 
 // Whether a row of a log has a note.
 export function hasNotes(log) {
-  if (log.breaches.size > 0 || log.damaged.size > 0 || log.summary.unanswered > 0 || log.summary.possible > 0) return true;
+  if (log.breaches.size > 0 || log.damaged.size > 0 || log.others.size > 0 || log.summary.unanswered > 0 || log.summary.possible > 0) return true;
   return log.status.subarray(0, log.count).some((status, place) => status > 0 && statusNotes(log.codes[place], status).length > 0);
 }

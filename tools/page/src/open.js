@@ -1,7 +1,11 @@
 // The view Open: a log is dropped, chosen, pasted, or taken from the examples.
 
 import { element, labelled, select } from './dom.js';
+import { fromHex } from './hex.js';
+import { LINE_WAYS } from './line.js';
+import { REWRITINGS, rewritten } from './rewriting.js';
 import { ENDS } from './rules.js';
+import { ANY, OWN } from './wire.js';
 
 const MOST_OCTETS = 256 * 2 ** 20;
 // Three examples that tell a story: a title, and what is to be seen.
@@ -66,13 +70,23 @@ export class OpenView {
       [ENDS.module, 'At the module'], [ENDS.bus, 'Elsewhere on the bus']], (end) => { this.end = end; });
     ends.id = 'end';
     const forms = select('How the log is written', [['auto', 'Take it from the lines'], ['frames', 'Frames, as fio2070 show reads them'],
-      ['transcript', 'A transcript, as fio2070 check reads it']], (form) => { this.form = form; });
+      ['transcript', 'A transcript, as fio2070 check reads it'], ...Object.entries(REWRITINGS).map(([way, [words]]) => [way, words]), ...Object.entries(LINE_WAYS)],
+    (form) => {
+      this.form = form;
+      pattern.hidden = form !== 'pattern';
+      address.hidden = !(form in LINE_WAYS);
+    });
     forms.id = 'form';
+    this.pattern = element('input', { id: 'pattern', size: '36', spellcheck: 'false', 'aria-label': 'An expression', placeholder: '(?<time>[\\d.]+) (?<dir>\\w+) (?<octets>.*)$' });
+    const pattern = labelled('An expression with the groups octets, and perhaps time and dir', this.pattern);
+    this.address = element('input', { id: 'address', size: '5', maxlength: '4', spellcheck: 'false', 'aria-label': 'An address', value: '14', pattern: 'any|(?:[0-9A-Fa-f]{2}){1,2}' });
+    const address = labelled('The address that is judged, perhaps with the control octet; or any', this.address);
+    pattern.hidden = address.hidden = true;
     this.zone = element('div', { class: 'drop' },
       element('p', { class: 'large' }, 'Drop a log here'),
       element('p', {}, element('button', { class: 'main', onclick: () => file.click() }, 'Choose a file'), file),
       element('p', { class: 'soft' }, 'Hexadecimal digits, transcripts, hex dumps, tables, or logs with times and directions. Nothing leaves this browser.'),
-      element('p', { class: 'row' }, labelled('Where was it taken?', ends), labelled('How is it written?', forms)));
+      element('p', { class: 'row' }, labelled('Where was it taken?', ends), labelled('How is it written?', forms), pattern, address));
     this.zone.addEventListener('dragenter', () => this.zone.classList.add('over'));
     this.zone.addEventListener('dragleave', () => this.zone.classList.remove('over'));
     return this.zone;
@@ -124,6 +138,14 @@ export class OpenView {
   }
 
   give(name, octets) {
-    this.open(name, octets, this.end, this.form);
+    if (this.form in REWRITINGS) this.open(name, rewritten(octets, this.form, this.pattern.value), this.end, 'any');
+    else this.open(name, octets, this.end, this.form, this.own);
+  }
+
+  // The address and control octet that are judged.
+  get own() {
+    const { value } = this.address, [address, control = OWN.control] = fromHex(value);
+    if (value === 'any' || !this.address.validity.valid || value === '') return value === 'any' ? ANY : OWN;
+    return { address, control };
   }
 }

@@ -1,7 +1,7 @@
 // The view Plan: how often to poll, how late a transition can be, how long an outage may last.
 
-import { INPUTS, STANDARD_WAITING } from './constants.js';
-import { counted, element, labelled, withCommas } from './dom.js';
+import { INPUTS, MOST_WAITING, STANDARD_WAITING } from './constants.js';
+import { counted, element, withCommas } from './dom.js';
 import { WAITING, planOf, rowOf } from './planning.js';
 
 const SLIDERS = [
@@ -10,22 +10,20 @@ const SLIDERS = [
   ['pace', 'How often does the CPU poll, in milliseconds?', 1, 255, 19],
   ['lost', 'How many rounds in a row may be lost?', 0, 8, 0],
   ['outage', 'How long does an outage last, in milliseconds?', 0, 3000, 80],
+  ['waiting', 'How many entries may wait in the module?', 1, MOST_WAITING, STANDARD_WAITING],
 ];
 const HEADS = ['Open inputs', 'Filter', 'Poll every', 'Waiting', 'Late', 'Waiting, answers lost', 'Late, answers lost',
   ...WAITING.map((count) => `Outage, ${withCommas(count)} wait`)];
 
 export class PlanView {
   constructor(root) {
-    this.chosen = { waiting: STANDARD_WAITING };
+    this.chosen = {};
     this.sliders = SLIDERS.map((slider) => this.slider(...slider));
     this.answers = element('tbody');
     this.row = element('tr', { id: 'plan-row' });
     this.verdict = element('p', { id: 'plan-verdict', role: 'status' });
-    const waiting = element('select', { id: 'plan-waiting', onchange: () => this.choose('waiting', Number(waiting.value)) },
-      ...WAITING.map((count) => element('option', { value: String(count) }, withCommas(count))));
     root.append(element('div', { class: 'plan' },
-      element('form', { class: 'sliders', onsubmit: (event) => event.preventDefault() }, ...this.sliders,
-        labelled('How many entries may wait in the module?', waiting)),
+      element('form', { class: 'sliders', onsubmit: (event) => event.preventDefault() }, ...this.sliders),
       element('div', {}, this.verdict,
         element('table', { class: 'answers' }, element('thead', {}, headRow(['What', 'Number', 'Why'])), this.answers))),
     element('h2', {}, 'The row of the planning table'),
@@ -63,22 +61,24 @@ export class PlanView {
 
   draw() {
     const plan = planOf(this.chosen);
-    const { inputs, filter, pace, lost, waiting, outage } = this.chosen;
+    const { inputs, filter, pace, lost, outage } = this.chosen;
     const isGood = plan.isInTime && plan.isRiddenOut;
     this.verdict.className = isGood ? 'good' : 'bad';
     this.verdict.textContent = (plan.isInTime
       ? `A round every ${pace} ms is often enough${lost ? ` with ${counted(lost, 'lost round')} in a row` : ''}: nothing is lost.`
       : plan.startEvery > 0 ? `A round every ${pace} ms is too seldom: start one at least every ${plan.startEvery} ms.`
-        : 'No pace is often enough for so many lost rounds.')
+        : lost ? 'No pace is often enough for so many lost rounds.' : 'No pace is often enough if so few entries may wait.')
       + (plan.isRiddenOut ? '' : ` In an outage of ${outage} ms transitions may be lost.`);
     const rows = [
-      ['The CPU has to poll at least every', plan.startEvery + ' ms', 'k n ≤ b f: enough of FewChange' + (lost ? ', r + 1 times as often' : '')],
+      ['The CPU has to poll at least every', plan.startEvery + ' ms',
+        (!plan.isFewWaiting ? 'k n ≤ b f: enough of FewChange'
+          : `k (${lost ? '2 n' : 'n'} + f - 1) ≤ w f: room of IsPolledInTime`) + (lost ? ', r + 1 times as often' : '')],
       ...plan.isInTime ? [
         ['The most entries that wait', withCommas(plan.waits), 'few_wait of KeepsUpExactly'],
         ['A transition is in a block after at most', plan.late + ' ms', lost ? 'late of IsLateBy' : 'young of KeepsUpExactly'],
       ] : [],
       ['The longest outage that loses nothing, if nothing waits before it', withCommas(plan.longestOutage) + ' ms',
-        plan.hasRoom ? 'room of IsOutage, outage of settled_links_lose_nothing' : `k (1 + (n - 1) / f) ≤ ${waiting} does not hold: not proved`],
+        'room of IsOutage, outage of settled_links_lose_nothing'],
       [`The most entries that wait after ${withCommas(outage)} ms without a poll`, withCommas(plan.after), 'computed, not proved'],
       ['Clean rounds until these are in the record', String(plan.caughtUpIn), 'caught_up of clean_rounds_catch_up'],
     ];

@@ -7,8 +7,11 @@ export const WAITING = [STANDARD_WAITING, MOST_WAITING];
 const upTo = (number, divisor) => Math.ceil(number / divisor);
 const down = (number, divisor) => Math.floor(number / divisor);
 
-// The longest pace: a clean round at least every so many scans.
-export const longestPace = (inputs, filter) => down(BLOCK_ENTRIES * filter, inputs);
+// The longest pace for which a block takes enough: a clean round at least every so many scans.
+const longestPace = (inputs, filter) => down(BLOCK_ENTRIES * filter, inputs);
+
+// How many scans the blocks may be behind, if so many entries may wait.
+const mostBehind = (inputs, filter, waiting) => Math.max(down(waiting * filter, inputs) - (filter - 1), 0);
 
 const largest = (count, number) => Math.max(...Array.from({ length: count }, (_, j) => number(j)));
 
@@ -22,18 +25,19 @@ const latest = (inputs, filter, apart, behind) =>
 // What follows for `inputs` open inputs with filters of at least `filter`, rounds `pace` scans apart of which `lost` in a
 // row are lost, `waiting` entries that may wait, and an outage of so many scans.
 export function planOf({ inputs, filter, pace, lost, waiting, outage }) {
-  const longest = longestPace(inputs, filter);
+  const taken = longestPace(inputs, filter);
+  const kept = down(mostBehind(inputs, filter, waiting), lost > 0 ? 2 : 1);
+  const longest = Math.min(taken, kept);
   const apart = pace * (lost + 1);
   const rounds = lost > 0 ? 2 * apart : apart;
   const after = Math.min(inputs * upTo(outage, filter), waiting);
   return {
-    longest,
+    isFewWaiting: kept < taken,
     isInTime: apart <= longest,
     startEvery: down(longest, lost + 1),
     waits: mostWait(inputs, filter, apart, rounds),
     late: latest(inputs, filter, apart, rounds),
     longestOutage: filter * down(waiting, inputs),
-    hasRoom: inputs * (filter + longest - 1) <= waiting * filter,
     after,
     isRiddenOut: outage <= filter * down(waiting, inputs),
     caughtUpIn: 1 + upTo(after, BLOCK_ENTRIES),

@@ -8,6 +8,7 @@ import { fromHex } from './hex.js';
 import { FIRST_ANSWER } from './library.js';
 import { REASONS } from './log_words.js';
 import { DIRECTION, MessageList } from './messagelist.js';
+import { IN_TWO_LINES, Pieces } from './pieces.js';
 
 // The year 10000, which no time of a log has.
 const END_OF_TIME = 253_402_300_800;
@@ -27,27 +28,41 @@ export function formOf(name, asked) {
 }
 
 // The octets of a file in UTF-8.
-function octetsOf(file) {
+export function octetsOf(file) {
   const encoding = file.length > 1 ? BYTE_ORDER_MARKS[file[0] << 8 | file[1]] : undefined;
   return encoding ? new TextEncoder().encode(new TextDecoder(encoding).decode(file)) : file;
 }
 
+// The lines of a log.
+export const linesOf = (octets, form) => new TextDecoder().decode(octets).split(form === LOG_FORMS.auto ? /\r\n|\r|\n/ : '\n');
+
+const WITHOUT_MESSAGE = [LOG_KINDS.damaged, LOG_KINDS.passedOver];
+
 // Reads a file in a form of LOG_FORMS: its messages, how many lines are passed over by the number of their reason, what is doubtful,
 // and what the log says of directions.
 export function readLog(library, logReader, file, form) {
-  const octets = octetsOf(file), lines = new TextDecoder().decode(octets).split(form === LOG_FORMS.auto ? /\r\n|\r|\n/ : '\n');
+  const octets = octetsOf(file), lines = linesOf(octets, form);
   const found = new Found(lines, form, new MessageList(lines.length, octets.length), new Doubts(library));
-  for (const verdict of logReader.read(octets, form)) found.add(verdict);
-  return { form, messages: found.messages, passed: found.passed, doubts: found.doubts.words(),
-    isReversed: found.reversed > found.agreeing, isOwn: found.own === found.agreeing + found.reversed };
+  const spells = (message) => library.decode(library.place(message), message.length).fault === null;
+  const pieces = new Pieces(spells, (line) => found.textOf(line), (verdict) => found.add(verdict), (two) => found.addTwo(two));
+  for (const verdict of logReader.read(octets, form)) {
+    if (verdict.kind !== LOG_KINDS.blank) pieces.add(verdict, form === LOG_FORMS.auto && WITHOUT_MESSAGE.includes(verdict.kind));
+  }
+  pieces.end();
+  return found.result();
 }
 
 // Makes messages of verdicts.
-class Found {
+export class Found {
   constructor(lines, form, messages, doubts) {
     // How many frames have the direction of their type in the log's words, how many the other one, and how many of both say it as
     // transcripts do.
-    Object.assign(this, { lines, form, messages, doubts, passed: REASONS.map(() => 0), agreeing: 0, reversed: 0, own: 0 });
+    Object.assign(this, { lines, form, messages, doubts, passed: REASONS.map(() => 0), inTwoLines: 0, agreeing: 0, reversed: 0, own: 0 });
+  }
+
+  result() {
+    const { form, messages, passed, doubts, inTwoLines, agreeing, reversed, own } = this;
+    return { form, messages, passed, doubts: doubts.words(), inTwoLines, isReversed: reversed > agreeing, isOwn: own === agreeing + reversed };
   }
 
   textOf(line) {
@@ -63,6 +78,12 @@ class Found {
     else if (kind === LOG_KINDS.passedOver) this.passed[reason] += 1;
   }
 
+  // Two lines in which one message stands.
+  addTwo(verdicts) {
+    this.inTwoLines += 1;
+    for (const { line } of verdicts) this.messages.addBad(line, { why: IN_TWO_LINES, text: this.textOf(line).slice(0, LONGEST_SHOWN) });
+  }
+
   // A line that is a frame by order, and spells no message.
   addFaulty({ line, said }) {
     const digits = this.textOf(line).slice(this.form === LOG_FORMS.transcript ? 2 : 0).replace(/\s/g, '');
@@ -72,18 +93,19 @@ class Found {
   addFrames({ line, kind, said, time, frames, places }) {
     const text = this.textOf(line), isPossible = kind === LOG_KINDS.possible, inTime = time < END_OF_TIME ? time : null;
     const side = DIRECTIONS[said], clock = inTime === null ? '' : clockOf([text, this.textOf(line - 1)], inTime);
+    const isOwn = text.startsWith('> ') || text.startsWith('< ');
+    if (!isPossible) frames.forEach((octets) => this.noteSide(side, octets[0], isOwn));
+    const isTurned = !isOwn && this.reversed > this.agreeing;
     for (const octets of frames) {
-      this.messages.add({ line, side, octets, isPossible, time: inTime, clock });
-      if (isPossible) continue;
-      this.noteSide(side, octets[0], text);
-      if (this.form === LOG_FORMS.auto) this.doubts.add(text, octets, places);
+      this.messages.add({ line, side, octets, isPossible, isTurned, time: inTime, clock });
+      if (!isPossible && this.form === LOG_FORMS.auto) this.doubts.add(text, octets, places);
     }
   }
 
-  noteSide(side, code, text) {
+  noteSide(side, code, isOwn) {
     if (side === DIRECTION.none) return;
     if (side === (code < FIRST_ANSWER ? DIRECTION.sent : DIRECTION.heard)) this.agreeing += 1;
     else this.reversed += 1;
-    this.own += text.startsWith('> ') || text.startsWith('< ') ? 1 : 0;
+    this.own += isOwn ? 1 : 0;
   }
 }

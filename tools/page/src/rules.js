@@ -1,6 +1,6 @@
 // Judges a log by all rules, message by message, as `fiolog check` does. What it can't judge it counts, with the reason.
 
-import { CONTENT_BREACHES, CONTENT_RULES, INPUTS, RULE_BREACHES, RULES } from './constants.js';
+import { ADVANCE_BREACHES, CONTENT_BREACHES, CONTENT_RULES, INPUTS, RULE_BREACHES, RULES } from './constants.js';
 import { LOAD, POLL, STATUS_BITS } from './library.js';
 import { DIRECTION } from './messagelist.js';
 
@@ -14,7 +14,7 @@ const LAST_OF_ENTRIES = CONTENT_RULES.indexOf('ignored');
 const DUE = {
   pair: (due, got) => `an answer ${due} was due, ${got} came`,
   number: (due, got) => `block ${due} was asked for, ${got} came`,
-  advance: (due, got) => `block ${due} was due, ${got} came`,
+  advance: (due, got) => `block ${due} was due, ${got} came: ${ADVANCE_BREACHES[(got - due & 255) < 128 ? 'ahead' : 'behind'].replace('{due}', due)}`,
 };
 
 // The rules on messages and the rules on content, by the library's two checkers. The second begin again, below a breach and

@@ -2,18 +2,21 @@
 
 import { counted, withCommas } from './dom.js';
 import { POLL } from './library.js';
+import { SIDES } from './log_words.js';
 import { ENDS, ruleOf } from './rules.js';
+import { isOfOneSide } from './sides.js';
 
-export const VERDICTS = { good: 'good', partly: 'partly', broken: 'broken', none: 'none' };
+export const VERDICTS = { good: 'good', partly: 'partly', unjudged: 'unjudged', broken: 'broken', none: 'none' };
 
 // The kind of a verdict, its sentence, more on it, the place of the first breach (-1 if there is none), and sentences on what was
 // not judged.
 export function verdictOf(log) {
   const { messages, broken, possible } = log.summary, readable = messages - log.badLines - possible;
-  const judged = readable - log.excused - log.belowDamage - log.skipped;
+  const judged = readable - log.excused - log.belowDamage - log.skipped - log.aboveCommand;
   const notJudged = sentencesOf(log, readable > 0);
   const said = { more: '', first: -1, notJudged };
   if (readable === 0) return { ...said, kind: VERDICTS.none, text: possible > 0 ? 'No message is sure, so none is judged.' : 'No message was found.' };
+  if (isOfOneSide(log.logged)) return { ...said, kind: VERDICTS.unjudged, text: sentenceOf(SIDES[log.logged]) };
   if (broken > 0) {
     const [place, breach] = log.breaches.entries().next().value;
     const rule = `line ${log.lines[place]} breaks the rule ${ruleOf(breach)}`, more = `: ${log.meaning(place)}.`;
@@ -24,7 +27,10 @@ export function verdictOf(log) {
     const text = broken === 1 ? rule.replace('line', 'Line') : `${counted(broken, 'message')} of ${withCommas(readable)} break a rule. The first: ${rule}`;
     return { kind: VERDICTS.broken, text, more, first: place, notJudged };
   }
-  if (log.badLines > 0 || judged < readable || possible > 0) {
+  if (2 * judged < messages) {
+    return { ...said, kind: VERDICTS.unjudged, text: `Only ${counted(judged, 'message')} of ${withCommas(messages)} could be judged.`, more: ' No rule is broken there.' };
+  }
+  if (log.badLines > 0 || judged < readable || possible > 0 || log.others.size > 0 || log.logged !== '') {
     return { ...said, kind: VERDICTS.partly, text: `No rule is broken in the ${counted(judged, 'message')} that could be judged.` };
   }
   return { ...said, kind: VERDICTS.good, text: `No rule is broken in ${counted(judged, 'message')}.` };
@@ -32,11 +38,18 @@ export function verdictOf(log) {
 
 // What was not judged, and why.
 function sentencesOf(log, isJudged) {
-  const { badLines, excused, belowDamage, skipped, withoutContent, hasDirections, end, summary: { possible } } = log, said = [];
+  const { badLines, inTwoLines, aboveCommand, excused, belowDamage, skipped, withoutContent, hasDirections, end, summary: { possible } } = log, said = [];
   const [first] = log.breaches.keys(), poll = log.codes.indexOf(POLL);
-  if (badLines > 0) said.push(`${counted(badLines, 'line')} could not be read as a message and ${are(badLines)} not judged.`);
+  const unread = badLines - 2 * inTwoLines;
+  if (unread > 0) said.push(`${counted(unread, 'line')} could not be read as a message and ${are(unread)} not judged.`);
+  if (inTwoLines > 0) said.push(`${counted(inTwoLines, 'message')} in two lines each ${are(inTwoLines)} not read.`);
   if (possible > 0) {
     said.push(`${counted(possible, 'message')} ${are(possible)} possible and not judged: nothing in the log makes sure that the octets are a message.`);
+  }
+  if (log.others.size > 0) said.push(`${counted(log.others.size, 'frame')} with another address ${are(log.others.size)} not judged.`);
+  if (log.logged !== '' && !isOfOneSide(log.logged)) said.push(sentenceOf(SIDES[log.logged]));
+  if (aboveCommand > 0) {
+    said.push(`${counted(aboveCommand, 'message')} above the first command ${are(aboveCommand)} not judged: what was asked is not in the log.`);
   }
   if (excused > 0) {
     said.push(`${counted(excused, 'message')} ${are(excused)} not judged, since this log was not taken at the CPU: whether the CPU heard the `
@@ -60,4 +73,5 @@ function sentencesOf(log, isJudged) {
   return said;
 }
 
+const sentenceOf = (words) => `${words[0].toUpperCase()}${words.slice(1)}.`;
 const are = (count) => count === 1 ? 'is' : 'are';

@@ -113,3 +113,15 @@ pub const LOG_TWO_MORE: u8 = 9;
 pub const LOG_NO_SIDE: u8 = 0;
 pub const LOG_FROM_CPU: u8 = 1;
 pub const LOG_FROM_MODULE: u8 = 2;
+
+// One's own frames on a line, and the most octets of one.
+pub const WIRE_ADDRESS: u8 = 0x14;
+pub const WIRE_CONTROL: u8 = 0x83;
+pub const WIRE_ANY: u16 = 256;
+pub const WIRE_LONGEST: usize = 1556;
+
+// What an octet or a bit of a line ends.
+pub const WIRE_NOTHING: u8 = 0;
+pub const WIRE_MESSAGE: u8 = 1;
+pub const WIRE_OTHER: u8 = 2;
+pub const WIRE_DAMAGED: u8 = 3;

@@ -136,13 +136,27 @@ impl Checker {
     /// As `new`, of a module whose blocks have at most `per_block` entries, 1 to 255, and of which `waiting` may wait,
     /// 1 to 8,192. `None` where one is out of its range.
     pub fn within(per_block: u8, waiting: u16) -> Option<Checker> {
+        Checker::started_by(raw::fio2070_checker_start_within, per_block, waiting)
+    }
+
+    /// As `within`, above the first frame of a log that begins anywhere: what the CPU heard above the first frame that it sent
+    /// is passed over.
+    pub fn anywhere(per_block: u8, waiting: u16) -> Option<Checker> {
+        Checker::started_by(raw::fio2070_checker_start_anywhere, per_block, waiting)
+    }
+
+    fn started_by(
+        start: unsafe extern "C" fn(&mut RawChecker, RawLimits) -> u8,
+        per_block: u8,
+        waiting: u16,
+    ) -> Option<Checker> {
         let limits = RawLimits {
             waiting,
             per_block,
             reserved: 0,
         };
         let mut checker = RawChecker::default();
-        match unsafe { raw::fio2070_checker_start_within(&mut checker, limits) } {
+        match unsafe { start(&mut checker, limits) } {
             0 => Some(Checker(checker)),
             _ => None,
         }
@@ -181,7 +195,8 @@ impl Default for ContentChecker {
 }
 
 impl ContentChecker {
-    /// Above the first frame of a log, which may begin anywhere.
+    /// Above the first frame of a log, which may begin anywhere: what the CPU heard above the first frame that it sent is
+    /// passed over.
     pub fn new() -> ContentChecker {
         let mut content = RawContentChecker::default();
         unsafe { raw::fio2070_content_start(&mut content) };

@@ -27,6 +27,7 @@ mod ends;
 mod errors;
 mod logs;
 mod raw;
+mod wire;
 mod written;
 
 pub use encode::{
@@ -42,6 +43,7 @@ pub use raw::{
     Answer, Breach, Command, ConfigurationItem, ContentBreach, Entry, ErrorCounts, Fault, LogPlace,
     Outputs, RecordItem,
 };
+pub use wire::{wire_check, wire_frame, Wire, WireBits, WireHeard};
 pub use written::Unwritten;
 
 use constants::LONGEST_TEXT;

@@ -15,7 +15,8 @@ impl LogReader {
     }
 
     /// Takes octets until all are taken or the batch has no room for another verdict, and returns how many it took. The
-    /// batch then has the verdicts that were due.
+    /// batch then has the verdicts that were due. After the end, once each verdict was given, octets begin a new log of the
+    /// same form, whose lines are counted from 1.
     pub fn read(&mut self, octets: &[u8], batch: &mut LogBatch) -> usize {
         // SAFETY: a slice is initialised memory of its length; the reader was begun by `_start`.
         unsafe { raw::fio2070_log_read(&mut self.0, octets.as_ptr(), octets.len(), &mut batch.0) }

@@ -209,6 +209,34 @@ pub(crate) struct RawLogBatch {
     pub octets: [u8; 65536],
 }
 
+#[derive(Clone)]
+#[repr(C)]
+pub(crate) struct RawWire {
+    pub octets: [u8; 777],
+    pub phase: u8,
+    pub held: u16,
+    pub check: u16,
+    pub address: u16,
+    pub control: u16,
+}
+
+#[derive(Clone)]
+#[repr(C)]
+pub(crate) struct RawWireBits {
+    pub octets: [u8; 777],
+    pub phase: u8,
+    pub ones: u8,
+    pub pending: u8,
+    pub value: u8,
+    pub count: u8,
+    pub full: u8,
+    pub reserved: u8,
+    pub held: u16,
+    pub check: u16,
+    pub address: u16,
+    pub control: u16,
+}
+
 /// Structs that the calls alone read, as words of 64 bits.
 macro_rules! opaque {
     ($($name:ident: $words:literal,)*) => {$(
@@ -225,7 +253,7 @@ macro_rules! opaque {
 }
 
 opaque! {
-    RawContentChecker: 79,
+    RawContentChecker: 87,
     RawFilters: 27,
     RawLogReader: 65536,
     RawSizedModule: 132,
@@ -308,6 +336,7 @@ extern "C" {
     ) -> usize;
     pub(crate) fn fio2070_checker_start(checker: &mut RawChecker);
     pub(crate) fn fio2070_checker_start_within(checker: &mut RawChecker, limits: RawLimits) -> u8;
+    pub(crate) fn fio2070_checker_start_anywhere(checker: &mut RawChecker, limits: RawLimits) -> u8;
     pub(crate) fn fio2070_checker_sent(
         checker: &mut RawChecker,
         octets: *const u8,
@@ -451,4 +480,32 @@ extern "C" {
     pub(crate) fn fio2070_content_rule_text(rule: u8, text: *mut u8, text_count: usize) -> usize;
     pub(crate) fn fio2070_heard_text(heard: &RawHeard, text: *mut u8, text_count: usize) -> usize;
     pub(crate) fn fio2070_version() -> u32;
+    pub(crate) fn fio2070_wire_start(wire: &mut RawWire, address: u16, control: u16);
+    pub(crate) fn fio2070_wire_read(wire: &mut RawWire, octet: u8) -> u8;
+    pub(crate) fn fio2070_wire_read_many(
+        wire: &mut RawWire,
+        octets: *const u8,
+        octets_count: usize,
+        heard: &mut u8,
+    ) -> usize;
+    pub(crate) fn fio2070_wire_lose(wire: &mut RawWire);
+    pub(crate) fn fio2070_wire_message_length(wire: &RawWire) -> usize;
+    pub(crate) fn fio2070_wire_write(
+        address: u8,
+        control: u8,
+        message: *const u8,
+        message_count: usize,
+        out: *mut u8,
+        out_count: usize,
+    ) -> usize;
+    pub(crate) fn fio2070_wire_check(octets: *const u8, octets_count: usize) -> u16;
+    pub(crate) fn fio2070_wire_bits_start(bits: &mut RawWireBits, address: u16, control: u16);
+    pub(crate) fn fio2070_wire_bits_read(bits: &mut RawWireBits, bit: u8) -> u8;
+    pub(crate) fn fio2070_wire_bits_read_many(
+        bits: &mut RawWireBits,
+        octets: *const u8,
+        octets_count: usize,
+        heard: &mut u8,
+    ) -> usize;
+    pub(crate) fn fio2070_wire_bits_message_length(bits: &RawWireBits) -> usize;
 }

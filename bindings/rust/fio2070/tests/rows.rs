@@ -1,59 +1,23 @@
-//! The worked examples.
+//! The worked examples that tests/rows.json does not have, and what this binding alone has.
 
 use fio2070::*;
 
 const BLOCK: [u8; 11] = [0xb6, 5, 1, 0x8c, 3, 0xe7, 0, 0, 0, 3, 0xe8];
 
 #[test]
-fn commands_are_written_and_read() {
+fn what_has_no_room_is_not_written() {
     let mut out = [0; LONGEST_FRAME];
-    assert_eq!(status(0x80, &mut out), Ok(&[0x31, 0x80][..]));
-    assert_eq!(load_counter(65536, &mut out), Ok(&[0x32, 0, 1, 0, 0][..]));
-    assert_eq!(raw_inputs(&mut out), Ok(&[0x34][..]));
-    assert_eq!(filtered_inputs(&mut out), Ok(&[0x35][..]));
-    assert_eq!(poll(5, &mut out), Ok(&[0x36, 5][..]));
+    let items = [ConfigurationItem::default(); 2];
     assert_eq!(poll(5, &mut out[..1]), Err(Unwritten::NoRoom(2)));
-    assert_eq!(watchdog(200, &mut out), Ok(&[0x3a, 200][..]));
-    assert_eq!(identify(&mut out), Ok(&[0x3c][..]));
-    assert_eq!(
-        set_outputs(&[1; 8], &[2; 8], &mut out).map(<[u8]>::len),
-        Ok(17)
-    );
-    let items = [
-        ConfigurationItem {
-            input: 12,
-            ignore: false,
-            leading: 5,
-            trailing: 3,
-        },
-        ConfigurationItem {
-            input: 3,
-            ignore: true,
-            leading: 0,
-            trailing: 0,
-        },
-    ];
-    let octets = [0x33, 2, 12, 5, 3, 0x83, 0, 0];
-    assert_eq!(configure_inputs(&items, &mut out), Ok(&octets[..]));
     assert_eq!(
         configure_inputs(&items, &mut out[..7]),
         Err(Unwritten::NoRoom(8))
     );
     assert_eq!(
-        configure_inputs(&[items[0]; 256], &mut out),
-        Err(Unwritten::NoMessage)
-    );
-    let mut read = [ConfigurationItem::default(); MOST_ENTRIES];
-    assert_eq!(command_items(&octets, &mut read), Ok(&items[..]));
-    assert_eq!(
-        command_items(&octets, &mut read[..1]),
+        command_items(&[0x33, 2, 12, 5, 3, 0x83, 0, 0], &mut [items[0]]),
         Err(Unwritten::NoRoom(2))
     );
-    assert_eq!(command_items(&[0x33, 0], &mut read), Ok(&[][..]));
-    assert_eq!(
-        command_items(&[0x36, 5], &mut read),
-        Err(Unwritten::NoMessage)
-    );
+    assert_eq!(block_entries(&BLOCK, &mut []), Err(Unwritten::NoRoom(1)));
     let mut text = [b'?'; 16];
     assert_eq!(
         show(&[0x36, 5], &mut text[..13]),
@@ -62,75 +26,6 @@ fn commands_are_written_and_read() {
     assert_eq!(text[0], b'?');
     assert_eq!(show(&[0x36, 5], &mut text), Ok("poll block 5\n"));
     assert_eq!(&text, b"poll block 5\n\0??");
-    assert_eq!(
-        decode_command(&octets),
-        Ok(Command {
-            code: 51,
-            count: 2,
-            ..Command::default()
-        })
-    );
-}
-
-#[test]
-fn answers_are_written_and_read() {
-    let mut out = [0; LONGEST_FRAME];
-    let entry = Entry {
-        input: 12,
-        state: 1,
-        stamp: 999,
-    };
-    assert_eq!(block_answer(5, &[entry], 0, 1000, &mut out), Ok(&BLOCK[..]));
-    assert_eq!(
-        block_answer(
-            5,
-            &[Entry {
-                input: 128,
-                ..entry
-            }],
-            0,
-            1000,
-            &mut out
-        ),
-        Err(Unwritten::NoMessage)
-    );
-    assert_eq!(
-        status_answer(0x80, 0, 1, 1000, &mut out),
-        Ok(&[0xb1, 0x80, 0, 1, 0, 0, 3, 0xe8][..])
-    );
-    assert_eq!(load_counter_answer(0xfe, &mut out), Ok(&[0xb2, 0xfe][..]));
-    assert_eq!(configure_inputs_answer(1, &mut out), Ok(&[0xb3, 1][..]));
-    assert_eq!(
-        raw_inputs_answer(1, 2, &mut out),
-        Ok(&[0xb4, 1, 0, 0, 0, 0, 0, 0, 0, 0, 0, 0, 2][..])
-    );
-    assert_eq!(
-        filtered_inputs_answer(1, 2, &mut out),
-        Ok(&[0xb5, 1, 0, 0, 0, 0, 0, 0, 0, 0, 0, 0, 2][..])
-    );
-    assert_eq!(watchdog_answer(1, &mut out), Ok(&[0xba, 1][..]));
-    assert_eq!(other_answer(188, &[2], &mut out), Ok(&[0xbc, 2][..]));
-    assert_eq!(other_command(56, &[], &mut out), Ok(&[0x38][..]));
-    assert_eq!(other_command(54, &[], &mut out), Err(Unwritten::NoMessage));
-    let answer = Answer {
-        code: 182,
-        block: 5,
-        count: 1,
-        stamp: 1000,
-        ..Answer::default()
-    };
-    assert_eq!(decode_answer(&BLOCK), Ok(answer));
-    let mut entries = [Entry::default(); MOST_ENTRIES];
-    assert_eq!(block_entries(&BLOCK, &mut entries), Ok(&[entry][..]));
-    assert_eq!(block_entries(&BLOCK, &mut []), Err(Unwritten::NoRoom(1)));
-    assert_eq!(
-        block_entries(&[0xb3, 0], &mut entries),
-        Err(Unwritten::NoMessage)
-    );
-    assert_eq!(
-        (widen(0x10002, 0xfffe), widen(5, 0xfffe)),
-        (0xfffe, 0xffff_fffe)
-    );
 }
 
 #[test]
@@ -193,43 +88,11 @@ fn errors_have_words() {
 }
 
 #[test]
-fn answers_of_one_number_are_read() {
-    assert_eq!(read_outputs_answer(&[0xb7, 0, 1, 2, 3, 4]), Ok(0x0102_0304));
-    let fault = read_outputs_answer(&[0xbc, 2]).unwrap_err();
-    assert_eq!(
-        (fault.kind, fault.code),
-        (constants::FAULT_UNKNOWN_TYPE, 188)
-    );
-    assert_eq!(read_identification(&[0xbc, 0xfe]), Ok(0xfe));
-}
-
-#[test]
-fn faults_have_words() {
-    let words = |octets: &[u8]| decode_command(octets).unwrap_err().to_string();
-    assert_eq!(words(&[]), "empty");
-    assert_eq!(words(&[0x30; 774]), "too long got 774");
-    assert_eq!(words(&[0x30]), "unknown type 48");
-    assert_eq!(words(&[0x33]), "wrong length needed 2 got 1");
-}
-
-#[test]
 fn codes_have_words() {
-    let mut out = [0; constants::LONGEST_TEXT];
-    assert_eq!(rule_text(constants::RULE_ADVANCE, &mut out), Ok("advance"));
-    assert_eq!(rule_text(constants::RULE_NONE, &mut out), Ok(""));
     assert_eq!(
-        rule_text(constants::RULE_PAIR, &mut out[..4]),
+        rule_text(constants::RULE_PAIR, &mut [0; 4]),
         Err(Unwritten::NoRoom(5))
     );
-    assert_eq!(
-        content_rule_text(constants::CONTENT_APART, &mut out),
-        Ok("apart")
-    );
-    assert_eq!(
-        content_rule_text(constants::CONTENT_WATCHDOG, &mut out),
-        Ok("watchdog")
-    );
-    assert_eq!(content_rule_text(12, &mut out), Ok(""));
     let taken = Heard::Taken {
         number: 5,
         stamp: 0,
@@ -434,64 +297,6 @@ fn a_counter_is_loaded_at_the_line_sync() {
     assert_eq!(counter.now(), 0);
 }
 
-#[test]
-fn a_checker_says_what_was_due_and_goes_on() {
-    let mut checker = Checker::new();
-    assert_eq!(checker.sent(&[54, 255]), None);
-    let breach = checker.sent(&[54, 0]).unwrap();
-    assert_eq!((breach.rule, breach.due, breach.got), (4, 255, 0));
-    assert!(breach.has_due);
-    assert_eq!(checker.heard(&BLOCK), None);
-    assert_eq!(checker.sent(&[54, 6]), None);
-    let breach = checker.heard(&BLOCK).unwrap();
-    assert_eq!((breach.rule, breach.due, breach.got), (3, 6, 5));
-}
-
-#[test]
-fn an_entry_that_comes_twice_breaks_a_rule_on_content() {
-    let mut content = ContentChecker::new();
-    content.sent(&[54, 0]);
-    assert_eq!(content.heard(&[182, 0, 0, 0, 0, 0, 0, 0]), None);
-    content.sent(&[54, 1]);
-    assert_eq!(content.heard(&[182, 1, 1, 12, 0, 10, 0, 0, 0, 0, 11]), None);
-    content.sent(&[54, 2]);
-    let second = [182, 2, 2, 13, 0, 12, 12, 0, 13, 0, 0, 0, 0, 21];
-    let breach = content.heard(&second).unwrap();
-    assert_eq!((breach.rule, breach.input, breach.items), (3, 12, 1));
-    assert_eq!(content.heard(&second), None);
-}
-
-/// F without C: where no more may wait than a block takes, a block that takes all can say that entries are lost.
-#[test]
-fn a_checker_has_the_limits_of_the_module() {
-    let lost = [182, 5, 1, 12, 0, 10, 4, 0, 0, 0, 11];
-    for (per_block, waiting, rule) in [(255, 1024, Some(7)), (255, 255, None), (1, 1, None)] {
-        let mut checker = Checker::within(per_block, waiting).unwrap();
-        assert_eq!(checker.sent(&[54, 5]), None);
-        assert_eq!(checker.heard(&lost).map(|breach| breach.rule), rule);
-    }
-    assert!(Checker::within(0, 1).is_none() && Checker::within(1, 0).is_none());
-}
-
-/// A load of the counter is never refused; and an input is ignored until it is configured, which only a log says that
-/// begins with both ends.
-#[test]
-fn an_answer_breaks_a_rule_on_content_and_a_start_counts() {
-    let (mut later, mut begun) = (ContentChecker::new(), ContentChecker::begun());
-    let breach = later.heard(&[178, 1]).unwrap();
-    assert_eq!((breach.rule, breach.items), (constants::CONTENT_DONE, 0));
-    assert_eq!(breach.input, constants::NO_INPUT);
-    let block = [182, 0, 1, 12, 0, 10, 0, 0, 0, 0, 11];
-    later.sent(&[54, 0]);
-    assert_eq!(later.heard(&block), None);
-    begun.sent(&[54, 0]);
-    let breach = begun.heard(&block).unwrap();
-    assert_eq!(
-        (breach.rule, breach.input),
-        (constants::CONTENT_IGNORED, 12)
-    );
-}
-
 fn told(batch: &LogBatch) -> Vec<(u64, u8, Vec<Vec<u8>>)> {
     let frames = |frames: Frames<'_>| frames.map(<[u8]>::to_vec).collect();
     batch
@@ -514,19 +319,239 @@ fn reads_a_log() {
         LogReader::new(constants::LOG_AUTO),
         Box::new(LogBatch::new()),
     );
-    let mut lines = Vec::new();
-    for piece in text.chunks(7) {
-        assert_eq!(reader.read(piece, &mut batch), piece.len());
+    // After the end octets begin the next log.
+    for _ in 0..2 {
+        let mut lines = Vec::new();
+        for piece in text.chunks(7) {
+            assert_eq!(reader.read(piece, &mut batch), piece.len());
+            lines.extend(told(&batch));
+        }
+        reader.end();
+        assert_eq!(reader.read(&[], &mut batch), 0);
         lines.extend(told(&batch));
+        assert_eq!(
+            lines,
+            [
+                (1, constants::LOG_SAYS, vec![BLOCK.to_vec()]),
+                (2, constants::LOG_PASSED_OVER, vec![])
+            ]
+        );
     }
-    reader.end();
-    assert_eq!(reader.read(&[], &mut batch), 0);
-    lines.extend(told(&batch));
+}
+
+/// What a decoder says, each with its address and its message; those of others with their control octet.
+fn said(heard: WireHeard<'_>) -> String {
+    match heard {
+        WireHeard::Message {
+            address, message, ..
+        } => format!("own {address} {message:?}"),
+        WireHeard::Other {
+            address,
+            control,
+            message,
+        } => format!("other {address} {control} {message:?}"),
+        WireHeard::Damaged => "damaged".to_string(),
+    }
+}
+
+/// What a decoder says of a line, by one octet a call and by the call for many, which say the same.
+fn read_line(mut wire: Wire, line: &[u8]) -> Vec<String> {
+    let (mut by_many, mut rest, mut many) = (wire.clone(), line, Vec::new());
+    while let Some(heard) = by_many.read_many(&mut rest) {
+        many.push(said(heard));
+    }
+    let one: Vec<String> = line
+        .iter()
+        .filter_map(|octet| wire.read(*octet).map(said))
+        .collect();
+    assert_eq!((one, rest), (many.clone(), &[][..]));
+    many
+}
+
+/// The same of a line of bits.
+fn read_bits(mut bits: WireBits, line: &str) -> Vec<String> {
+    let (mut by_many, mut rest, mut many) = (bits.clone(), line.as_bytes(), Vec::new());
+    while let Some(heard) = by_many.read_many(&mut rest) {
+        many.push(said(heard));
+    }
+    let one: Vec<String> = line
+        .bytes()
+        .filter_map(|bit| bits.read(bit).map(said))
+        .collect();
+    assert_eq!((one, rest), (many.clone(), &[][..]));
+    many
+}
+
+/// Octets as bits, lowest first, with a 0 after each five ones.
+fn bits_of(octets: &[u8]) -> String {
+    let (mut bits, mut ones) = (String::new(), 0);
+    for place in 0..8 * octets.len() {
+        let is_one = octets[place / 8] >> (place % 8) & 1 == 1;
+        bits.push(if is_one { '1' } else { '0' });
+        ones = if is_one { ones + 1 } else { 0 };
+        if ones == 5 {
+            bits.push('0');
+            ones = 0;
+        }
+    }
+    bits
+}
+
+const POLL_LINE: [u8; 8] = [0x7e, 0x14, 0x83, 0x36, 5, 0xc4, 0x1b, 0x7e];
+
+fn own() -> Wire {
+    Wire::new(Some(constants::WIRE_ADDRESS), Some(constants::WIRE_CONTROL))
+}
+
+#[test]
+fn a_line_is_written() {
+    let mut out = [0; constants::WIRE_LONGEST];
     assert_eq!(
-        lines,
-        [
-            (1, constants::LOG_SAYS, vec![BLOCK.to_vec()]),
-            (2, constants::LOG_PASSED_OVER, vec![])
-        ]
+        wire_frame(&[54, 5], 0x14, 0x83, &mut out[..13]),
+        Err(Unwritten::NoRoom(14))
     );
+    let longest = [0x7e; 773];
+    let line = wire_frame(&longest, 0x7d, 0x7e, &mut out).unwrap();
+    assert_eq!(
+        read_line(Wire::new(None, None), line),
+        [format!("own 125 {longest:?}")]
+    );
+}
+
+#[test]
+fn a_line_is_read() {
+    let shared = [
+        0x7e, 0x14, 0x83, 0x36, 1, 0xe0, 0x5d, 0x7e, 0x14, 0x83, 0x36, 2, 0x7b, 0x6f, 0x7e,
+    ];
+    assert_eq!(
+        read_line(own(), &shared),
+        ["own 20 [54, 1]", "own 20 [54, 2]"]
+    );
+    for wire in [Wire::new(Some(21), None), Wire::new(None, Some(0))] {
+        assert_eq!(
+            read_line(wire, &shared),
+            ["other 20 131 [54, 1]", "other 20 131 [54, 2]"]
+        );
+    }
+    let aborted = [0x7e, 0x14, 0x83, 0x36, 5, 0xc4, 0x1b, 0x7d, 0x7e];
+    assert_eq!(read_line(own(), &aborted), ["damaged"]);
+    let no_message = [0x7e, 0xff, 0xff, 0xff, 0xff, 0x7e];
+    assert_eq!(read_line(own(), &no_message), ["damaged"]);
+    assert!(read_line(own(), &POLL_LINE[1..]).is_empty());
+    assert!(read_line(own(), &[0x7e; 3]).is_empty());
+}
+
+#[test]
+fn an_octet_that_is_lost_damages_its_part() {
+    for place in 0..=POLL_LINE.len() {
+        let mut wire = own();
+        let mut words = Vec::new();
+        words.extend(
+            POLL_LINE[..place]
+                .iter()
+                .filter_map(|octet| wire.read(*octet).map(said)),
+        );
+        wire.lose();
+        words.extend(read_line(wire, &[&POLL_LINE[place..], &POLL_LINE].concat()));
+        let due: &[&str] = match place {
+            0 => &["own 20 [54, 5]", "own 20 [54, 5]"],
+            8 => &["own 20 [54, 5]", "damaged", "own 20 [54, 5]"],
+            _ => &["damaged", "own 20 [54, 5]"],
+        };
+        assert_eq!(words, due, "at {place}");
+    }
+}
+
+#[test]
+fn a_line_of_bits_is_read() {
+    let own = WireBits::new(Some(constants::WIRE_ADDRESS), Some(constants::WIRE_CONTROL));
+    let (flag, poll) = ("01111110", bits_of(&POLL_LINE[1..7]));
+    let full = bits_of(&[0x14, 0x83, 0xff, 0xff, 0xa3, 0x5e]);
+    let empty = bits_of(&[0xff; 4]);
+    for (line, due) in [
+        (format!("110{flag}{poll}{flag}"), &["own 20 [54, 5]"][..]),
+        (format!("{flag}{full}{flag}"), &["own 20 [255, 255]"]),
+        (
+            format!("{flag}{poll}{flag}{poll}{flag}1111110{poll}{flag}"),
+            &["own 20 [54, 5]", "own 20 [54, 5]", "own 20 [54, 5]"],
+        ),
+        (
+            format!("{flag}{poll}1111111{flag}11111111{flag}{poll}{flag}"),
+            &["damaged", "own 20 [54, 5]"],
+        ),
+        (
+            format!("{flag}{poll}0{flag}{empty}{flag}"),
+            &["damaged", "damaged"],
+        ),
+    ] {
+        assert_eq!(read_bits(own.clone(), &line), due, "{line}");
+    }
+    assert_eq!(
+        read_bits(WireBits::new(None, Some(0)), &format!("{flag}{poll}{flag}")),
+        ["other 20 131 [54, 5]"]
+    );
+}
+
+/// What a part says by the definition.
+fn said_by_part(part: &[u8]) -> String {
+    let (mut octets, mut rest) = (Vec::new(), part.iter());
+    while let Some(octet) = rest.next() {
+        if *octet != 0x7d {
+            octets.push(*octet);
+        } else if let Some(escaped) = rest.next() {
+            octets.push(escaped ^ 0x20);
+        } else {
+            return "damaged".to_string();
+        }
+    }
+    let (front, check) = octets.split_at(octets.len().saturating_sub(2));
+    if !(5..=777).contains(&octets.len()) || wire_check(front).to_le_bytes() != check {
+        return "damaged".to_string();
+    }
+    match front {
+        [20, 131, message @ ..] => format!("own 20 {message:?}"),
+        [address, control, message @ ..] => format!("other {address} {control} {message:?}"),
+        _ => unreachable!(),
+    }
+}
+
+/// Lines of frames and of other octets, some struck: a decoder says what the parts between two flags say.
+#[test]
+fn hostile_lines_are_read_by_parts() {
+    let mut state = 1_u64;
+    let mut below = |bound: u64| {
+        state ^= state << 13;
+        state ^= state >> 7;
+        state ^= state << 17;
+        (state >> 20) % bound
+    };
+    const OCTETS: [u8; 8] = [0x7e, 0x7d, 0x5e, 0x5d, 0xff, 0x14, 0x83, 0x36];
+    let (mut own_frames, mut damaged) = (0, 0);
+    for _ in 0..30_000 {
+        let mut line = Vec::new();
+        for _ in 0..=below(4) {
+            let message: Vec<u8> = (0..=below(6)).map(|_| OCTETS[below(8) as usize]).collect();
+            let (mut out, address) = ([0; constants::WIRE_LONGEST], 20 + (below(4) / 3) as u8);
+            let mut frame = wire_frame(&message, address, 131, &mut out)
+                .unwrap()
+                .to_vec();
+            if below(2) == 0 {
+                let place = below(frame.len() as u64) as usize;
+                frame[place] = OCTETS[below(8) as usize];
+            }
+            line.extend_from_slice(&frame[(below(3) / 2) as usize..]);
+            line.extend((0..below(4) / 2).map(|_| OCTETS[below(8) as usize]));
+        }
+        let parts: Vec<&[u8]> = line.split(|octet| *octet == 0x7e).collect();
+        let within = parts.get(1..parts.len() - 1).unwrap_or(&[]);
+        let due: Vec<String> = within
+            .iter()
+            .filter(|part| !part.is_empty())
+            .map(|part| said_by_part(part))
+            .collect();
+        own_frames += due.iter().filter(|said| said.starts_with("own")).count();
+        damaged += due.iter().filter(|said| *said == "damaged").count();
+        assert_eq!(read_line(own(), &line), due, "{line:02x?}");
+    }
+    assert!(own_frames > 10_000 && damaged > 10_000);
 }

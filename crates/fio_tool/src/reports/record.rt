@@ -16,11 +16,11 @@ use std::alloc::{AllocError, Global};
 
 /// Returns the text with the record of the CPU in the input's transcript: `record N`, and then a line for each of its N
 /// items, `gap` or `input I state L stamp S wide W`. That CPU starts at the first poll with the number of that poll, and
-/// hears each frame after it.
+/// hears each frame after it. The transcript may begin anywhere: what is heard above its first command is passed over.
 ///
 /// If a rule on content is broken, the text has only the items before the first breach, and then the line `line L input I
-/// breaks RULE` or, for an answer, `line L breaks RULE`, where L is the number of the line; the report is not good. If the
-/// report of `check_text` is not good, it is that report, without a record.
+/// breaks RULE` or, for an answer, `line L breaks RULE`, where L is the number of the line; the report is not good. If from
+/// the first command on a rule of transcripts is broken, it is the line of that breach, as `check_text` has it, without a record.
 ///
 /// # Errors
 /// `Memory` if an allocation failed, for the record or its text.

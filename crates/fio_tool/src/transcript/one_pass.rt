@@ -6,7 +6,7 @@ ghost use Rattle.fio_check.specs.Observations.{observation_in};
 ghost use Rattle.fio_tool.specs.Check.{is_good};
 ghost use Rattle.fio_tool.specs.Judging.{IsJudged};
 ghost use Rattle.fio_tool.specs.Recordings.{IsRecordingOf, RecordsLine};
-ghost use Rattle.fio_tool.specs.Transcript.{IsReadFrame, SpellsSame, frame_in, transcript_in, verdict_in};
+ghost use Rattle.fio_tool.specs.Transcript.{IsReadFrame, SpellsSame, frame_in, transcript_from_command, verdict_from_command, verdict_in};
 
 use super::judging::Judging;
 use super::lines::{TraceError, frame_word};
@@ -38,25 +38,31 @@ pub(crate) fn judge_lines(text: &[u8]) -> Result<Verdict, BadLine>
     Ok(judging.breach.unwrap_or(Verdict::Good { frames }))
 }
 
-/// Returns the verdict, as `judge_lines` does, and if no line breaks a rule, the record of the transcript's CPU.
+/// Returns the verdict, as `judge_lines` does, and if no line breaks a rule, the record of the transcript's CPU. What is heard
+/// above the first command is passed over.
 ///
 /// # Errors
 /// `BadLine` as for `judge_lines`; `Memory` if the record could not grow.
 pub(crate) fn record_lines(alloc: Global, text: &[u8]) -> Result<(Verdict, Recording), TraceError>
-    ensures verdict { IfOk result (λ judged. verdict_in text.now ≡ Ok judged.0) }
-    ensures recording { (lines : List TranscriptLine) → transcript_in text.now ≡ Ok lines
+    ensures verdict { IfOk result (λ judged. verdict_from_command text.now ≡ Ok judged.0) }
+    ensures recording { (lines : List TranscriptLine) → transcript_from_command text.now ≡ Ok lines
         → IfOk result (λ judged. is_good judged.0 ≡ true → IsRecordingOf lines judged.1) }
     ensures err { IfErr result (λ fault. fault ≢ TraceError.Memory
-        → verdict_in text.now ≡ Err fault) }
+        → verdict_from_command text.now ≡ Err fault) }
 {
     let mut room = [0; FRAME_OCTETS];
     let mut judging = Judging::new();
     let mut recording = Recording::new();
+    let mut begun = false;
     let mut frames = 0;
     'lines: for (number, line) in numbered_lines(text, 1) {
         let Some((from_cpu, count)) = read_frame(line, &mut room) else {
             return Err(TraceError::BadLine { line: number });
         };
+        if !begun && !from_cpu {
+            continue;
+        }
+        begun = true;
         let octets = octets_of(count, &room);
         record_frame(
             alloc,

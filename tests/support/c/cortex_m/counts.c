@@ -31,6 +31,9 @@ static struct fio2070_configuration_item items[FIO2070_MOST_ENTRIES];
 static struct fio2070_entry entries[FIO2070_MOST_ENTRIES];
 static struct fio2070_record_item record[FIO2070_MOST_RECORD_ITEMS];
 static uint8_t frame[FIO2070_LONGEST_FRAME], block[FIO2070_LONGEST_FRAME], out[FIO2070_LONGEST_FRAME];
+static struct fio2070_wire wire;
+static uint8_t line[FIO2070_WIRE_LONGEST];
+static size_t line_length;
 static char text[12288];
 static size_t length, block_length, count;
 static uint64_t levels;
@@ -117,6 +120,34 @@ static void count_configurations(const char *what, size_t most) {
     say(what);
 }
 
+static void write_frame(void) {
+    line_length = fio2070_wire_write(FIO2070_WIRE_ADDRESS, FIO2070_WIRE_CONTROL, block, FIO2070_LONGEST_FRAME, line, sizeof line);
+}
+
+static void read_frame(void) {
+    size_t place;
+    for (place = 0; place < line_length; place++) count += fio2070_wire_read(&wire, line[place]);
+}
+
+/* The longest frame, of which few octets are stuffed. */
+static void count_frames(const char *write_case, const char *read_case) {
+    int time;
+    fio2070_wire_start(&wire, FIO2070_WIRE_ADDRESS, FIO2070_WIRE_CONTROL);
+    for (time = 0; time < TIMES; time++) {
+        from_here();
+        write_frame();
+        to_here();
+    }
+    say(write_case);
+    for (time = 0; time < TIMES; time++) {
+        from_here();
+        read_frame();
+        to_here();
+    }
+    spent /= (uint32_t)line_length;
+    say(read_case);
+}
+
 /* ---- The stack ---- */
 
 static void nothing(void) {}
@@ -185,6 +216,8 @@ static void count_stacks(void) {
     say_stack("encode_block_answer, 255 entries", encode_block);
     say_stack("show, 255 entries", show);
     say_stack("fault_text", fault_text);
+    say_stack("wire_write, 773 octets", write_frame);
+    say_stack("wire_read", read_frame);
 }
 
 int main(void) {
@@ -197,6 +230,7 @@ int main(void) {
     count_polls("module_receive, poll, 255 entries", "module_receive, poll again, 255 entries", "poller_hear, 255 entries", 255);
     count_configurations("module_receive, 64 items", 64);
     count_configurations("module_receive, 255 items", FIO2070_MOST_ENTRIES);
+    count_frames("wire_write, 773 octets", "wire_read, an octet");
     count_stacks();
     return 0;
 }

@@ -190,6 +190,10 @@ static size_t take(const struct block *block, struct fio2070_record_item *items)
     int is_hung = Q(HANG_AT_ITEMS) > 0 && count == (size_t)Q(HANG_AT_ITEMS);
     int raises = (block->count > 0 || Q(EMPTY_RAISES)) && (!(block->status & 4) || Q(LOST_RAISES));
     if (is_hung) hang();
+    if (Q(TRIES_DOUBLE) && cpu.tries == (unsigned long)Q(TRIES_DOUBLE) && 2 * count <= FIO2070_MOST_RECORD_ITEMS) {
+        memcpy(items + count, items, count * sizeof items[0]);
+        count *= 2;
+    }
     if (++cpu.blocks == (unsigned long)Q(TAKEN_AFTER)) raises = 0;
     if (raises) raise_number(Q(NUMBER_PLUS));
     cpu.has_taken = 1;

@@ -189,6 +189,9 @@ static const struct fault FAULTS[] = {
     FAULT("after 40 polls for a block its first entry is left out", OUTAGE_FIRST_ENTRY, 40),
     FAULT("the first entry of a block with E is left out", AGAIN_FIRST_ENTRY, 1),
     FAULT("wide times have 31 bits", WIDE_MOST_BITS, 31),
+    FAULT("after exactly 6 lost answers a block is recorded twice", TRIES_DOUBLE, 7),
+    FAULT("after exactly 14 lost answers a block is recorded twice", TRIES_DOUBLE, 15),
+    FAULT("the 1,000th block is not taken", LEFT_BLOCK, 1000),
     FAULT("an identification is the next number", IDENTITY_SETS, 1)};
 
-const struct fault_list CPU_FAULTS = {FAULTS, sizeof FAULTS / sizeof FAULTS[0]};
+const struct fault_list CPU_FAULTS = {FAULTS, sizeof FAULTS / sizeof FAULTS[0], 0};

@@ -129,6 +129,8 @@ static void scan_inputs(uint64_t levels) {
 static void count_up(void) {
     uint32_t last = module_low_bits(0xffffffff, Q(COUNTER_BITS));
     if (++module.scans == (unsigned long)Q(SCAN_WITHOUT_STEP)) return;
+    if (Q(POWER_FLAG_SCANS) && module.scans >= (unsigned long)Q(POWER_FLAG_SCANS)) module.flags &= 127;
+    if (Q(STEP_LOST_EACH) && module.scans % (unsigned long)Q(STEP_LOST_EACH) == 0) return;
     if (module.counter == last) {
         module.counter = (uint32_t)Q(COUNTER_AFTER_LAST);
     } else {

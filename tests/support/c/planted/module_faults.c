@@ -124,4 +124,4 @@ static const struct fault FAULTS[] = {
     FAULT("states above 31 do not change where 33 others do", SCAN_MASK_BITS, 32),
     FAULT("both filters are the shorter one", FILTERS_ARE_LEAST, 1)};
 
-const struct fault_list MODULE_FAULTS = {FAULTS, sizeof FAULTS / sizeof FAULTS[0]};
+const struct fault_list MODULE_FAULTS = {FAULTS, sizeof FAULTS / sizeof FAULTS[0], 0};

@@ -184,6 +184,7 @@ static const struct fault FAULTS[] = {
     FAULT("an overflow sets a flag", OVERFLOW_SETS_FLAG, 1),
     FAULT("control octets come first", CONTROLS_FIRST, 1),
     FAULT("F comes again after a repeat", REPEAT_KEEPS_LOST, 1),
+    FAULT("G is set after 1,000 blocks", MADE_AFTER, 1000),
     FAULT("the stamp of a status is that of the last poll", STATUS_STAMP_LATE, 1)};
 
-const struct fault_list MODULE_LINK_FAULTS = {FAULTS, sizeof FAULTS / sizeof FAULTS[0]};
+const struct fault_list MODULE_LINK_FAULTS = {FAULTS, sizeof FAULTS / sizeof FAULTS[0], 0};

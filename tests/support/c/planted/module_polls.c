@@ -7,6 +7,7 @@
 static void take_entries(void) {
     size_t size = (size_t)Q(BLOCK_SIZE), first = 0;
     module.in_block = module.count < size ? module.count : size;
+    if (module.in_block == (size_t)Q(BLOCK_SHORTENED)) module.in_block--;
     if (Q(NEWEST_FIRST)) first = module.count - module.in_block;
     memcpy(module.block, module.waiting + first, module.in_block * sizeof module.block[0]);
     memmove(module.waiting + first, module.waiting + first + module.in_block,
@@ -66,6 +67,7 @@ static size_t repeat_block(uint8_t *out) {
     *status &= (uint8_t)Q(REPEAT_MASK);
     if (Q(REPEAT_MASK) == 255) *status &= 0xfe;
     if (Q(AGAIN_SET) && !(Q(AGAIN_ONCE) && module.is_repeated) && (int)module.repeats <= Q(AGAIN_MOST)) *status |= 2;
+    if (Q(AGAIN_POLLS) && module.polls >= (unsigned long)Q(AGAIN_POLLS)) *status &= 0xfd;
     if (Q(REPEAT_CLEARS_LOST)) module.is_lost = 0;
     if (Q(REPEAT_KEEPS_LOST) && (*status & 4)) module.is_lost = 1;
     if (Q(REPEAT_MORE_IS_NEW)) *status = (uint8_t)((*status & ~8) | (module.count > 0 ? 8 : 0));

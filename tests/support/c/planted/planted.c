@@ -7,6 +7,7 @@
  *                                  them; `none` is the right one
  *     planted cpu NAMES WORD..     of the CPU's end
  *     planted wire NAMES [clock]   the module answers the lines of fio2070-test
+ *     planted wire-cpu NAMES       the CPU's end does
  */
 #include "quirks.h"
 
@@ -16,8 +17,8 @@
 /* A twentieth of the trials that a tester shrinks a script by is enough for most. */
 enum { MOST_NAMES = 8, MOST_TRIED = 1000000 };
 
-/* The number of events of a run over a wire. */
-enum { EVENTS = 20000 };
+/* The number of events of a run over a wire, and of the shortest one that has the long scripts. */
+enum { EVENTS = 20000, LATE_EVENTS = 200000 };
 
 static enum rule found_rule(const struct result *result) {
     int rule;
@@ -26,21 +27,23 @@ static enum rule found_rule(const struct result *result) {
 }
 
 /* Looks for a fault. Returns whether it was found in time. */
-static int look(const char *kind, const struct ends *ends, const struct fault *fault, const struct options *given) {
+static int look(const struct ends *ends, const struct fault *fault, int is_late, const struct options *given) {
     static struct result result;
     struct options options = *given;
     enum rule rule;
+    if (is_late && options.events < LATE_EVENTS) options.events = LATE_EVENTS;
     conformance_test(ends, &options, &result, NULL);
     rule = found_rule(&result);
-    printf("%-6s %7lu %5lu  %-18s %s\n", kind, result.events, rule == RULES ? 0 : (unsigned long)result.shortest[rule],
+    printf("%-6s %7lu %5lu  %-18s %s\n", ends->module != NULL ? "module" : "cpu", result.events, rule == RULES ? 0 : (unsigned long)result.shortest[rule],
            rule == RULES ? "none" : CONFORMANCE_RULE_ROWS[rule].name, fault->name);
     fflush(stdout);
     return rule != RULES;
 }
 
 /* The lists of faults of each end. */
-static const struct fault_list *const LISTS[] = {&MODULE_FAULTS, &MODULE_LINK_FAULTS, &CPU_FAULTS};
-enum { MODULE_LISTS = 2, ALL_LISTS = 3 };
+static const struct fault_list *const LISTS[] = {&MODULE_FAULTS, &MODULE_LINK_FAULTS, &MODULE_LATE_FAULTS, &CPU_FAULTS,
+                                                 &CPU_LATE_FAULTS};
+enum { MODULE_LISTS = 3, ALL_LISTS = 5 };
 
 static int look_for_all(const struct options *options, unsigned long most_tried) {
     struct ends ends;
@@ -54,7 +57,7 @@ static int look_for_all(const struct options *options, unsigned long most_tried)
             const struct fault *fault = &LISTS[list]->faults[place];
             ends.module = list < MODULE_LISTS ? module_with(&fault, 1) : NULL;
             ends.cpu = list < MODULE_LISTS ? NULL : cpu_with(&fault, 1);
-            missed += !look(list < MODULE_LISTS ? "module" : "cpu", &ends, fault, options);
+            missed += !look(&ends, fault, LISTS[list]->is_late, options);
         }
     }
     return missed > 0;
@@ -97,6 +100,10 @@ int main(int count, char **words) {
     }
     if (strcmp(words[1], "wire") == 0) {
         serve(module_with(found, faults_named(words[2], 1, found)), count > 3);
+        return 0;
+    }
+    if (strcmp(words[1], "wire-cpu") == 0) {
+        serve_cpu(cpu_with(found, faults_named(words[2], 0, found)));
         return 0;
     }
     if (strcmp(words[1], "module") == 0) {

@@ -22,8 +22,9 @@ struct fault {
 struct fault_list {
     const struct fault *faults;
     size_t count;
+    int is_late; /* only a run with room for the long scripts finds them */
 };
-extern const struct fault_list MODULE_FAULTS, MODULE_LINK_FAULTS, CPU_FAULTS;
+extern const struct fault_list MODULE_FAULTS, MODULE_LINK_FAULTS, MODULE_LATE_FAULTS, CPU_FAULTS, CPU_LATE_FAULTS;
 
 /* The ends with these faults. */
 const struct maker *module_with(const struct fault *const *faults, size_t count);
@@ -34,6 +35,7 @@ void hang(void);
 
 /* Answers the lines of fio2070-test. */
 void serve(const struct maker *maker, int has_clock);
+void serve_cpu(const struct cpu_maker *maker);
 const struct cpu_maker *cpu_with(const struct fault *const *faults, size_t count);
 
 #endif

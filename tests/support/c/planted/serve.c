@@ -1,4 +1,4 @@
-/* The module with its faults answers the lines of fio2070-test, as an adapter does. */
+/* The module, or the CPU's end, with its faults answers the lines of fio2070-test, as an adapter does. */
 #define _POSIX_C_SOURCE 200809L
 #include "conformance_clock.h"
 #include "quirks.h"
@@ -28,12 +28,17 @@ static size_t read_octets(const char *words, uint8_t *octets) {
     return length;
 }
 
+static void write_octets(const char *word, const uint8_t *octets, size_t length) {
+    size_t place;
+    fputs(length > 0 ? word : "none", stdout);
+    for (place = 0; place < length; place++) printf("%02x", octets[place]);
+    puts("");
+}
+
 static void exchange(const struct maker *maker, const char *words) {
     uint8_t frame[CONFORMANCE_LONGEST_FRAME], answer[FIO2070_LONGEST_FRAME];
-    size_t count = maker->exchange(NULL, frame, read_octets(words, frame), answer), place;
-    fputs(count > 0 ? "answer " : "none", stdout);
-    for (place = 0; place < count; place++) printf("%02x", answer[place]);
-    puts("");
+    size_t count = maker->exchange(NULL, frame, read_octets(words, frame), answer);
+    write_octets("answer ", answer, count);
 }
 
 static uint64_t read_levels(const char *words) {
@@ -61,6 +66,39 @@ void serve(const struct maker *maker, int has_clock) {
             if (strncmp(line, "inputs ", 7) == 0 && !has_clock) maker->step(NULL, levels);
             if (strncmp(line, "reset", 5) == 0) maker->reset(NULL);
             if (strncmp(line, "sync", 4) == 0) maker->line_sync(NULL);
+            puts("done");
+        }
+        fflush(stdout);
+    }
+}
+
+/* Passes a frame to the CPU's end, and writes the number after it, and what its record gains. */
+static void hear(const struct cpu_maker *maker, const char *words) {
+    static struct fio2070_record_item items[FIO2070_MOST_RECORD_ITEMS];
+    uint8_t frame[CONFORMANCE_LONGEST_FRAME];
+    size_t count = maker->hear(NULL, frame, read_octets(words, frame), items), place;
+    printf("record %02x", maker->number(NULL));
+    for (place = 0; place < count; place++) {
+        const struct fio2070_record_item *item = &items[place];
+        if (item->gap) printf(" gap");
+        if (!item->gap) printf(" %02x%02x%04x%08lx", item->input, item->state, item->stamp, (unsigned long)item->wide);
+    }
+    puts("");
+}
+
+void serve_cpu(const struct cpu_maker *maker) {
+    static char line[2 * CONFORMANCE_LONGEST_FRAME + 32];
+    uint8_t frame[FIO2070_LONGEST_FRAME], number = 0;
+    speaks = 1;
+    maker->reset(NULL, number);
+    while (fgets(line, sizeof line, stdin) != NULL) {
+        if (strncmp(line, "hear ", 5) == 0) {
+            hear(maker, line + 5);
+        } else if (strncmp(line, "poll", 4) == 0) {
+            write_octets("frame ", frame, maker->poll(NULL, frame));
+        } else {
+            read_octets(line + 6, &number);
+            maker->reset(NULL, number);
             puts("done");
         }
         fflush(stdout);

@@ -2,7 +2,7 @@ use Rattle.fio_c.proofs.Lent.{[], ◌∷◌, refl, w8, proved, full_share, fex, 
 use Rattle.fio_log.specs.Telling.{Telling}
 use Rattle.fio_log.specs.contracts.reader.Reader.{the_row as R}
 use Rattle.fio_log.proofs.reader.Reader.TheLaws.{the_row_laws as laws}
-use Rattle.fio_c.specs.Logs.{HasBegun}
+use Rattle.fio_c.specs.Logs.{HasBegun, form_of}
 use Rattle.fio_c.specs.contracts.log.fio2070_log_start as f
 use Rattle.fio_c.proofs.log.fio2070_log_start.Statement.{statement}
 use Rattle.fio_c.proofs.log.fio2070_log_start.Code as code
@@ -33,7 +33,7 @@ fio2070_log_start_spec 𝓤 𝓛 𝓜 𝓡 wired =
     calls_at ! (framed 𝓤 𝓛.H 𝓜 (tables 𝓤 𝓛.H 𝓜 𝓡 𝓡.env)) G (met 𝓤 𝓛 𝓜 𝓡 (code.calls-fio_c::log::new_reader 𝓡.env wired)) z
     (and_then ! (get ! refl) (no_more !)) (λ v.
     use1 𝓛 (later (some (λ (x : Telling). (‵ ftrue ⊛ ‵ (R.own_val x (v ∷ []))) ⊛
-    some (λ (ws : Unit {0} × Unit {0}). ‵ (lasts g.ended tt (form, tt) ws) ⊛ raw (fact 𝓤 (HasBegun x)))))) (id⊢ 𝓤 _) $
+    some (λ (ws : Unit {0} × Unit {0}). ‵ (lasts g.ended tt (form, tt) ws) ⊛ raw (fact 𝓤 (HasBegun (form_of form) x)))))) (id⊢ 𝓤 _) $
     await ! tt $ pick ! (λ x. split ! $ split ! $ drop ! $ move ! (1 ∷ []) $ pick ! (λ ws. split ! $ drop ! $ heard ! _ (λ begun.
     -- [what the reader owns; the room; the locals]
     peeks ! R (Is R) (shows 𝓛 R) x (v ∷ []) (λ is. let fits = ((laws.lawful 𝓛).typed x (v ∷ []) is).0 in
@@ -43,6 +43,6 @@ fio2070_log_start_spec 𝓤 𝓛 𝓜 𝓡 wired =
     sets ! (of_opd ! (unit_lit !)) refl (tt, tt) $
     returns ! (look_at ! 0 refl) $ free_all ! refl $ keep ! (0 ∷ []) $
     suffices ! _ (ends_at 𝓛 f.ended stayed c (y (block_ptr b o)) vunit tt (tt, (tt, tt)) (tt, (tt, tt))) $
-    fpack ! (HasBegun x) (λ _. lies_at R full_share (block_ptr b o) x) begun $
-    fpack ! Telling (λ telling. fex (HasBegun telling) (λ _. lies_at R full_share (block_ptr b o) telling)) x $
+    fpack ! (HasBegun (form_of form) x) (λ _. lies_at R full_share (block_ptr b o) x) begun $
+    fpack ! Telling (λ telling. fex (HasBegun (form_of form) telling) (λ _. lies_at R full_share (block_ptr b o) telling)) x $
     feq_i ! _ (vunit ∷ []) _ refl $ nothing ! $ nothing ! $ join ! $ nothing ! $ join ! $ nothing ! $ group ! 3 $ done !))))))))

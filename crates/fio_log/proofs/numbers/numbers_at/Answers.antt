@@ -30,7 +30,7 @@ numbers-preserved c =
 pub returns-else-is_high : goal.returns-else-is_high
 returns-else-is_high c =
     let above = c.numbers.invariant.written in
-    let shut = c.in-Some.ensures in
+    let shut = c.in-Some.ensures.text in
     record {
       last = c.number_end-behind.result;
       within = shut.within;

@@ -7,8 +7,11 @@ use Rattle.fio_check.proofs.content_above.ContentAbove.begun.Goals as goal
 pub returns : goal.returns
 returns c =
     ap {A = ContentFacts} (λ facts. record facts {
-      clock = Some 0;
       clear = true;
+      clock = Some 0;
+      block_heard = true;
+      timely = true;
+      full = Some 0;
       floor = Some (record { time = 0; input = None });
       inputs = λ input. input_kept c.begun.result input;
     }) c.new.ensures

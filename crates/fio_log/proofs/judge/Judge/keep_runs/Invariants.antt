@@ -1,8 +1,8 @@
 use Rattle.std.specs.List.{All}
 use Rattle.fio_log.specs.Frames.{IsJudgeOf, Log}
-use Rattle.fio_log.specs.Said.{IsSaidIn}
+use Rattle.fio_log.specs.LineRuns.{IsLineRun}
 use Rattle.fio_log.proofs.judge.Judge.keep_runs.Given as goal
 
-abbrev pub invariant-loop-said : goal.invariant-loop-said
-invariant-loop-said l = (log : Log) → IsJudgeOf log l.initial.self → All (IsSaidIn (log l.line)) l.runs.said.items
+abbrev pub invariant-loop-run : goal.invariant-loop-run
+invariant-loop-run l = (log : Log) → IsJudgeOf log l.initial.self → All (IsLineRun (log l.line)) l.runs.all.items
     → IsJudgeOf log l.self

@@ -2,13 +2,20 @@ use Rattle.std.proofs.Common.{rules}
 use Rattle.fio_log.specs.Telling.{IsReaderOf}
 use Rattle.fio_log.proofs.reader.Reader.end.Goals as goal
 
-pub returns-clause-kept : goal.returns-clause-kept
-returns-clause-kept c = λ log before line.
+pub returns-then-not-self-clause-kept : goal.returns-then-not-self-clause-kept
+returns-then-not-self-clause-kept c = λ log before line.
     let here = rw (c.refresh.ensures.line, c.refresh.ensures.read) at line in
     let done : IsReaderOf log c.finish_line.new.self =
     c.finish_line.ensures.kept log before (rw (← c.self.view_is) here) in
     let is = rw (← c.self.view_is) at done in
     c.refresh.ensures.kept log (record { line = is.line; judge = is.judge; held = is.held; frames = is.frames })
+
+pub returns-else-not-self-clause-kept : goal.returns-else-not-self-clause-kept
+returns-else-not-self-clause-kept c = λ log before line.
+    let done : IsReaderOf log c.finish_line.new.self =
+    c.finish_line.ensures.kept log before (rw (← c.self.view_is) line) in
+    let is = rw (← c.self.view_is) at done in
+    record { line = is.line; judge = is.judge; held = is.held; frames = is.frames }
 
 pub invariant_of-self : goal.invariant_of-self
 invariant_of-self c =
@@ -18,4 +25,5 @@ invariant_of-self c =
       search rules,
       kept.3,
       λ own is less. (search rules, (kept.4 own is less).1, (kept.4 own is less).2),
+      kept.5,
     )

@@ -35,6 +35,9 @@ invariant_of-self c =
       λ own is less.
           let all = all-told own c.self.inside c.self-2.inside _ _ c.self.view_is c.self-2.view_is c.self.invariant c.if-self.false was.told was.read was.form is in
           absurd (omega (arith, all, less)),
+      λ unread.
+          let none : c.self-2.inside.is_unread ≡ false = ap (λ (telling : Telling). telling.is_unread) c.self-2.view_is ∙ was.unread in
+          let no : false ≡ true = sym none ∙ unread in absurd (cc),
     )
 
 pub read_line-requires-clause-told : goal.read_line-requires-clause-told
@@ -55,4 +58,7 @@ invariant_of-self-else-is_whole c =
       λ own is less.
           let all = all-told own c.self.inside c.self-2.inside _ _ c.self.view_is c.self-2.view_is c.self.invariant c.if-self.false was.told was.read was.form is in
           absurd (omega (arith, all, less)),
+      λ unread.
+          let none : c.self-2.inside.is_unread ≡ false = ap (λ (telling : Telling). telling.is_unread) c.self-2.view_is ∙ was.unread in
+          let no : false ≡ true = sym none ∙ unread in absurd (cc),
     )

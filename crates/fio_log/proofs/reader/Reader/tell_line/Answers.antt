@@ -1,27 +1,13 @@
-use Rattle.std.proofs.Common.{◌≡◌, ◌<◌, Some}
-use Rattle.fio_log.specs.OwnVerdicts.{own_form_of}
+use Rattle.std.proofs.Common.{◌≡◌, ◌∙◌, ap, false, true}
+use Rattle.fio_log.specs.Telling.{Telling}
+use Rattle.fio_log.specs.declared.verdict.Form.TheVariants.{Auto}
+use Rattle.fio_log.proofs.OwnVerdictLemmas.{own-form}
 use Rattle.fio_log.proofs.reader.Reader.tell_line.Goals as goal
 
-pub returns-then-eq-clause-kept : goal.returns-then-eq-clause-kept
-returns-then-eq-clause-kept c = λ log before.
-    let is = rw (← c.self.view_is) at before in
-    record {
-      line = is.line;
-      judge = c.tell.ensures.judge log is.judge;
-      held = is.held;
-      frames = λ auto. c.tell.ensures.frames log is.judge;
-    }
-
-pub returns-else-eq-clause-own : goal.returns-else-eq-clause-own
-returns-else-eq-clause-own c = λ own is.
-    let ordered : own_form_of c.self.inside.form ≡ Some own = rw (← c.self.view_is) at is in
-    let less : c.self.inside.told < c.self.inside.read = rw (← c.self.view_is) at c.requires in
-    let tells = (c.self.invariant.4 own ordered less).2 in
-    rw (← c.self.view_is, tells.apart) tells.verdict
-
-pub returns-else-eq-clause-last : goal.returns-else-eq-clause-last
-returns-else-eq-clause-last c = λ own is.
-    let ordered : own_form_of c.self.inside.form ≡ Some own = rw (← c.self.view_is) at is in
-    let less : c.self.inside.told < c.self.inside.read = rw (← c.self.view_is) at c.requires in
-    let tells = c.self.invariant.4 own ordered less in
-    rw (← c.self.view_is) (tells.1, tells.2.whole)
+pub returns-else-eq-clause-agreed : goal.returns-else-eq-clause-agreed
+returns-else-eq-clause-agreed c =
+    let own = own-form c.args.self.now.form (λ auto.
+    let same : c.self.inside.form ≡ Auto = ap (λ (telling : Telling). telling.form) c.self.view_is ∙ auto in
+    let no : false ≡ true = rw same at c.if-eq.ensures in
+    absurd (cc)) in
+    rw c.requires.next (c.tell_own.ensures.agreed own.0 own.1)

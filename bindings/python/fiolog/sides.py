@@ -1,0 +1,151 @@
+"""Logs of which little can be judged. In one of one direction, commands whose answers were not logged, or answers without their
+commands, no rule is: breaches are held until an answer shows that the log has both."""
+
+import pickle
+import tempfile
+from collections import Counter
+
+from .events import FRAME, LOSSES, PIECE
+from .log_words import CURES, REASONS, SIDES
+from .message import POLL
+from .terminal import say as _say
+
+# Fewer frames do not show that a direction is missing.
+LEAST = 4
+# The octets of breaches that are held in memory; more are in a temporary file.
+MOST_HELD = 1 << 20
+COMMANDS, ANSWERS, NOT_WHOLE, SILENT, FEW = 'commands', 'answers', 'not whole', 'silent', 'few'
+ONE_SIDED = COMMANDS, ANSWERS, NOT_WHOLE
+_MERGE = ' (two files of one line: see --merge)'
+WORDS = {
+    COMMANDS: SIDES[COMMANDS] + _MERGE,
+    ANSWERS: SIDES[ANSWERS] + _MERGE,
+    NOT_WHOLE: SIDES[NOT_WHOLE],
+    SILENT: SIDES[SILENT],
+    FEW: 'less than half of what says messages was judged: {judged} of {said}',
+}
+# As a row of a table says it.
+IN_SHORT = {COMMANDS: 'the commands alone', ANSWERS: 'the answers alone', NOT_WHOLE: 'no whole answer', SILENT: 'no answer came',
+            FEW: 'less than half judged'}
+
+
+def say(judgements):
+    """Says of logs why little of them can be judged; returns whether that is a fault of one."""
+    for words in dict.fromkeys(one.words for one in judgements if one.verdict):
+        _say(words)
+    return any(is_fault(one.verdict) for one in judgements)
+
+
+def is_fault(verdict):
+    """Whether this verdict on a log is a fault."""
+    return verdict not in ('', SILENT)
+
+
+class Sides:
+    """Which directions the frames of a log have."""
+
+    def __init__(self):
+        self.commands = self.answers = self.lost = 0
+        self.polled, self.rises = None, False
+
+    def add(self, event):
+        """Takes a frame, or a line that may have held one."""
+        if event.kind in LOSSES:
+            self.lost += 1
+        elif event.direction == '<':
+            self.answers += 1
+        else:
+            self.commands += 1
+            if event.kind == FRAME and event.octets[0] == POLL:
+                self.rises |= self.polled not in (None, event.octets[1])
+                self.polled = event.octets[1]
+
+    def verdict(self, reasons):
+        """Returns what is missing of a log that is read to its end, a key of WORDS; empty if it has both directions or too few
+        frames. `reasons` are those why lines are passed over."""
+        if self.commands and self.answers or self.commands + self.answers < LEAST:
+            return ''
+        if self.answers:
+            return ANSWERS
+        lost = self.lost + reasons[REASONS['no message']]
+        return NOT_WHOLE if 2 * lost >= self.commands else COMMANDS if self.rises else SILENT
+
+
+class Held:
+    """Breaches with their events, in order."""
+
+    def __init__(self):
+        self.file, self.count = tempfile.SpooledTemporaryFile(MOST_HELD), 0
+
+    def add(self, one):
+        """Keeps a breach."""
+        pickle.dump(one, self.file)
+        self.count += 1
+
+    def take(self):
+        """Returns all that is kept, and keeps nothing."""
+        self.file.seek(0)
+        count, self.count = self.count, 0
+        for _ in range(count):
+            yield pickle.load(self.file)
+        self.file.seek(0)
+
+
+class Judgement:
+    """What rules find in a log: nothing, if it has one direction alone."""
+
+    def __init__(self, rules):
+        self.rules, self.sides, self.held = rules, Sides(), Held()
+        self.frames = self.left_out = self.losses = self.pieces = 0
+        self.verdict, self.words, self.found = '', '', None     # `found` is the breach of the latest frame
+        self.is_above_polls = False     # whether the first breach is above the first poll
+        self._is_first = True
+
+    def add(self, event):
+        """Takes a frame, or a line that may have held one; returns each breach that is certain now, with its event."""
+        sides = self.sides
+        if not (sides.commands and sides.answers):
+            sides.add(event)
+        self.found = None
+        if event.kind in LOSSES:
+            self._lose(event)
+            return ()
+        self.frames += 1
+        self.found = found = self.rules.breach(event)
+        if found and self._is_first:
+            self._is_first, self.is_above_polls = False, self.rules.judge.polled is None
+        if sides.answers:
+            broken = ((event, found),) if found else ()
+            return (*self.held.take(), *broken) if self.held.count else broken
+        if found:
+            self.held.add((event, found))
+        return ()
+
+    def _lose(self, event):
+        self.rules.lose(event)
+        self.pieces += event.kind == PIECE
+        self.losses += event.kind != PIECE
+
+    def leave_out(self, event):
+        """Takes a frame that is not to be judged."""
+        self.sides.add(event)
+        self.left_out += 1
+
+    def end(self, reasons, possible=0):
+        """Returns the other breaches, at the end of the log. `reasons` are those why lines are passed over, `possible` counts the
+        messages above all frames that nothing makes sure."""
+        unjudged = self.rules.unjudged
+        judged = self.frames - sum(unjudged[name] for name in self.rules.unjudged_frames)
+        said = self.frames + self.losses + self.pieces // 2 + possible + sum(reasons[reason] for reason in CURES)
+        self.verdict = self.sides.verdict(reasons) or (FEW if 2 * judged < said else '')
+        self.words = WORDS.get(self.verdict, '').format(judged=judged, said=said)
+        held = self.held.take()
+        return () if self.verdict in ONE_SIDED else held
+
+    @property
+    def unjudged(self):
+        """What is not judged, by its reason."""
+        if self.verdict not in ONE_SIDED:
+            return self.rules.unjudged
+        return Counter({name: self.rules.unjudged[name] for name in ('damaged_lines', 'pieces')},
+                       frames_of_one_direction=self.frames + self.left_out)

@@ -1,0 +1,299 @@
+//! The rows of tests/rows.json, whose form tests/support/rows.py describes.
+
+use fio2070::*;
+
+struct Row {
+    call: &'static str,
+    numbers: Vec<u64>,
+    text: String,
+    expected: String,
+}
+
+/// A text without `*` and `+`.
+fn expanded(text: &str) -> String {
+    let (between, joint) = if text.contains(' ') {
+        (", ", ", ")
+    } else {
+        ("+", "")
+    };
+    let parts = text.split(between).map(|part| {
+        let (what, count) = part.split_once('*').unwrap_or((part, "1"));
+        vec![what; count.parse().unwrap()].join(joint)
+    });
+    parts.collect::<Vec<_>>().join(joint)
+}
+
+fn read_rows() -> impl Iterator<Item = Row> {
+    let lines = include_str!("../../../../tests/rows.json").lines();
+    lines.filter(|line| line.starts_with('{')).map(|line| {
+        let (call, rest) = line[10..].split_once("\", \"given\": [").unwrap();
+        let (given, rest) = rest.split_once("], \"").unwrap();
+        let (numbers, text): (Vec<_>, Vec<_>) = if let Some((before, rest)) = given.split_once('"')
+        {
+            let (text, after) = rest.split_once('"').unwrap();
+            (vec![before, after], vec![text])
+        } else {
+            (vec![given], vec![])
+        };
+        let words = numbers.iter().flat_map(|part| part.split(", "));
+        Row {
+            call,
+            numbers: words.filter_map(|word| word.parse().ok()).collect(),
+            text: expanded(&text.concat()),
+            expected: expanded(rest.split('"').nth(2).unwrap()),
+        }
+    })
+}
+
+fn hex(octets: &[u8]) -> String {
+    octets.iter().map(|octet| format!("{octet:02x}")).collect()
+}
+
+fn octets_of(text: &str) -> Vec<u8> {
+    let places = (0..text.len() / 2).map(|place| &text[2 * place..2 * place + 2]);
+    places
+        .filter_map(|octet| u8::from_str_radix(octet, 16).ok())
+        .collect()
+}
+
+/// The numbers of each item or entry of a text.
+fn lists_of(text: &str) -> Vec<Vec<u16>> {
+    let parts = text.split(", ").filter(|part| !part.is_empty());
+    parts
+        .map(|part| part.split(' ').map(|word| word.parse().unwrap()).collect())
+        .collect()
+}
+
+fn items_of(text: &str) -> Vec<ConfigurationItem> {
+    let item = |one: &Vec<u16>| ConfigurationItem {
+        input: one[0] as u8,
+        ignore: one[1] != 0,
+        leading: one[2] as u8,
+        trailing: one[3] as u8,
+    };
+    lists_of(text).iter().map(item).collect()
+}
+
+fn entries_of(text: &str) -> Vec<Entry> {
+    let entry = |one: &Vec<u16>| Entry {
+        input: one[0] as u8,
+        state: one[1] as u8,
+        stamp: one[2],
+    };
+    lists_of(text).iter().map(entry).collect()
+}
+
+fn encoded(row: &Row, octets: &[u8]) -> String {
+    let mut room = [0; LONGEST_FRAME];
+    let out = &mut room[..];
+    let number = |place: usize| row.numbers[place];
+    let octet = |place: usize| number(place) as u8;
+    let half = |start: usize| octets[start..start + 8].try_into().unwrap();
+    let written = match &row.call[7..] {
+        "status" => status(octet(0), out),
+        "load_counter" => load_counter(number(0) as u32, out),
+        "configure_inputs" => configure_inputs(&items_of(&row.text), out),
+        "raw_inputs" => raw_inputs(out),
+        "filtered_inputs" => filtered_inputs(out),
+        "poll" => poll(octet(0), out),
+        "set_outputs" => set_outputs(&half(0), &half(8), out),
+        "watchdog" => watchdog(octet(0), out),
+        "identify" => identify(out),
+        "other_command" => other_command(octet(0), octets, out),
+        "status_answer" => status_answer(octet(0), octet(1), octet(2), number(3) as u32, out),
+        "load_counter_answer" => load_counter_answer(octet(0), out),
+        "configure_inputs_answer" => configure_inputs_answer(octet(0), out),
+        "raw_inputs_answer" => raw_inputs_answer(number(0), number(1) as u32, out),
+        "filtered_inputs_answer" => filtered_inputs_answer(number(0), number(1) as u32, out),
+        "block_answer" => block_answer(
+            octet(0),
+            &entries_of(&row.text),
+            octet(1),
+            number(2) as u32,
+            out,
+        ),
+        "watchdog_answer" => watchdog_answer(octet(0), out),
+        "other_answer" => other_answer(octet(0), octets, out),
+        _ => return "no such call".to_string(),
+    };
+    words_of(written.map(hex))
+}
+
+/// A result, or that there is no message.
+fn words_of(written: Result<String, Unwritten>) -> String {
+    match written {
+        Ok(text) => text,
+        Err(Unwritten::NoMessage) => "no message".to_string(),
+        Err(error) => error.to_string(),
+    }
+}
+
+/// Fields of a struct as pairs of names and numbers.
+macro_rules! fields {
+    ($it:expr, $($name:ident),*) => {
+        fields_of(&[$((stringify!($name), u64::from($it.$name))),*])
+    };
+}
+
+/// The fields that are not 0.
+fn fields_of(fields: &[(&str, u64)]) -> String {
+    let shown = fields.iter().filter(|field| field.1 != 0);
+    shown
+        .map(|(name, value)| format!("{name} {value}"))
+        .collect::<Vec<_>>()
+        .join(" ")
+}
+
+fn command_of(octets: &[u8]) -> Result<String, Fault> {
+    let it = decode_command(octets)?;
+    let mut words = fields!(it, code, clear, block, timeout, count, body, load);
+    for (name, octets) in [("levels", it.levels), ("controls", it.controls)] {
+        if octets != [0; 8] {
+            words += &format!(" {name} {}", hex(&octets));
+        }
+    }
+    Ok(words)
+}
+
+fn answer_of(octets: &[u8]) -> Result<String, Fault> {
+    let it = decode_answer(octets)?;
+    Ok(fields!(
+        it,
+        code,
+        flags,
+        receive_errors,
+        transmit_errors,
+        status,
+        block,
+        count,
+        body,
+        stamp,
+        inputs
+    ))
+}
+
+fn items_in(octets: &[u8]) -> String {
+    let mut room = [ConfigurationItem::default(); MOST_ENTRIES];
+    let shown = |one: &ConfigurationItem| {
+        format!(
+            "{} {} {} {}",
+            one.input,
+            u8::from(one.ignore),
+            one.leading,
+            one.trailing
+        )
+    };
+    let items = command_items(octets, &mut room);
+    words_of(items.map(|items| items.iter().map(shown).collect::<Vec<_>>().join(", ")))
+}
+
+fn entries_in(octets: &[u8]) -> String {
+    let mut room = [Entry::default(); MOST_ENTRIES];
+    let shown = |one: &Entry| format!("{} {} {}", one.input, one.state, one.stamp);
+    let entries = block_entries(octets, &mut room);
+    words_of(entries.map(|entries| entries.iter().map(shown).collect::<Vec<_>>().join(", ")))
+}
+
+/// What a checker says of frames: each is given as whether it was sent, and its octets.
+fn judged(text: &str, mut judge: impl FnMut(bool, &[u8]) -> Option<String>) -> String {
+    let frames = text.split(", ").map(|frame| frame.split_once(' ').unwrap());
+    let mut said =
+        |(side, octets)| judge(side == ">", &octets_of(octets)).unwrap_or("0".to_string());
+    frames.map(&mut said).collect::<Vec<_>>().join(", ")
+}
+
+fn by_checker(row: &Row) -> String {
+    let start = if row.call == "checker" {
+        Checker::within
+    } else {
+        Checker::anywhere
+    };
+    let Some(mut checker) = start(row.numbers[0] as u8, row.numbers[1] as u16) else {
+        return "refused".to_string();
+    };
+    judged(&row.text, |is_sent, octets| {
+        let breach = if is_sent {
+            checker.sent(octets)
+        } else {
+            checker.heard(octets)
+        }?;
+        Some(if breach.has_due {
+            format!("{} due {} got {}", breach.rule, breach.due, breach.got)
+        } else {
+            breach.rule.to_string()
+        })
+    })
+}
+
+fn by_content_checker(row: &Row) -> String {
+    let mut content = if row.call == "content" {
+        ContentChecker::new()
+    } else {
+        ContentChecker::begun()
+    };
+    judged(&row.text, |is_sent, octets| {
+        if is_sent {
+            content.sent(octets);
+            return None;
+        }
+        let breach = content.heard(octets)?;
+        let mut words = breach.rule.to_string();
+        if breach.input != constants::NO_INPUT {
+            words += &format!(" input {}", breach.input);
+        }
+        if breach.items != 0 {
+            words += &format!(" items {}", breach.items);
+        }
+        Some(words)
+    })
+}
+
+fn run(row: &Row) -> Result<String, Fault> {
+    let (octets, mut text) = (octets_of(&row.text), [0; 4096]);
+    let number = |place: usize| row.numbers[place];
+    Ok(match row.call {
+        "decode_command" => command_of(&octets)?,
+        "decode_answer" => answer_of(&octets)?,
+        "command_items" => items_in(&octets),
+        "block_entries" => entries_in(&octets),
+        "read_outputs_answer" => read_outputs_answer(&octets)?.to_string(),
+        "read_identification" => read_identification(&octets)?.to_string(),
+        "show" => words_of(
+            show(&octets, &mut text).map(|text| text.strip_suffix('\n').unwrap().to_string()),
+        ),
+        "widen" => widen(number(0) as u32, number(1) as u16).to_string(),
+        "rule_text" => words_of(rule_text(number(0) as u8, &mut text).map(str::to_string)),
+        "content_rule_text" => {
+            words_of(content_rule_text(number(0) as u8, &mut text).map(str::to_string))
+        }
+        "heard_text" => {
+            let mut items = [RecordItem::default(); constants::MOST_RECORD_ITEMS];
+            Poller::new(number(0) as u8)
+                .hear(&octets, &mut items)
+                .to_string()
+        }
+        "checker" | "checker_anywhere" => by_checker(row),
+        "content" | "content_begun" => by_content_checker(row),
+        "wire_check" => wire_check(&octets).to_string(),
+        "wire_frame" => {
+            let mut out = [0; constants::WIRE_LONGEST];
+            words_of(wire_frame(&octets, number(0) as u8, number(1) as u8, &mut out).map(hex))
+        }
+        _ => encoded(row, &octets),
+    })
+}
+
+#[test]
+fn each_row_of_the_table() {
+    let mut count = 0;
+    for row in read_rows() {
+        let came = run(&row).unwrap_or_else(|fault| fault.to_string());
+        assert_eq!(
+            came, row.expected,
+            "{} {:?} {}",
+            row.call, row.numbers, row.text
+        );
+        count += 1;
+    }
+    assert!(count > 150);
+}

@@ -1,0 +1,82 @@
+-- Where no item that ignores an input was sent since the clear block above its latest entry, none was sent since the latest
+-- clear block.
+use Rattle.fio_check.proofs.Names.{◌≡◌, ◌≤◌, ◌∙◌, ℕ, zero, suc, Bool, true, false, List, Option, Some, None, refl, sym, subst, ap, arith, length, if◌then◌else◌, nat_lt, not, option_map, option_and_then, slice_get, slice_get_within, slice_get_cases, inl, inr, ◌==◌, Entry, Gap, ContentFacts, InputAbove, SentItem, content_at, content_with, ContentEvent, Sent, Heard, Recorded, Ended, LineEvent}
+use Rattle.std.specs.Prelude.{◌&&◌}
+use Rattle.fio_message.specs.declared.fields.InputItem.{InputItem}
+use Rattle.fio_message.specs.declared.limits.TheConstants.{INPUTS}
+use Rattle.fio_check.specs.ContentKnown.{WatchedState}
+use Rattle.fio_check.specs.ContentSaid.{item_for, items_sent}
+use Rattle.fio_check.specs.ContentFacts.{coming, input_below_clear, input_ended, input_with_entry, input_with_item, settled_now, settles, shaded, unless_shaded, unnamed}
+use Rattle.fio_check.specs.ContentKnown.{input_coming}
+use Rattle.fio_check.proofs.ContentNext.{content_next}
+use Rattle.fio_check.proofs.KeptContent.{ended_input}
+
+-- an item that ignores the input and was sent since the latest clear block shades each entry that is watched
+abbrev IsShaded : InputAbove → Type 0
+IsShaded above = above.hidden ≡ true → (watched : WatchedState) → above.watched ≡ Some watched → watched.shaded ≡ true
+
+shaded-item : (above : InputAbove) (item : InputItem) (ignore : Bool) → item.ignore ≡ ignore → IsShaded above → IsShaded (input_with_item (unnamed above) (Some item))
+shaded-item above item true is shades = rw is (λ hidden watched at. by above.watched watched at)
+  where
+    by : (before : Option WatchedState) (watched : WatchedState) → option_map shaded before ≡ Some watched → watched.shaded ≡ true
+    by None watched at = absurd (cc)
+    by (Some state) watched at = ap (λ (w : WatchedState). w.shaded) (let same : (record state { shaded = true }) ≡ watched = cc in sym same)
+shaded-item above item false is shades = rw is (λ hidden watched at. by above.watched watched refl hidden at)
+  where
+    by : (before : Option WatchedState) (watched : WatchedState) → above.watched ≡ before → above.hidden ≡ true
+        → option_and_then unless_shaded before ≡ Some watched → watched.shaded ≡ true
+    by None watched same hidden at = absurd (cc)
+    by (Some state) watched same hidden at = absurd (cc (rw (shades hidden state same) at at))
+
+shaded-sent : (above : InputAbove) (item : Option InputItem) → IsShaded above → IsShaded (input_with_item (unnamed above) item)
+shaded-sent above None shades = shades
+shaded-sent above (Some item) shades = shaded-item above item item.ignore refl shades
+
+shaded-entry : (facts : ContentFacts) (level : Bool) (wide : ℕ) (above : InputAbove) → IsShaded (input_with_entry facts level wide above)
+shaded-entry facts level wide above hidden watched at = by (facts.clear && not above.reopened) at
+  where
+    by : (opened : Bool) → ◌≡◌ {A = Option WatchedState} (if opened then Some (record { level = level; shaded = above.hidden }) else None) (Some watched) → watched.shaded ≡ true
+    by true at = (let same : (record { level = level; shaded = above.hidden }) ≡ watched = cc in sym (ap (λ (w : WatchedState). w.shaded) same) ∙ hidden)
+    by false at = absurd (cc)
+
+shaded-clear : (above : InputAbove) (item : Option SentItem) → IsShaded (input_below_clear above item)
+shaded-clear above None hidden watched at = absurd (cc)
+shaded-clear above (Some item) hidden watched at = absurd (cc)
+
+shaded-with : (facts : ContentFacts) (event : ContentEvent) (input : ℕ) → IsShaded (facts.inputs input) → IsShaded ((content_with facts event).inputs input)
+shaded-with facts (Sent command) input shades = shaded-sent (facts.inputs input) (item_for input (items_sent command)) shades
+shaded-with facts (Heard answer) input shades = shades
+shaded-with facts (Recorded Gap) input shades = λ hidden watched at. absurd (cc)
+shaded-with facts (Recorded (Entry recorded level stamp wide)) input shades = by (input == recorded && nat_lt input INPUTS)
+  where
+    by : (own : Bool) → (let above = input_coming input (coming facts (Recorded (Entry recorded level stamp wide))) (facts.inputs input) in
+        IsShaded (if own then input_with_entry facts level wide above else above))
+    by true = shaded-entry facts level wide (input_coming input (coming facts (Recorded (Entry recorded level stamp wide))) (facts.inputs input))
+    by false = shades
+shaded-with facts (Ended status stamp) input shades = subst IsShaded (sym (ended_input facts status stamp input)) (below (settles facts input (Ended status stamp)))
+  where
+    above : InputAbove
+    above = input_coming input (coming facts (Ended status stamp)) (facts.inputs input)
+
+    below : (settling : Bool) → IsShaded (input_ended settling above)
+    below true = shaded-clear above (settled_now above)
+    below false = shades
+
+shaded-at : (events : List LineEvent) (place : ℕ) → place ≤ length events → (input : ℕ) → IsShaded ((content_at events place).inputs input)
+shaded-at events zero within input = λ hidden watched at. absurd (cc)
+shaded-at events (suc place) within input =
+    elim ((slice_get_cases events place).1) as (λ _. IsShaded ((content_at events (suc place)).inputs input)) [
+      | inl at ↦
+          subst (λ (facts : ContentFacts). IsShaded (facts.inputs input)) (sym (content_next events place at.0 at.2)) (shaded-with (content_at events place) at.0.event input
+          (shaded-at events place (omega (arith, within)) input))
+      | inr past ↦ absurd (omega (arith, within, past.0))
+    ]
+
+-- an input that is steady is not hidden
+pub steady_unhidden : (events : List LineEvent) (place : ℕ) (found : LineEvent) → slice_get events place ≡ Some found → (input : ℕ) (level : Bool)
+    → ((content_at events place).inputs input).watched ≡ Some (record { level = level; shaded = false }) → ((content_at events place).inputs input).hidden ≡ false
+steady_unhidden events place found here input level steady = by ((content_at events place).inputs input).hidden refl
+  where
+    by : (hidden : Bool) → ((content_at events place).inputs input).hidden ≡ hidden → hidden ≡ false
+    by true is = absurd (cc (shaded-at events place (let inside = slice_get_within events place found here in omega (arith, inside)) input is (record { level = level; shaded = false }) steady))
+    by false is = refl

@@ -1,0 +1,6 @@
+use Rattle.fio_check.proofs.Names.{refl}
+use Rattle.fio_message.proofs.Bits.{is_set-zero}
+use Rattle.fio_check.proofs.content_inputs.ContentInputs.forget_times.Goals as goal
+
+pub returns : goal.returns
+returns c input = rw (is_set-zero input) refl

@@ -1,0 +1,134 @@
+-- Lives that follow a plan: how they stand below a scan, a request and a poll.
+use Rattle.fio_ends.proofs.Names.{◌≡◌, ◌∙◌, ◌+◌, ◌≤◌, ◌==◌, ℕ, Bool, true, false, not, ◌∷◌, length, Option, Some, None, refl, ap, ap₂, subst, arith, if◌then◌else◌, option_map, nat_lt, nat_tests, answer_octets, block_in, Life, Scanned, Commanded, MadeBlock, newest_poll, is_new, blocks_of, end_of_blocks, next_block, start_after, last_end-append, number_of, number_of-fits, number_of-next, next_fits}
+use Rattle.fio_message.specs.declared.commands.Command.TheVariants as commands
+use Rattle.fio_module.specs.Sendings.{Sending, answer_of_sending, first_sending, latest_sending, repeat_of, sending_of}
+use Rattle.fio_module.specs.Laws.{Carries}
+use Rattle.fio_module.proofs.Stretches.{blocks_new, blocks_old}
+use Rattle.fio_link.proofs.Received.{again_carries, carried_back, first_carries}
+use Rattle.fio_link.proofs.RoundNumbers.{rounds_from_numbers}
+use Rattle.fio_link.proofs.Spelled.{said}
+use Rattle.fio_ends.proofs.LevelLives.{has_counter}
+use Rattle.fio_ends.proofs.Plans.{AwaitsPoll, HasCome, IsKeptFor, IsNext, IsTakeable, Plan, logged, made_at, sending_at}
+
+module _ (plan : Plan) where
+  -- what is awaited stays so where no poll is received
+  pub awaits-scan : (kept : Option Sending) (life : Life) (raw round : ℕ) → AwaitsPoll plan kept life round → AwaitsPoll plan kept (Scanned raw ∷ life) round
+  awaits-scan None life raw round n = record { new = n.new; in_sequence = n.in_sequence }
+  awaits-scan (Some sending) life raw round k = record { newest = k.newest; latest = k.latest; again = k.again; number_is = k.number_is }
+
+  pub awaits-request : (kept : Option Sending) (life : Life) (round : ℕ) → AwaitsPoll plan kept life round → AwaitsPoll plan kept (Commanded commands.FilteredInputs ∷ life) round
+  awaits-request None life round n = record { new = n.new; in_sequence = n.in_sequence }
+  awaits-request (Some sending) life round k = record { newest = k.newest; latest = k.latest; again = k.again; number_is = k.number_is }
+
+  -- ---- a poll that is answered
+
+  -- the next block
+  pub next_is : (life : Life) (scan taken round : ℕ) (kept : Option Sending) → HasCome plan life scan taken round kept → length (logged plan scan) ≤ taken + plan.settings.waiting
+      → next_block plan.settings life ≡ made_at plan scan taken
+  next_is life scan taken round kept h room =
+      let log = h.log in
+      let end = h.end in
+      let start : start_after plan.settings (logged plan scan) taken ≡ taken = omega arith in
+      let lost : nat_lt taken (start_after plan.settings (logged plan scan) taken) ≡ false = grind (arith, nat_tests) in
+      let counter = has_counter plan.levels plan.is_open plan.base plan.since plan.loads life scan h.levels_are in
+      let scans = h.levels_are.scans in
+      let loads_are = h.levels_are.loads_are in
+      cc
+
+  pub sending_is : (life : Life) (scan taken round : ℕ) → HasCome plan life scan taken round None → IsTakeable plan scan taken
+      → first_sending plan.settings life (number_of plan.first round) ≡ sending_at plan scan taken round
+  sending_is life scan taken round h t =
+      ap₂ (λ (b : MadeBlock) (out : Bool). sending_of b (number_of plan.first round) out) (next_is life scan taken round None h t) h.polled.in_sequence
+
+  pub differ : (round : ℕ) (same : Bool) → (number_of plan.first round == number_of plan.first (round + 1)) ≡ same → not same ≡ true
+  differ round false is = refl
+  differ round true is =
+      let equal : number_of plan.first round ≡ number_of plan.first (round + 1) = grind (arith, nat_tests) in
+      absurd (omega (arith, rounds_from_numbers plan.first round (round + 1) (omega arith) (omega arith) equal))
+
+  -- what is known below a poll
+  module _ (life : Life) (scan taken round : ℕ) (h : HasCome plan life scan taken round None) (t : IsTakeable plan scan taken) where
+    abbrev pub polled_life : Life
+    polled_life = Commanded (commands.Poll (number_of plan.first round)) ∷ life
+
+    pub come-poll : (kept : Option Sending) (later : ℕ) → AwaitsPoll plan kept polled_life later → HasCome plan polled_life scan (made_at plan scan taken).end later kept
+    come-poll kept later polled =
+        let number = number_of plan.first round in
+        let blocks = blocks_new plan.settings life number h.polled.new in
+        let next = next_is life scan taken round None h t in
+        record {
+          levels_are = record {
+            counter = h.levels_are.counter;
+            scans = h.levels_are.scans;
+            loads_are = h.levels_are.loads_are;
+            setting = h.levels_are.setting;
+            state = h.levels_are.state;
+          };
+          log = h.log;
+          end = ap end_of_blocks blocks ∙ last_end-append 0 (blocks_of plan.settings life) (next_block plan.settings life) ∙ ap (λ (b : MadeBlock). b.end) next;
+          polled = polled;
+        }
+
+    pub next_awaited : IsNext plan polled_life (round + 1)
+    next_awaited = record {
+      new = differ round (number_of plan.first round == number_of plan.first (round + 1)) refl;
+      in_sequence = (let after = number_of-next plan.first round in grind (arith, nat_tests));
+    }
+
+    pub latest_is : latest_sending plan.settings polled_life ≡ Some (sending_at plan scan taken round)
+    latest_is =
+        ap (λ (new : Bool). if new then Some (first_sending plan.settings life (number_of plan.first round)) else option_map repeat_of (latest_sending plan.settings life)) h.polled.new
+        ∙ ap Some (sending_is life scan taken round h t)
+
+    carries_made : Carries (sending_at plan scan taken round) (next_block plan.settings life)
+    carries_made = subst (λ sending. Carries sending (next_block plan.settings life)) (sending_is life scan taken round h t)
+        (first_carries plan.settings life (number_of plan.first round))
+
+    pub reads_back : block_in (answer_octets (answer_of_sending (sending_at plan scan taken round))) ≡ Some (said (sending_at plan scan taken round))
+    reads_back = carried_back plan.settings.per_block (sending_at plan scan taken round) (next_block plan.settings life) plan.range.few_per_block
+        (omega (arith, number_of-fits plan.first round)) (next_fits plan.settings life) carries_made
+
+    pub kept_now : IsKeptFor plan (sending_at plan scan taken round) polled_life round
+    kept_now = record {
+      newest = refl;
+      latest = latest_is;
+      again = carried_back plan.settings.per_block (repeat_of (sending_at plan scan taken round)) (next_block plan.settings life) plan.range.few_per_block
+          (omega (arith, number_of-fits plan.first round)) (next_fits plan.settings life) (again_carries (sending_at plan scan taken round) (next_block plan.settings life) carries_made);
+      number_is = refl;
+    }
+
+  -- a poll for which a block is sent again leaves no other
+  pub repeated : (life : Life) (scan taken round : ℕ) (sending : Sending) → HasCome plan life scan taken round (Some sending)
+      → HasCome plan (Commanded (commands.Poll (number_of plan.first round)) ∷ life) scan taken (round + 1) None
+  repeated life scan taken round sending h =
+      let old : is_new (newest_poll life) (number_of plan.first round) ≡ false = ap (λ latest. is_new latest (number_of plan.first round)) h.polled.newest ∙ itself (number_of plan.first round) in
+      let blocks = blocks_old plan.settings life (number_of plan.first round) old in
+      record {
+        levels_are = record {
+          counter = h.levels_are.counter;
+          scans = h.levels_are.scans;
+          loads_are = h.levels_are.loads_are;
+          setting = h.levels_are.setting;
+          state = h.levels_are.state;
+        };
+        log = h.log;
+        end = ap end_of_blocks blocks ∙ h.end;
+        polled = record {
+          new = differ round (number_of plan.first round == number_of plan.first (round + 1)) refl;
+          in_sequence = (let after = number_of-next plan.first round in grind (arith, nat_tests));
+        };
+      }
+    where
+      itself : (n : ℕ) → not (n == n) ≡ false
+      itself n = grind (arith, nat_tests)
+
+  pub repeats : (life : Life) (scan taken round : ℕ) (sending : Sending) → HasCome plan life scan taken round (Some sending)
+      → latest_sending plan.settings (Commanded (commands.Poll (number_of plan.first round)) ∷ life) ≡ Some (repeat_of sending)
+  repeats life scan taken round sending h =
+      let number = number_of plan.first round in
+      let old : is_new (newest_poll life) number ≡ false = ap (λ latest. is_new latest number) h.polled.newest ∙ itself number in
+      ap (λ (new : Bool). if new then Some (first_sending plan.settings life number) else option_map repeat_of (latest_sending plan.settings life)) old
+      ∙ ap (option_map repeat_of) h.polled.latest
+    where
+      itself : (n : ℕ) → not (n == n) ≡ false
+      itself n = grind (arith, nat_tests)

@@ -1,0 +1,349 @@
+-- What the entries of a log of polls without a fault keep: each is behind the one above it, and turns the level of its input.
+use Rattle.fio_ends.proofs.Names.{ℕ, ◌==◌, ◌&&◌, subst, sym, AllByRecursion, Bool, ContentEvent, ContentFacts, ContentRule, InputAbove, List, None, Option, Recorded, Some, State, [], ap, ap₂, arith, beq, content_with, false, if◌then◌else◌, inl, inr, is_some_and, nat_le, nat_lt, nat_tests, not, option_map, refl, rule_broken_by, subst, suc, sym, true, zero, ℕ, ◌&&◌, ◌+◌, ◌<◌, ◌==◌, ◌^◌, ◌||◌, ◌∙◌, ◌∷◌, ◌≡◌, ◌≢◌, ◌≤◌, ◌⊎◌}
+use Rattle.std.specs.Prelude.{find, is_some, option_and_then}
+use Rattle.fio_message.specs.declared.fields.Entry.{Entry}
+use Rattle.fio_cpu.specs.Record.{item_of}
+use Rattle.fio_input.specs.Widening.{wide_time_of}
+use Rattle.fio_check.specs.ContentFacts.{coming, input_recorded, input_with_entry, seen_below}
+use Rattle.fio_check.specs.ContentKnown.{input_coming}
+use Rattle.fio_check.specs.ContentKnown.{WatchedState, if_comes}
+use Rattle.fio_check.specs.Places.{earliest_above}
+use Rattle.fio_check.specs.declared.content_rules.BrokenRule.{BrokenRule}
+use Rattle.fio_message.specs.Bits.{is_set}
+use Rattle.std.proofs.lemmas.Bool.{cases_lt}
+use Rattle.fio_check.specs.ContentRules.{are_times_judged, state_breach, breaks_entry, broken_state, comes_behind, differing, differs, entry_rules, first_differing, is_out_of_order, is_stale, is_told_otherwise, steady_state}
+use Rattle.fio_check.specs.ContentSaid.{Floor, Seen, TimedState, comes_to, is_before, is_later, milliseconds_between}
+use Rattle.fio_check.proofs.Unexcused.{step_only}
+use Rattle.fio_ends.proofs.PollFacts.{none_of_map, none_or}
+use Rattle.fio_ends.proofs.PollStories.{age_of, timed}
+use Rattle.fio_ends.proofs.Marks.{IsChange, Known, known_seen, known_with, with_entry}
+
+-- ---- times
+
+both : (a b : Bool) → (a && b) ≡ true → (a ≡ true) × (b ≡ true)
+both true b is = (refl, is)
+both false b is = absurd (cc is)
+
+either : (a b : Bool) → (a || b) ≡ true → (a ≡ true) ⊎ (b ≡ true)
+either true b is = inl refl
+either false b is = inr is
+
+not_true : (b : Bool) → not b ≡ true → b ≡ false
+not_true false is = refl
+not_true true is = absurd (cc is)
+
+not_false : (b : Bool) → not b ≡ false → b ≡ true
+not_false true is = refl
+not_false false is = absurd (cc is)
+
+-- a later time is ahead by less than half of all
+record IsAhead (time other : ℕ) : Type 0 where
+  pub differ : time ≢ other
+  pub near : milliseconds_between other time < 2 ^ 31
+
+ahead : (time other : ℕ) → is_later time other ≡ true → IsAhead time other
+ahead time other is =
+    let parts = both (not (time == other)) (not (is_before time other)) is in
+    let differ : (time == other) ≡ false = not_true (time == other) parts.0 in
+    let near : nat_le (2 ^ 31) (milliseconds_between other time) ≡ false = not_true (is_before time other) parts.1 in
+    record { differ = grind (arith, nat_tests); near = grind (arith, nat_tests) }
+
+-- an entry that is later than the block before is younger than it
+pub fresh_age : (stamp before : ℕ) (entry : Entry) → stamp < 2 ^ 32 → before < 2 ^ 32 → milliseconds_between before stamp < 2 ^ 16
+    → is_later (wide_time_of stamp entry.stamp) before ≡ true → age_of stamp entry < milliseconds_between before stamp
+unfolding wide_time_of
+fresh_age stamp before entry fits fits_before near is =
+    let a = ahead (wide_time_of stamp entry.stamp) before is in
+    omega (arith, a.differ, a.near)
+
+-- and one that comes behind an entry of the same block is younger, or of the same time and a higher input
+pub behind_age : (stamp : ℕ) (entry above : Entry) → stamp < 2 ^ 32
+    → comes_behind entry.input (wide_time_of stamp entry.stamp) above.input (wide_time_of stamp above.stamp) ≡ true
+    → (age_of stamp entry < age_of stamp above) ⊎ ((age_of stamp entry ≡ age_of stamp above) × (above.input < entry.input))
+unfolding wide_time_of
+behind_age stamp entry above fits is =
+    elim (either (is_later (wide_time_of stamp entry.stamp) (wide_time_of stamp above.stamp)) _ is)
+    as (λ _. (age_of stamp entry < age_of stamp above) ⊎ ((age_of stamp entry ≡ age_of stamp above) × (above.input < entry.input))) [
+      | inl later ↦
+          let a = ahead (wide_time_of stamp entry.stamp) (wide_time_of stamp above.stamp) later in
+          inl (omega (arith, a.differ, a.near))
+      | inr same ↦
+          let parts = both (wide_time_of stamp entry.stamp == wide_time_of stamp above.stamp) (nat_lt above.input entry.input) same in
+          let equal : wide_time_of stamp entry.stamp ≡ wide_time_of stamp above.stamp = (let e = parts.0 in grind (arith, nat_tests)) in
+          let higher : above.input < entry.input = (let h = parts.1 in grind (arith, nat_tests)) in
+          inr (omega (arith, equal), higher)
+    ]
+
+-- states that were seen so many scans after the block before are later than an entry, or not
+pub record IsSeenAfter (full stamp gap : ℕ) (seen : Seen) (after : ℕ) : Type 0 where
+  pub after_is : after ≡ milliseconds_between full seen.stamp
+  pub fits : seen.stamp < 2 ^ 32
+  pub by_then : after ≤ gap
+
+pub entry_comes : (full stamp gap after : ℕ) (seen : Seen) (entry : Entry) → stamp < 2 ^ 32 → full < 2 ^ 32 → gap ≡ milliseconds_between full stamp → gap < 2 ^ 16
+    → IsSeenAfter full stamp gap seen after → age_of stamp entry < gap → is_later (wide_time_of stamp entry.stamp) seen.stamp ≡ true → after + age_of stamp entry < gap
+unfolding wide_time_of
+entry_comes full stamp gap after seen entry fits fits_full gap_is near s young is =
+    let a = ahead (wide_time_of stamp entry.stamp) seen.stamp is in omega (arith, a.differ, a.near, s.after_is, s.fits, s.by_then, gap_is)
+
+not_ahead : (time other : ℕ) → is_later time other ≡ false → (time ≡ other) ⊎ (2 ^ 31 ≤ milliseconds_between other time)
+not_ahead time other is = by (time == other) (is_before time other) refl refl is
+  where
+    by : (same before : Bool) → (time == other) ≡ same → is_before time other ≡ before → (not same && not before) ≡ false → (time ≡ other) ⊎ (2 ^ 31 ≤ milliseconds_between other time)
+    by true before p q is = inl (grind (arith, nat_tests))
+    by false true p q is = inr (grind (arith, nat_tests))
+    by false false p q is = absurd (cc is)
+
+pub entry_stays : (full stamp gap after : ℕ) (seen : Seen) (entry : Entry) → stamp < 2 ^ 32 → full < 2 ^ 32 → gap ≡ milliseconds_between full stamp → gap < 2 ^ 16
+    → IsSeenAfter full stamp gap seen after → age_of stamp entry < gap → is_later (wide_time_of stamp entry.stamp) seen.stamp ≡ false → gap ≤ after + age_of stamp entry
+unfolding wide_time_of
+entry_stays full stamp gap after seen entry fits fits_full gap_is near s young is =
+    elim (not_ahead (wide_time_of stamp entry.stamp) seen.stamp is) as (λ _. gap ≤ after + age_of stamp entry) [
+      | inl same ↦ omega (arith, same, s.after_is, s.fits, s.by_then, gap_is)
+      | inr before ↦ omega (arith, before, s.after_is, s.fits, s.by_then, gap_is)
+    ]
+
+pub block_comes : (full stamp gap after : ℕ) (seen : Seen) → stamp < 2 ^ 32 → full < 2 ^ 32 → gap ≡ milliseconds_between full stamp → gap < 2 ^ 16
+    → IsSeenAfter full stamp gap seen after → is_before stamp seen.stamp ≡ false
+block_comes full stamp gap after seen fits fits_full gap_is near s =
+    let less : milliseconds_between seen.stamp stamp < 2 ^ 31 = omega (arith, s.after_is, s.fits, s.by_then, gap_is) in
+    grind (arith, nat_tests)
+
+-- ---- what is known of the facts
+
+abbrev steady : Bool → WatchedState
+steady level = record { level = level; shaded = false }
+
+-- no change of an input is hidden, no item of it was sent, and this is known of it
+pub record IsWatched (above : InputAbove) (known : Known) : Type 0 where
+  pub reopened : above.reopened ≡ false
+  pub hidden : above.hidden ≡ false
+  pub touched : above.touched ≡ false
+  pub watched : above.watched ≡ option_map steady known.level
+  pub told : above.told ≡ known.told
+  pub unlogged : above.unlogged ≡ known.unlogged
+
+-- below the first block no load was sent and times are known, the latest block without C has this stamp, these states are awaited, and this is known
+-- of each input
+pub record Within (facts : ContentFacts) (full : ℕ) (floor : Floor) (seen : Option Seen) (known : ℕ → Known) : Type 0 where
+  pub judged : facts.excuses ≡ 0
+  pub clear : facts.clear ≡ true
+  pub timely : facts.timely ≡ true
+  pub full_is : facts.full ≡ Some full
+  pub aged : facts.aged ≡ false
+  pub seen_is : facts.seen ≡ seen
+  pub floor_is : facts.floor ≡ Some floor
+  pub inputs : (input : ℕ) → input < 64 → IsWatched (facts.inputs input) (known input)
+
+abbrev pub recorded : ℕ → Entry → ContentEvent
+recorded stamp entry = Recorded (item_of stamp entry)
+
+-- the states to which the record comes with an event, and what is known then
+abbrev pub comes_with : Option Seen → ContentEvent → Option Seen
+comes_with seen event = option_and_then (if_comes event) seen
+
+abbrev pub known_coming : Option Seen → (ℕ → Known) → ℕ → Known
+known_coming None known = known
+known_coming (Some seen) known = known_seen known seen.levels
+
+pub coming_input : (comes : Option Seen) (above : InputAbove) (known : ℕ → Known) (input : ℕ) → input < 64 → IsWatched above (known input)
+    → IsWatched (input_coming input comes above) (known_coming comes known input)
+coming_input None above known input low w = record {
+  reopened = w.reopened;
+  hidden = w.hidden;
+  touched = w.touched;
+  watched = w.watched;
+  told = w.told;
+  unlogged = w.unlogged;
+}
+coming_input (Some seen) above known input low w =
+    let there : nat_lt input 64 ≡ true = grind (arith, nat_tests) in
+    let bit = is_set seen.levels input in
+    record {
+      reopened = w.reopened;
+      hidden = w.hidden;
+      touched = w.touched;
+      watched = w.watched;
+      told = ap₂ (λ (b t : Bool). if b then (if t then None else Some bit) else above.told) there w.touched;
+      unlogged = ap₂ (λ (b t : Bool). (b && (not t && is_some_and above.told (λ level. not (beq level bit)))) || above.unlogged) there w.touched
+          ∙ ap₂ (λ (l : Option Bool) (u : Bool). is_some_and l (λ level. not (beq level bit)) || u) w.told w.unlogged;
+    }
+
+-- ---- an entry or the end of a block to which the record comes
+
+earliest_none : {A : Type 0} (at : ℕ → Option A) (count : ℕ) → earliest_above at count ≡ None → (place : ℕ) → place < count → at place ≡ None
+earliest_none at zero is place low = absurd (omega arith)
+earliest_none at (suc count) is place low =
+    let parts = none_or (earliest_above at count) (at count) is in
+    elim (cases_lt place count) as (λ _. at place ≡ None) [
+      | inl below ↦ earliest_none at count parts.0 place below
+      | inr here ↦ (let same : place ≡ count = omega arith in ap at same ∙ parts.1)
+    ]
+
+-- the states agree with the levels that are known
+abbrev pub StatesPass : Option Seen → (ℕ → Known) → Type 0
+StatesPass None known = Unit {0}
+StatesPass (Some seen) known = (input : ℕ) → input < 64 → (level : Bool) → (known input).level ≡ Some level → level ≡ is_set seen.levels input
+
+same_level : (a b : Bool) → not (beq a b) ≡ false → a ≡ b
+same_level true true is = refl
+same_level false false is = refl
+same_level true false is = absurd (cc is)
+same_level false true is = absurd (cc is)
+
+module _ (facts : ContentFacts) (full : ℕ) (floor : Floor) (seen : Option Seen) (known : ℕ → Known) (w : Within facts full floor seen known) (event : ContentEvent)
+    (keeps : broken_state facts event facts.seen ≡ None) where
+  agree_at : (s : Seen) → first_differing facts s ≡ None → (input : ℕ) → input < 64 → (level : Bool) → (known input).level ≡ Some level → level ≡ is_set s.levels input
+  unfolding first_differing
+  agree_at s none input low level is =
+      let here = earliest_none (differing facts s) 64 none input low in
+      let watched = (w.inputs input low).watched ∙ ap (option_map steady) is in
+      by (differs s input (facts.inputs input)) refl here
+      (ap (λ (x : Option WatchedState). is_some_and (steady_state x) (λ l. not (beq l (is_set s.levels input)))) watched)
+    where
+      by : (d : Bool) → differs s input (facts.inputs input) ≡ d → (if d then Some input else None) ≡ None → differs s input (facts.inputs input) ≡ not (beq level (is_set s.levels input))
+          → level ≡ is_set s.levels input
+      by true at is same = absurd (cc is)
+      by false at is same = same_level level (is_set s.levels input) (sym same ∙ at)
+
+  pub states_pass : StatesPass (comes_with seen event) known
+  states_pass = by seen (sym (ap (broken_state facts event) w.seen_is) ∙ keeps)
+    where
+      coming : (s : Seen) (comes : Bool) → comes_to s event ≡ comes → (if comes then option_map {U = BrokenRule} (λ found. record { input = Some found; rule = State }) (first_differing facts s) else None) ≡ None
+          → StatesPass (if comes then Some s else None) known
+      coming s false at is = tt
+      coming s true at is = agree_at s (none_of_map {B = BrokenRule} (λ (found : ℕ). record { input = Some found; rule = State }) (first_differing facts s) is)
+
+      by : (found : Option Seen) → broken_state facts event found ≡ None → StatesPass (comes_with found event) known
+      by None is = tt
+      by (Some s) is = coming s (comes_to s event) refl (sym (ap (λ (n : ℕ). state_breach ((n == 0) && comes_to s event) (first_differing facts s)) w.judged) ∙ is)
+
+-- ---- an entry
+
+-- an entry that breaks no rule
+module _ (facts : ContentFacts) (stamp : ℕ) (entry : Entry) (keeps : rule_broken_by facts (recorded stamp entry) ≡ None) where
+  abbrev state : TimedState
+  state = record { level = entry.level; wide = wide_time_of stamp entry.stamp }
+
+  abbrev pub Passes : ContentRule → Type 0
+  Passes rule = breaks_entry facts entry.input state rule ≡ false
+
+  all_pass : (rules : List ContentRule) → find (breaks_entry facts entry.input state) rules ≡ None → AllByRecursion Passes rules
+  all_pass [] is = tt
+  all_pass (rule ∷ rules) is = by (all_pass rules) (breaks_entry facts entry.input state rule) refl is
+    where
+      by : (find (breaks_entry facts entry.input state) rules ≡ None → AllByRecursion Passes rules) → (b : Bool) → breaks_entry facts entry.input state rule ≡ b
+          → (if b then Some rule else find (breaks_entry facts entry.input state) rules) ≡ None → AllByRecursion Passes (rule ∷ rules)
+      by rest false at is = (at, rest is)
+      by rest true at is = absurd (cc is)
+
+  pub passes : AllByRecursion Passes entry_rules
+  passes = all_pass entry_rules (none_of_map _ (find (breaks_entry facts entry.input state) entry_rules) (none_or _ _ keeps).1)
+
+  pub states_keep : broken_state facts (recorded stamp entry) facts.seen ≡ None
+  states_keep = (none_or _ _ keeps).0
+
+module _ (facts : ContentFacts) (full : ℕ) (floor : Floor) (seen : Option Seen) (known : ℕ → Known) (w : Within facts full floor seen known) (now stamp : ℕ) (entry : Entry) (low : entry.input < 64) where
+  abbrev wide : ℕ
+  wide = wide_time_of stamp entry.stamp
+
+  abbrev event : ContentEvent
+  event = recorded stamp entry
+
+  abbrev comes : Option Seen
+  comes = comes_with seen event
+
+  abbrev floor_then : Floor
+  floor_then = record { time = wide; input = Some entry.input }
+
+  abbrev known_then : ℕ → Known
+  known_then = known_with (known_coming comes known) (timed now stamp entry)
+
+  entry_input : (input : ℕ) → input < 64 → (same : Bool)
+      → IsWatched (if same && nat_lt input 64 then input_with_entry facts entry.level wide (input_coming input comes (facts.inputs input)) else input_coming input comes (facts.inputs input))
+      (if same then with_entry entry.level (known_coming comes known input) else known_coming comes known input)
+  entry_input input within false = coming_input comes (facts.inputs input) known input within (w.inputs input within)
+  entry_input input within true =
+      let there : nat_lt input 64 ≡ true = grind (arith, nat_tests) in
+      let above = input_coming input comes (facts.inputs input) in
+      let old = coming_input comes (facts.inputs input) known input within (w.inputs input within) in
+      subst (λ (b : Bool). IsWatched (if b then input_with_entry facts entry.level wide above else above) (with_entry entry.level (known_coming comes known input))) (sym there)
+      (record {
+        reopened = old.reopened;
+        hidden = old.hidden;
+        touched = old.touched;
+        watched = ap₂ (λ (a b : Bool). if a && not b then Some (record { level = entry.level; shaded = above.hidden }) else None) w.clear old.reopened
+            ∙ ap (λ (h : Bool). Some (record { level = entry.level; shaded = h })) old.hidden;
+        told = refl;
+        unlogged = old.unlogged;
+      })
+
+  coming_is : coming facts event ≡ comes
+  coming_is = ap (option_and_then (if_comes event)) w.seen_is
+
+  pub entry_after : Within (content_with facts event) full floor_then (seen_below event seen) known_then
+  entry_after = subst (λ f. Within f full floor_then (seen_below event seen) known_then) (sym (step_only facts event w.judged)) (record {
+    judged = w.judged;
+    clear = w.clear;
+    timely = w.timely;
+    full_is = w.full_is;
+    aged = w.aged;
+    seen_is = ap (seen_below event) w.seen_is;
+    floor_is = ap (λ (b : Bool). if b then None else Some floor_then) w.aged;
+    inputs = λ input within. subst (λ c. IsWatched (input_recorded facts entry.input entry.level wide input (input_coming input c (facts.inputs input))) (known_then input)) (sym coming_is)
+        (entry_input input within (input == entry.input));
+  })
+
+  -- the entry breaks no rule
+  module _ (keeps : rule_broken_by facts event ≡ None) where
+    abbrev kept : AllByRecursion (Passes facts stamp entry keeps) entry_rules
+    kept = passes facts stamp entry keeps
+
+    -- the times of this entry are known
+    known_time : (test : Floor → Bool) → (are_times_judged facts && is_some_and facts.floor test) ≡ test floor
+    known_time test =
+        ap₂ (λ (n : ℕ) (f : Option Floor). ((n == 0) && (facts.timely && not facts.aged)) && is_some_and f test) w.judged w.floor_is
+        ∙ ap₂ (λ (c a : Bool). (c && not a) && test floor) w.timely w.aged
+
+    pub behind : (above : ℕ) → floor.input ≡ Some above → comes_behind entry.input wide above floor.time ≡ true
+    behind above is =
+        not_false (comes_behind entry.input wide above floor.time)
+        (sym (ap (λ (a : Option ℕ). is_some_and a (λ i. not (comes_behind entry.input wide i floor.time))) is)
+        ∙ sym (known_time (is_out_of_order entry.input wide)) ∙ kept.0)
+
+    pub later : floor.input ≡ None → is_later wide floor.time ≡ true
+    later is =
+        not_false (is_later wide floor.time)
+        (sym (ap (λ (a : Option ℕ). not (is_some a) && not (is_later wide floor.time)) is)
+        ∙ sym (known_time (is_stale wide)) ∙ kept.1.0)
+
+    other_level : (a b : Bool) → beq a b ≡ false → a ≡ not b
+    other_level true true is = absurd (cc is)
+    other_level true false is = refl
+    other_level false true is = refl
+    other_level false false is = absurd (cc is)
+
+    neither : (a b : Bool) → (a || b) ≡ false → (a ≡ false) × (b ≡ false)
+    neither false b is = (refl, is)
+    neither true b is = absurd (cc is)
+
+    -- the latest level of its input, which states do not change
+    level_kept : (c : Option Seen) (input : ℕ) → (known_coming c known input).level ≡ (known input).level
+    level_kept None input = refl
+    level_kept (Some s) input = refl
+
+    told_kept : is_told_otherwise entry.level (input_coming entry.input comes (facts.inputs entry.input)) ≡ false
+    told_kept = sym (ap (λ (c : Option Seen). is_told_otherwise entry.level (input_coming entry.input c (facts.inputs entry.input))) coming_is)
+        ∙ sym (ap (λ (n : ℕ). (n == 0) && is_told_otherwise entry.level (input_coming entry.input (coming facts event) (facts.inputs entry.input))) w.judged) ∙ kept.1.1.1.1.1.0
+
+    pub is_change : IsChange (known_coming comes known entry.input) entry.level
+    is_change =
+        let here = coming_input comes (facts.inputs entry.input) known entry.input low (w.inputs entry.input low) in
+        let parts = neither (is_some_and (input_coming entry.input comes (facts.inputs entry.input)).told (beq entry.level)) (input_coming entry.input comes (facts.inputs entry.input)).unlogged told_kept in
+        record {
+          of_level = λ before is.
+              (let watched = (w.inputs entry.input low).watched ∙ ap (option_map steady) (sym (level_kept comes entry.input) ∙ is) in
+              other_level entry.level before (sym (ap (λ (x : Option WatchedState). is_some_and x (λ s. beq entry.level s.level)) watched) ∙ kept.1.1.0));
+          of_told = λ before is. other_level entry.level before (sym (ap (λ (x : Option Bool). is_some_and x (beq entry.level)) (here.told ∙ is)) ∙ parts.0);
+          logged = sym here.unlogged ∙ parts.1;
+        }

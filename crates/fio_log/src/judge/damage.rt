@@ -1,0 +1,54 @@
+//! Lines that may have held a frame and gave none.
+use crate::judge::decide::Decider;
+use crate::judge::decision::State;
+use crate::judge::entries::{Entries, Entry};
+use crate::judge::message_run::MessageRun;
+use crate::judge::slots::Slot;
+use crate::verdict::{Kind, Reason};
+
+impl Decider {
+    /// Finds whether an entry that gives no frame may have held one: it says a message that is written as frames are, or
+    /// its text may be the remains of a cut line. In a log that has frames no message is possible: it is damaged or passed
+    /// over.
+    pub(crate) fn find_damage(&mut self, entries: &Entries, slot: Slot) {
+        let decision = self.queue.get(slot);
+        let State::Passed(kind, reason) = decision.state else {
+            return;
+        };
+        let is_open = matches!(kind, Kind::PassedOver | Kind::Possible);
+        if self.count == 0 || !is_open || reason == Reason::TooLong {
+            return;
+        }
+        let is_of_others = match (entries.get(slot).runs.as_slice(), &decision.around) {
+            ([only], None) => self.is_strange(only),
+            (_, Some(around)) => self.shapes.are_of_others(around),
+            (_, None) => false,
+        };
+        let is_damaged = self.says_in_style(entries.get(slot))
+            || !is_of_others && self.vocabulary.may_be_left(self.queue.text(slot));
+        let (kind, reason) = match reason {
+            Reason::Exchanged | Reason::TwoMore if is_damaged => (Kind::Damaged, Reason::NoMessage),
+            _ if is_damaged => (Kind::Damaged, reason),
+            _ => (Kind::PassedOver, reason),
+        };
+        self.settle(slot, State::Passed(kind, reason));
+    }
+
+    /// Returns whether an entry says a message that is written as frames are, and is not strange.
+    fn says_in_style(&self, entry: &Entry) -> bool {
+        let shapes = &self.shapes;
+        for run in entry.runs.as_slice() {
+            if !self.is_strange(run)
+                && (run.is_long && run.is_known(shapes) || shapes.have_style(&run.around))
+            {
+                return true;
+            }
+        }
+        false
+    }
+
+    /// Returns whether both the number of a run and the words for its direction are others than those of frames.
+    fn is_strange(&self, run: &MessageRun) -> bool {
+        run.is_against(&self.shapes) && self.shapes.are_of_others(&run.around)
+    }
+}

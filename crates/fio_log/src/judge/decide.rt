@@ -1,0 +1,250 @@
+//! Decisions of the judge: which entries are frames, and which are passed over.
+use crate::around::Around;
+use crate::judge::decision::State;
+use crate::judge::entries::{Entries, Entry};
+use crate::judge::pair::Above;
+use crate::judge::queue::Queue;
+use crate::judge::shapes::Shapes;
+use crate::judge::slots::{ENTRIES, Slot};
+use crate::judge::vocabulary::Vocabulary;
+use crate::line_run::LINE_RUNS;
+use crate::sayings::Saying;
+use crate::verdict::{Kind, Reason};
+use arrayvec::ArrayVec;
+
+/// How many frames more are read before a message of unknown shape is given up.
+const LATER: u64 = 2;
+
+/// How many frames a log has at least before one is given up.
+const YOUNG: u64 = 16;
+
+/// What is kept of a run of a line, or of joined lines, until it is decided.
+#[derive(Clone, Copy, Debug, Default)]
+pub(crate) struct RunKey {
+    /// What surrounds it.
+    pub around: Around,
+    /// Whether it has two octets or more.
+    pub is_long: bool,
+    /// Whether it begins a message.
+    pub is_begun: bool,
+}
+
+impl RunKey {
+    /// Returns what is kept of octets.
+    pub(crate) fn of(around: &Around, octets: &[u8], saying: Saying) -> RunKey {
+        RunKey {
+            around: *around,
+            is_long: octets.len() > 1,
+            is_begun: matches!(saying, Saying::Begins { .. }),
+        }
+    }
+}
+
+/// What is decided of the entries, and what is known of the log. It does not change what is read of the entries.
+#[derive(Drop)]
+pub(crate) struct Decider {
+    pub shapes: Shapes,
+    pub vocabulary: Vocabulary,
+    pub queue: Queue,
+    pub above: Above,
+    /// The runs of the line that is decided, or of the first one of those that are open.
+    pub keys: ArrayVec<RunKey, LINE_RUNS>,
+    /// How their octets would spell a message, if they spell none.
+    pub remark: Option<Reason>,
+    /// The slot of the entry that further lines may continue.
+    pub open: Option<Slot>,
+    /// The slot of the entry whose frames are those of the chain.
+    pub chain: Option<Slot>,
+    /// How many frames were taken.
+    pub count: u64,
+    /// Whether there was a line that is not a bare message.
+    pub has_others: bool,
+    /// Whether a shape became known after the waiting entries were judged.
+    pub is_news: bool,
+}
+
+impl Decider {
+    /// Returns a decider of an empty log.
+    pub(crate) fn new() -> Decider {
+        Decider {
+            shapes: Shapes::new(),
+            vocabulary: Vocabulary::new(),
+            queue: Queue::new(),
+            above: Above::new(),
+            keys: ArrayVec::new(),
+            remark: None,
+            open: None,
+            chain: None,
+            count: 0,
+            has_others: false,
+            is_news: false,
+        }
+    }
+
+    /// Begins with an empty log.
+    pub(crate) fn clear(&mut self) {
+        self.shapes.clear();
+        self.vocabulary.clear();
+        self.queue.clear();
+        self.above.clear();
+        self.keys.clear();
+        self.remark = None;
+        self.open = None;
+        self.chain = None;
+        self.count = 0;
+        self.has_others = false;
+        self.is_news = false;
+    }
+
+    /// Forgets the frames of the chain, whose octets are no longer kept: its verdict was fetched, or is lost.
+    pub(crate) fn forget_chain(&mut self) {
+        if let Some(slot) = self.chain
+            && self.queue.get(slot).state == State::Chain
+        {
+            self.settle(slot, State::Passed(Kind::PassedOver, Reason::TooLong));
+        }
+        self.chain = None;
+    }
+
+    /// Sets what is decided of an entry.
+    pub(crate) fn settle(&mut self, slot: Slot, state: State) {
+        self.queue.get_mut(slot).state = state;
+    }
+
+    /// Decides on an entry by its own runs, those of the entry above and known shapes, as far as they suffice.
+    pub(crate) fn decide(&mut self, entries: &Entries, slot: Slot) {
+        let entry = entries.get(slot);
+        self.keep_around(slot, entry.runs.is_empty());
+        if entry.runs.is_empty() {
+            self.has_others = true;
+            self.tally_keys();
+            self.pass_over(entry, slot);
+            return;
+        }
+        self.has_others |= !entry.is_bare();
+        self.tally_runs(entry);
+        self.pair_with_above(entries, slot);
+        self.judge(entries, slot);
+        let later = self.count.saturating_add(LATER).max(YOUNG);
+        let decision = self.queue.get_mut(slot);
+        decision.waits = match &decision.around {
+            Some(around) if self.shapes.are_of_others(around) => u64::MAX,
+            _ => later,
+        };
+    }
+
+    /// Keeps what surrounds the last run of two octets or more of the line that is decided; of a line without such a run and
+    /// without a message, its last run.
+    fn keep_around(&mut self, slot: Slot, says_none: bool) {
+        let decision = self.queue.get_mut(slot);
+        let mut has_long = !says_none;
+        for key in self.keys.as_slice() {
+            has_long |= key.is_long;
+            if key.is_long || !has_long {
+                decision.around = Some(key.around);
+            }
+        }
+    }
+
+    /// Counts a line that says no message, for each front of its runs.
+    fn tally_keys(&mut self) {
+        let keys = self.keys.as_slice();
+        for (index, key) in keys.iter().enumerate() {
+            let is_first = !keys.iter().take(index).any(|other| other.is_long
+                && other.around.front == key.around.front);
+            if key.is_long && is_first {
+                self.shapes.add_bad(&key.around);
+            }
+        }
+    }
+
+    /// Counts a line that says a message, for each front of its runs that do.
+    fn tally_runs(&mut self, entry: &Entry) {
+        let runs = entry.runs.as_slice();
+        for (index, run) in runs.iter().enumerate() {
+            let is_first = !runs.iter().take(index).any(|other| other.is_long
+                && other.around.front == run.around.front);
+            if run.is_long && is_first {
+                self.is_news |= self.shapes.add_good(&run.around);
+            }
+        }
+    }
+
+    /// Judges an entry that waits; if a shape becomes known by it, judges all others that wait.
+    pub(crate) fn judge(&mut self, entries: &Entries, slot: Slot) {
+        self.judge_one(entries.get(slot), slot);
+        for _ in 0..ENTRIES {
+            if !self.is_news {
+                return;
+            }
+            self.is_news = false;
+            for position in 0..self.queue.len().min(ENTRIES) {
+                let other = self.queue.slot(position);
+                if !other.is(self.open) {
+                    self.judge_one(entries.get(other), other);
+                }
+            }
+        }
+    }
+
+    /// Judges an entry that waits.
+    fn judge_one(&mut self, entry: &Entry, slot: Slot) {
+        let decision = self.queue.get_mut(slot);
+        if !decision.is_waiting() {
+            return;
+        }
+        decision.judge(entry, &self.shapes);
+        if decision.chosen().is_some() {
+            self.take(entry, slot);
+        }
+    }
+
+    /// Counts the frame of an entry, and learns the shapes of its sure runs that say it.
+    pub(crate) fn take(&mut self, entry: &Entry, slot: Slot) {
+        self.count = self.count.saturating_add(1);
+        let decision = self.queue.get(slot);
+        for (index, run) in entry.runs.as_slice().iter().enumerate() {
+            if decision.is_taken(index) {
+                self.shapes
+                    .agreement
+                    .add(run.around.said, run.message.direction());
+            }
+            if decision.is_sure(entry, index)
+                && run.is_long
+                && decision.is_of_frame(entry, index)
+                && self.shapes.learn(&run.around)
+            {
+                self.is_news = true;
+                let (start, end) = entry.written_at(run);
+                self.vocabulary
+                    .learn(self.queue.text(slot), start, end, run.message.octets());
+            }
+        }
+    }
+
+    /// Passes an entry over.
+    pub(crate) fn pass_over(&mut self, entry: &Entry, slot: Slot) {
+        let (kind, reason) = if entry.possible().is_some() {
+            (Kind::Possible, Reason::ShortMessage)
+        } else if !entry.runs.is_empty() {
+            (Kind::PassedOver, Reason::ShortMessage)
+        } else if !self.keys.as_slice().iter().any(|key| key.is_long) {
+            (Kind::PassedOver, Reason::NoOctets)
+        } else if self.is_damaged() {
+            (Kind::Damaged, Reason::NoMessage)
+        } else {
+            (Kind::PassedOver, self.remark.unwrap_or(Reason::NoMessage))
+        };
+        self.settle(slot, State::Passed(kind, reason));
+    }
+
+    /// Returns whether a run of the line that is decided may have been a frame.
+    fn is_damaged(&self) -> bool {
+        self.keys.as_slice().iter().any(|key| {
+            key.is_long && self.shapes.know(&key.around)
+                || key.is_begun
+                    && self.shapes.have_style(&key.around)
+                    && !self.shapes.are_of_others(&key.around)
+        })
+    }
+}

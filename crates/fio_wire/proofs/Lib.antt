@@ -1,0 +1,12 @@
+pub mod Folding
+pub mod Division
+pub mod Batch
+pub mod Written
+pub mod LowestBits
+pub mod Lines
+pub mod Sent
+pub mod Losses
+pub mod BitLines
+pub mod SentBits
+pub mod OneFlip
+pub mod FlipFound

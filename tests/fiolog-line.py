@@ -1,0 +1,287 @@
+#!/usr/bin/env python3
+"""What a line carried, as `fiolog` reads it, beside the model of the line: files of its octets and of its bits, hostile ones too;
+what a file is by its beginning; frames with flags in lines and dumps of a log, and of each side; whose frames are judged; a sample
+clock that is too fast. However the octets come, the events are the same. Last line: `N passed, M failed`."""
+
+import json
+import os
+import random
+import sys
+import tempfile
+
+sys.dont_write_bytecode = True
+
+from support import line_model as model
+from support.check import Check
+from support.fiolog import fiolog, use_library
+from support.frames import random_message
+from support.hostile_lines import hostile_bits, hostile_line
+from support.loggers import LOGGERS, hexdump, pairs, xxd
+from support.sessions import random_session, timed
+
+POLL, BLOCK = bytes.fromhex('3605'), bytes.fromhex('b605018c03e700000003e8')
+NEXT = bytes.fromhex('3606')
+IDLE, FLAG = '1' * 15, bytes([model.FLAG])
+KINDS = {'frame': model.MESSAGE, 'bad': model.MESSAGE, 'other': model.OTHER, 'damaged': model.DAMAGED}
+
+
+def said_of(events):
+    """What events say, in the words of the model: the kind, and the message."""
+    return [(KINDS[event.kind], event.octets) for event in events if event.kind in KINDS]
+
+
+def due_of(said):
+    """What the model says, likewise."""
+    return [(one.kind, one.message) for one in said]
+
+
+def events_of(octets, size=1 << 20, **settings):
+    """The events of a file that is read in pieces of this size."""
+    from fiolog.reader import Reader
+    reader, events = Reader(**settings), []
+    for start in range(0, len(octets), size):
+        events += reader.feed(octets[start:start + size])
+    return events + reader.end()
+
+
+def packed(bits, is_high_first=False):
+    """Eight bits to an octet, the lowest first unless the highest is."""
+    bits += '1' * (-len(bits) % 8)
+    return bytes(int(bits[place:place + 8][::1 if is_high_first else -1], 2) for place in range(0, len(bits), 8))
+
+
+def hostile_octets(dice, count):
+    """The octets of hostile lines, one below the other."""
+    return bytes(octet for _ in range(count) for octet in hostile_line(dice) if octet is not model.LOST)
+
+
+# Files ------------------------------------------------------------------------------------------------------------------
+
+def fault_of_octets(count):
+    """Hostile lines of octets say what the model says, however they come and whosever frames are judged."""
+    dice = random.Random(1)
+    for _ in range(count):
+        line, size = hostile_octets(dice, 40), dice.choice((1, 3, 100, 1 << 20))
+        address, control = dice.choice(((0x14, 0x83), (0x15, 0x83), (None, None)))
+        due = due_of(model.said(line, *(model.ANY if number is None else number for number in (address, control))))
+        got = said_of(events_of(line, size, line='octets', address=(address, control)))
+        if got != due:
+            return line, got, due
+    return None
+
+
+def fault_of_bits(count):
+    """Hostile lines of bits, as a text in lines of any length and as octets of either order."""
+    dice = random.Random(2)
+    for _ in range(count):
+        bits = model.FLAG_BITS + ''.join(hostile_bits(dice) for _ in range(20))
+        bits += '1' * (-len(bits) % 8)
+        due, width = due_of(model.said_by_bits(bits)), dice.randrange(1, 100)
+        text = '\n'.join(bits[place:place + width] for place in range(0, len(bits), width))
+        single = bytes(map(int, bits))
+        for form, octets in (('bits', text.encode()), ('bits', single), ('bits', packed(bits)), ('bits-high-first', packed(bits, True))):
+            got = said_of(events_of(octets, dice.choice((1, 7, 1 << 20)), line=form))
+            if got != due:
+                return form, bits, got, due
+    return None
+
+
+def stream(dice, count):
+    """Messages of the link, one after the other, and the octets and bits of the line that carries them; some flags are shared."""
+    messages = [random_message(dice) for _ in range(count)]
+    octets, bits = FLAG, model.FLAG_BITS
+    for message in messages:
+        is_shared = dice.random() < 0.3
+        octets += model.line_of(message)[is_shared:]
+        bits += model.bit_line_of(message)[8 * (is_shared and bits.endswith(model.FLAG_BITS)):] + '1' * dice.choice((0, 0, 9, 40))
+    return messages, octets, bits
+
+
+def fault_of_beginning(count):
+    """A file is seen to be what a line carried, or a text, however its octets come."""
+    dice = random.Random(3)
+    for _ in range(count):
+        messages, octets, bits = stream(dice, 30)
+        noise = dice.choice((b'', b'\x00\xff', dice.randbytes(40).replace(FLAG, b''), model.line_of(POLL)[4:-1], b'6\n'))
+        log = ''.join('%s %s\n' % ('RX' if one[0] >= 128 else 'TX', one.hex()) for one in messages)
+        for name, file, settings in (
+                ('octets', noise + octets, {'line': 'octets'}), ('bits', bits.encode(), {'line': 'bits'}),
+                ('bits, one to an octet', bytes(map(int, bits)), {'line': 'bits'}),
+                ('bits in lines', b'01\n' * 9 + bits.encode(), {'line': 'bits'}), ('a log', log.encode(), {}), ('a log below noise', b'\x00\xfe\x01\n' + b'connected to the port\n' + log.encode(), {})):
+            whole = events_of(file, **settings)
+            pieces = events_of(file, dice.choice((1, 5, 1000, 20_000)))
+            if pieces != whole or len(said_of(whole)) < 9:
+                return name, file, said_of(pieces), said_of(whole)
+    return None
+
+
+# Lines of a log ---------------------------------------------------------------------------------------------------------
+
+# Lines, and the messages and damage that they say with --sdlc.
+LINES = {
+    'two frames and one flag': ('7E 14 83 36 01 E0 5D 7E 14 83 36 02 7B 6F 7E', '3601 3602'),
+    'an escape': ('7E 14 83 36 7D 5E 90 D6 7E', '367e'),
+    'an escape without flags': ('14 83 36 7D 5E 90 D6', '367e'),
+    'a frame that is broken off after its check': ('7E 14 83 36 05 C4 1B 7D 7E', '-'),
+    'octets that are a flag, as a synchronous line carries them': ('7E 14 83 36 7E 90 D6 7E', '367e'),
+    'a frame without flags': ('14 83 36 05 C4 1B', '3605'),
+    'one of another address without flags': ('15 83 36 05 7F 07', '3605'),
+    'a wrong check without flags': ('14 83 36 05 1B C4', '-'),
+    'a frame, damage and a frame': ('7E 14 83 36 01 E0 5D 7E 14 83 7E 14 83 36 02 7B 6F 7E', '3601 - 3602'),
+    'a right check and no message': ('7E FF FF FF FF 7E', '-'),
+    'octets before the first flag': ('83 36 05 C4 1B 7E 14 83 36 02 7B 6F 7E', '3602'),
+    'a frame in three lines': ('7E 14 83\n36 05\nC4 1B 7E', '3605'),
+    'a frame that ends where the next begins': ('7E 14 83 36 01 E0\n5D 7E 14 83 36\n02 7B 6F 7E', '3601 3602'),
+    'flags alone': ('7E 7E\n7E', ''),
+    'no flag at the end': ('7E 14 83 36 01 E0 5D 7E 14 83 36 02 7B 6F', '3601'),
+    'a row of digits': ('7e14833605c41b7e1483367d5e90d67e', '3605 367e'),
+    'words': ('7e148336 05c41b7e', '3605'),
+    'marks': ('0x7E, 0x14, 0x83, 0x36, 0x05, 0xC4, 0x1B, 0x7E', '3605'),
+    'both sides, whose frames go on': ('TX 7E 14 83 36\nRX 7E 14 83 B3 00\nTX 05 C4 1B 7E\nRX 1D BE 7E', '3605 b300'),
+    'octets with colons': ('14:83:36:05:C4:1B', '3605'),
+    'a clock': ('12:00:01 7E 14 83 36 05 C4 1B 7E\n12:00:02 7E 14 83 36 06 5F 29 7E', '3605 3606'),
+    'a date and a clock': ('2026-11-22 12:00:01 7E 14 83 36 05 C4 1B 7E\n2026-11-22 12:00:02 14 83 36 05 C4 1B', '3605 3605'),
+    'seconds': ('0.1000  7E 14 83 36 05 C4 1B 7E\n0.2000,7E 14 83 36 05 C4 1B 7E', '3605 3605'),
+    'a time and a side': ('07:15:02.100 RX: 7E 14 83 B3 00 1D BE 7E', 'b300'),
+}
+
+
+def check_lines(check):
+    """The lines of the table."""
+    for name, (text, expected) in LINES.items():
+        got = [octets.hex() or '-' for _, octets in said_of(events_of(text.encode() + b'\n', framing='checked'))]
+        check.equal('--sdlc: %s' % name, expected.split(), got)
+    event, = events_of(b'07:15:02.100 RX: 7E 14 83 B3 00 1D BE 7E\n', framing='checked')
+    check.equal('--sdlc: what is said before a frame', (7 * 3600 + 15 * 60 + 2.1, '<', 1), (event.time, event.said, event.number))
+    done = fiolog('decode', '-q', '--sdlc', '--no-check', text='TX 14 83 36 05\nRX 7E 00 08 B6 05 00 00 00 00 00 01 7E\n')
+    check.equal('--sdlc --no-check', ['1:     > poll block 5', '2:     < block 5 entries 0 status 00 stamp 1'], done.out.splitlines())
+    for size in (1, 5, 100):
+        check.equal('lines that end with CR, in pieces of %d' % size, ['one of them', 'the other'],
+                    [event.text for event in events_of(b'one of them\rthe other\r', size)])
+    session = timed(random_session(8, 300))
+    check.equal('--sdlc: the frames of an analyser of a synchronous line', [octets for _, _, octets in session],
+                [octets for _, octets in said_of(events_of(LOGGERS['SDLC'](session).encode(), framing='checked'))])
+    for words, text in ((('--sdlc',), LINES['two frames and one flag'][0]), ((), LINES['two frames and one flag'][0])):
+        done = fiolog('decode', *words, text=text + '\n')
+        check.equal('a hint at --sdlc, with %s' % ' '.join(words or ['nothing']), not words, 'try --sdlc' in done.err)
+
+
+def dumps(octets, dice):
+    """Dumps of octets: with offsets and characters, in digits alone, and in rows of any length."""
+    width = dice.randrange(1, 40)
+    yield 'xxd', '\n'.join(xxd(octets))
+    yield 'hexdump -C', '\n'.join([*hexdump(octets), '%08x' % len(octets)])
+    yield 'xxd -p', '\n'.join(octets[place:place + 30].hex() for place in range(0, len(octets), 30))
+    yield 'rows', '\n'.join(pairs(octets[place:place + width]) for place in range(0, len(octets), width))
+    yield 'offsets alone', '\n'.join('%04X  %s' % (place, pairs(octets[place:place + 8])) for place in range(0, len(octets), 8))
+    yield 'below a heading', 'TX %d bytes\n' % len(octets) + '\n'.join(hexdump(octets))
+
+
+def fault_of_dumps(count):
+    """A dump of a line has its frames; one of a hostile line too, and no other."""
+    dice = random.Random(4)
+    for _ in range(count):
+        messages, octets, _ = stream(dice, 40)
+        for name, text in dumps(octets, dice):
+            got = said_of(events_of(text.encode() + b'\n', dice.choice((1, 50, 1 << 20)), framing='checked'))
+            if got != [(model.MESSAGE, message) for message in messages]:
+                return name, text, got
+        octets = hostile_octets(dice, 30)
+        for name, text in dumps(octets, dice):
+            got = said_of(events_of(text.encode() + b'\n', framing='checked'))
+            if name in ('xxd', 'hexdump -C', 'below a heading') and got != due_of(model.said(octets)):
+                return 'hostile', name, text, got
+    return None
+
+
+# What is said -----------------------------------------------------------------------------------------------------------
+
+def written(folder, name, octets):
+    """The path of a new file."""
+    path = os.path.join(folder, name)
+    with open(path, 'wb') as file:
+        file.write(octets)
+    return path
+
+
+def check_others(check, folder):
+    """The frames of another address are shown and counted, and nobody is accused for them; `--address` names whose are judged."""
+    line = b''.join(model.line_of(message, address) for message, address in (
+        (POLL, 0x14), (b'\x36\x63', 0x15), (BLOCK, 0x15), (BLOCK, 0x14), (b'\x36\x64', 0x15), (NEXT, 0x14)))
+    path = written(folder, 'others', line)
+    done = fiolog('check', path)
+    check.equal('frames of others accuse nobody', (0, 'frames 3, polls 2, repeats 0, answers lost 1, marks 0, breaches 0'),
+                (done.status, done.out.splitlines()[0]))
+    check.equal('and are counted', 'not judged: 3 frames of other addresses', done.out.splitlines()[1])
+    check.holds('and said', '3 frames of address 15, control octet 83: not judged (--address)' in done.err, done.err)
+    check.equal('in JSON', 3, json.loads(fiolog('check', '--json', path).out.splitlines()[-1])['summary']['not_judged']['frames_of_others'])
+    summary = json.loads(fiolog('check', '--json', path, path).out.splitlines()[-1])['summary']
+    check.equal('of two logs', 6, summary['not_judged']['frames_of_others'])
+    check.holds('and not counted', 'not counted: 3 frames of other addresses' in fiolog('stats', path).out)
+    shown = fiolog('decode', path).out.splitlines()
+    check.equal('and shown', '2:     > poll block 99  of address 15, control octet 83: not judged', shown[1])
+    check.equal('and not converted', 3, len(fiolog('convert', '--to', 'frames', path).out.splitlines()))
+    for address, count in (('14', 3), ('15', 3), ('1583', 3), ('1582', 0), ('any', 6), ('aa', 0)):
+        done = fiolog('decode', '--json', '--address', address, path)
+        others = sum('other' in json.loads(line) for line in done.out.splitlines())
+        check.equal('--address %s' % address, (6, 6 - count), (len([line for line in done.out.splitlines() if '"octets"' in line]), others))
+    for word in ('5', '12345', 'x4', '', '0x14'):
+        check.equal('--address %r' % word, 2, fiolog('decode', '--address', word, path).status)
+    text = ' '.join(pairs(model.line_of(message, address)) for message, address in ((POLL, 0x14), (POLL, 0x15))) + '\n'
+    check.equal('frames of others in a log', ['frame', 'other'], [event.kind for event in events_of(text.encode(), framing='checked')])
+
+
+def check_sampled(check, folder):
+    """Bits that are several samples long are told so; so is another order of bits."""
+    _, _, bits = stream(random.Random(5), 20)
+    for samples in (2, 3, 4, 6, 8, 10):
+        done = fiolog('check', written(folder, 'fast', ''.join(bit * samples for bit in bits).encode()))
+        check.equal('%d samples a bit' % samples, (1, True),
+                    (done.status, 'nearly all bits last %d samples or more: the sample clock is faster' % samples in done.err))
+    dice = random.Random(6)
+    noisy = ''.join(bit * dice.choice((4, 5)) + ('1' if dice.random() < 0.005 else '') for bit in bits)
+    done = fiolog('check', written(folder, 'uneven', b'1' * 40_000 + noisy.encode()))
+    check.holds('four or five samples a bit, with noise, below a pause', 'nearly all bits last 4 samples' in done.err, done.err)
+    path = written(folder, 'high', packed(bits, True))
+    for form, status in (('bits', 1), ('bits-high-first', 0)):
+        done = fiolog('decode', '--line', form, path)
+        check.equal('highest bit first, read as %s' % form, (status, bool(status)), (done.status, 'try the other order' in done.err))
+    done = fiolog('decode', path)
+    check.equal('bits in octets are not seen without an order', (1, True), (done.status, 'if it is what a line carried, see --line' in done.err))
+    done = fiolog('decode', '--line', 'octets', written(folder, 'noise', bytes(range(200))))
+    check.equal('octets without a frame', (1, True), (done.status, 'no frame with a right check in the octets of this line' in done.err))
+    for words in (['--sdlc'], ['--pattern', '(?P<octets>.*)'], ['--format', 'frames']):
+        check.equal('--line and %s' % words[0], 2, fiolog('decode', '--line', 'bits', *words, path).status)
+
+
+def check_files(check, folder):
+    """Files of a line, by the command line; a mark of a text's order of octets is noise there."""
+    messages, octets, bits = stream(random.Random(7), 60)
+    due = [message.hex() for message in messages]
+    for name, file, words in (
+            ('octets', octets, []), ('octets by order', octets, ['--line', 'octets']), ('octets, with --sdlc', octets, ['--sdlc']),
+            ('a line that begins with ff fe', b'\xff\xfe' + octets, ['--line', 'octets']),
+            ('a text of bits', bits.encode(), []), ('bits by order', packed(bits), ['--line', 'bits'])):
+        done = fiolog('convert', '-q', '--to', 'frames', *words, written(folder, 'file', file))
+        check.equal('a file of %s' % name, due, [line for line in done.out.splitlines() if line])
+    from fiolog.summary import summary_of
+    check.equal('a summary', len(messages), summary_of(iter([octets])).counts.frames)
+    check.equal('a summary of bits', len(messages), summary_of(iter([packed(bits)]), line='bits').counts.frames)
+
+
+def main():
+    check = Check(count=(20, 200))
+    use_library(check, 'what a line carried')
+    count = check.given.count
+    check.fault('hostile lines of octets', fault_of_octets, count)
+    check.fault('hostile lines of bits', fault_of_bits, count)
+    check.fault('what a file is', fault_of_beginning, count)
+    check.fault('dumps', fault_of_dumps, count)
+    check_lines(check)
+    with tempfile.TemporaryDirectory() as folder:
+        for part in (check_others, check_sampled, check_files):
+            part(check, folder)
+    check.end()
+
+
+main()

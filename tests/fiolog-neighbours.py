@@ -1,0 +1,162 @@
+#!/usr/bin/env python3
+"""Logs that have more than one link in them: lines of other ports, other ids and other programs between those of the link. The
+expected frames are those that were written for the link; no right link is accused. Last line: `N passed, M failed`."""
+
+import random
+import sys
+
+sys.dont_write_bytecode = True
+
+from support.check import Check
+from support.fiolog import use_library
+
+# How each link writes a frame: its time, its direction, its octets. The second form is that of a neighbour.
+LINKS = {
+    'a port before the direction': ('{0} COM4 {1} {2}', '{0} COM7 {1} {2}', 'TX RX'),
+    'a port in the middle': ('{0} ttyS1 <{1}> {2}', '{0} ttyS0 <{1}> {2}', 'write read'),
+    'a channel directly before the octets': ('{0} {1} ch2: {2}', '{0} {1} ch5: {2}', 'sent received'),
+    'two ids of a bus': ('{0} bus0 {1}#{3}', '{0} bus0 40C#{3}', '31A 31B'),
+    'ids and counts': ('{0}  can0  {1}   [{4}]  {2}', '{0}  can0  6F2   [{4}]  {2}', '1A0 1A1'),
+}
+
+# What other programs write between the frames. A 34 above the answer to it would be its command.
+OTHERS = {
+    'a number of an octet': lambda draw: '%s %02d' % (draw.choice(['queue', 'idle', 'fan']), draw.choice([35, 36, 49, 53, 54, 60])),
+    'a percentage': lambda draw: 'load %d%%' % draw.choice([35, 36, 53]),
+    'a size': lambda draw: 'read a row (%d bytes)' % draw.choice([11, 35, 36]),
+}
+
+
+def clock(place):
+    return '07:15:%02d.%03d' % (place // 100 % 60, 10 * place % 1000)
+
+
+def written(form, sides, place, direction, octets):
+    """A line of a frame."""
+    side = sides.split()[direction == '<']
+    return form.format(clock(place), side, octets.hex(' ').upper(), octets.hex().upper(), len(octets))
+
+
+def session(draw, count):
+    """What the proved ends say, with commands of one octet between."""
+    from fio2070 import ConfigurationItem, Module, Poller, encode
+    module, poller, levels = Module(), Poller(250), 0
+    commands = [encode.configure_inputs([ConfigurationItem(number, False, 1, 1) for number in range(8)])]
+    for _ in range(count):
+        for _ in range(5):
+            levels ^= draw.choice((0, 0, 1 << draw.randrange(8)))
+            module.scan(levels)
+        commands += [encode.raw_inputs()] * (draw.random() < .2)
+        command = commands.pop() if commands else poller.poll()
+        answer = module.receive(command)
+        if answer[0] == 182:
+            poller.hear(answer)
+        yield '>', command
+        yield '<', answer
+
+
+def read(lines):
+    """The frames of a log, the kinds of its lines, and the rules that are said to be broken."""
+    import fio2070
+    from fiolog.summary import summary_of
+    octets, reader = ('\n'.join(lines) + '\n').encode(), fio2070.LogReader()
+    verdicts = reader.read(octets) + reader.end()
+    return [frame for one in verdicts if one.kind == 'frames' for frame in one.frames], verdicts, dict(summary_of([octets]).broken)
+
+
+def fault_of(own, neighbour, allowed):
+    """A log of a link and its neighbour gives the frames of the link, but for as many as are allowed, and accuses nobody. Both
+    are functions that write a line; the neighbour's may be None."""
+    draw, lines, frames = random.Random(repr(allowed)), [], []
+    for place, (direction, octets) in enumerate(session(draw, 80)):
+        lines.append(own(place, direction, octets))
+        frames.append(octets)
+        if place > 6 and draw.random() < .3:
+            lines.append(neighbour(draw, place))
+    found, _, broken = read(lines)
+    strange = [octets.hex() for octets in found if octets not in frames]
+    if broken or strange or not 0 <= len(frames) - len(found) <= allowed:
+        return '%r; frames that are not of the link: %r; %d of %d are read' % (broken, strange, len(found), len(frames))
+    return None
+
+
+def check_sources(check):
+    """A neighbour with another number says what could be messages: only those of the link are frames."""
+    for name, (form, other, sides) in LINKS.items():
+        def own(place, direction, octets, form=form, sides=sides):
+            return written(form, sides, place, direction, octets)
+
+        def neighbour(draw, place, form=other, sides=sides):
+            octets = bytes([draw.choice((0x36, 0x31, 0x3a)), draw.randrange(256)]) + draw.randbytes(draw.choice((0, 0, 1, 6)))
+            return written(form, sides, place, draw.choice('<>'), octets)
+        check.fault('another source: %s' % name, fault_of, own, neighbour, 2)
+
+
+def check_others(check):
+    """A number of two digits at the end of another program's line is no octet of the link."""
+    for name, line in OTHERS.items():
+        def own(place, direction, octets):
+            return written('{0} {1} {2}', 'TX RX', place, direction, octets)
+        check.fault('another program: %s' % name, fault_of, own, lambda draw, place, line=line: '%s %s' % (clock(place), line(draw)), 0)
+    sized = ['RX b6 %02x 01 8c 03 e7 00 00 00 03 e8 (11 bytes)' % number for number in range(40)]
+    sized[7] = sized[7].replace('01 8c', '03 8c')
+    found, verdicts, _ = read(sized)
+    check.equal('a damaged answer above good ones with their size', (39, [8]), (len(found), [one.line for one in verdicts if one.kind == 'damaged']))
+
+
+def check_counters(check):
+    """Numbers that change from line to line do not tell lines apart."""
+    for name, form in (('a count', '#{5:06d} {1} {2}'), ('an address', '0x{6:08x} {1} {2}'), ('a time without a form', 'T+{5} {1} {2}'),
+                       ('a thread of three', 'T{7} {1} {2}'), ('a size', '{1} {4}: {2}'), ('a size in brackets', '{1} [{4}] {2}')):
+        lines, frames = [], []
+        for place, (direction, octets) in enumerate(session(random.Random(name), 60)):
+            side = 'TX' if direction == '>' else 'RX'
+            lines.append(form.format('', side, octets.hex(' '), '', len(octets), place, 0x1f4a00 + 36 * place, place % 3))
+            frames.append(octets)
+        found, _, broken = read(lines)
+        check.equal('numbers that change: %s' % name, (frames, {}), (found, broken))
+
+
+def check_directions(check):
+    """Once eight frames had the direction of their lines, a message that has the other one is none."""
+    pairs = [line for number in range(8) for line in ('TX 36 %02x' % number, 'RX b6 %02x 00 00 00 00 00 01' % number)]
+    for name, lines, last in (('the other direction', pairs + ['RX 36 08', 'RX 36 09'], []), ('its own', pairs + ['TX 36 08', 'TX 36 09'], ['3608', '3609']),
+                              ('too few frames', pairs[:6] + ['RX 36 08'], ['3608'])):
+        found, _, _ = read(lines)
+        check.equal('a message with %s' % name, last, [octets.hex() for octets in found[sum(line in pairs for line in lines):]])
+
+
+def check_digits(check):
+    """A message that confirms itself is a frame, however many digits its octets have."""
+    from support.line_model import with_check
+    rows = [(b'\x36' + bytes([number]), bytes([182, number, 1, 12, number // 16, number, 0, 0, 0, 0, number])) for number in range(40, 100)]
+    for name, form in (('plain', lambda octets: octets), ('with checks', lambda octets: with_check(b'\x14\x83' + octets))):
+        lines = [' '.join('%X' % octet for octet in form(octets)) for row in rows for octets in row]
+        found, _, _ = read(lines)
+        check.equal('octets of one or two digits, %s' % name, [octets for row in rows for octets in row], found)
+
+
+def check_dumps(check):
+    """A dump whose lines have words before the offset: its last row may have one octet."""
+    block = bytes([182, 7, 3, 0, 0, 10, 1, 0, 11, 2, 0, 12, 0, 0, 0, 0, 50])
+    for words in ('link rx: ', '[   12.106] fio: ', '0xffff8880 rx: '):
+        lines, frames = [], []
+        for number in range(4):
+            for octets in (bytes([54, number]), block[:1] + bytes([number]) + block[2:]):
+                frames.append(octets)
+                for place in range(0, len(octets), 16):
+                    row = octets[place:place + 16]
+                    lines.append('%s%08x: %-48s %s' % (words, place, row.hex(' '), ''.join(chr(octet) if 32 <= octet < 127 else '.' for octet in row)))
+        found, _, _ = read(lines)
+        check.equal('a dump after %r' % words, frames, found)
+
+
+def main():
+    check = Check()
+    use_library(check, 'logs with neighbours')
+    for part in (check_sources, check_others, check_counters, check_directions, check_digits, check_dumps):
+        part(check)
+    check.end()
+
+
+main()

@@ -1,0 +1,199 @@
+#!/usr/bin/env python3
+"""`fiolog` on logs of one direction: what is missing is said, and no rule is judged; and on the two files of a line, which `--merge`
+reads as one log in the order of time. Last line: `N passed, M failed`."""
+
+import json
+import os
+import re
+import sys
+import tempfile
+
+sys.dont_write_bytecode = True
+
+from support.check import Check
+from support.fiolog import fiolog, use_library
+from support.loggers import LOGGERS
+
+COMMANDS = 'fiolog: this log has the commands alone: the answers were not logged, so no rule is judged (two files of one line: see --merge)'
+ANSWERS = 'fiolog: this log has the answers alone: the commands were not logged, so no rule is judged (two files of one line: see --merge)'
+SILENT = 'fiolog: no answer came: the module is silent, or its direction was not logged'
+NOT_WHOLE = 'fiolog: no answer in this log is whole, so no rule is judged'
+SENTENCES = COMMANDS, ANSWERS, SILENT, NOT_WHOLE
+
+
+def polls(*numbers):
+    """Polls for these numbers, as lines."""
+    return ''.join('TX 36 %02X\n' % number for number in numbers)
+
+
+def blocks(*numbers):
+    """Empty blocks with these numbers, as lines."""
+    return ''.join('RX B6 %02X 00 00 00 00 00 %02X\n' % (number, number) for number in numbers)
+
+
+# A log, what is said of it, how many breaches it has, and the status. Below a breach the rules begin anew at the next poll.
+SIDES = {
+    'polls that rise': (polls(5, 6, 7, 8), [COMMANDS], 0, 1),
+    'polls that rise around 255': (polls(254, 254, 255, 0, 1), [COMMANDS], 0, 1),
+    'a configuration and polls': ('TX 33 01 0C 05 03\n' + polls(5, 6, 6), [COMMANDS], 0, 1),
+    'polls of one number': (polls(5, 5, 5, 5), [SILENT], 0, 0),
+    'commands without a poll': ('TX 31 80\n' * 4, [SILENT], 0, 0),
+    'answers': (blocks(5, 6, 7, 8), [ANSWERS], 0, 1),
+    'answers that the module sends again': (blocks(5, 5, 5, 5), [ANSWERS], 0, 1),
+    'three polls': (polls(5, 6, 7), [], 1, 1),
+    'one answer among polls': (polls(5, 6, 7) + blocks(7) + polls(8, 9), [], 2, 1),
+    'one answer above polls': (blocks(4) + polls(5, 6, 7, 8), [], 2, 1),
+    'one answer below polls': (polls(5, 6, 7, 8) + blocks(8), [], 2, 1),
+    'one command among answers': (blocks(4, 5, 6) + polls(7, 7, 7) + blocks(7), [], 0, 0),
+    'answers that are cut': (''.join(polls(number) + 'RX B6 %02X 01 8C 03 ..\n' % number for number in range(5, 9)), [NOT_WHOLE], 0, 1),
+    'few lines that are cut': (polls(*range(5, 25)) + 'RX B6 05 01 8C 03 ..\n', [COMMANDS], 0, 1),
+}
+
+
+def check_sides(check):
+    """What is said of a log, by each command that judges."""
+    for name, (text, said, breaches, status) in SIDES.items():
+        done = fiolog('check', text=text)
+        found = [line for line in done.err.splitlines() if line in SENTENCES]
+        check.equal(name, (said, breaches, status), (found, len(re.findall('^line ', done.out, re.M)), done.status))
+        if said and status:
+            record, last = fiolog('record', text=text), json.loads(fiolog('check', '--json', text=text).out.splitlines()[-1])
+            check.equal('record: ' + name, (said, 0, 1), ([line for line in record.err.splitlines() if line in SENTENCES],
+                                                          record.out.count('breaks') + record.err.count('was due'), record.status))
+            not_judged = {key: count for key, count in last['summary']['not_judged'].items() if 'frame' in key and count}
+            check.equal('no frame is judged: ' + name, {'frames_of_one_direction': last['summary']['frames']}, not_judged)
+    for words in ('--late-answers', '--start-at-poll', '--whole'):
+        done = fiolog('check', words, text=polls(5, 6, 7, 8))
+        check.equal('polls that rise, ' + words, (True, 0, 1), (COMMANDS in done.err, done.out.count('line '), done.status))
+
+
+def check_many(check, folder):
+    """A row of a table says it, and so does a live line."""
+    for name, text in (('tx', polls(5, 6, 7, 8)), ('rx', blocks(5, 6, 7, 8)), ('good', polls(5) + blocks(5))):
+        with open(os.path.join(folder, name + '.log'), 'w', encoding='ascii') as file:
+            file.write(text)
+    paths = [os.path.join(folder, name + '.log') for name in ('tx', 'rx', 'good')]
+    rows = [json.loads(line) for line in fiolog('check', '--json', *paths).out.splitlines()]
+    found = {os.path.basename(row['file']): (row['breaches'], row.get('remarks')) for row in rows[:-1]}
+    check.equal('logs of one direction in a table', {'tx.log': (0, {'the commands alone': 1}), 'rx.log': (0, {'the answers alone': 1}), 'good.log': (0, None)}, found)
+    check.equal('its status', (1, 0), (fiolog('check', *paths).status, fiolog('check', paths[2], paths[2]).status))
+    check.holds('its words', re.search('tx.log .*the commands alone', fiolog('check', *paths).out))
+    for name, number, said, status in (('tx.log', 0, COMMANDS, 1), ('rx.log', 1, ANSWERS, 1)):
+        done = fiolog('live', '-q', '--fifo', paths[number])
+        check.equal('live on ' + name, (True, 0, status), (said in done.err, done.out.count('line '), done.status))
+
+
+def session(count, apart=0.05):
+    """The frames of the proved ends, each so many seconds below the one above."""
+    from support.talking import rounds
+    return [(round(apart * place, 3), direction, octets) for place, (direction, octets) in enumerate(rounds(count))]
+
+
+def merged(folder, command, *texts):
+    """What a command says of files that are merged."""
+    paths = []
+    for number, text in enumerate(texts):
+        paths.append(os.path.join(folder, 'part%d' % number))
+        with open(paths[-1], 'w', encoding='utf-8') as file:
+            file.write(text)
+    return fiolog(*command, '--merge', *paths)
+
+
+TO_TRANSCRIPT = 'convert', '-q', '--to', 'transcript'
+# Forms with times: clocks of milliseconds, and of whole seconds, in which several frames have the same time.
+TIMED = 'ISO times', 'epoch times', 'German times', 'US times', 'JSON lines', 'Docklight', 'syslog', 'PuTTY'
+
+
+def transcript_of(frames):
+    """Frames as a transcript."""
+    return ''.join('%s %s\n' % (direction, octets.hex()) for _, direction, octets in frames)
+
+
+def check_merge(check, folder):
+    """A log is the same in one file and in two, whichever is named first; so are right ends whose answers are lost."""
+    for form in TIMED:
+        for apart in (0.05, 0.2):
+            frames = session(60, apart)
+            parts = [LOGGERS[form]([frame for frame in frames if frame[1] == side]) for side in '><']
+            for order, texts in (('commands', parts), ('answers', parts[::-1])):
+                done = merged(folder, TO_TRANSCRIPT, *texts)
+                check.equal('%s, %s s apart, %s first' % (form, apart, order), (transcript_of(frames), 0), (done.out, done.status))
+                check.equal('%s, %s s apart, %s first: nobody is accused' % (form, apart, order), 0, merged(folder, ('check', '-q'), *texts).status)
+
+
+# Two files, and the transcript that they are.
+MERGED = {
+    'a line without a time is where the line above it is': (
+        '10:00:00.000 TX 36 05\nTX 36 05\n10:00:00.300 TX 36 06\n', '10:00:00.200 RX B6 05 00 02 00 00 00 01\n10:00:00.310 RX B6 06 00 00 00 00 00 02\n',
+        ['> 3605', '> 3605', '< b605000200000001', '> 3606', '< b606000000000002']),
+    'a clock that is set back': (
+        '10:00:00.000 TX 36 05\n09:59:59.900 TX 36 06\n10:00:00.400 TX 36 07\n', '10:00:00.000 RX B6 05 00 00 00 00 00 01\n10:00:00.100 RX B6 06 00 00 00 00 00 02\n',
+        ['> 3605', '< b605000000000001', '> 3606', '< b606000000000002', '> 3607']),
+    'midnight': (
+        '23:59:59.900 TX 36 05\n00:00:00.100 TX 36 06\n', '23:59:59.950 RX B6 05 00 00 00 00 00 01\n00:00:00.150 RX B6 06 00 00 00 00 00 02\n',
+        ['> 3605', '< b605000000000001', '> 3606', '< b606000000000002']),
+    'a date in one file': (
+        '2026-11-22 10:00:00.000 TX 36 05\n2026-11-22 10:00:00.200 TX 36 06\n', '10:00:00.100 RX B6 05 00 00 00 00 00 01\n10:00:00.300 RX B6 06 00 00 00 00 00 02\n',
+        ['> 3605', '< b605000000000001', '> 3606', '< b606000000000002']),
+    'dates over midnight': (
+        '2026-11-22 23:59:59.900 TX 36 05\n2026-11-23 00:00:00.100 TX 36 06\n', '23:59:59.950 RX B6 05 00 00 00 00 00 01\n00:00:00.150 RX B6 06 00 00 00 00 00 02\n',
+        ['> 3605', '< b605000000000001', '> 3606', '< b606000000000002']),
+    'equal times': (
+        '10:00:00 TX 36 05\n10:00:00 TX 36 06\n10:00:01 TX 36 07\n', '10:00:00 RX B6 05 00 00 00 00 00 01\n10:00:00 RX B6 06 00 00 00 00 00 02\n',
+        ['> 3605', '< b605000000000001', '> 3606', '< b606000000000002', '> 3607']),
+    'equal times, an answer that was lost': (
+        '10:00:00 TX 36 05\n10:00:00 TX 36 05\n10:00:00 TX 36 06\n', '10:00:00 RX B6 05 00 02 00 00 00 01\n10:00:00 RX B6 06 00 00 00 00 00 02\n',
+        ['> 3605', '> 3605', '< b605000200000001', '> 3606', '< b606000000000002']),
+    'equal times, answers of two types': (
+        '10:00:00 TX 31 80\n10:00:00 TX 36 05\n', '10:00:00 RX B1 00 00 00 00 00 00 01\n10:00:00 RX B6 05 00 00 00 00 00 02\n',
+        ['> 3180', '< b100000000000001', '> 3605', '< b605000000000002']),
+    'seconds since a start': (
+        '1.000 TX 36 05\n1.200 TX 36 06\n', '1.100 RX B6 05 00 00 00 00 00 01\n1.300 RX B6 06 00 00 00 00 00 02\n',
+        ['> 3605', '< b605000000000001', '> 3606', '< b606000000000002']),
+}
+
+
+def check_times(check, folder):
+    """In which order frames are, by their times; and which files cannot be merged."""
+    for name, (sent, heard, expected) in MERGED.items():
+        for order, texts in (('commands', (sent, heard)), ('answers', (heard, sent))):
+            done = merged(folder, TO_TRANSCRIPT, *texts)
+            check.equal('%s, %s first' % (name, order), (expected, 0), (done.out.splitlines(), done.status))
+    answers = '10:00:00.100 RX B6 05 00 00 00 00 00 01\n'
+    for name, sent, words in (('no time', 'TX 36 05\nTX 36 06\n', 'line 1: --merge needs a time at the first frame of a file'),
+                              ('other times', '0.5 TX 36 05\n0.7 TX 36 06\n', 'the files have different times: ')):
+        done = merged(folder, ('check',), sent, answers)
+        check.equal('files that cannot be merged: ' + name, (2, True, False), (done.status, words in done.err, 'Traceback' in done.err))
+    done = merged(folder, ('check',), '09:00:00 TX 36 05\n09:00:01 TX 36 05\n', answers)
+    check.holds('files of other hours', 'a file ends before another begins' in done.err, done.err)
+
+
+def check_places(check, folder):
+    """A line is named with its file."""
+    sent, heard = '1.000 TX 36 05\nidle\n1.200 TX 36 09\n', '1.100 RX B6 05 01 0C 00 01 00 00 00 00 01\n1.300 RX B6 09 00 00 00 00 00 02\n'
+    done = merged(folder, ('check', '-v'), sent, heard)
+    part = re.escape(os.path.join(folder, 'part0'))
+    for name, words in (('a breach', '^%s line 3: advance: block 6 was due' % part), ('when it was first', 'once, in %s line 3 at 1.2' % part),
+                        ('a line that is passed over', '%s line 2: no octets: idle' % part), ('how many', '1 of 5 lines passed over')):
+        check.holds(name, re.search(words, done.out + done.err, re.M), done)
+    row = json.loads(merged(folder, ('check', '--json'), sent, heard).out.splitlines()[0])
+    check.equal('the object of a breach', ('part0', 3, 'advance'), (os.path.basename(row['file']), row['line'], row['rule']))
+    row = json.loads(merged(folder, ('decode', '--json'), sent, heard).out.splitlines()[1])
+    check.equal('the object of a frame', ('part1', 1, 'b605010c00010000000001'), (os.path.basename(row['file']), row['line'], row['octets']))
+    record = merged(folder, ('record',), sent, heard).out.splitlines()
+    check.equal('the record', ['part1 1: 1.100000 input 12 state 0 stamp 1 wide 1', 'part0 line 3 breaks advance'],
+                [' '.join(os.path.basename(line).split()) for line in record])
+
+
+def main():
+    check = Check()
+    use_library(check, 'logs of one direction')
+    check_sides(check)
+    with tempfile.TemporaryDirectory() as folder:
+        check_many(check, folder)
+        for part in (check_merge, check_times, check_places):
+            part(check, folder)
+    check.end()
+
+
+main()

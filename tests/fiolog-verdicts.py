@@ -1,0 +1,128 @@
+#!/usr/bin/env python3
+"""What `fiolog` judges and says of a log: where a log begins, which rules are left out, what is to be tried where a log is not
+read, and what is a fault. Last line: `N passed, M failed`."""
+
+import os
+import re
+import sys
+import tempfile
+
+sys.dont_write_bytecode = True
+
+from support.check import Check
+from support.fiolog import fiolog, use_library
+
+
+def not_judged(done):
+    """What a run says is not judged."""
+    return re.findall('^not judged: (.*)', done.out, re.M)
+
+
+def check_beginning(check):
+    """A log begins anywhere: what is above its first command is answered to commands that are not in it."""
+    for name, above, count in (('a refused configuration', '< b301\n', 1), ('a block', '< b605018c03e700000003e8\n', 1),
+                               ('two answers', '< b301\n< b605018c03e700000003e8\n', 2)):
+        done = fiolog('check', text=above + '> 3606\n< b6060000000003e9\n> 3607\n< b6070000000003ea\n')
+        words = ['%d frame%s above the first command' % (count, 's' * (count > 1))]
+        check.equal('%s above the first command' % name, (0, words, ''), (done.status, not_judged(done), done.err))
+    text = '< b6050000000003e8\n> 3606\n< b6060000000003e9\n< b6060000000003e9\n'
+    check.equal('what is below the first command is judged', ['line 4: pair'], re.findall('^line .*: pair', fiolog('check', text=text).out, re.M))
+    check.equal('a log that is whole begins with a command', ['line 1: pair', 'line 4: pair'],
+                re.findall('^line .*: pair', fiolog('check', '--whole', text=text).out, re.M))
+    check.equal('the rules of transcripts alone', ['line 4: pair'],
+                re.findall('^line .*: pair', fiolog('check', '--rules', 'transcript', text=text).out, re.M))
+
+
+def check_cures(check):
+    """What helps is named: where a reason has a cure, where messages stand in two lines, and for a file that is no text."""
+    swap, two = 'write the log with `xxd` or `hexdump -C`', 'try --sdlc --no-check if they are at the beginning, --pattern if they are at the end'
+    pairs, cut = '0000000 05b6 8c01 e703 0000 0300 00e8\n0000013\n', 'RX B6 05 01 8C 03 E7 00 00 00 03 E8 A4 7C\n'
+    for name, text, words in (('octets that are exchanged', pairs, [swap]), ('a check of another kind', cut, [two]),
+                              ('other text', 'nothing here\n', [])):
+        said, named = fiolog('check', text=text).err, fiolog('check', '-v', text=text).err
+        check.equal('what helps: ' + name, (words, words), ([one for one in (swap, two) if ': ' + one in said], [one for one in (swap, two) if '(%s): ' % one in named]))
+    header = 'TX 00 08 36 05\nRX 00 08 B6 05 00 00 00 00 00 01\n'
+    check.equal('it helps: --sdlc --no-check', ['poll block 5', 'block 5 entries 0 status 00 stamp 1'],
+                [line[9:] for line in fiolog('decode', '-q', '--sdlc', '--no-check', text=header).out.splitlines()])
+    check.equal('it helps: --pattern', ['block 5 entries 1 status 00 stamp 1000', 'input 12 state 1 stamp 999 wide 999'],
+                [line.split('< ')[-1].strip() for line in fiolog('decode', '-q', '--pattern', '(?P<octets>B6.*) .. ..$', text=cut).out.splitlines()])
+    block = 'B6 0%d 00 00 00 00 00 0%d'
+    pieces = ''.join('10:00:0%d.000 TX 36 0%d\n10:00:0%d.100 RX %s\n' % (number, number, number, (
+        block % (number, number)).replace(' 00 00', '\n10:00:0%d.110 RX 00 00' % number, int(number % 3 == 0))) for number in range(1, 9))
+    done = fiolog('check', text=pieces)
+    check.equal('messages in two lines', (0, True, True, False), (
+        done.status, 'messages stand in two lines: 2, in 4 lines, which are not read' in done.err, '4 lines with parts of messages' in done.out,
+        'damaged' in done.out + done.err))
+    check.equal('their lines are shown', 4, fiolog('decode', text=pieces).out.count('? part of a message in two lines: '))
+    binary = bytes.fromhex('7e1483') + bytes.fromhex('b6050000000000010a') * 30
+    for name, octets, is_binary in (('a binary file', binary, True), ('a text', 'caf\u00e9 \u2192\n'.encode() * 30, False), ('one line', b'\x1b[1mhello\n', False)):
+        with tempfile.NamedTemporaryFile() as file:
+            file.write(octets)
+            file.flush()
+            done = fiolog('check', file.name)
+        check.equal('%s is told to come through xxd' % name, (1, is_binary), (done.status, 'this is a binary file: pass it through `xxd`' in done.err))
+
+
+def check_few(check):
+    """If less than half of what says messages was judged, that is a fault."""
+    whole, cut = 'TX 36 05\nRX B6 05 00 00 00 00 00 01\n', 'RX B6 05 00 00 00\n'
+    for name, text, words in (
+            ('half of it', whole + cut * 2, None), ('less than half', whole + cut * 3, '2 of 5'), ('three answers', 'RX B3 00\n' * 3, '0 of 3'),
+            ('answers above most', 'RX B3 00\n' * 3 + whole, '2 of 5'), ('lines of another form', whole + 'RX B6 06 00 00 00 00 00 02 A4 7C\n' * 3, '2 of 5')):
+        done = fiolog('check', text=text)
+        found = re.findall('less than half of what says messages was judged: (.*)', done.err)
+        check.equal('judged: ' + name, (int(bool(words)), [words] * bool(words)), (done.status, found))
+        check.equal('record: ' + name, int(bool(words)), fiolog('record', text=text).status)
+    with tempfile.TemporaryDirectory() as folder:
+        path = os.path.join(folder, 'few')
+        with open(path, 'w', encoding='ascii') as file:
+            file.write(whole + cut * 3)
+        check.equal('a row of many says it', (1, True), (fiolog('check', path, path).status, 'less than half judged' in fiolog('check', path, path).out))
+
+
+def check_except(check):
+    """A rule that is left out is not said to be broken; what it would have said is counted."""
+    jump, lost = '> 3605\n< b6050000000003e8\n> 3609\n< b6090000000003e9\n', '> 3605\n< b605010c000a040000000b\n'
+    for name, text, words, rules, count in (
+            ('one rule', jump, ['--except', 'advance'], [], 1), ('another rule', jump, ['--except', 'pair'], ['advance'], 0),
+            ('two rules', jump + lost, ['--except', 'advance', '--except', 'limits'], [], 2),
+            ('one rule of two', jump + lost, ['--except', 'limits'], ['advance'], 1),
+            ('a rule on content', '> 32000000ff\n< b201\n', ['--except', 'done'], [], 1)):
+        done = fiolog('check', *words, text=text)
+        left_out = re.findall(r'(\d+) breach(?:es)? of (?:a rule|rules) that (?:is|are) left out', done.out)
+        check.equal('--except, %s' % name, (rules, int(bool(rules)), [str(count)] * bool(count)),
+                    (re.findall(r'^line \d+: (\w+)', done.out, re.M), done.status, left_out))
+    check.equal('--except of no rule', 2, fiolog('check', '--except', 'nothing', text=jump).status)
+    with tempfile.TemporaryDirectory() as folder:
+        path = os.path.join(folder, 'jump')
+        with open(path, 'w', encoding='ascii') as file:
+            file.write(jump)
+        check.equal('--except of two logs', (1, 0), (fiolog('check', path, path).status, fiolog('check', '--except', 'advance', path, path).status))
+        check.equal('--except of a live line', (1, 0), (fiolog('live', '--fifo', path).status, fiolog('live', '--except', 'advance', '--fifo', path).status))
+
+
+def check_hints(check):
+    """What is to be tried is said where it helps."""
+    begin, late = 'try --start-at-poll', 'try --late-answers'
+    good = '> 3605\n< b6050000000003e8\n'
+    for name, text, hints in (
+            ('a breach below the first poll', good + '> 3609\n< b6090000000003e9\n', []),
+            ('one below another command', '> 3180\n< b1000000000003e8\n' + good + '> 3609\n', []),
+            ('one above the first poll', '> 3180\n< b1800000000003e8\n' + good, [begin]),
+            ('one in a log without a poll', '> 3180\n< b1800000000003e8\n', []),
+            ('a block that comes late', '> 3605\n> 3605\n< b6050000000003e8\n< b6050002000003e8\n> 3606\n', [late]),
+            ('another answer that comes late', '> 34\n' + good + '< b4000000000000000000000001\n', [late]),
+            ('an answer to nothing', good + '< ba00\n', [])):
+        done = fiolog('check', text=text)
+        check.equal('hints: ' + name, hints, [hint for hint in (begin, late) if hint in done.err])
+
+
+def main():
+    check = Check()
+    use_library(check, 'what fiolog judges')
+    for part in (check_beginning, check_except, check_hints, check_cures, check_few):
+        part(check)
+    check.end()
+
+
+main()

@@ -1,0 +1,351 @@
+#!/usr/bin/env python3
+"""What `fiolog` and the tools beside it do in a hard place: octets that are no UTF-8 in strict locales, control characters in a
+log or in a file's name, files that are read and written, recordings that are there already, full disks, long lines, processes
+that die, Ctrl-C. Last line: `N passed, M failed`."""
+
+import json
+import os
+import re
+import signal
+import stat
+import subprocess
+import sys
+import tempfile
+import time
+
+sys.dont_write_bytecode = True
+
+from support.check import Check
+from support.fiolog import ENVIRONMENT, on_terminal, use_library
+from support.tables import TOP
+
+GOOD = b'> 3605\n< b605018c03e700000003e8\n> 3606\n< b606010c07d000000007d1\n'
+# A line that may have held a frame, with what a terminal would obey, octets that are no UTF-8, other letters, and line ends of
+# Unicode; and how it is shown.
+DAMAGED = b'RX b6 05 00 00 00 00 00 01\nRX b6 06 00 00 00 00 00 02\nRX b6 07 00 '
+ACTING = (b'\x1b]52;c;aGk=\x07', b'\xff\xfe', '\u009b31m'.encode(), '\u2028'.encode(), '\u202e'.encode(), b'\x7f', b'\xed\xa0\x80')
+SHOWN = ('\\x1b]52;c;aGk=\\x07', '\\xff\\xfe', '\\x9b31m', '\\u2028', '\\u202e', '\\x7f', '\\xed\\xa0\\x80')
+# What no shown text has: C0 but line feed, DEL, C1, line ends and turns of Unicode.
+ACTS = re.compile('[\0-\x09\x0b-\x1f\x7f-\x9f\u2028-\u202e]')
+LOCALES = {'UTF-8, strict': {'PYTHONIOENCODING': 'utf-8:strict'}, 'ASCII, strict': {'PYTHONIOENCODING': 'ascii:strict'},
+           'C': {'LC_ALL': 'C', 'PYTHONUTF8': '0', 'PYTHONCOERCECLOCALE': '0'}, 'POSIX': {'LC_ALL': 'POSIX'}}
+COMMANDS = [['decode'], ['decode', '-v'], ['decode', '--json'], ['decode', '--csv'], ['check', '-v'], ['check', '--json'], ['stats'],
+            ['stats', '--json'], ['record', '-v'], ['record', '--json'], ['record', '--csv'], ['record', '--text'],
+            ['record', '--vcd'], ['convert', '--to', 'transcript'], ['convert', '--to', 'frames'], ['convert', '--to', 'pcapng'],
+            ['convert', '--to', 'vcd'], ['decode', '--sdlc'], ['decode', '--pattern', '(?P<octets>[0-9a-f]+)$'],
+            ['decode', '--format', 'frames'], ['decode', '--format', 'transcript']]
+EVENTS = ['--start', '2026-03-01T07:00:00', '--signal', '7', '--on', '0']
+
+
+def run(*words, text=b'', folder=None, **settings):
+    """A run of the tool: its status, and what it wrote on both streams, in octets."""
+    done = subprocess.run([sys.executable, '-m', 'fiolog', *words], input=text, stdout=subprocess.PIPE, stderr=subprocess.PIPE,
+                          env={**ENVIRONMENT, **settings}, cwd=folder, timeout=300, check=False)
+    return done.returncode, done.stdout, done.stderr
+
+
+def lines_of(octets):
+    """The lines of a text, by line feed alone."""
+    return octets.decode('utf-8').split('\n')[:-1]
+
+
+def check_locales(check, folder):
+    """Each command, in each locale, for a log and a name with octets that are no UTF-8: no traceback, nothing that acts."""
+    name = os.fsencode(folder) + b'/n\xff\xe9\x1b[1m\x07\xc3\xa9.log'
+    with open(name, 'wb') as file:
+        file.write(DAMAGED + b' '.join(ACTING) + ' \u00e9 \u2192\n'.encode() + b'link \x1b]0;x\x07 \xfe down\n')
+    for locale, settings in LOCALES.items() if check.whole('in all locales') else list(LOCALES.items())[:2]:
+        for words in COMMANDS:
+            status, out, err = run(*words, os.fsdecode(name), **settings)
+            title = '%s in %s' % (' '.join(words), locale)
+            check.holds('%s: no traceback' % title, status in (0, 1) and b'Traceback' not in err, err.decode('utf-8', 'replace')[-300:])
+            texts = (err,) if 'pcapng' in words else (out, err)
+            check.equal('%s: nothing that acts' % title, [], [ACTS.findall(text.decode('utf-8', 'replace')) for text in texts
+                                                              if ACTS.search(text.decode('utf-8', 'replace'))])
+        for words in (['plan', '--inputs', '8', '--filter', '5'], ['live', '--fifo', os.fsdecode(name), '-v'],
+                      ['check', os.fsdecode(name), os.fsdecode(name) + 'none'], ['stats', '--json', os.fsdecode(name), 'none'],
+                      ['decode', os.fsdecode(name) + 'none'], ['decode', '--' + os.fsdecode(b'\xff\x1b')]):
+            status, out, err = run(*words, folder=folder, **settings)
+            check.equal('%s in %s' % (words[0] + ' ' + words[-1].isascii() * words[-1], locale), (False, None, None),
+                        (b'Traceback' in err, *(ACTS.search(text.decode('utf-8', 'replace')) for text in (out, err))))
+
+
+def check_shown(check, folder):
+    """How such text is shown, on both streams; objects are JSON for a strict parser, without surrogates."""
+    for acting, shown in zip(ACTING, SHOWN):
+        log = DAMAGED + acting + b'\n'
+        for words, stream in ((['decode'], 1), (['decode', '-v'], 2), (['decode', '--json'], 1), (['decode', '--csv'], 1)):
+            done = run(*words, text=log)
+            found = done[stream].decode('utf-8', 'replace')
+            if '--json' in words:
+                found = json.loads(found.splitlines()[-1])['fault']
+            check.holds('%s shows %s' % (' '.join(words), shown), shown in found, found)
+    name = os.path.join(folder, os.fsdecode(b'\x1b[2J\xff.log'))
+    with open(name, 'wb') as file:
+        file.write(GOOD + b'> 3609\nRX b6 09 00 \xff\n')    # block 7 was due
+
+    def refuse(word):
+        raise ValueError(word)
+    for words in (['decode', '--json', name], ['check', '--json', name, name], ['check', '--json', name], ['check', '--json', name, name + '.none']):
+        rows = [json.loads(line, parse_constant=refuse) for line in lines_of(run(*words)[1])]
+        names = {row['file'] for row in rows if 'file' in row} - {os.path.join(folder, '\\x1b[2J\\xff.log.none')}
+        check.equal('the name in %s' % ' '.join(words[:2]), {os.path.join(folder, '\\x1b[2J\\xff.log')}, names)
+    os.mkdir(os.path.join(folder, '['))
+    with open(os.path.join(folder, '[', 'red].log'), 'wb') as file:
+        file.write(GOOD)
+    for python in [sys.executable, '/usr/bin/python3'] if os.path.exists('/usr/bin/python3') else [sys.executable]:
+        text = on_terminal(python, ['stats', '-q', name, os.path.join(folder, '[', 'red].log')], COLUMNS='400')
+        check.holds('names on a terminal of %s' % python, all(words in text for words in ('[2J\\xff', '[/red].log'))
+                    and '\x1b[2J' not in text, text)
+
+
+def state(path):
+    """The octets and the mode of a file."""
+    with open(path, 'rb') as file:
+        return file.read(), stat.S_IMODE(os.stat(path).st_mode)
+
+
+def check_evidence(check, folder):
+    """An output that is an input is refused; one that fails leaves what was there, and nothing beside it."""
+    log, link, hard = (os.path.join(folder, name) for name in ('log', 'link', 'hard'))
+    with open(log, 'wb') as file:
+        file.write(GOOD)
+    os.symlink('log', link)
+    os.link(log, hard)
+    for path in (log, link, hard, os.path.join(folder, '.', 'log')):
+        for words in (['convert', '--to', 'frames', '-o', path, log], ['record', '--hires', path, *EVENTS, log],
+                      ['record', '--plot', path, log], ['convert', '--to', 'pcapng', '-o', log, 'none', path],
+                      ['live', '--fifo', log, '--transcript', path, '--force'], ['live', '--fifo', path, '--pcapng', log, '--force']):
+            status, _, err = run(*words, folder=folder)
+            check.equal('%s over its input' % ' '.join(words[:3]), (2, True, GOOD), (status, b' is read and written' in err, state(log)[0]))
+    for words in ('convert --to frames -o %s < %s' % (log, link), 'convert --to frames -o %s - < %s' % (link, log), 'decode -v %s >> %s' % (log, hard),
+                  'decode -v %s 2>> %s' % (log, link)):
+        done = subprocess.run('%s -m fiolog %s' % (sys.executable, words), shell=True, stderr=subprocess.PIPE, env=ENVIRONMENT, check=False, timeout=60)
+        check.equal('a redirection over the input: ' + words.replace(folder, ''), (2, True), (done.returncode, state(log)[0].startswith(GOOD)))
+        with open(log, 'r+b') as file:
+            file.truncate(len(GOOD))
+    out = os.path.join(folder, 'out')
+    with open(out, 'wb') as file:
+        file.write(b'old')
+    os.chmod(out, 0o640)
+    for words in (['convert', '--to', 'frames', '-o', out, log, 'none'], ['record', '--hires', out, *EVENTS, log, 'none'],
+                  ['record', '--hires', out, '--start', '9999-12-31T23:59:59', *EVENTS[2:], log],
+                  ['record', '--hires', out, '--start', '0001-01-01T00:00:00', *EVENTS[2:], log]):
+        status, _, err = run(*words, text=GOOD, folder=folder)
+        check.equal('what fails leaves the old file: ' + ' '.join(words[:2]), (True, (b'old', 0o640), 1),
+                    (status in (2, 3), state(out), len(err.splitlines())))
+    check.equal('what is made takes its place, with its mode', (0, (b'3605\nb605018c03e700000003e8\n3606\nb606010c07d000000007d1\n', 0o640)),
+                (run('convert', '-q', '--to', 'frames', '-o', out, log)[0], state(out)))
+    new = os.path.join(folder, 'new')
+    before = os.umask(0o027)
+    try:
+        run('convert', '--to', 'frames', '-o', new, log)
+    finally:
+        os.umask(before)
+    check.equal('a new one has the mode of the umask', 0o640, state(new)[1])
+    os.symlink('out', os.path.join(folder, 'to-out'))
+    run('convert', '--to', 'transcript', '-o', os.path.join(folder, 'to-out'), log)
+    check.equal('a link stays, and its file is new', (True, GOOD), (os.path.islink(os.path.join(folder, 'to-out')), state(out)[0]))
+    check_signals(check, out)
+    long_name = os.path.join(folder, 'n' * 255)
+    check.equal('the longest name', (0, GOOD), (run('convert', '--to', 'transcript', '-o', long_name, log)[0], state(long_name)[0]))
+    os.unlink(long_name)
+    check.equal('nothing is left beside', ['hard', 'link', 'log', 'new', 'out', 'to-out'], sorted(os.listdir(folder)))
+
+
+def check_signals(check, out):
+    """Ctrl-C and SIGTERM while a file is made leave the old one."""
+    for number in (signal.SIGINT, signal.SIGTERM):
+        command = subprocess.Popen([sys.executable, '-m', 'fiolog', 'convert', '--to', 'frames', '-o', out], stdin=subprocess.PIPE, stderr=subprocess.PIPE, env=ENVIRONMENT)
+        command.stdin.write(GOOD)
+        command.stdin.flush()
+        folder = os.path.dirname(out)
+        wait_until(lambda: any(name.startswith('.fiolog-') for name in os.listdir(folder)))
+        command.send_signal(number)
+        err = command.communicate(timeout=60)[1]
+        check.equal('%s leaves the old file' % number.name, (130, b'', GOOD), (command.returncode, err, state(out)[0]))
+
+
+def wait_until(holds):
+    """Waits for a condition, for a minute at most."""
+    for _ in range(600):
+        if holds():
+            return
+        time.sleep(0.1)
+
+
+def check_recordings(check, folder):
+    """What `live` records begins new files, or overwrites them with --force; pipes and devices are written as they are."""
+    log, kept, other = (os.path.join(folder, name) for name in ('log', 'kept', 'other'))
+    for path, octets in ((log, GOOD), (kept, b'evidence')):
+        with open(path, 'wb') as file:
+            file.write(octets)
+    for name in ('--transcript', '--pcapng'):
+        status, _, err = run('live', '--fifo', log, name, kept)
+        check.equal('live %s over a file' % name, (2, b'evidence', 1), (status, state(kept)[0], len(err.splitlines())))
+    check.equal('two recordings in one file', 2, run('live', '--fifo', log, '--transcript', other, '--pcapng', other)[0])
+    check.equal('a new recording', (0, GOOD), (run('live', '-q', '--fifo', log, '--transcript', other)[0], state(other)[0]))
+    check.equal('--force', (0, GOOD), (run('live', '-q', '--fifo', log, '--transcript', kept, '--force')[0], state(kept)[0]))
+    for name in ('/dev/null', '/dev/stdout'):
+        status, out, _ = run('live', '-q', '--fifo', log, '--transcript', name)
+        check.equal('live --transcript ' + name, (0, name == '/dev/stdout'), (status, GOOD in out))
+    for words in (['convert', '--to', 'transcript', '-o', '%s', log], ['live', '-q', '--fifo', log, '--transcript', '%s']):
+        check.equal('%s into /dev/stdout' % words[0], (0, True), (lambda done: (done[0], GOOD in done[1]))(
+            run(*(word.replace('%s', '/dev/stdout') for word in words))))
+        pipe = os.path.join(folder, 'pipe-' + words[0])
+        os.mkfifo(pipe)
+        with subprocess.Popen(['cat', pipe], stdout=subprocess.PIPE) as reader:
+            status = run(*(word.replace('%s', pipe) for word in words))[0]
+            check.equal('%s into a pipe' % words[0], (0, GOOD), (status, reader.communicate(timeout=60)[0]))
+    for name in ('--exec', '--serial', '--fifo'):
+        status, _, err = run('live', name, '')
+        check.equal('live %s without a name' % name, (2, 1), (status, len(err.splitlines())))
+
+
+def check_full(check, folder):
+    """A full disk, and a read that fails, are said in one line that names the file."""
+    log = os.path.join(folder, 'log')
+    with open(log, 'wb') as file:
+        file.write(GOOD)
+    full = ': No space left on device\n'
+    for words in (['decode', '-q', log], ['decode', '--json', '-q', log], ['stats', log], ['check', '-q', log], ['record', '-q', log], ['plan', '--inputs', '8', '--filter', '5'],
+                  ['convert', '-q', '--to', 'vcd', log], ['convert', '-q', '--to', 'pcapng', log], ['live', '--fifo', log], ['check', log, log]):
+        with open('/dev/full', 'wb') as out:
+            done = subprocess.run([sys.executable, '-m', 'fiolog', *words], stdout=out, stderr=subprocess.PIPE, env=ENVIRONMENT, check=False, timeout=60)
+        check.equal('a full disk: ' + words[0], (3, 'fiolog: standard output' + full), (done.returncode, done.stderr.decode()))
+    for words in (['convert', '--to', 'frames', '-o', '/dev/full', log], ['record', '--hires', '/dev/full', *EVENTS, log], ['live', '-q', '--fifo', log, '--pcapng', '/dev/full'],
+                  ['live', '-q', '--fifo', log, '--transcript', '/dev/full']):
+        status, _, err = run(*words)
+        check.equal('%s into a full disk' % words[0], (3, 'fiolog: /dev/full' + full), (status, err.decode()))
+    for tool, words, text, status in (('tools/waveform/vcd', [], b'block 5 entries 0 status 00 stamp 1\n', 3), ('tools/transcript', [], b'0 quiet\n', 3), ('fio2070-test', ['--self', 'module', '1000'], b'', 2)):
+        path = os.path.join(TOP, *tool.split('/'))
+        if not os.path.exists(path):
+            check.skip('a full disk: ' + tool, 'it is not built here (make library)')
+            continue
+        with open('/dev/full', 'wb') as out:
+            done = subprocess.run([path, *words], input=text, stdout=out, stderr=subprocess.PIPE, env=ENVIRONMENT, check=False, timeout=60)
+        check.equal('a full disk: ' + tool, (status, True), (done.returncode, done.stderr.decode().endswith('standard output' + full)))
+    check.equal('a read that fails', (3, b'fiolog: /proc/self/mem: Input/output error\n'), run('decode', '/proc/self/mem')[::2])
+    status, out, err = run('check', log, '/proc/self/mem')
+    check.equal('a read of many that fails', (3, True, b'fiolog: /proc/self/mem: Input/output error\n'), (status, b'all 1 ' in out, err))
+
+
+def check_tools(check, folder):
+    """The tools beside it: noise on standard input, a file that is not there, a capture over its text."""
+    for tool, status in (('waveform/vcd', 1), ('transcript', 1)):
+        for text in (b'\xff\xfe\x1b]0;x\x07\n', b'', b'\0' * 70000):
+            done = subprocess.run([os.path.join(TOP, 'tools', *tool.split('/'))], input=text, stdout=subprocess.PIPE, stderr=subprocess.PIPE, env={**ENVIRONMENT, 'PYTHONIOENCODING': 'utf-8:strict'}, check=False, timeout=60)
+            check.equal('%s of noise' % tool, (status, False, None), (done.returncode, b'Traceback' in done.stderr, ACTS.search((done.stdout + done.stderr).decode())))
+    done = subprocess.run([os.path.join(TOP, 'tools', 'transcript'), 'none'], input=b'', stderr=subprocess.PIPE, env=ENVIRONMENT, check=False, cwd=folder)
+    check.equal('transcript of no script', (3, b'transcript: none: No such file or directory\n'), (done.returncode, done.stderr))
+    log = os.path.join(folder, 'frames')
+    with open(log, 'wb') as file:
+        file.write(GOOD)
+    done = subprocess.run([os.path.join(TOP, 'tools', 'wireshark', 'hex2pcap'), log, log], stderr=subprocess.PIPE, check=False)
+    check.equal('hex2pcap over its text', (2, GOOD), (done.returncode, state(log)[0]))
+
+
+def seconds_of(*words, text):
+    """How long a run takes."""
+    begun = time.monotonic()
+    run(*words, text=text)
+    return time.monotonic() - begun
+
+
+def check_long(check):
+    """Long lines take time in proportion; what is sought in them is found, and no cut makes a frame."""
+    for name, words, line in (('--sdlc', ['--sdlc'], b'a '), ('--sdlc, octets', ['--sdlc'], b'36 '), ('--sdlc, blanks', ['--sdlc'], b' '),
+                              ('--pattern', ['--pattern', r'(?P<octets>(?:[0-9a-f]{2} *)+)\s*$'], b'36 '), ('colours', [], b'\x1b[')):
+        lines = (b'36 ' + line * 20000 + b'x\n') * 4
+        check.holds('long lines: ' + name, seconds_of('decode', '-q', *words, text=lines) < 20, 'too slow')
+    frame = b'7E 14 83 36 05 C4 1B 7E'
+    status, out, _ = run('decode', '-q', '--sdlc', text=b'x' * 30000 + b' ' + frame + b'\nx 14 83 36 05 C4 1B' + b' ' * 9000 + b'\n3605 x\n')
+    check.equal('frames at the ends of long lines', (0, 2), (status, out.count(b'poll block 5')))
+    for name, text in (('a plain line', b'TX 3605;' + b'y' * 100), ('a long line', b'TX 3605;' + b'y' * 20000)):
+        check.holds('a pattern finds the beginning of %s' % name, b'poll block 5' in run('decode', '--pattern', r'^TX (?P<octets>\w+);', text=text)[1])
+    status, out, err = run('decode', '-v', '--pattern', r'(?P<octets>[0-9a-f]+)$', text=b'z' * 8188 + b'3605' + b'11\n3605\n')
+    check.equal('a cut makes no frame', (['2'], True), (re.findall(r'^(\d+):', out.decode(), re.M), b'line 1: longer than' in err))
+    for words, text in (([r'(?P<octets>zz)?'], b'3605\n'), ([r'(?P<time>\S+) (?P<octets>\w+)'], b'99999999999999 3605\n'), (['(?P<octets>a{99999999999})'], b'')):
+        check.holds('the pattern ' + words[0], b'Traceback' not in run('decode', '--pattern', *words, text=text)[2])
+
+
+def children(number):
+    """The processes that a process began."""
+    try:
+        with open('/proc/%d/task/%d/children' % (number, number), encoding='ascii') as file:
+            return [int(word) for word in file.read().split()]
+    except OSError:
+        return []
+
+
+def check_many(check, folder):
+    """Of many logs each fault is a line, and the rows of the others are written."""
+    logs, pipe = [os.path.join(folder, '%d.log' % number) for number in range(3)], os.path.join(folder, 'pipe')
+    for path in logs:
+        with open(path, 'wb') as file:
+            file.write(GOOD)
+    os.mkfifo(pipe)
+    for jobs, status, count in (('0', 2, 1), ('-3', 2, 1), ('x', 2, 1), ('5000', 0, 0), ('1', 0, 0)):
+        done = run('check', '--jobs', jobs, *logs)
+        check.equal('--jobs ' + jobs, (status, count, status == 0), (done[0], len(done[2].splitlines()), b'all 3 ' in done[1]))
+    done = run('check', logs[0], '-', text=GOOD)
+    check.equal('standard input among many', (0, b''), (done[0], done[2]))
+    command = subprocess.Popen([sys.executable, '-m', 'fiolog', 'check', '--jobs', '2', *logs, pipe], stdout=subprocess.PIPE, stderr=subprocess.PIPE, env=ENVIRONMENT)
+    for _ in range(1200):
+        if command.poll() is not None:
+            break
+        for child in children(command.pid):
+            try:
+                os.kill(child, signal.SIGKILL)
+            except OSError:
+                pass
+        time.sleep(0.5)
+    out, err = command.communicate(timeout=60)
+    check.equal('a process that dies', (3, True, 'fiolog: %s: the process that read it died\n' % pipe), (command.returncode, b'all 3 ' in out, err.decode()))
+    for number in (signal.SIGINT, signal.SIGTERM):
+        command = subprocess.Popen([sys.executable, '-m', 'fiolog', 'check', '--jobs', '2', *logs, pipe], stdout=subprocess.PIPE, stderr=subprocess.PIPE, env=ENVIRONMENT)
+        wait_until(lambda: children(command.pid))
+        time.sleep(2)
+        command.send_signal(number)
+        out, err = command.communicate(timeout=60)
+        check.equal('%s keeps the rows' % number.name, (130, True, 'fiolog: ended: 3 of 4 logs were read\n'), (command.returncode, b'all 3 ' in out, err.decode()))
+
+
+def check_odd(check, folder):
+    """Other files: empty ones, folders, files that may not be read, NUL octets, no line end, broken pipes."""
+    paths = {name: os.path.join(folder, name) for name in ('empty', 'zeros', 'open-end')}
+    for name, octets in (('empty', b''), ('zeros', bytes(200_000)), ('open-end', GOOD[:-1])):
+        with open(paths[name], 'wb') as file:
+            file.write(octets)
+    for words in COMMANDS if check.whole('odd files by all commands') else COMMANDS[::4]:
+        for name, path, expected in (('an empty file', paths['empty'], (1,)), ('zeros', paths['zeros'], (1,)), ('no line end', paths['open-end'], (0, 1)),
+                                     ('a folder', folder, (3,)), ('no file', 'none', (3,))):
+            status, _, err = run(*words, path)
+            check.holds('%s of %s' % (' '.join(words), name), status in expected and b'Traceback' not in err, err)
+    text = ('%s -m fiolog decode -q %s | head -n 1' % (sys.executable, ' '.join([paths['open-end']] * 500)))
+    done = subprocess.run(text, shell=True, stdout=subprocess.PIPE, stderr=subprocess.PIPE, env=ENVIRONMENT, check=False)
+    check.equal('a reader that has enough', b'', done.stderr)
+    command = subprocess.Popen([sys.executable, '-m', 'fiolog', 'decode', '-q'], stdin=subprocess.PIPE, stdout=subprocess.PIPE, stderr=subprocess.PIPE, env=ENVIRONMENT)
+    command.stdin.write(GOOD)
+    command.stdin.flush()
+    command.stdout.readline()
+    command.stdout.close()
+    command.send_signal(signal.SIGINT)
+    command.stdin.close()
+    check.equal('Ctrl-C, and nobody reads any more', (130, b''), (command.wait(60), command.stderr.read()))
+    command.stderr.close()
+
+
+def main():
+    check = Check()
+    # A shell that runs this in the background has it ignore Ctrl-C, and what it starts would too.
+    signal.signal(signal.SIGINT, signal.default_int_handler)
+    use_library(check, 'outputs of fiolog')
+    for part in (check_locales, check_shown, check_evidence, check_recordings, check_full, check_tools, check_many, check_odd):
+        with tempfile.TemporaryDirectory() as folder:
+            part(check, folder)
+    check_long(check)
+    check.end()
+
+
+main()

@@ -1,0 +1,193 @@
+/* A module, a poller and the checkers. */
+#include "calls.h"
+
+#include <stdlib.h>
+#include <string.h>
+
+/* ---- A module ---- */
+
+struct device {
+    struct fio2070_sized_module *module;
+    struct fio2070_ring ring;
+};
+
+/* An answer is a message; with too little room nothing is written. */
+static void receive(const struct device *device, struct input *input) {
+    size_t length, room = take8(input) % 8 ? FIO2070_LONGEST_FRAME : take16(input) % 800u, count;
+    uint8_t *frame = take_frame(input, &length), *answer = (uint8_t *)untouched(room);
+    struct fio2070_answer read;
+    count = fio2070_sized_module_receive(device->module, device->ring, frame, length, answer, room);
+    count = written(count, room, answer, 1);
+    mix_octets(answer, count);
+    if (count > 0) require(fio2070_decode_answer(answer, count, &read).kind == 0, "an answer of a module is a message");
+    free(frame), free(answer);
+}
+
+static void happen(const struct device *device, struct input *input) {
+    struct fio2070_sized_module *module = device->module;
+    uint64_t levels;
+    uint8_t first, times;
+    switch (take8(input) % 8) {
+    case 0: fio2070_sized_module_scan(module, device->ring, take64(input)); break;
+    case 1:
+        times = take8(input);
+        for (levels = take64(input); times > 0; times--, levels = ~levels * 3) fio2070_sized_module_scan(module, device->ring, levels);
+        break;
+    case 2: fio2070_sized_module_line_sync(module); break;
+    case 3:
+        fio2070_sized_module_raise(module, take8(input));
+        fio2070_sized_module_count_receive_error(module);
+        break;
+    case 4:
+        first = take8(input);
+        fio2070_sized_module_set_errors(module, first, take8(input));
+        fio2070_sized_module_count_transmit_error(module);
+        break;
+    case 5:
+        if (take8(input) % 8 == 0) fio2070_sized_module_restart(module);
+        break;
+    default: receive(device, input);
+    }
+}
+
+static void mix_module(const struct fio2070_sized_module *module) {
+    struct fio2070_outputs outputs = fio2070_sized_module_outputs(module);
+    struct fio2070_error_counts errors = fio2070_sized_module_errors(module);
+    mix_octets(outputs.levels, 8), mix_octets(outputs.controls, 8);
+    mix(fio2070_sized_module_watchdog_ms(module)), mix(fio2070_sized_module_counter(module));
+    mix(fio2070_sized_module_filtered(module)), mix(fio2070_sized_module_raw(module));
+    mix(fio2070_sized_module_flags(module)), mix(errors.receive), mix(errors.transmit);
+}
+
+/* Each input is reported, so that there is something to poll. */
+static void configure(const struct device *device) {
+    struct fio2070_configuration_item items[64];
+    uint8_t command[FIO2070_LONGEST_FRAME], answer[FIO2070_LONGEST_FRAME];
+    size_t length;
+    for (length = 0; length < 64; length++) {
+        items[length].input = (uint8_t)length;
+        items[length].ignore = 0;
+        items[length].leading = items[length].trailing = (uint8_t)(length % 4);
+    }
+    length = fio2070_encode_configure_inputs(items, 64, command, sizeof command);
+    mix(fio2070_sized_module_receive(device->module, device->ring, command, length, answer, sizeof answer));
+}
+
+void call_module(struct input *input) {
+    struct device device;
+    struct fio2070_limits limits = {0, 0, 0};
+    uint8_t how = take8(input), started;
+    struct fio2070_slot *slots;
+    limits.waiting = how % 2 ? take16(input) : (uint16_t)(take8(input) % 64 + 1);
+    limits.per_block = take8(input);
+    device.module = (struct fio2070_sized_module *)untouched(sizeof *device.module);
+    started = fio2070_sized_module_start(device.module, take8(input), limits);
+    mix(started);
+    require(started == FIO2070_STARTED || is_untouched(device.module, sizeof *device.module), "a start that is refused changes nothing");
+    device.ring.capacity = limits.waiting;
+    if (has_garbage && how & 4) device.ring.capacity = take16(input) % 9000u;
+    if (has_garbage && how & 8) take_into(input, device.module, sizeof *device.module);
+    slots = (struct fio2070_slot *)untouched(device.ring.capacity * sizeof *slots);
+    device.ring.slots = device.ring.capacity > 0 ? slots : NULL;
+    if (started == FIO2070_STARTED || has_garbage) configure(&device);
+    while (input->left > 0 && (started == FIO2070_STARTED || has_garbage)) {
+        size_t waiting;
+        happen(&device, input);
+        mix_module(device.module);
+        waiting = fio2070_sized_module_waiting(device.module);
+        mix(waiting);
+        require(how & 12 || started != FIO2070_STARTED || waiting <= limits.waiting, "no more entries wait than the limit");
+    }
+    free(slots), free(device.module);
+}
+
+/* ---- A poller ---- */
+
+/* Most frames become a block with the number that is asked for. */
+static size_t make_block(uint8_t number, uint8_t *frame, size_t length) {
+    size_t count = (length - 8) / 3, place;
+    frame[0] = FIO2070_TYPE_POLL + FIO2070_TYPE_ANSWER;
+    frame[1] = number;
+    frame[2] = (uint8_t)count;
+    for (place = 0; place < count; place++) frame[3 + 3 * place] &= 0xbf;
+    return 8 + 3 * (count % 256);
+}
+
+static void hear(struct fio2070_poller *poller, struct input *input) {
+    size_t length, room = take8(input) % 4 ? FIO2070_MOST_RECORD_ITEMS : take8(input), place;
+    uint8_t *frame = take_frame(input, &length), number = poller->number, poll[2];
+    struct fio2070_record_item *items = (struct fio2070_record_item *)untouched(room * sizeof *items);
+    struct fio2070_heard heard;
+    char text[FIO2070_LONGEST_TEXT];
+    if (length >= 8 && length <= FIO2070_LONGEST_FRAME && take8(input) % 4) length = make_block(number, frame, length);
+    heard = fio2070_poller_hear(poller, frame, length, items, room);
+    mix(heard.kind), mix(heard.code), mix(heard.number), mix(heard.status), mix(heard.stamp), mix(heard.items), mix(heard.entries);
+    mix_fault(&heard.fault);
+    if (heard.kind == FIO2070_HEARD_TAKEN) {
+        require(poller->number == (uint8_t)(number + 1) && heard.items <= room, "a block that is taken fits, and the number goes on");
+        for (place = 0; place < heard.items; place++)
+            mix(items[place].gap), mix(items[place].input), mix(items[place].state), mix(items[place].stamp), mix(items[place].wide);
+        room -= heard.items;
+    } else {
+        require(poller->number == number, "what is not taken changes no number");
+        heard.items = 0;
+    }
+    require(is_untouched(items + heard.items, room * sizeof *items), "nothing is written beyond the items");
+    mix_octets(text, fio2070_heard_text(&heard, text, sizeof text));
+    require(fio2070_poller_poll(poller, poll, 2) == 2 && poll[1] == poller->number, "a poll has the number");
+    free(items), free(frame);
+}
+
+void call_poller(struct input *input) {
+    struct fio2070_poller poller;
+    fio2070_poller_start(&poller, take8(input));
+    while (input->left > 0) {
+        struct fio2070_heard garbage;
+        char text[80];
+        hear(&poller, input);
+        take_into(input, &garbage, has_garbage ? sizeof garbage : 0);
+        if (has_garbage) mix(fio2070_heard_text(&garbage, text, take8(input) % sizeof text));
+    }
+}
+
+/* ---- Checkers ---- */
+
+static void check(struct fio2070_checker *checker, struct fio2070_content_checker *content, struct input *input, uint8_t polled) {
+    size_t length;
+    int is_sent = take8(input) % 2;
+    uint8_t *frame = take_frame(input, &length), rule;
+    struct fio2070_breach breach;
+    struct fio2070_content_breach found = {0, 0, 0};
+    char text[FIO2070_LONGEST_TEXT];
+    if (length > 1 && take8(input) % 2) frame[1] = polled;
+    rule = is_sent ? fio2070_checker_sent(checker, frame, length, &breach) : fio2070_checker_heard(checker, frame, length, &breach);
+    require(rule == breach.rule, "the rule that is returned is that of the breach");
+    mix(rule), mix(breach.has_due), mix(breach.due), mix(breach.got);
+    mix_octets(text, fio2070_rule_text(rule, text, sizeof text));
+    if (is_sent) {
+        fio2070_content_sent(content, frame, length);
+    } else {
+        rule = fio2070_content_heard(content, frame, length, &found);
+        require(rule == found.rule && found.items <= FIO2070_MOST_RECORD_ITEMS, "the rule on content is that of its breach");
+        mix_octets(text, fio2070_content_rule_text(rule, text, sizeof text));
+    }
+    mix(found.rule), mix(found.input), mix(found.items);
+    free(frame);
+}
+
+void call_checkers(struct input *input) {
+    struct fio2070_checker checker;
+    struct fio2070_content_checker *content = (struct fio2070_content_checker *)untouched(sizeof *content);
+    struct fio2070_limits limits = {0, 0, 0};
+    uint8_t how = take8(input), polled = 0;
+    memset(&checker, UNTOUCHED, sizeof checker);
+    limits.waiting = how & 1 ? take16(input) : FIO2070_STANDARD_WAITING;
+    limits.per_block = how & 1 ? take8(input) : FIO2070_MOST_ENTRIES;
+    fio2070_checker_start(&checker);
+    mix(how & 16 ? fio2070_checker_start_anywhere(&checker, limits) : fio2070_checker_start_within(&checker, limits));
+    if (how & 2) fio2070_content_start(content); else fio2070_content_start_begun(content);
+    if (has_garbage && how & 4) take_into(input, content, sizeof *content);
+    if (has_garbage && how & 8) take_into(input, &checker, sizeof checker);
+    while (input->left > 0) check(&checker, content, input, polled), polled = (uint8_t)(polled + (take8(input) % 3 == 0));
+    free(content);
+}

@@ -1,0 +1,65 @@
+/* The reader of logs: a log that is cut at random. */
+#include "calls.h"
+
+#include <stdlib.h>
+#include <string.h>
+
+static struct fio2070_log_reader reader;
+static struct fio2070_log_batch batch;
+
+/* The frames of a batch are messages, and so many as its verdicts say; lines are numbered without a gap. */
+static void require_batch(uint64_t *line) {
+    struct fio2070_command command;
+    struct fio2070_answer answer;
+    uint64_t frames = 0, places = 0;
+    size_t at = 0, place;
+    for (place = 0; place < batch.verdict_count; place++) {
+        const struct fio2070_log_verdict *verdict = &batch.verdicts[place];
+        require(verdict->line == ++*line, "lines are numbered without a gap");
+        frames += verdict->frames, places += verdict->places;
+        mix(verdict->line), mix(verdict->time), mix(verdict->frames), mix(verdict->places), mix(verdict->kind);
+        mix(verdict->reason), mix(verdict->has_time), mix(verdict->said);
+    }
+    require(frames == batch.frame_count && places == batch.place_count, "the counts of verdicts are those of the batch");
+    for (place = 0; place < batch.place_count; place++)
+        mix(batch.places[place].line), mix(batch.places[place].start), mix(batch.places[place].end);
+    for (place = 0; place < batch.frame_count; at += batch.lengths[place++]) {
+        const uint8_t *frame = batch.octets + at;
+        require(*frame < FIO2070_TYPE_ANSWER ? fio2070_decode_command(frame, batch.lengths[place], &command).kind == 0
+                                             : fio2070_decode_answer(frame, batch.lengths[place], &answer).kind == 0,
+                "a frame of a log is a message");
+    }
+    require(at == batch.octet_count, "the frames are all octets of the batch");
+    mix_octets(batch.octets, batch.octet_count);
+}
+
+/* Reads a piece whole. */
+static void read_piece(const uint8_t *piece, size_t length, uint64_t *line) {
+    size_t taken = 0;
+    int idle = 0;
+    do {
+        size_t count = fio2070_log_read(&reader, length > 0 ? piece + taken : NULL, length - taken, &batch);
+        require(count <= length - taken, "no more octets are taken than there are");
+        taken += count;
+        require_batch(line);
+        idle = count == 0 && batch.verdict_count == 0 ? idle + 1 : 0;
+    } while (taken < length && idle < 2);
+    require(taken == length, "each octet is taken at last");
+}
+
+void call_log_reader(struct input *input) {
+    uint64_t line = 0;
+    memset(&reader, UNTOUCHED, sizeof reader);
+    fio2070_log_start(&reader, take8(input) % 4);
+    while (input->left > 0) {
+        size_t length;
+        uint8_t *piece = take_frame(input, &length);
+        read_piece(piece, length, &line);
+        free(piece);
+    }
+    fio2070_log_end(&reader);
+    do {
+        require(fio2070_log_read(&reader, NULL, 0, &batch) == 0, "of no octets none is taken");
+        require_batch(&line);
+    } while (batch.verdict_count > 0);
+}

@@ -1,0 +1,202 @@
+/* The rows of tests/rows.json by fio2070.h. The last line is `N passed, M failed`. */
+#include "checks.h"
+#include "table.h"
+#include "rows.h"
+
+static uint8_t octets[1024], out[FIO2070_WIRE_LONGEST];
+static struct fio2070_configuration_item items[256];
+static struct fio2070_entry entries[256];
+
+/* Says a text that a call writes: nothing if there is no room for its zero octet, and nothing after that. */
+#define SAY_TEXT(call)                                                                             \
+    do {                                                                                           \
+        char text[4096];                                                                           \
+        size_t room = 0, count;                                                                    \
+        memset(text, '?', sizeof text);                                                            \
+        count = room = call;                                                                       \
+        if (call != count || text[0] != '?') say("written without room: ");                        \
+        room = count + 1;                                                                          \
+        if (call != count || text[count] != 0 || text[count + 1] != '?') say("too much written: "); \
+        say("%s", text);                                                                           \
+    } while (0)
+
+/* Says a fault. Only its own numbers are not 0. */
+static void say_fault(struct fio2070_fault fault) {
+    int kind = fault.kind;
+    SAY_TEXT(fio2070_fault_text(&fault, text, room));
+    if ((fault.code && kind != FIO2070_FAULT_UNKNOWN_TYPE) || (fault.needed && kind != FIO2070_FAULT_WRONG_LENGTH) ||
+        (fault.got && kind != FIO2070_FAULT_TOO_LONG && kind != FIO2070_FAULT_WRONG_LENGTH))
+        say(" with numbers of another");
+}
+
+#define ENCODES(name, ...) \
+    if (is_call(row, "encode_" #name)) return fio2070_encode_##name(__VA_ARGS__, out, sizeof out)
+
+static size_t encoded(const struct row *row) {
+    const uint8_t first = (uint8_t)row->numbers[0];
+    const uint64_t *numbers = row->numbers;
+    size_t length = octets_in(row->text, octets);
+    ENCODES(status, first);
+    ENCODES(load_counter, (uint32_t)numbers[0]);
+    ENCODES(configure_inputs, items, items_in(row->text, items));
+    ENCODES(poll, first);
+    ENCODES(set_outputs, octets, octets + 8);
+    ENCODES(watchdog, first);
+    ENCODES(other_command, first, octets, length);
+    ENCODES(status_answer, first, (uint8_t)numbers[1], (uint8_t)numbers[2], (uint32_t)numbers[3]);
+    ENCODES(load_counter_answer, first);
+    ENCODES(configure_inputs_answer, first);
+    ENCODES(raw_inputs_answer, numbers[0], (uint32_t)numbers[1]);
+    ENCODES(filtered_inputs_answer, numbers[0], (uint32_t)numbers[1]);
+    ENCODES(block_answer, first, entries, entries_in(row->text, entries), (uint8_t)numbers[1], (uint32_t)numbers[2]);
+    ENCODES(watchdog_answer, first);
+    ENCODES(other_answer, first, octets, length);
+    if (is_call(row, "encode_raw_inputs")) return fio2070_encode_raw_inputs(out, sizeof out);
+    if (is_call(row, "encode_filtered_inputs")) return fio2070_encode_filtered_inputs(out, sizeof out);
+    if (is_call(row, "encode_identify")) return fio2070_encode_identify(out, sizeof out);
+    return (size_t)-2;
+}
+
+static void say_encoded(const struct row *row) {
+    size_t count = encoded(row);
+    if (count == FIO2070_NO_MESSAGE) say("no message");
+    else if (count > sizeof out) say("no such call");
+    else say_octets(out, count);
+}
+
+/* Says the fields of a command, or a fault, with which nothing is written. */
+static void decode_command(size_t length) {
+    struct fio2070_command it, before;
+    struct fio2070_fault fault;
+    memset(&it, 9, sizeof it);
+    before = it;
+    fault = fio2070_decode_command(octets, length, &it);
+    say_fault(fault);
+    if (fault.kind != FIO2070_FAULT_NONE) {
+        if (memcmp(&it, &before, sizeof it) != 0) say(", and written");
+        return;
+    }
+    say_command(&it);
+}
+
+static void decode_answer(size_t length) {
+    struct fio2070_answer it, before;
+    struct fio2070_fault fault;
+    memset(&it, 9, sizeof it);
+    before = it;
+    fault = fio2070_decode_answer(octets, length, &it);
+    say_fault(fault);
+    if (fault.kind != FIO2070_FAULT_NONE) {
+        if (memcmp(&it, &before, sizeof it) != 0) say(", and written");
+        return;
+    }
+    say_answer(&it);
+}
+
+static void list_parts(const struct row *row, size_t length) {
+    int is_command = is_call(row, "command_items");
+    size_t count = is_command ? fio2070_command_items(octets, length, items, 256) : fio2070_block_entries(octets, length, entries, 256);
+    if (count == FIO2070_NO_MESSAGE) say("no message");
+    else if (is_command) say_items(items, count);
+    else say_entries(entries, count);
+}
+
+/* Says the number that an answer has, or a fault, with which nothing is written. */
+static void say_number(const struct row *row, size_t length) {
+    uint32_t stamp = 9;
+    uint8_t id = 9;
+    int is_outputs = is_call(row, "read_outputs_answer");
+    struct fio2070_fault fault = is_outputs ? fio2070_read_outputs_answer(octets, length, &stamp)
+                                            : fio2070_read_identification(octets, length, &id);
+    say_fault(fault);
+    if (fault.kind == FIO2070_FAULT_NONE) say("%lu", (unsigned long)(is_outputs ? stamp : id));
+    else if (stamp != 9 || id != 9) say(", and written");
+}
+
+static void say_heard(const struct row *row, size_t length) {
+    static struct fio2070_record_item record[FIO2070_MOST_RECORD_ITEMS];
+    struct fio2070_poller poller;
+    struct fio2070_heard heard;
+    fio2070_poller_start(&poller, (uint8_t)row->numbers[0]);
+    heard = fio2070_poller_hear(&poller, octets, length, record, FIO2070_MOST_RECORD_ITEMS);
+    SAY_TEXT(fio2070_heard_text(&heard, text, room));
+}
+
+static void say_breaches(const struct row *row) {
+    struct fio2070_limits limits = {(uint16_t)row->numbers[1], (uint8_t)row->numbers[0], 0};
+    struct fio2070_checker checker;
+    struct fio2070_breach it;
+    const char *frame = row->text;
+    uint8_t started;
+    memset(&checker, 0xa5, sizeof checker);
+    started = is_call(row, "checker") ? fio2070_checker_start_within(&checker, limits)
+                                      : fio2070_checker_start_anywhere(&checker, limits);
+    if (started != FIO2070_STARTED) say("refused");
+    for (; started == FIO2070_STARTED && frame != NULL; frame = next_frame(frame)) {
+        size_t length = octets_in(frame + 2, octets);
+        uint8_t rule = *frame == '>' ? fio2070_checker_sent(&checker, octets, length, &it)
+                                     : fio2070_checker_heard(&checker, octets, length, &it);
+        say_breach(&it);
+        if (it.rule != rule) say(" not in the struct");
+    }
+}
+
+static void say_content_breaches(const struct row *row) {
+    struct fio2070_content_checker content;
+    struct fio2070_content_breach it;
+    const char *frame = row->text;
+    memset(&content, 0xa5, sizeof content);
+    if (is_call(row, "content")) fio2070_content_start(&content);
+    else fio2070_content_start_begun(&content);
+    for (; frame != NULL; frame = next_frame(frame)) {
+        size_t length = octets_in(frame + 2, octets);
+        uint8_t rule = 0;
+        memset(&it, 0, sizeof it);
+        if (*frame == '>') fio2070_content_sent(&content, octets, length);
+        else rule = fio2070_content_heard(&content, octets, length, &it);
+        say_content_breach(&it);
+        if (it.rule != rule) say(" not in the struct");
+    }
+}
+
+static void say_line(const struct row *row, size_t length) {
+    size_t count;
+    if (is_call(row, "wire_check")) {
+        say("%u", fio2070_wire_check(octets, length));
+        return;
+    }
+    count = fio2070_wire_write((uint8_t)row->numbers[0], (uint8_t)row->numbers[1], octets, length, out, sizeof out);
+    if (count == 0) say("no message");
+    say_octets(out, count);
+}
+
+static void run(const struct row *row) {
+    const uint64_t *numbers = row->numbers;
+    size_t length = octets_in(row->text, octets);
+    if (strncmp(row->call, "encode_", 7) == 0) say_encoded(row);
+    else if (is_call(row, "decode_command")) decode_command(length);
+    else if (is_call(row, "decode_answer")) decode_answer(length);
+    else if (is_call(row, "command_items") || is_call(row, "block_entries")) list_parts(row, length);
+    else if (strncmp(row->call, "read_", 5) == 0) say_number(row, length);
+    else if (is_call(row, "show")) SAY_TEXT(fio2070_show(octets, length, text, room));
+    else if (is_call(row, "widen")) say("%lu", (unsigned long)fio2070_widen((uint32_t)numbers[0], (uint16_t)numbers[1]));
+    else if (is_call(row, "rule_text")) SAY_TEXT(fio2070_rule_text((uint8_t)numbers[0], text, room));
+    else if (is_call(row, "content_rule_text")) SAY_TEXT(fio2070_content_rule_text((uint8_t)numbers[0], text, room));
+    else if (is_call(row, "heard_text")) say_heard(row, length);
+    else if (strncmp(row->call, "checker", 7) == 0) say_breaches(row);
+    else if (strncmp(row->call, "content", 7) == 0) say_content_breaches(row);
+    else if (strncmp(row->call, "wire_", 5) == 0) say_line(row, length);
+    else say("no such call");
+}
+
+int main(void) {
+    size_t place;
+    for (place = 0; place < sizeof rows / sizeof *rows; place++) {
+        *said = 0;
+        run(&rows[place]);
+        if (is_call(&rows[place], "show") && *said) said[strlen(said) - 1] = 0;
+        check(strcmp(said, rows[place].expected) == 0, rows[place].call, (unsigned)place + 2);
+        if (strcmp(said, rows[place].expected) != 0) printf("  expected: %.200s\n  got: %.200s\n", rows[place].expected, said);
+    }
+    return end_of_checks();
+}

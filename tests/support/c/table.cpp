@@ -1,0 +1,137 @@
+// The rows of tests/rows.json by fio2070.hpp. The last line is `N passed, M failed`.
+#include "fio2070.hpp"
+
+#include "checks.h"
+#include "table.h"
+#include "rows.h"
+
+using List = std::vector<std::uint8_t>;
+
+static std::string hex(const fio2070::Frame &frame) {
+    *said = 0;
+    say_octets(frame.begin(), frame.size());
+    return said;
+}
+
+static std::string hex(const std::optional<fio2070::Frame> &frame) { return frame ? hex(*frame) : "no message"; }
+
+static std::string encoded(const row &it, const List &octets) {
+    namespace encode = fio2070::encode;
+    const auto first = static_cast<std::uint8_t>(it.numbers[0]), second = static_cast<std::uint8_t>(it.numbers[1]);
+    const auto word = [&it](int place) { return static_cast<std::uint32_t>(it.numbers[place]); };
+    const std::string name = it.call + 7;
+    static fio2070::ConfigurationItem items[256];
+    static fio2070::Entry entries[256];
+    if (name == "status") return hex(encode::status(first));
+    if (name == "load_counter") return hex(encode::load_counter(word(0)));
+    if (name == "configure_inputs") return hex(encode::configure_inputs({items, items_in(it.text, items)}));
+    if (name == "raw_inputs") return hex(encode::raw_inputs());
+    if (name == "filtered_inputs") return hex(encode::filtered_inputs());
+    if (name == "poll") return hex(encode::poll(first));
+    if (name == "watchdog") return hex(encode::watchdog(first));
+    if (name == "identify") return hex(encode::identify());
+    if (name == "other_command") return hex(encode::other_command(first, octets));
+    if (name == "status_answer") return hex(encode::status_answer(first, second, static_cast<std::uint8_t>(word(2)), word(3)));
+    if (name == "load_counter_answer") return hex(encode::load_counter_answer(first));
+    if (name == "configure_inputs_answer") return hex(encode::configure_inputs_answer(first));
+    if (name == "raw_inputs_answer") return hex(encode::raw_inputs_answer(it.numbers[0], word(1)));
+    if (name == "filtered_inputs_answer") return hex(encode::filtered_inputs_answer(it.numbers[0], word(1)));
+    if (name == "block_answer") return hex(encode::block_answer(first, {entries, entries_in(it.text, entries)}, second, word(2)));
+    if (name == "watchdog_answer") return hex(encode::watchdog_answer(first));
+    if (name == "other_answer") return hex(encode::other_answer(first, octets));
+    fio2070::Outputs outputs{};
+    memcpy(outputs.levels, octets.data(), 8);
+    memcpy(outputs.controls, octets.data() + 8, 8);
+    return name == "set_outputs" ? hex(encode::set_outputs(outputs)) : "no such call";
+}
+
+static std::string decoded(const row &it, const List &octets) {
+    *said = 0;
+    if (is_call(&it, "decode_command")) {
+        const auto read = fio2070::decode_command(octets);
+        if (!read) return read.fault().text();
+        say_command(&*read);
+        return said;
+    }
+    const auto read = fio2070::decode_answer(octets);
+    if (!read) return read.fault().text();
+    say_answer(&*read);
+    return said;
+}
+
+// What is no message has no items and no entries.
+static std::string listed(const row &it, const List &octets) {
+    *said = 0;
+    const auto items = fio2070::command_items(octets);
+    const auto entries = fio2070::block_entries(octets);
+    if (is_call(&it, "command_items")) say_items(items.data(), items.size()); else say_entries(entries.data(), entries.size());
+    return it.is_error && !*said ? it.expected : said;
+}
+
+template <typename Number>
+static std::string number_of(const fio2070::Read<Number> &read) { return read ? std::to_string(*read) : read.fault().text(); }
+
+static std::string judged(const row &it) {
+    const auto per_block = static_cast<std::uint8_t>(it.numbers[0]);
+    const auto waiting = static_cast<std::uint16_t>(it.numbers[1]);
+    auto checker = is_call(&it, "checker") ? fio2070::Checker::within(per_block, waiting) : fio2070::Checker::anywhere(per_block, waiting);
+    if (!checker) return "refused";
+    *said = 0;
+    for (const char *frame = it.text; frame; frame = next_frame(frame)) {
+        List octets(1024);
+        octets.resize(octets_in(frame + 2, octets.data()));
+        const fio2070_breach breach = *frame == '>' ? checker->sent(octets) : checker->heard(octets);
+        say_breach(&breach);
+    }
+    return said;
+}
+
+static std::string content_judged(const row &it) {
+    auto content = is_call(&it, "content") ? fio2070::ContentChecker() : fio2070::ContentChecker::begun();
+    *said = 0;
+    for (const char *frame = it.text; frame; frame = next_frame(frame)) {
+        List octets(1024);
+        fio2070_content_breach breach{};
+        octets.resize(octets_in(frame + 2, octets.data()));
+        if (*frame == '>') content.sent(octets); else breach = content.heard(octets);
+        say_content_breach(&breach);
+    }
+    return said;
+}
+
+static std::string framed(const row &it, const List &octets) {
+    const auto frame = fio2070::wire_frame(octets, static_cast<std::uint8_t>(it.numbers[0]), static_cast<std::uint8_t>(it.numbers[1]));
+    *said = 0;
+    if (frame) say_octets(frame->data(), frame->size());
+    return frame ? said : "no message";
+}
+
+static std::string run(const row &it) {
+    const std::string call = it.call;
+    List octets(1024);
+    octets.resize(octets_in(it.text, octets.data()));
+    if (call.rfind("encode_", 0) == 0) return encoded(it, octets);
+    if (call.rfind("decode_", 0) == 0) return decoded(it, octets);
+    if (call == "command_items" || call == "block_entries") return listed(it, octets);
+    if (call == "read_outputs_answer") return number_of(fio2070::read_outputs_answer(octets));
+    if (call == "read_identification") return number_of(fio2070::read_identification(octets));
+    if (call == "widen") return std::to_string(fio2070::widen(static_cast<std::uint32_t>(it.numbers[0]), static_cast<std::uint16_t>(it.numbers[1])));
+    if (call == "rule_text") return fio2070::rule_text(static_cast<std::uint8_t>(it.numbers[0]));
+    if (call == "content_rule_text") return fio2070::content_rule_text(static_cast<std::uint8_t>(it.numbers[0]));
+    if (call == "heard_text") return fio2070::Poller(static_cast<std::uint8_t>(it.numbers[0])).hear(octets).text();
+    if (call.rfind("checker", 0) == 0) return judged(it);
+    if (call.rfind("content", 0) == 0) return content_judged(it);
+    if (call == "wire_check") return std::to_string(fio2070::wire_check(octets));
+    if (call == "wire_frame") return framed(it, octets);
+    return call == "show" ? fio2070::show(octets) : "no such call";
+}
+
+int main() {
+    unsigned place = 2;
+    for (const row &it : rows) {
+        const std::string due = it.expected + std::string(is_call(&it, "show") ? "\n" : ""), came = run(it);
+        check(came == due, it.call, place++);
+        if (came != due) std::printf("  expected: %.200s\n  got: %.200s\n", due.c_str(), came.c_str());
+    }
+    return end_of_checks();
+}

@@ -1,0 +1,135 @@
+/* What the runners of tests/rows.json in C and C++ share. */
+#include "fio2070.h"
+
+#include <stdarg.h>
+#include <stdint.h>
+#include <stdio.h>
+#include <stdlib.h>
+#include <string.h>
+
+/* A row: the numbers and the text that a call is given, and its result, or its error. */
+struct row {
+    const char *call;
+    uint64_t numbers[4];
+    const char *text;
+    int is_error;
+    const char *expected;
+};
+
+/* What the call of a row returned, in words. */
+static char said[8192];
+
+static void say(const char *format, ...) {
+    size_t length = strlen(said);
+    va_list given;
+    va_start(given, format);
+    vsnprintf(said + length, sizeof said - length, format, given);
+    va_end(given);
+}
+
+static void say_octets(const uint8_t *octets, size_t count) {
+    size_t place;
+    for (place = 0; place < count; place++) say("%02x", octets[place]);
+}
+
+/* Says a field that is not 0. */
+static void say_field(const char *name, uint64_t value) {
+    if (value != 0) say("%s%s %llu", *said ? " " : "", name, (unsigned long long)value);
+}
+
+static void say_octets_field(const char *name, const uint8_t octets[8]) {
+    static const uint8_t none[8] = {0};
+    if (memcmp(octets, none, 8) == 0) return;
+    say(" %s ", name);
+    say_octets(octets, 8);
+}
+
+/* Reads octets in hexadecimal up to the first other character, and returns how many there are. */
+static size_t octets_in(const char *text, uint8_t *octets) {
+    static const char digits[] = "0123456789abcdef";
+    size_t count = 0;
+    const char *high, *low;
+    while (*text && (high = strchr(digits, text[0])) != NULL && (low = strchr(digits, text[1])) != NULL) {
+        octets[count++] = (uint8_t)(16 * (high - digits) + (low - digits));
+        text += 2;
+    }
+    return count;
+}
+
+/* Reads the numbers of a list, and returns how many there are. */
+static size_t numbers_in(const char *text, unsigned *numbers) {
+    size_t count = 0;
+    char *end;
+    while (*text) {
+        numbers[count++] = (unsigned)strtoul(text, &end, 10);
+        text = end + strspn(end, ", ");
+    }
+    return count;
+}
+
+/* Reads a list of items, and returns how many there are. */
+static size_t items_in(const char *text, struct fio2070_configuration_item items[256]) {
+    static unsigned list[4 * 256];
+    size_t place, count = numbers_in(text, list) / 4;
+    for (place = 0; place < count; place++) {
+        items[place].input = (uint8_t)list[4 * place];
+        items[place].ignore = (uint8_t)list[4 * place + 1];
+        items[place].leading = (uint8_t)list[4 * place + 2];
+        items[place].trailing = (uint8_t)list[4 * place + 3];
+    }
+    return count;
+}
+
+static size_t entries_in(const char *text, struct fio2070_entry entries[256]) {
+    static unsigned list[3 * 256];
+    size_t place, count = numbers_in(text, list) / 3;
+    for (place = 0; place < count; place++) {
+        entries[place].input = (uint8_t)list[3 * place];
+        entries[place].state = (uint8_t)list[3 * place + 1];
+        entries[place].stamp = (uint16_t)list[3 * place + 2];
+    }
+    return count;
+}
+
+static void say_items(const struct fio2070_configuration_item *items, size_t count) {
+    size_t place;
+    for (place = 0; place < count; place++)
+        say("%s%u %u %u %u", place ? ", " : "", items[place].input, items[place].ignore, items[place].leading, items[place].trailing);
+}
+
+static void say_entries(const struct fio2070_entry *entries, size_t count) {
+    size_t place;
+    for (place = 0; place < count; place++)
+        say("%s%u %u %u", place ? ", " : "", entries[place].input, entries[place].state, entries[place].stamp);
+}
+
+static void say_command(const struct fio2070_command *it) {
+    say_field("code", it->code), say_field("clear", it->clear), say_field("block", it->block);
+    say_field("timeout", it->timeout), say_field("count", it->count), say_field("body", it->body);
+    say_field("load", it->load), say_octets_field("levels", it->levels), say_octets_field("controls", it->controls);
+}
+
+static void say_answer(const struct fio2070_answer *it) {
+    say_field("code", it->code), say_field("flags", it->flags), say_field("receive_errors", it->receive_errors);
+    say_field("transmit_errors", it->transmit_errors), say_field("status", it->status), say_field("block", it->block);
+    say_field("count", it->count), say_field("body", it->body), say_field("stamp", it->stamp), say_field("inputs", it->inputs);
+}
+
+static void say_breach(const struct fio2070_breach *it) {
+    say("%s%u", *said ? ", " : "", it->rule);
+    if (it->has_due) say(" due %u got %u", it->due, it->got);
+}
+
+static void say_content_breach(const struct fio2070_content_breach *it) {
+    say("%s%u", *said ? ", " : "", it->rule);
+    if (it->input != (it->rule ? FIO2070_NO_INPUT : 0)) say(" input %u", it->input);
+    if (it->items) say(" items %u", it->items);
+}
+
+static int is_call(const struct row *row, const char *name) { return strcmp(row->call, name) == 0; }
+
+/* The frame below one of a text of frames, or NULL. */
+static const char *next_frame(const char *frame) {
+    const char *comma = strchr(frame, ',');
+    return comma ? comma + 2 : NULL;
+}

@@ -1,0 +1,42 @@
+#!/usr/bin/env python3
+"""The table tests/rows.json: calls of the library, each with its arguments and its result or its error, which the tests of the
+library in C, C++, Python and Rust read. An argument is a number, or a text: octets in hexadecimal, a list of items or entries,
+or frames that were sent (>) and heard (<). `30*3` is short for `303030`, and `+` joins octets. A result that is a struct is
+written by its fields that are not 0, in the order of the struct; the result for frames by the rule that each breaks.
+
+As a program it prints the table as an array for C and C++: the rows of support/c/table.h."""
+
+import json
+import os
+
+TABLE = os.path.join(os.path.dirname(os.path.dirname(os.path.realpath(__file__))), 'rows.json')
+
+
+def expanded(text):
+    """A text without `*` and `+`."""
+    between, joint = (', ', ', ') if ' ' in text else ('+', '')
+    parts = [part.partition('*') for part in text.split(between)]
+    return joint.join(joint.join([what] * int(count or 1)) for what, _, count in parts)
+
+
+def read_rows():
+    """Yields each row: its call, its numbers, its text, whether an error is due, and the result or the error that is."""
+    with open(TABLE, encoding='utf-8') as file:
+        table = json.load(file)
+    for row in table:
+        numbers = [one for one in row['given'] if not isinstance(one, str)]
+        texts = [one for one in row['given'] if isinstance(one, str)]
+        yield row['call'], numbers, expanded(''.join(texts)), 'error' in row, expanded(row.get('result', row.get('error')))
+
+
+def main():
+    """Prints the array."""
+    print('static const struct row rows[] = {')
+    for call, numbers, text, is_error, expected in read_rows():
+        print('    {"%s", {%s}, "%s", %d, "%s"},' % (
+            call, ', '.join('%du%s' % (one, 'll' * (one >= 1 << 32)) for one in numbers) or '0', text, is_error, expected))
+    print('};')
+
+
+if __name__ == '__main__':
+    main()

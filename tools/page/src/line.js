@@ -1,0 +1,221 @@
+// What a line carried: a file of its octets or of its bits, or octets with flags in the lines of a log. The library finds the frames;
+// here they become messages, each in a line of its own if the file has none.
+
+import { LOG_FORMS, LOG_KINDS, LOG_SIDES } from './constants.js';
+import { counted } from './dom.js';
+import { fromHex, hexText } from './hex.js';
+import { LINE } from './log_words.js';
+import { MessageList } from './messagelist.js';
+import { formOf, Found, linesOf, octetsOf, readLog } from './reader.js';
+import { AT_END, digitsOf } from './rewriting.js';
+import { ANY, OWN, SAYS, wireOf } from './wire.js';
+
+// The first octets of a file, which show what it is, and the first bits, which show how long one is.
+const WINDOW = 1 << 14;
+// The octets of a line that shows a text; below one that is no text it has more.
+const SHORT_TEXT = 4, LONG_TEXT = 16;
+// The runs between those at the ends that show how long a bit is; one in so many may be noise.
+const LEAST_RUNS = 16, MOST_SHORT = 20;
+const TEXT_OF_BITS = /^[01\0\x01,\s]*$/, CONTROLS = /[\0-\x08\x0e-\x1a\x1c-\x1f]/;
+const ROW_OF_DUMP = /^\s*(?:0x)?([0-9A-Fa-f]{4,16})(?::\s*|\s{2,})((?:[0-9A-Fa-f]{2} {0,2})+)/, MOST_OF_ROW = 64;
+const OFFSET = /^\s*[0-9A-Fa-f]{4,16}\s*$/;
+// How a frame of SDLC begins, with its flag.
+const FLAGGED = /7e(?:[ ,:;|-]|0x|\\x)*14(?:[ ,:;|-]|0x|\\x)*83/i, FLAG = 0x7e;
+
+// The ways that a reader may choose, and their words.
+export const LINE_WAYS = {
+  digits: 'SDLC frames with flags, in lines or rows of a dump',
+  line: 'What a line carried: its octets',
+  bits: 'What a line carried: its bits, lowest first',
+  'bits-high-first': 'What a line carried: its bits, highest first',
+};
+
+const asLatin = (octets) => Array.from(octets, (octet) => String.fromCharCode(octet)).join('');
+
+function isText(octets) {
+  try {
+    return !CONTROLS.test(new TextDecoder('utf-8', { fatal: true }).decode(octets));
+  } catch {
+    return false;
+  }
+}
+
+// What a file is by how it begins: one of LINE_WAYS, or '' for the lines of a log.
+function lineWayOf(library, file) {
+  const begin = file.subarray(0, WINDOW), all = asLatin(begin), wire = wireOf(library, 'line').start(OWN);
+  if (TEXT_OF_BITS.test(all)) return /[01\x01]/.test(all) ? 'bits' : '';
+  let at = 0, isStrange = false, frames = 0, damaged = 0;
+  for (const [piece] of all.matchAll(/[^\r\n]*[\r\n]|[^\r\n]+/g)) {
+    const octets = begin.subarray(at, at + piece.length), line = octets.subarray(0, -1);
+    for (const { kind } of wire.read(octets)) {
+      if (kind === SAYS.message) return 'line';
+      if (kind === SAYS.damaged) damaged += 1;
+      else frames += 1;
+    }
+    at += piece.length;
+    if (!/[\r\n]$/.test(piece)) break;
+    isStrange ||= !isText(line);
+    if (isText(line) && line.length >= (isStrange ? LONG_TEXT : SHORT_TEXT) && !TEXT_OF_BITS.test(piece)) return '';
+  }
+  return frames > 0 && frames >= damaged ? 'line' : '';
+}
+
+// The bits of a file, an octet each: those of a text of 0 and 1 or of octets 0 and 1, or eight of each octet.
+function bitsOfFile(file, isHighFirst) {
+  if (TEXT_OF_BITS.test(asLatin(file.subarray(0, 64)))) return file.filter((octet) => octet < 2 || octet >> 1 === 0x18);
+  const bits = new Uint8Array(8 * file.length);
+  file.forEach((octet, index) => {
+    for (let bit = 0; bit < 8; bit++) bits[8 * index + bit] = octet >> (isHighFirst ? 7 - bit : bit) & 1;
+  });
+  return bits;
+}
+
+// How many samples nearly all bits have; 1 if too few are there to say so.
+function samplesOf(bits) {
+  const start = Math.max(bits.findIndex((bit) => (bit & 1) !== (bits[0] & 1)), 0);
+  const runs = asLatin(bits.subarray(start, start + WINDOW).map((bit) => 0x30 + (bit & 1))).match(/0+|1+/g).slice(1, -1).map((run) => run.length);
+  return runs.length < LEAST_RUNS ? 1 : runs.sort((one, other) => one - other)[Math.floor(runs.length / MOST_SHORT)];
+}
+
+// What is said of the frames with another address.
+class Others {
+  constructor() {
+    Object.assign(this, { counts: new Map(), words: () => [...this.counts].map(([why, count]) => `${counted(count, 'frame')} ${why}`) });
+  }
+
+  note({ address, control }) {
+    const why = LINE.other.replace('{address}', hexText([address])).replace('{control}', hexText([control]));
+    this.counts.set(why, (this.counts.get(why) || 0) + 1);
+    return why;
+  }
+
+  // A right check is no doubt.
+  add() {}
+}
+
+// Makes messages of what a line says; `lines` are those of the log, if it has some.
+class Heard {
+  constructor(file, lines) {
+    this.others = new Others();
+    this.found = new Found(lines, LOG_FORMS.auto, new MessageList(lines.length, file.length), this.others);
+    this.frames = 0;
+  }
+
+  add(one, line, said = LOG_SIDES.noSide, time = null) {
+    const { messages } = this.found;
+    if (one.kind === SAYS.other) messages.addOther(line, { why: this.others.note(one), text: hexText(one.message) });
+    else if (one.kind === SAYS.damaged) this.addBad(line);
+    else {
+      this.frames += 1;
+      this.found.addFrames({ line, kind: LOG_KINDS.says, said, time, frames: [one.message], places: [] });
+    }
+  }
+
+  addBad(line) {
+    this.found.messages.addBad(line, { why: `damaged: ${LINE.damaged}`, text: this.found.textOf(line).slice(0, 100) });
+  }
+
+  // As readLog returns it, with why no frame was found.
+  result(words = '') {
+    const read = this.found.result();
+    return { ...read, doubts: [...this.frames === 0 && words !== '' ? [words] : [], ...read.doubts] };
+  }
+}
+
+// Reads a file in a way of LINE_WAYS.
+function readLine(library, logReader, file, way, own) {
+  if (way === 'digits') return readDigits(library, logReader, file, own).result();
+  const heard = new Heard(file, []), line = way === 'line' ? file : bitsOfFile(file, way === 'bits-high-first');
+  let number = 0;
+  for (const one of wireOf(library, way === 'line' ? 'line' : 'bits').start(own).read(line)) heard.add(one, ++number);
+  const samples = way === 'line' || line.length === 0 ? 1 : samplesOf(line);
+  return heard.result(samples > 1 ? LINE.faster.replace('{count}', samples) : way === 'line' ? LINE.octets : LINE.bits);
+}
+
+// What one side sent, line by line of a log.
+class Side {
+  constructor(wire, alone, own) {
+    Object.assign(this, { wire, alone, own, isBegun: false, isOpen: false });
+  }
+
+  // What the octets of a line say, alone or with those above; null if they say nothing, and no flag came down to here. A row of a dump
+  // is never alone.
+  read(octets, isRow) {
+    const hasFlags = octets.includes(FLAG), alone = hasFlags || isRow || this.isOpen ? [] : this.readAlone(octets);
+    if (alone.length > 0) return alone;
+    if (!hasFlags && !this.isBegun) return null;
+    if (!this.isBegun) this.wire.start(this.own);
+    this.isBegun = true;
+    this.isOpen = octets.at(-1) !== FLAG;
+    return [...this.wire.read(octets)];
+  }
+
+  // What octets without flags say, if all of them are in frames.
+  readAlone(octets) {
+    const heard = [...this.alone.start(ANY).read(Uint8Array.of(FLAG, ...octets, FLAG))];
+    return heard.every(({ kind }) => kind !== SAYS.damaged) ? heard : [];
+  }
+}
+
+// The digits of the octets of a line, and what is before them: null in a row of a dump, whose heading says it.
+function partOfLine(text, above) {
+  const row = digitsOfRow(text), [found] = row === null ? AT_END.exec(text) || [] : [];
+  if (row !== null) return { digits: row, head: null };
+  // Some dumps end with an offset.
+  if (OFFSET.test(text) && Number.parseInt(text, 16) === endOfRow(above)) return { digits: '', head: '' };
+  if (found === undefined) return { digits: '', head: text };
+  // A time in front of octets: the digits below a point, or words such as 12:00:01 where those of the octets are not written so.
+  const isFraction = text.at(-found.length - 1) === '.', isOfClock = /[0-9a-f][:-]\S*$/i.test(found.trimEnd());
+  const [time] = (isFraction ? /^[0-9a-f]+/i : isOfClock ? /^/ : /^(?:\s*[0-9a-f]+[:-]\S+)+(?=\s)|^/i).exec(found);
+  const octets = found.slice(time.length);
+  return { digits: digitsOf(octets), head: text.slice(0, -octets.length) };
+}
+
+// The digits of a row of a dump, without its offset and its column of characters; null if a text is no row.
+function digitsOfRow(text) {
+  const [all, offset, octets] = ROW_OF_DUMP.exec(text) || [];
+  if (all === undefined || Number.parseInt(offset, 16) % 4 !== 0) return null;
+  const start = all.length - octets.length, places = [...octets.matchAll(/[0-9A-Fa-f]{2}/g)], values = fromHex(digitsOf(octets));
+  const bare = (words) => words.replace(/^[ |<>]+|[ |<>]+$/g, '');
+  for (let count = Math.min(places.length, MOST_OF_ROW); count > 0; count--) {
+    const end = start + places[count - 1].index + 2, rest = text.slice(end);
+    const column = asLatin(values.subarray(0, count)).replace(/[^ -~]/g, '.');
+    if (/^\s/.test(rest) && bare(rest.trim()) === bare(column)) return digitsOf(text.slice(start, end));
+  }
+  return text.slice(all.length).trim() === '' ? digitsOf(octets) : null;
+}
+
+// The offset below a row of a dump; NaN if a text is no row.
+const endOfRow = (text) => Number.parseInt((ROW_OF_DUMP.exec(text) || [])[1], 16) + (digitsOfRow(text) || '').length / 2;
+
+// Reads the lines of a log as the octets of a line.
+function readDigits(library, logReader, file, own) {
+  const lines = linesOf(octetsOf(file), LOG_FORMS.auto), heard = new Heard(file, lines), alone = wireOf(library, 'alone');
+  const parts = lines.map((text, index) => partOfLine(text, lines[index - 1] || ''));
+  const sides = Object.values(LOG_SIDES).map((side) => new Side(wireOf(library, side), alone, own));
+  // What the library says of a frame with the same before it.
+  const heads = new TextEncoder().encode(parts.map(({ head }) => `${head === null ? '' : head} b600000000000001\n`).join(''));
+  let heading = {};
+  for (const { line, said, time } of logReader.read(heads, LOG_FORMS.auto)) {
+    const { digits, head } = parts[line - 1], before = head === null ? heading : { said, time };
+    if (digits === '' || digits.length % 2 === 1) {
+      if (head.trim() !== '') heading = { said, time };
+      continue;
+    }
+    const says = sides[before.said || 0].read(fromHex(digits), head === null);
+    if (says === null && head !== null) heard.addBad(line);
+    for (const one of says || []) heard.add(one, line, before.said, before.time);
+  }
+  return heard;
+}
+
+// Reads a file: in a way that is chosen or, if the form is `auto`, as what it shows itself to be.
+export function readAny(library, logReader, name, file, form, own = OWN) {
+  const logForm = formOf(name, form), way = form in LINE_WAYS ? form : logForm === LOG_FORMS.auto ? lineWayOf(library, file) : '';
+  if (way !== '') return readLine(library, logReader, file, way, own);
+  const read = readLog(library, logReader, file, logForm), { messages } = read;
+  const isRead = messages.isPossible.subarray(0, messages.count).some((it, place) => it === 0 && messages.lengths[place] > 0);
+  if (isRead || logForm !== LOG_FORMS.auto || !FLAGGED.test(asLatin(file.subarray(0, WINDOW)))) return read;
+  const heard = readDigits(library, logReader, file, own);
+  return heard.frames > 0 ? heard.result() : read;
+}

@@ -1,0 +1,52 @@
+// Logs of which the reader says how they are written: their lines are written anew, as the library finds frames in any log.
+
+import { fromHex, hexText } from './hex.js';
+
+const FLAGS = 0x7e, HEADER = 2, DUMPED = 16;
+// The octets at the end of a line, as hexadecimal digits of two each.
+export const AT_END = /(?<![0-9A-Za-z])(?:(?:0x)?[0-9A-Fa-f]{2}[ ,:;|-]*)+\s*$/;
+// What a line without octets becomes: no line goes away.
+const NO_FRAME = '-';
+
+export const digitsOf = (text) => text.replace(/0x|\\x|[^0-9a-f]/gi, '');
+
+// Without the flags, the address and the control octet.
+function withoutFraming(line) {
+  const [found] = AT_END.exec(line) || [];
+  if (found === undefined) return NO_FRAME;
+  let octets = fromHex(digitsOf(found));
+  while (octets[0] === FLAGS) octets = octets.subarray(1);
+  while (octets.at(-1) === FLAGS) octets = octets.subarray(0, -1);
+  return line.slice(0, -found.length) + hexText(octets.subarray(HEADER));
+}
+
+// What an expression finds in a line: the group `octets`, and perhaps `time` and `dir`.
+function found(expression, line) {
+  const { octets, time = '', dir = '' } = (expression.exec(line) || {}).groups || {};
+  return octets === undefined ? NO_FRAME : `${time} ${dir} ${digitsOf(octets)}`;
+}
+
+// The rows of a hex dump of a file that is no text.
+function dump(file) {
+  const rows = Array.from({ length: Math.ceil(file.length / DUMPED) }, (_, row) => row * DUMPED);
+  return rows.map((at) => `${at.toString(16).padStart(8, '0')}: ${hexText(file.subarray(at, at + DUMPED)).replace(/(....)(?=.)/g, '$1 ')}`);
+}
+
+const inLines = (write) => (file) => new TextDecoder().decode(file).split(/\r\n|\r|\n/).map((line) => line.trim() === '' ? '' : write(line));
+// Python names a group by `(?P<`.
+const expressionOf = (text) => new RegExp(text.replaceAll('(?P<', '(?<'));
+
+// The ways that a reader may choose: its name, its words, and the lines that it makes of a file.
+export const REWRITINGS = {
+  unchecked: ['SDLC frames, without their check', inLines(withoutFraming)],
+  pattern: ['As an expression finds it', (file, pattern) => {
+    const expression = expressionOf(pattern);
+    return inLines((line) => found(expression, line))(file);
+  }],
+  octets: ['A binary file of messages without flags', dump],
+};
+
+// The octets of a file as they are read if it is written in this way.
+export function rewritten(file, way, pattern) {
+  return new TextEncoder().encode(REWRITINGS[way][1](file, pattern).join('\n') + '\n');
+}
