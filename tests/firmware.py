@@ -200,38 +200,49 @@ def is_missed(seconds, words, *changes):
 
 # ---- What the firmware receives ----
 
+def connected(path):
+    """A socket to a UART that QEMU gives as a file."""
+    one, ends_at = socket.socket(socket.AF_UNIX), time.monotonic() + board.ANSWER_S
+    one.settimeout(board.ANSWER_S)
+    while one.connect_ex(path) and time.monotonic() < ends_at:
+        time.sleep(0.05)
+    return one
+
+
+def unread(one, request):
+    """What waits in such a socket to be read: of it (`FIONREAD`), or by QEMU (`TIOCOUTQ`), which takes an octet when the UART has
+    room for it."""
+    return int.from_bytes(fcntl.ioctl(one, request, bytes(4)), 'little')
+
+
 @contextlib.contextmanager
 def begun(*changes):
     """The running firmware: its link and its lines."""
-    port, path = board.free_port(), os.path.join(tempfile.mkdtemp(dir=room), 'lines')
-    words = board.board_words(os.path.join(built(*changes), 'firmware.elf'), port, 0)
-    words[-3] = 'unix:%s,server=on,wait=off' % path
+    paths = [os.path.join(tempfile.mkdtemp(dir=room), name) for name in ('link', 'lines')]
+    words = board.board_words(os.path.join(built(*changes), 'firmware.elf'), 0, 0)
+    words[-5], words[-3] = ('unix:%s,server=on,wait=off' % path for path in paths)
     with board.running(words, signal.SIGTERM, stderr=subprocess.DEVNULL):
-        lines = UnreadLines(path)
-        with socket.create_connection(('127.0.0.1', port), board.ANSWER_S) as link:
-            link.setsockopt(socket.IPPROTO_TCP, socket.TCP_NODELAY, 1)
-            yield link, lines
+        link, lines = connected(paths[0]), UnreadLines(paths[1])
+        yield link, lines
         lines.close()
+        link.close()
 
 
 class UnreadLines(board.Lines):
     """The lines over a socket that takes some hundred octets: while nobody reads them, the main loop waits."""
 
     def __init__(self, path):
-        self.socket = socket.socket(socket.AF_UNIX)
-        self.socket.settimeout(board.ANSWER_S)
-        ends_at = time.monotonic() + board.ANSWER_S
-        while self.socket.connect_ex(path) and time.monotonic() < ends_at:
-            time.sleep(0.05)
+        self.socket = connected(path)
         self.file = self.socket.makefile('rw', newline='\n')
 
     def hold(self):
-        """Asks until the main loop waits."""
+        """Asks until the main loop waits: it has taken no more of what is asked for a while, and some is left."""
         self.socket.sendall(HELD * b'counts\n')
-        unread = before = 0
-        while unread == 0 or unread != before:
-            time.sleep(1)
-            before, unread = unread, int.from_bytes(fcntl.ioctl(self.socket, termios.FIONREAD, bytes(4)), 'little')
+        same = before = 0
+        while same < 4:
+            time.sleep(0.5)
+            left = unread(self.socket, termios.FIONREAD)
+            same, before = same + 1 if 0 < left == before else 0, left
 
     def release(self):
         """Reads the answers."""
@@ -323,7 +334,9 @@ def ring_is_wrong(*changes):
     with begun(*changes) as (link, lines):
         lines.hold()
         link.sendall(b'\x7e' * (RING - len(polls + first)) + polls + first + gone)
-        time.sleep(1)
+        while unread(link, termios.TIOCOUTQ):
+            time.sleep(0.1)
+        time.sleep(0.5)
         lines.release()
         heard = answers(link, 3)
         link.sendall(last + poll(3))
