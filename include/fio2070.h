@@ -83,6 +83,14 @@ static inline uint8_t fio2070_processor_fits(void) {
 extern "C" {
 #endif
 
+/** @defgroup numbers Version, limits and numbers
+ * The version, how large what there is can get, and the numbers by which messages are named.
+ * @code
+ * if (fio2070_version() / 10000 != FIO2070_VERSION / 10000) return 1; // another major version is linked
+ * printf("%d octets at most\n", FIO2070_LONGEST_FRAME);               // 773 octets at most
+ * @endcode
+ * @{ */
+
 /** The version of this header: 10,000 for each major version, 100 for each minor one, 1 for each patch. */
 #define FIO2070_VERSION 10000
 
@@ -136,7 +144,22 @@ enum {
     FIO2070_BIT_WAS_RESET = 128      /**< P of the flags: the module was reset (own profile) */
 };
 
-/* ---- Faults ---- */
+/** @} */
+
+/** @defgroup decode Reading messages
+ * fio2070_decode_command and fio2070_decode_answer read any message of their direction into a struct; the calls that are named
+ * `read` read one type in place. The octets are those of one message, without address, control octet and frame check (see
+ * the group wire). Each call returns a fault, whose `kind` is FIO2070_FAULT_NONE if the octets are such a message. The entries
+ * of a block and the items of a configuration are copied by a call of their own.
+ * @code
+ * const uint8_t octets[] = {182, 5, 1, 0x8c, 3, 0xe7, 0, 0, 0, 3, 0xe8};
+ * struct fio2070_answer answer;
+ * struct fio2070_entry entries[FIO2070_MOST_ENTRIES];
+ * if (fio2070_decode_answer(octets, sizeof octets, &answer).kind != FIO2070_FAULT_NONE) return 1;
+ * if (fio2070_block_entries(octets, sizeof octets, entries, FIO2070_MOST_ENTRIES) != 1) return 1;
+ * printf("block %d: input %d is %d\n", answer.block, entries[0].input, entries[0].state); // block 5: input 12 is 1
+ * @endcode
+ * @{ */
 
 /** Why octets are no message: the first of these that applies (own profile). */
 enum fio2070_fault_kind {
@@ -169,7 +192,7 @@ struct fio2070_fault {
 FIO2070_MUST_USE
 size_t fio2070_fault_text(const struct fio2070_fault *fault, char *text, size_t room);
 
-/* ---- Reading block answers in place (TEES 2009, answer 182) ---- */
+/* Block answers in place (TEES 2009, answer 182): */
 
 /** A block answer without its entries. */
 struct fio2070_block_header {
@@ -211,7 +234,7 @@ size_t fio2070_block_entries(const uint8_t *octets, size_t length, struct fio207
  * steps back (own profile). */
 uint32_t fio2070_widen(uint32_t answer_stamp, uint16_t stamp);
 
-/* ---- Reading any message ---- */
+/* Any message: */
 
 /** A command: the fields of its type; the others are 0. */
 struct fio2070_command {
@@ -306,7 +329,20 @@ struct fio2070_fault fio2070_read_identification(const uint8_t *octets, size_t l
 FIO2070_MUST_USE
 size_t fio2070_show(const uint8_t *octets, size_t length, char *text, size_t room);
 
-/* ---- Writing commands (TEES 2009) ---- */
+/** @} */
+
+/** @defgroup encode Writing messages
+ * Each call writes one message to the front of `out`, and returns how many octets it has. If that is more than `room`, nothing
+ * was written. Each description begins with the type of the message (TEES 2009).
+ * @code
+ * uint8_t frame[FIO2070_LONGEST_FRAME];
+ * size_t count = fio2070_encode_poll(5, frame, sizeof frame);
+ * if (count > sizeof frame) return 1;
+ * printf("%d octets: %d %d\n", (int)count, frame[0], frame[1]); // 2 octets: 54 5
+ * @endcode
+ * @{ */
+
+/* Commands: */
 
 /** 49, request module status: clears the flags whose bits are one. 2 octets. */
 FIO2070_MUST_USE
@@ -343,7 +379,7 @@ size_t fio2070_encode_identify(uint8_t *out, size_t room);
 FIO2070_MUST_USE
 size_t fio2070_encode_other_command(uint8_t code, const uint8_t *body, size_t length, uint8_t *out, size_t room);
 
-/* ---- Writing answers (TEES 2009) ---- */
+/* Answers: */
 
 /** 177: the flags that are left, the error counts and the millisecond counter. 8 octets. */
 FIO2070_MUST_USE
@@ -374,12 +410,29 @@ size_t fio2070_encode_watchdog_answer(uint8_t status, uint8_t *out, size_t room)
 FIO2070_MUST_USE
 size_t fio2070_encode_other_answer(uint8_t code, const uint8_t *body, size_t length, uint8_t *out, size_t room);
 
-/* ---- Frames on a line (own profile) ---- */
+/** @} */
 
-/** On a line a frame is a flag, the address, the control octet, a message of 1 to FIO2070_LONGEST_FRAME octets, their frame
+/** @defgroup wire Frames on a line (own profile)
+ * On a line a frame is a flag, the address, the control octet, a message of 1 to FIO2070_LONGEST_FRAME octets, their frame
  * check (CRC-16/X-25, low octet first), and a flag. A part is what is between two flags next to each other. An empty part
  * says nothing; a part that is no frame is damage. On a line of octets the flag is 7E, and 7D stuffs 7E and 7D (RFC 1662);
- * on a line of bits the flag is 01111110, and a 0 follows each five ones (SDLC). */
+ * on a line of bits the flag is 01111110, and a 0 follows each five ones (SDLC). The calls that are named `wire_bits` read a
+ * line of bits, the others one of octets.
+ * @code
+ * const uint8_t poll[] = {54, 5};
+ * uint8_t line[FIO2070_WIRE_LONGEST], heard;
+ * size_t count = fio2070_wire_write(FIO2070_WIRE_ADDRESS, FIO2070_WIRE_CONTROL, poll, sizeof poll, line, sizeof line);
+ * size_t at = 0;
+ * struct fio2070_wire wire;
+ * fio2070_wire_start(&wire, FIO2070_WIRE_ADDRESS, FIO2070_WIRE_CONTROL);
+ * while (at < count) {
+ *     at += fio2070_wire_read_many(&wire, line + at, count - at, &heard);
+ *     if (heard == FIO2070_WIRE_MESSAGE) printf("a message of type %d\n", wire.octets[2]); // a message of type 54
+ * }
+ * @endcode
+ * @{ */
+
+/** Numbers of such frames. */
 enum fio2070_wire_limit {
     FIO2070_WIRE_ADDRESS = 0x14, /**< the address of a field I/O module */
     FIO2070_WIRE_CONTROL = 0x83, /**< the control octet of its frames */
@@ -462,7 +515,23 @@ size_t fio2070_wire_bits_read_many(struct fio2070_wire_bits *bits, const uint8_t
 FIO2070_MUST_USE
 size_t fio2070_wire_bits_message_length(const struct fio2070_wire_bits *bits);
 
-/* ---- The CPU's end (own profile) ---- */
+/** @} */
+
+/** @defgroup poller The CPU's end (own profile)
+ * A struct fio2070_poller says for which block to poll, and takes each block once. The caller sends the poll, waits for the
+ * answer, and keeps the record: the list of the items that were taken.
+ * @code
+ * const uint8_t answer[] = {182, 0, 1, 0x8c, 3, 0xe7, 0, 0, 0, 3, 0xe8};
+ * struct fio2070_poller poller;
+ * struct fio2070_record_item items[FIO2070_MOST_RECORD_ITEMS];
+ * uint8_t poll[2];
+ * fio2070_poller_start(&poller, 0);
+ * if (fio2070_poller_poll(&poller, poll, sizeof poll) != 2) return 1;
+ * // Send `poll` and wait for the answer, then:
+ * if (fio2070_poller_hear(&poller, answer, sizeof answer, items, FIO2070_MOST_RECORD_ITEMS).kind == FIO2070_HEARD_TAKEN)
+ *     printf("%lu ms: input %d is %d\n", (unsigned long)items[0].wide, items[0].input, items[0].state); // 999 ms: input 12 is 1
+ * @endcode
+ * @{ */
 
 /** The CPU's end. The caller keeps the record. */
 struct fio2070_poller {
@@ -547,7 +616,23 @@ struct fio2070_heard fio2070_poller_hear(struct fio2070_poller *poller, const ui
 FIO2070_MUST_USE
 size_t fio2070_heard_text(const struct fio2070_heard *heard, char *text, size_t room);
 
-/* ---- The rules of a transcript ---- */
+/** @} */
+
+/** @defgroup checker The rules of a transcript
+ * A transcript is what a CPU's end sent and heard, in order. A struct fio2070_checker judges the messages and their order; what
+ * the entries say is judged by the group content.
+ * @code
+ * const uint8_t polls[2][2] = {{54, 1}, {54, 2}}; // with no answer between them
+ * struct fio2070_checker checker;
+ * struct fio2070_breach breach;
+ * char name[FIO2070_LONGEST_TEXT];
+ * fio2070_checker_start(&checker);
+ * for (int n = 0; n < 2; n++)
+ *     if (fio2070_checker_sent(&checker, polls[n], 2, &breach) != FIO2070_RULE_NONE &&
+ *         fio2070_rule_text(breach.rule, name, sizeof name) < sizeof name)
+ *         printf("%s: %d was due, %d came\n", name, breach.due, breach.got); // advance: 1 was due, 2 came
+ * @endcode
+ * @{ */
 
 /** The rules, in the order in which they are tried (own profile; docs/FORMATS.md). */
 enum fio2070_rule {
@@ -664,15 +749,34 @@ FIO2070_MUST_USE
 uint8_t fio2070_checker_heard(struct fio2070_checker *checker, const uint8_t *octets, size_t length,
                               struct fio2070_breach *breach);
 
-/* ---- The rules on content ---- */
+/** @} */
 
-/** What the record of a CPU's end, or an answer that it heard, may break (own profile; docs/FORMATS.md). The rules judge a
- * transcript that keeps the rules above. A clear block is a block answer with neither C nor E. It settles each input; below
- * one, a block with E and without C settles each input of which no item was sent since the first poll for that block. An
- * input is watched from an entry on if a clear block is above that entry, and of what was sent since the latest block that
- * settles it nothing opens the input below what ignores it; it is steady if nothing ignores it; a gap mark ends both. Below
- * a clear block a block is late if its stamp is 65,536 or more after that of the latest block without C: its entries may be
- * older than their 16 bits say. */
+/** @defgroup content The rules on content
+ * A struct fio2070_content_checker judges what the entries and other answers of a transcript say, if the transcript keeps the
+ * rules of the group checker. The rules have words of their own:
+ *
+ * A clear block is a block answer with neither C nor E. It settles each input; below one, a block with E and without C settles
+ * each input of which no item was sent since the first poll for that block. An input is watched from an entry on if a clear
+ * block is above that entry, and of what was sent since the latest block that settles it nothing opens the input below what
+ * ignores it; it is steady if nothing ignores it; a gap mark ends both. Below a clear block a block is late if its stamp is
+ * 65,536 or more after that of the latest block without C: its entries may be older than their 16 bits say.
+ * @code
+ * const uint8_t poll[] = {54, 0}, empty[] = {182, 0, 0, 0, 0, 0, 0, 11};             // no entry until 11 ms
+ * const uint8_t next[] = {54, 1}, late[] = {182, 1, 1, 12, 0, 10, 0, 0, 0, 0, 21}; // one of 10 ms all the same
+ * struct fio2070_content_checker content;
+ * struct fio2070_content_breach breach;
+ * char name[FIO2070_LONGEST_TEXT];
+ * fio2070_content_start(&content);
+ * fio2070_content_sent(&content, poll, sizeof poll);
+ * if (fio2070_content_heard(&content, empty, sizeof empty, &breach) != FIO2070_CONTENT_NONE) return 1;
+ * fio2070_content_sent(&content, next, sizeof next);
+ * if (fio2070_content_heard(&content, late, sizeof late, &breach) != FIO2070_CONTENT_NONE &&
+ *     fio2070_content_rule_text(breach.rule, name, sizeof name) < sizeof name)
+ *     printf("%s: input %d\n", name, breach.input); // fresh: input 12
+ * @endcode
+ * @{ */
+
+/** What the record of a CPU's end, or an answer that it heard, may break (own profile; docs/FORMATS.md). */
 enum fio2070_content_rule {
     FIO2070_CONTENT_NONE = 0, /**< no rule is broken */
     /** An entry is later than the entry above it, or has its time and a higher input. Judged if a clear
@@ -807,7 +911,31 @@ FIO2070_MUST_USE
 uint8_t fio2070_content_heard(struct fio2070_content_checker *content, const uint8_t *octets, size_t length,
                               struct fio2070_content_breach *breach);
 
-/* ---- Logs: left out if FIO2070_NO_LOG is defined ---- */
+/** @} */
+
+/** @defgroup log Logs
+ * A struct fio2070_log_reader finds the messages in a log of a serial monitor, an analyser or a driver (docs/CAPTURES.md). It
+ * says of each line what it is, and returns the frames in it and where they are written. Give it all octets, in pieces of any
+ * length; then end the log, and call it with none until a batch has no verdict. If FIO2070_NO_LOG is defined, there are no
+ * such calls.
+ * @code
+ * static struct fio2070_log_reader reader; // both take about half a megabyte
+ * static struct fio2070_log_batch batch;
+ * const char text[] = "10:00:00.123 RX b6 05 01 8c 03 e7 00 00 00 03 e8\n";
+ * size_t count = sizeof text - 1, taken = 0;
+ * int is_ended = 0;
+ * fio2070_log_start(&reader, FIO2070_LOG_AUTO);
+ * do {
+ *     if (taken == count && !is_ended) {
+ *         fio2070_log_end(&reader);
+ *         is_ended = 1;
+ *     }
+ *     taken += fio2070_log_read(&reader, (const uint8_t *)text + taken, count - taken, &batch);
+ *     for (uint32_t n = 0; n < batch.verdict_count; n++)
+ *         printf("line %d: frames: %d\n", (int)batch.verdicts[n].line, (int)batch.verdicts[n].frames); // line 1: frames: 1
+ * } while (!is_ended || batch.verdict_count > 0);
+ * @endcode
+ * @{ */
 
 #ifndef FIO2070_NO_LOG
 /** How the lines of a log are read. By order a line is read without what is no character of it, and also ends at CR. */
@@ -930,7 +1058,18 @@ size_t fio2070_log_read(struct fio2070_log_reader *reader, const uint8_t *octets
 void fio2070_log_end(struct fio2070_log_reader *reader);
 #endif
 
-/* ---- Parts of a module ---- */
+/** @} */
+
+/** @defgroup parts Parts of a module
+ * The counter and the filters of a module by themselves, for a firmware that has the rest.
+ * @code
+ * const struct fio2070_configuration_item item = {12, 0, 1, 1}; // input 12 is reported, after one sample
+ * struct fio2070_filters filters;
+ * fio2070_filters_start(&filters);
+ * if (fio2070_filters_configure(&filters, &item, 1).kind != FIO2070_CONFIGURED_APPLIED) return 1;
+ * printf("changed: %lx\n", (unsigned long)fio2070_filters_scan(&filters, ~(UINT64_C(1) << 12))); // changed: 1000
+ * @endcode
+ * @{ */
 
 /** The millisecond counter. Its fields are the library's own. */
 struct fio2070_counter {
@@ -995,7 +1134,23 @@ uint64_t fio2070_filters_filtered(const struct fio2070_filters *filters);
 /** The levels of the last scan, all 1 before any (own profile). */
 uint64_t fio2070_filters_raw(const struct fio2070_filters *filters);
 
-/* ---- The module (TEES 2009, in the own profile of 64 inputs and 64 outputs) ---- */
+/** @} */
+
+/** @defgroup module The module
+ * A struct fio2070_module is a whole module, in the own profile of 64 inputs and 64 outputs: the filters, the counter, the
+ * entries that wait for a poll, and the answer to each command. A struct fio2070_sized_module is one with more or fewer waiting
+ * entries, in slots of the caller.
+ * @code
+ * static struct fio2070_module module;
+ * const struct fio2070_limits limits = FIO2070_STANDARD_LIMITS;
+ * const uint8_t identify[] = {60};
+ * uint8_t answer[FIO2070_LONGEST_FRAME];
+ * if (fio2070_module_start(&module, 2, limits) != FIO2070_STARTED) return 1;
+ * fio2070_module_scan(&module, ~UINT64_C(0)); // each millisecond, with the levels of the inputs
+ * size_t count = fio2070_module_receive(&module, identify, sizeof identify, answer, sizeof answer);
+ * if (count > 0 && count <= sizeof answer) printf("%d octets: %d %d\n", (int)count, answer[0], answer[1]); // 2 octets: 188 2
+ * @endcode
+ * @{ */
 
 /** The data and control octets of command 55. */
 struct fio2070_outputs {
@@ -1139,7 +1294,7 @@ static inline uint8_t fio2070_module_start(struct fio2070_module *module, uint8_
     if (limits.waiting > FIO2070_STANDARD_WAITING) return FIO2070_REFUSED;
     return fio2070_sized_module_start(&module->sized, id, limits);
 }
-/** As fio2070_sized_module_restart, and so each call below. */
+/** As fio2070_sized_module_restart. Each further call of a fio2070_module is as that of the same name of a sized one. */
 static inline void fio2070_module_restart(struct fio2070_module *module) {
     fio2070_sized_module_restart(&module->sized);
 }
@@ -1190,6 +1345,8 @@ static inline struct fio2070_error_counts fio2070_module_errors(const struct fio
 static inline size_t fio2070_module_waiting(const struct fio2070_module *module) {
     return fio2070_sized_module_waiting(&module->sized);
 }
+
+/** @} */
 
 /* ---- Layout: written by tools/generate-layouts ---- */
 /* Each struct has this size and these offsets with every compiler. */

@@ -50,7 +50,7 @@ described() {
     python3 - "$1" "$top/include/fio2070.h" <<'end'
 import glob, re, sys
 import xml.etree.ElementTree as xml
-declared = set(re.findall(r'fio2070_\w+(?=\()', re.sub('^(static|#).*', '', open(sys.argv[2]).read(), flags=re.M)))
+declared = set(re.findall(r'fio2070_\w+(?=\()', re.sub(r'^(static|#| \*).*', '', open(sys.argv[2]).read(), flags=re.M)))
 described = set()
 for path in glob.glob(sys.argv[1] + '/xml/*_8h.xml') + glob.glob(sys.argv[1] + '/xml/struct*.xml'):
     for one in xml.parse(path).iter():
@@ -122,6 +122,22 @@ reads() {
     done
 }
 
+# illustrated: each group of the header has an example, which compiles as the body of a function and prints what its comments say.
+illustrated() {
+    rm -f example.*
+    awk '/^ \* @code$/ { file = "example." ++n ".c"
+            print "#include <fio2070.h>\n#include <stdio.h>\nint main(void) {" >file; next }
+        /^ \* @endcode$/ { print "return 0;\n}" >file; file = "" } file { print substr($0, 4) >file }' "$top/include/fio2070.h"
+    set -- example.*.c
+    [ $# = "$(grep -c '@defgroup' "$top/include/fio2070.h")" ] || return 1
+    for example; do
+        # shellcheck disable=SC2086
+        gcc -std=c99 $strict -I "$top/include" "$example" "$archive" -o example.out && ./example.out >printed || return 1
+        sed -n 's|.*printf(.*); *// ||p' "$example" >expected
+        [ -s expected ] && diff expected printed || return 1
+    done
+}
+
 # alone ARCHIVE: it needs nothing but these three functions, and what a stack protector calls where it finds a fault.
 alone() {
     nm -g "$1" >names && ! awk '$1 == "U" { print $2 }' names | sort -u | grep -Ev '^(mem(cpy|move|set)|__stack_chk_fail)$'
@@ -129,7 +145,7 @@ alone() {
 
 # declared: the functions that the header declares.
 declared() {
-    grep -v '^static\|^#' "$top/include/fio2070.h" | grep -o 'fio2070_[a-z0-9_]*(' | tr -d '(' | sort -u
+    grep -v '^static\|^#\|^ \*' "$top/include/fio2070.h" | grep -o 'fio2070_[a-z0-9_]*(' | tr -d '(' | sort -u
 }
 
 # prefixed LIBRARY: the shared library exports these, and the calls of the tester for languages that load it, whose names
@@ -348,6 +364,7 @@ if [ -n "$(command -v gcc)" ] && [ -n "$(command -v g++)" ] && [ -n "$(command -
     for document in README.md docs/C-LIBRARY.md tools/conformance/README.md tools/portable/README.md; do
         holds "the blocks of $document" reads "$top/$document"
     done
+    holds 'the examples of the header' illustrated
 fi
 if [ -n "$(command -v cargo)" ]; then
     holds 'Rust' env -C "$top/bindings/rust/fio2070" FIO2070_LIB_DIR="$room" CARGO_TARGET_DIR="$room/target" \
