@@ -186,6 +186,7 @@ ifneq ($(libraries),)
 	install -d '$(root)/$(LIB)' '$(root)/include' '$(pkgconfig)' '$(cmake)'
 	install -m 644 $(libraries) '$(root)/$(LIB)'
 	install -m 644 $(headers) '$(root)/include'
+	umask 022; tools/generate-manual '$(root)/share/man/man3'
 	umask 022; sed -e 's|@PREFIX@|$(PCPREFIX)|' -e 's|@LIB@|$(LIB)|' -e 's|@VERSION@|$(VERSION)|' packaging/fio2070.pc.in \
 	    >'$(pkgconfig)/fio2070.pc'
 	umask 022; for file in fio2070-config fio2070-config-version; do \
@@ -249,11 +250,11 @@ install-documents:
 
 names = fio2070 fio2070-test fiolog
 # The folders of an installation, which go if they are empty, and so does the prefix; the system's own prefixes keep theirs.
-folders = bin include $(LIB)/pkgconfig $(LIB)/cmake $(TOOLS) $(ZSH) $(addprefix share/,doc man/man1 bash-completion/completions fish/vendor_completions.d)
+folders = bin include $(LIB)/pkgconfig $(LIB)/cmake $(TOOLS) $(ZSH) $(addprefix share/,doc man/man1 man/man3 bash-completion/completions fish/vendor_completions.d)
 of_system = $(filter /usr /usr/local,$(root:%/=%))
 uninstall:
 	rm -f $(foreach name,$(names) $(addprefix fio2070-,vcd hex2pcap transcript lossy-script),'$(bin)/$(name)') \
-	    $(foreach name,$(names) fio2070-tools,'$(man)/$(name).1') \
+	    $(foreach name,$(names) fio2070-tools,'$(man)/$(name).1') '$(root)/share/man/man3'/*fio2070*.3 \
 	    $(foreach name,$(names),'$(bash)/$(name)' '$(zsh)/_$(name)' '$(fish)/$(name).fish') \
 	    $(foreach name,libfio2070.a $(soname) $(link_name) pkgconfig/fio2070.pc,'$(root)/$(LIB)/$(name)') \
 	    $(foreach name,fio2070.h fio2070.hpp,'$(root)/include/$(name)')

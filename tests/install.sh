@@ -79,6 +79,20 @@ has_pages() {
     done
 }
 
+# has_calls PREFIX: each call of the header and each of its groups has a page that describes it, and each page is set without a
+# warning.
+has_calls() {
+    pages=$1/share/man/man3
+    sed -n 's|^/\*\* @defgroup \([a-z]*\).*|fio2070_\1|p' "$top/include/fio2070.h" >called
+    grep -v '^#\|^ \*' "$top/include/fio2070.h" | grep '^[^ ]' | grep -o 'fio2070_[a-z0-9_]*(' | tr -d '(' |
+        grep -v 'fio2070_\(ring_of\|processor_fits\)' >>called
+    while read -r call; do
+        described=$(sed -n '1s|^\.so |../|p' "$pages/$call.3")
+        grep -q "^\.B .*\<$call\>\|^\.TH $(echo "$call" | tr a-z A-Z) 3 " "$pages/${described:-$call.3}" || { echo "no page has $call"; return 1; }
+    done <called
+    grep -L '^\.so ' "$pages"/* | while read -r described; do formats "$described" fio2070 || exit 1; done
+}
+
 # runs_alone PREFIX COMMAND..: an installed command runs, and says what it is, without the checkout's settings.
 runs_alone() {
     folder=$1
@@ -202,6 +216,11 @@ for name in show simulate check record; do
 done
 
 holds 'a page for each command, and a command for each page' has_pages "$prefix"
+if has_command groff; then
+    holds 'a page for each call of the library' has_calls "$prefix"
+else
+    skip 'a page for each call of the library' 'no groff here (Debian package groff)'
+fi
 holds 'no link hangs' is_whole "$prefix"
 holds 'no generator of the repository' is_empty_of "$prefix" 'generate-*' translate join sources.py draw-pictures stack-use
 for file in lossy-script transcript waveform/vcd wireshark/fio2070.lua conformance/conformance.h; do

@@ -263,7 +263,7 @@ else
         man/man1/fio2070-test.1.gz
     holds 'the tester of the package' "$room/root/usr/bin/fio2070-test" --self module 2000
     holds 'the library of the package' has "$room/root/usr" lib/x86_64-linux-gnu/libfio2070.a include/fio2070.h \
-        include/fio2070.hpp lib/x86_64-linux-gnu/pkgconfig/fio2070.pc
+        share/man/man3/fio2070_poller_hear.3.gz include/fio2070.hpp lib/x86_64-linux-gnu/pkgconfig/fio2070.pc
     holds 'the prefix of the package' grep -qx 'prefix=/usr' \
         "$room/root/usr/lib/x86_64-linux-gnu/pkgconfig/fio2070.pc"
     library=$room/root/usr/lib/x86_64-linux-gnu
