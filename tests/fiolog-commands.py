@@ -52,9 +52,12 @@ def check_decode(check):
                 sum(bool(row['input']) and row['type'] == '182' for row in table))
     for words, lines in [(['--input', '13'], [9]), (['--type', 'poll'], [3, 4, 6, 8, 10, 22]),
                          (['--type', '182', '--block', '1'], [9]), (['--lines', '1-2'], [1, 2]),
-                         (['--status', 'E'], [5]), (['--direction', 'sent', '--lines', '5-8'], [6, 8])]:
+                         (['--status', 'E'], [5]), (['--unanswered'], [3]), (['--direction', 'sent', '--lines', '5-8'], [6, 8])]:
         rows = [json.loads(line) for line in fiolog('decode', '--json', *words, text=LOG).out.splitlines()]
         check.equal('decode ' + ' '.join(words), lines, [row['line'] for row in rows])
+    cut = 'TX 36 05\nTX 36 06\nRX B6 06 00 00 00 00 00 0\nTX 36 07\nRX B6 07 00 00 00 00 00 01\nTX 36 08\n'
+    check.equal('polls without an answer: not above a damaged line', [1, 6],
+                [json.loads(line)['line'] for line in fiolog('decode', '--json', '--unanswered', text=cut).out.splitlines()])
     check.holds('colours where they are asked for', '\x1b[' in fiolog('decode', '--color', 'always', text=LOG).out)
     check.holds('no colours in a pipe', '\x1b[' not in fiolog('decode', text=LOG).out)
 
@@ -110,10 +113,10 @@ def check_judged(check):
 def check_words(check):
     """What is written on standard error, and the statuses."""
     done = fiolog('decode', text=LOG)
-    check.equal('a log that is read whole', (0, 'fiolog: 2 frames are of types that have any length: a cut in one of them is not seen\n'), (done.status, done.err))
+    check.equal('a log that is read whole', (0, 'fiolog: frames of types that have any length: 2; a cut in one of them is not seen\n'), (done.status, done.err))
     done = fiolog('decode', '-v', text=LOG + 'link down\n')
-    check.holds('a line that is passed over', 'line %d: no octets: link down' % (len(SESSION) + 1) in done.err, done.err)
-    check.holds('how many are passed over', '1 of %d lines passed over: 1 no octets' % (len(SESSION) + 1) in done.err)
+    check.holds('a line that is skipped', 'line %d: no octets: link down' % (len(SESSION) + 1) in done.err, done.err)
+    check.holds('how many are skipped', '1 of %d lines skipped: no octets 1' % (len(SESSION) + 1) in done.err)
     for command in (['decode'], ['stats'], ['check'], ['record'], ['convert', '--to', 'frames']):
         done = fiolog(*command, text='nothing here\n')
         check.equal('%s of nothing' % command[0], (1, True), (done.status, 'no frame in 1 lines' in done.err))

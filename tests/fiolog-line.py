@@ -210,7 +210,7 @@ def check_others(check, folder):
         (POLL, 0x14), (b'\x36\x63', 0x15), (BLOCK, 0x15), (BLOCK, 0x14), (b'\x36\x64', 0x15), (NEXT, 0x14)))
     path = written(folder, 'others', line)
     done = fiolog('check', path)
-    check.equal('frames of others accuse nobody', (0, 'frames 3, polls 2, repeats 0, answers lost 1, marks 0, breaches 0'),
+    check.equal('frames of others accuse nobody', (0, 'frames 3, polls 2, repeats 0, answers lost 1, gap marks 0, breaches 0'),
                 (done.status, done.out.splitlines()[0]))
     check.equal('and are counted', 'not judged: 3 frames of other addresses', done.out.splitlines()[1])
     check.holds('and said', '3 frames of address 15, control octet 83: not judged (--address)' in done.err, done.err)

@@ -58,14 +58,14 @@ def check_forms(check, folder):
     live.terminate()
     live.communicate(timeout=20)
     done = fiolog('live', '-q', '--exec', 'echo hello')
-    check.equal('a process that writes no frame', (1, 1), (numbers_of(done.out)['lines passed over'], done.status))
+    check.equal('a process that writes no frame', (1, 1), (numbers_of(done.out)['skipped lines'], done.status))
 
 
 def fault_of_process():
     """A process with the proved ends: 40 rounds, of which every fifth answer is lost."""
     done = fiolog('live', '--exec', TALK, '--quiet')
     found = numbers_of(done.out)
-    return None if (found['polls'], found['answers lost'], found['marks'], done.status) == (40, 8, 0, 0) else done
+    return None if (found['polls'], found['answers lost'], found['gap marks'], done.status) == (40, 8, 0, 0) else done
 
 
 def on_serial(write, *words):
@@ -217,7 +217,7 @@ def check_passed(check, folder):
     """What is skipped, and what is damaged, is reported."""
     out, err, _ = heard(folder, LOG + 'link down\n', '--quiet', '-v')
     check.holds('a line that is passed over', 'line %d: no octets: link down' % (len(SESSION) + 1) in err, err)
-    check.equal('and counted', 1, numbers_of(out)['lines passed over'])
+    check.equal('and counted', 1, numbers_of(out)['skipped lines'])
     out, err, status = heard(folder, LOG + '2026-11-22T07:15:09.000Z tx 3604\n2026-11-22T07:15:09.010Z rx b604000000\n'
                              '2026-11-22T07:15:09.020Z tx 3605\n', '--quiet', '-v')
     check.equal('a damaged line accuses nobody', (1, numbers_of(heard(folder, LOG, '--quiet')[0])['breaches']),
@@ -255,7 +255,7 @@ def check_status_line(check, folder):
     expected = [line.split(None, 1)[1] for line in fiolog('decode', '-q', text=''.join(
         '%s %s\n' % ('<' if digits[0] == 'b' else '>', digits) for digits in DOUBLED)).out.splitlines() if line[0] != ' ']
     check.equal('the messages on a terminal', expected, messages)
-    check.equal('the last lines', [True, 'frames 8, polls 3, repeats 0, answers lost 0, marks 0, breaches 0, breaches in content 1', ''],
+    check.equal('the last lines', [True, 'frames 8, polls 3, repeats 0, answers lost 0, gap marks 0, breaches 0, breaches in content 1', ''],
                 [shown[-3].startswith(REMARK), *shown[-2:]])
     check.holds('the status line while it talks', 'frames 7, polls 3, breaches 0\r' in text, text[-900:])
     check.holds('the status line in silence', 'frames 8, polls 3, breaches 0, breaches in content 1, silent for 2 s\r' in text, text[-400:])

@@ -151,8 +151,8 @@ UNJUDGED = {
     'a wrong check': (['14 83 36 05 C4 1B', '14 83 36 06 C4 1B', '14 83 36 05 C4 1B'],
                       {'damaged_lines': 1, 'lost_places': 1}),
 }
-WORDS = {'damaged_lines': '1 damaged line', 'lines_passed_over': '1 line passed over (1 no octets)', 'lost_places': '1 lost place',
-         'frames_at_lost_places': '3 frames from a lost place to the next poll',
+WORDS = {'damaged_lines': '1 damaged line', 'lines_passed_over': '1 skipped line (no octets 1)', 'lost_places': '1 loss of sync',
+         'frames_at_lost_places': '3 frames from a loss of sync to the next poll',
          'gaps': '1 gap mark, above which transitions are lost', 'restarts': '1 restart of the module'}
 
 
@@ -182,7 +182,7 @@ def check_unjudged(check):
             check.equal('%s of each log, %s' % (command, key), [1] * 3,
                         [by_file[paths[place]][name] for place, name in ((0, 'lines_passed_over'), (2, 'gaps'), (3, 'restarts'))])
             words = fiolog(command, *paths).out.splitlines()[-1]
-            check.holds('%s of many logs says it' % command, words.startswith(key.replace('_', ' ') + ': 1 damaged line, 1 line passed over'), words)
+            check.holds('%s of many logs says it' % command, words.startswith(key.replace('_', ' ') + ': 1 damaged line, 1 skipped line'), words)
     above = json.loads(fiolog('check', '--json', '--start-at-poll', text='< b3 00\n< b3 00\n> 36 05\n').out.splitlines()[-1])
     check.equal('what is above the first poll', 2, above['summary']['not_judged']['frames_above_a_poll'])
     check.holds('a log that is judged whole', 'not judged' not in fiolog('check', text='> 3605\n< b60500000000000a\n').out)

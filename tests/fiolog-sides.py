@@ -174,7 +174,7 @@ def check_places(check, folder):
     done = merged(folder, ('check', '-v'), sent, heard)
     part = re.escape(os.path.join(folder, 'part0'))
     for name, words in (('a breach', '^%s line 3: advance: block 6 was due' % part), ('when it was first', 'once, in %s line 3 at 1.2' % part),
-                        ('a line that is passed over', '%s line 2: no octets: idle' % part), ('how many', '1 of 5 lines passed over')):
+                        ('a line that is passed over', '%s line 2: no octets: idle' % part), ('how many', '1 of 5 lines skipped')):
         check.holds(name, re.search(words, done.out + done.err, re.M), done)
     row = json.loads(merged(folder, ('check', '--json'), sent, heard).out.splitlines()[0])
     check.equal('the object of a breach', ('part0', 3, 'advance'), (os.path.basename(row['file']), row['line'], row['rule']))

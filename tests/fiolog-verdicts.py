@@ -11,6 +11,7 @@ sys.dont_write_bytecode = True
 
 from support.check import Check
 from support.fiolog import fiolog, use_library
+from support.pages import text_of
 
 
 def not_judged(done):
@@ -31,6 +32,19 @@ def check_beginning(check):
                 re.findall('^line .*: pair', fiolog('check', '--whole', text=text).out, re.M))
     check.equal('the rules of transcripts alone', ['line 4: pair'],
                 re.findall('^line .*: pair', fiolog('check', '--rules', 'transcript', text=text).out, re.M))
+
+
+def check_explained(check):
+    """Each rule is explained in the words of docs/FORMATS.md, with what else it uses."""
+    rows = re.findall(r'^\| `([a-z]+)` \| (.*?)(?: \| (.*))? \|$', text_of('docs/FORMATS.md').partition('## `fio2070 check`')[2], re.M)
+    check.holds('rows of rules', len(rows) > 25, rows)
+    for name, *words in rows:
+        done = fiolog('check', '--explain', name)
+        said = ' '.join(done.out.split())
+        check.equal('%s is explained' % name, (0, '', []), (done.status, done.err, [part for part in words if re.sub(
+            r'\binput I (.*)to S\b', r'input I \1to S', part) not in said]))
+    check.equal('the words that a rule uses', ['C', 'clear', 'excuses', 'late'],
+                sorted(re.findall(r'^  (\w+): ', fiolog('check', '--explain', 'fresh').out, re.M)))
 
 
 def check_cures(check):
@@ -120,7 +134,7 @@ def check_hints(check):
 def main():
     check = Check()
     use_library(check, 'what fiolog judges')
-    for part in (check_beginning, check_except, check_hints, check_cures, check_few):
+    for part in (check_beginning, check_except, check_explained, check_hints, check_cures, check_few):
         part(check)
     check.end()
 

@@ -16,7 +16,7 @@ DAMAGED = [
     ('an octet a row, the first missing', 'name,start_time,data\n' + ''.join('%s,%.6f,0x%02X\n' % (name, time, octet) for name, time, octet in [
         ('CPU', 0.1, 0x36), ('CPU', 0.100065, 5), ('FIO', 0.2, 0x36), ('FIO', 0.200065, 6)]), 1, 'the other direction'),
     ('numbers', 'TX [54, 5]\nRX [182, 5, 0, 0, 0, 0, 0, 1]\n', 2, 'a digit that is lost is not seen'),
-    ('hexadecimal numbers', "TX ['0x36', '0x5']\nTX ['0x36', '0x15']\n", 2, '1 frames have octets as numbers'),
+    ('hexadecimal numbers', "TX ['0x36', '0x5']\nTX ['0x36', '0x15']\n", 2, 'frames with octets as numbers without zeros before them: 1'),
     ('a list of words that is cut', "INFO:root:tx ['0x36', '0x5']\nINFO:root:rx ['0xb6', '0x1', '0x', '0x34'\n", 1, ''),
-    ('a type of any length', 'TX 36 05\nRX BB 01 02\n', 2, '1 frames are of types that have any length'),
+    ('a type of any length', 'TX 36 05\nRX BB 01 02\n', 2, 'frames of types that have any length: 1'),
 ]

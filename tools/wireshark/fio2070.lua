@@ -302,7 +302,7 @@ end
 declare("uint8", "type", "Type", base.DEC, type_names)
 declare("bool", "type.answer", "Direction", 8, { "answer of the module", "command of the CPU" }, FIRST_ANSWER)
 declare("bytes", "octets", "Octets of the frame")
-declare("bytes", "undecoded", "Octets that spell no message")
+declare("bytes", "undecoded", "Octets that are no message")
 declare("framenum", "response_in", "Answer in", base.NONE, frametype.RESPONSE)
 declare("framenum", "response_to", "Answer to", base.NONE, frametype.REQUEST)
 declare("relative_time", "time", "Time since the command")

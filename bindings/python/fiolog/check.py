@@ -7,9 +7,10 @@ import sys
 from collections import Counter
 
 from . import log, many, sides, terminal, unjudged
-from .counts import Counts
+from .counts import Counts, in_words
 from .decode import clock_of
 from .events import FRAME, JUDGED, LOSSES, OTHER, PASSED, POSSIBLE
+from .explain import explanation
 from .late import LateRules
 from .message import BLOCK, POLL, TYPE_ANSWER, message_of
 from .options import number_in
@@ -47,6 +48,14 @@ def add_except(parser):
                         help='leave out breaches of this rule, and count them; may be given again')
 
 
+class Explain(argparse.Action):
+    """Says what a rule says, and ends."""
+
+    def __call__(self, parser, namespace, values, option_string=None):
+        print('\n'.join(explanation(values)))
+        parser.exit()
+
+
 class Limits(argparse.Action):
     """Both limits of a module, in their ranges."""
 
@@ -63,6 +72,7 @@ def add_arguments(parser):
     add_place(parser)
     parser.add_argument('--rules', choices=('all', 'transcript'), default='all', help='transcript: the rules of transcripts alone')
     add_except(parser)
+    parser.add_argument('--explain', action=Explain, choices=NAMES, metavar='RULE', help='say what this rule says, and read no log')
     parser.add_argument('--late-answers', action='store_true', help='leave out answers that came late or twice, and count them')
     many.add_arguments(parser)
     parser.add_argument('--json', action='store_true',
@@ -179,8 +189,8 @@ def run(option):
 def say_excused(excused):
     """Says how many polls are not judged."""
     if excused:
-        terminal.say('%d frames are not judged, since this log was not taken at the CPU: polls that repeat a block that was answered '
-                     'are right where the CPU did not hear it, and what comes behind a damaged frame where it did' % excused)
+        terminal.say('not judged, since this log was not taken at the CPU: %d; a poll that repeats a block that was answered is right if the '
+                     'CPU did not hear it, and what comes after a damaged frame if it did' % excused)
 
 
 def end(option, read, counts, judgement, findings):
@@ -193,7 +203,7 @@ def end(option, read, counts, judgement, findings):
         remarks = [sides.IN_SHORT[one.verdict] for one in read.judgements if one.verdict]
         print(json.dumps({'summary': {**numbers, **({'remarks': remarks} if remarks else {}), 'not_judged': unjudged.numbers(left_out)}}))
     else:
-        print(', '.join('%s %d' % (name.replace('_', ' '), number) for name, number in numbers.items()))
+        print(', '.join('%s %d' % (in_words(name), number) for name, number in numbers.items()))
         if left_out:
             print('not judged: ' + unjudged.words(left_out, read.reasons))
     say_excused(left_out['frames_not_at_the_cpu'])

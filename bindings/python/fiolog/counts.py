@@ -43,6 +43,11 @@ class Sample:
         return ordered[min(int(part * len(ordered)), len(ordered) - 1)]
 
 
+def in_words(name):
+    """Returns the name of a number as a text has it."""
+    return 'gap marks' if name == 'marks' else name.replace('_', ' ')
+
+
 class Counts:
     """Counts messages, each as it comes."""
 

@@ -14,7 +14,7 @@ import sys
 import time
 
 from . import check, log, output, sides, terminal, unjudged
-from .counts import Counts
+from .counts import Counts, in_words
 from .decode import as_text, spoken
 from .events import BAD, DAMAGED, FRAME, LOSSES, OTHER, PASSED, PIECE, POSSIBLE, Line, frame_of
 from .line import OCTETS
@@ -63,7 +63,7 @@ def add_arguments(parser):
     check.add_limits(parser)
     check.add_except(parser)
     parser.add_argument('--seconds', type=float, metavar='N', help='end after so long')
-    parser.add_argument('-v', '--verbose', action='store_true', help='name each line that is passed over, and why')
+    parser.add_argument('-v', '--verbose', action='store_true', help='name each line that is skipped, and why')
     parser.add_argument('-q', '--quiet', action='store_true', help='do not write the messages')
 
 
@@ -209,9 +209,9 @@ class Station:
 
     def numbers(self, is_over=True):
         """What was counted."""
-        numbers = {name.replace('_', ' '): number for name, number in self.counts.in_short(is_over).items()}
+        numbers = {in_words(name): number for name, number in self.counts.in_short(is_over).items()}
         numbers.update({'breaches': self.breaches, 'breaches in content': self.content_breaches})
-        kinds = {'lines passed over': self.source.reader.kinds[PASSED],
+        kinds = {'skipped lines': self.source.reader.kinds[PASSED],
                  'wrong frame checks' if self.option.serial else 'damaged lines': sum(self.source.reader.kinds[kind] for kind in LOSSES if kind != PIECE),
                  'lines with parts of messages': self.source.reader.kinds[PIECE],
                  'frames of other addresses': self.source.reader.kinds[OTHER],

@@ -30,7 +30,7 @@ def add_arguments(parser):
     add_address(parser)
     parser.add_argument('--merge', action='store_true', help='read the files as one log, in the order of their times: such as one file '
                                                              'of each channel')
-    parser.add_argument('-v', '--verbose', action='store_true', help='name each line that is passed over, and why')
+    parser.add_argument('-v', '--verbose', action='store_true', help='name each line that is skipped, and why')
     parser.add_argument('-q', '--quiet', action='store_true', help='say nothing on standard error but faults')
 
 
@@ -127,8 +127,8 @@ class Log:
         is possible."""
         passed, found = self.kinds[PASSED], self.kinds[FRAME] + self.kinds[BAD]
         if passed and not self.option.quiet:
-            say('%d of %d lines passed over: %s%s' % (passed, self.lines, reasons_in_words(self.reasons),
-                                                      '' if self.option.verbose else ' (-v names each)'))
+            say('%d of %d lines skipped: %s%s' % (passed, self.lines, reasons_in_words(self.reasons),
+                                                '' if self.option.verbose else ' (-v names each)'))
         for reason, cure in () if self.option.quiet else CURES.items():
             if self.reasons[reason] or self.damages[reason]:
                 say('%s: %s' % (reason, cure))

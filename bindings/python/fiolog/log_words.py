@@ -3,14 +3,14 @@ not seen; and which directions are missing; and of what a line carried. Written 
 
 REASONS = {
     'no octets': 'no octets',
-    'no message': 'octets that spell no message',
+    'no message': 'octets that are no message',
     'short message': 'a short message in a line unlike those of other messages',
     'several messages': 'more than one message',
     'may be longer': 'it may be one message with the line below or above, or one by itself',
     'too long': 'longer than a line with a frame can be',
     'bad line': 'bad line',
-    'exchanged': 'octets that spell a message if those of each pair are exchanged',
-    'two more': 'octets that spell a message but for two at their beginning or end',
+    'exchanged': 'octets that are a message if those of each pair are exchanged',
+    'two more': 'octets that are a message but for two at their beginning or end',
 }
 # What helps, by the words of a reason.
 CURES = {
@@ -19,9 +19,9 @@ CURES = {
 }
 POSSIBLE = 'possible: nothing makes it sure'
 DOUBTS = {
-    'rows': 'an octet is in each row: where a row is missing, the rest may spell another message',
-    'numbers': '{count} frames have octets as numbers without zeros before them: a digit that is lost is not seen',
-    'loose': '{count} frames are of types that have any length: a cut in one of them is not seen',
+    'rows': 'an octet is in each row: where a row is missing, the rest may be another message',
+    'numbers': 'frames with octets as numbers without zeros before them: {count}; a digit that is lost is not seen',
+    'loose': 'frames of types that have any length: {count}; a cut in one of them is not seen',
 }
 SIDES = {
     'commands': 'this log has the commands alone: the answers were not logged, so no rule is judged',

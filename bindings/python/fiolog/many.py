@@ -6,6 +6,7 @@ from functools import partial, reduce
 from operator import add
 
 from . import log, side_by_side, sides, terminal, unjudged
+from .counts import in_words
 from .options import number_in
 from .shown import shown
 from .summary import Summary, summary_of
@@ -85,7 +86,7 @@ def run(option, counts_alone=False):
     else:
         table = [[name, *(numbers(one)[column] for column in COLUMNS), first_words(one)] for name, one in rows]
         table.append(['all %d' % len(rows), *(numbers(total)[column] for column in COLUMNS), ''])
-        terminal.table('%d logs, the worst first' % len(rows), ['file', *(name.replace('_', ' ') for name in COLUMNS), 'first breach'], table)
+        terminal.table('%d logs, the worst first' % len(rows), ['file', *map(in_words, COLUMNS), 'first breach'], table)
         for name, words in faults:
             terminal.say('%s: %s' % (name, words))
         key, words, _ = left_out(total, counts_alone)

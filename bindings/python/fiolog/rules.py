@@ -90,7 +90,7 @@ class Judge:
             return Breach(rule, DUE[rule] % (found.due, found.got) + meaning, {'due': found.due, 'got': found.got})
         if rule == 'limits':
             return Breach(rule, limits_words(message_of(event.octets)))
-        return Breach(rule, words_of(event.octets) or words if rule == 'readable' else words)
+        return Breach(rule, rule == 'readable' and words_of(event.octets) or 'this line ' + words)
 
 
 def advance_words(due, got):

@@ -5,7 +5,7 @@ import sys
 from collections import Counter
 
 from . import log, many, terminal, unjudged
-from .counts import Counts
+from .counts import Counts, in_words
 from .events import BAD, FRAME, LOSSES, OTHER, PASSED, PIECE
 from .message import message_of
 
@@ -43,9 +43,9 @@ def flat(one, above=''):
     """The rows of a table: a name, and its number."""
     for name, value in one.items():
         if isinstance(value, dict):
-            yield from flat(value, above + name.replace('_', ' ') + ' ')
+            yield from flat(value, above + in_words(name) + ' ')
         elif value is not None:
-            yield above + name.replace('_', ' '), value
+            yield above + in_words(name), value
 
 
 def run(option):

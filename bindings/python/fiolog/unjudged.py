@@ -6,10 +6,10 @@ from collections import Counter
 REASONS = {
     'damaged_lines': ('damaged line', 'damaged lines'),
     'pieces': ('line with part of a message', 'lines with parts of messages'),
-    'lines_passed_over': ('line passed over', 'lines passed over'),
+    'lines_passed_over': ('skipped line', 'skipped lines'),
     'frames_of_others': ('frame of another address', 'frames of other addresses'),
-    'lost_places': ('lost place', 'lost places'),
-    'frames_at_lost_places': ('frame from a lost place to the next poll', 'frames from a lost place to the next poll'),
+    'lost_places': ('loss of sync', 'losses of sync'),
+    'frames_at_lost_places': ('frame from a loss of sync to the next poll', 'frames from a loss of sync to the next poll'),
     'frames_above_a_command': ('frame above the first command', 'frames above the first command'),
     'frames_above_a_poll': ('frame above the first poll', 'frames above the first poll'),
     'frames_not_at_the_cpu': ('frame that the CPU may not have heard so', 'frames that the CPU may not have heard so'),
@@ -32,7 +32,7 @@ def numbers(unjudged, names=tuple(REASONS)):
 
 def reasons_in_words(reasons):
     """Returns the most frequent reasons why lines are passed over."""
-    return ', '.join('%d %s' % (count, reason) for reason, count in reasons.most_common(MOST_REASONS))
+    return ', '.join('%s %d' % one for one in reasons.most_common(MOST_REASONS))
 
 
 def words(unjudged, reasons=Counter(), names=tuple(REASONS)):
