@@ -12,6 +12,7 @@ _fiolog() {
     'check --at') words='auto cpu module bus' ;;
     'check --rules') words='all transcript' ;;
     'check --except') words='readable pair number advance same sequence limits rest refusal order fresh alternate apart ignored state clock done accepted cleared watchdog' ;;
+    'check --explain') words='readable pair number advance same sequence limits rest refusal order fresh alternate apart ignored state clock done accepted cleared watchdog' ;;
     'stats --format') words='auto frames transcript' ;;
     'stats --line') words='octets bits bits-high-first' ;;
     'plan --limits') words='standard largest' ;;
@@ -29,8 +30,8 @@ _fiolog() {
         1:*) words='decode check stats plan convert record live -h --help' ;;
         *:-*)
             case $command in
-            decode) words='-h --help --format --pattern --sdlc --no-check --line --address --merge -v --verbose -q --quiet --json --csv --input --type --block --status --direction --lines --color' ;;
-            check) words='-h --help --format --pattern --sdlc --no-check --line --address --merge -v --verbose -q --quiet --at --start-at-poll --whole --limits --rules --except --late-answers --jobs --json' ;;
+            decode) words='-h --help --format --pattern --sdlc --no-check --line --address --merge -v --verbose -q --quiet --json --csv --input --type --block --status --unanswered --direction --lines --color' ;;
+            check) words='-h --help --format --pattern --sdlc --no-check --line --address --merge -v --verbose -q --quiet --at --start-at-poll --whole --limits --rules --except --explain --late-answers --jobs --json' ;;
             stats) words='-h --help --format --pattern --sdlc --no-check --line --address --merge -v --verbose -q --quiet --jobs --json' ;;
             plan) words='-h --help --inputs --filter --group --limits --block --waiting --outage --lost --every -v --verbose --json' ;;
             convert) words='-h --help --format --pattern --sdlc --no-check --line --address --merge -v --verbose -q --quiet --to -o --output --times' ;;

@@ -31,8 +31,8 @@ _fiolog() {
             '--line[the file is what a line carried, octets, or bits (bits-high-first), one a clock, as a text of 0 and 1 or eight to an octet]:form:(octets bits bits-high-first)' \
             '--address[the address of the frames of a line that are judged (14), with or without the control octet (1483), or any]:hex:' \
             '--merge[read the files as one log, in the order of their times, such as one file of each channel]' \
-            '-v[name each line that is passed over, and why]' \
-            '--verbose[name each line that is passed over, and why]' \
+            '-v[name each line that is skipped, and why]' \
+            '--verbose[name each line that is skipped, and why]' \
             '-q[say nothing on standard error but faults]' \
             '--quiet[say nothing on standard error but faults]' \
             '--json[one object a line, file, line, time (seconds or null), direction (> or <) and octets; then fault, or type, says, the numbers of that message by name, what its status bits say, of a repeated block that it is one, and entries or items]' \
@@ -41,6 +41,7 @@ _fiolog() {
             '--type[only this type, 49 to 60, 177 to 188, poll, block]:n:' \
             '--block[only polls and blocks with this number]:n:' \
             '--status[only blocks with one of these bits, C, F, E, G]:letters:' \
+            '--unanswered[only polls without a block answer, check counts them as answers lost]' \
             '--direction[only what the CPU sent or heard]:direction:(sent heard)' \
             '--lines[only these lines]:a-b:' \
             '--color[colours (on a terminal)]:color:(auto always never)' \
@@ -56,8 +57,8 @@ _fiolog() {
             '--line[the file is what a line carried, octets, or bits (bits-high-first), one a clock, as a text of 0 and 1 or eight to an octet]:form:(octets bits bits-high-first)' \
             '--address[the address of the frames of a line that are judged (14), with or without the control octet (1483), or any]:hex:' \
             '--merge[read the files as one log, in the order of their times, such as one file of each channel]' \
-            '-v[name each line that is passed over, and why]' \
-            '--verbose[name each line that is passed over, and why]' \
+            '-v[name each line that is skipped, and why]' \
+            '--verbose[name each line that is skipped, and why]' \
             '-q[say nothing on standard error but faults]' \
             '--quiet[say nothing on standard error but faults]' \
             '--at[where the log was taken; auto, at the CPU where directions say so, else on the bus]:at:(auto cpu module bus)' \
@@ -66,6 +67,7 @@ _fiolog() {
             '--limits[of the module, the most entries of a block, and the most that wait (255 1024)]:entries::waiting:' \
             '--rules[transcript, the rules of transcripts alone]:rules:(all transcript)' \
             '--except[leave out breaches of this rule, and count them; may be given again]:rule:(readable pair number advance same sequence limits rest refusal order fresh alternate apart ignored state clock done accepted cleared watchdog)' \
+            '--explain[say what this rule says, and read no log]:rule:(readable pair number advance same sequence limits rest refusal order fresh alternate apart ignored state clock done accepted cleared watchdog)' \
             '--late-answers[leave out answers that came late or twice, and count them]' \
             '--jobs[with several logs, read this many at a time (all processors)]:n:' \
             '--json[an object for each breach, with several logs for each log; and one for the summary]' \
@@ -81,8 +83,8 @@ _fiolog() {
             '--line[the file is what a line carried, octets, or bits (bits-high-first), one a clock, as a text of 0 and 1 or eight to an octet]:form:(octets bits bits-high-first)' \
             '--address[the address of the frames of a line that are judged (14), with or without the control octet (1483), or any]:hex:' \
             '--merge[read the files as one log, in the order of their times, such as one file of each channel]' \
-            '-v[name each line that is passed over, and why]' \
-            '--verbose[name each line that is passed over, and why]' \
+            '-v[name each line that is skipped, and why]' \
+            '--verbose[name each line that is skipped, and why]' \
             '-q[say nothing on standard error but faults]' \
             '--quiet[say nothing on standard error but faults]' \
             '--jobs[with several logs, read this many at a time (all processors)]:n:' \
@@ -116,8 +118,8 @@ _fiolog() {
             '--line[the file is what a line carried, octets, or bits (bits-high-first), one a clock, as a text of 0 and 1 or eight to an octet]:form:(octets bits bits-high-first)' \
             '--address[the address of the frames of a line that are judged (14), with or without the control octet (1483), or any]:hex:' \
             '--merge[read the files as one log, in the order of their times, such as one file of each channel]' \
-            '-v[name each line that is passed over, and why]' \
-            '--verbose[name each line that is passed over, and why]' \
+            '-v[name each line that is skipped, and why]' \
+            '--verbose[name each line that is skipped, and why]' \
             '-q[say nothing on standard error but faults]' \
             '--quiet[say nothing on standard error but faults]' \
             '--to[]:to:(transcript frames pcapng vcd)' \
@@ -136,8 +138,8 @@ _fiolog() {
             '--line[the file is what a line carried, octets, or bits (bits-high-first), one a clock, as a text of 0 and 1 or eight to an octet]:form:(octets bits bits-high-first)' \
             '--address[the address of the frames of a line that are judged (14), with or without the control octet (1483), or any]:hex:' \
             '--merge[read the files as one log, in the order of their times, such as one file of each channel]' \
-            '-v[name each line that is passed over, and why]' \
-            '--verbose[name each line that is passed over, and why]' \
+            '-v[name each line that is skipped, and why]' \
+            '--verbose[name each line that is skipped, and why]' \
             '-q[say nothing on standard error but faults]' \
             '--quiet[say nothing on standard error but faults]' \
             '--at[where the log was taken; auto, at the CPU where directions say so, else on the bus]:at:(auto cpu module bus)' \
@@ -174,8 +176,8 @@ _fiolog() {
             '--limits[of the module, the most entries of a block, and the most that wait (255 1024)]:entries::waiting:' \
             '--except[leave out breaches of this rule, and count them; may be given again]:rule:(readable pair number advance same sequence limits rest refusal order fresh alternate apart ignored state clock done accepted cleared watchdog)' \
             '--seconds[end after so long]:n:' \
-            '-v[name each line that is passed over, and why]' \
-            '--verbose[name each line that is passed over, and why]' \
+            '-v[name each line that is skipped, and why]' \
+            '--verbose[name each line that is skipped, and why]' \
             '-q[do not write the messages]' \
             '--quiet[do not write the messages]' \
             '*:file:_files' ;;

@@ -9,9 +9,9 @@ import sys
 import time
 
 from . import judge, log, terminal
-from .events import BAD, DAMAGED, DATED, DOUBTFUL, FRAME, OF_DAY, OTHER, PIECE, POSSIBLE
+from .events import BAD, DAMAGED, DATED, DOUBTFUL, FRAME, LOSSES, OF_DAY, OTHER, PIECE, POSSIBLE
 from .log_words import POSSIBLE as UNSURE
-from .message import BLOCK, LETTERS, SENT_AGAIN, message_of
+from .message import BLOCK, LETTERS, POLL, SENT_AGAIN, TYPE_ANSWER, message_of
 from .options import line_range, message_type, number_in, status_letters
 from .shown import shown
 
@@ -36,6 +36,7 @@ def add_arguments(parser):
     parser.add_argument('--type', type=message_type, action='append', metavar='N', help='only this type: 49 to 60, 177 to 188, poll, block')
     parser.add_argument('--block', type=number_in(0, 255), metavar='N', help='only polls and blocks with this number')
     parser.add_argument('--status', type=status_letters, metavar='LETTERS', help='only blocks with one of these bits: C, F, E, G')
+    parser.add_argument('--unanswered', action='store_true', help='only polls without a block answer: `check` counts them as answers lost')
     parser.add_argument('--direction', choices=('sent', 'heard'), help='only what the CPU sent or heard')
     parser.add_argument('--lines', type=line_range, metavar='A-B', help='only these lines')
     parser.add_argument('--color', choices=('auto', 'always', 'never'), default='auto', help='colours (on a terminal)')
@@ -168,6 +169,22 @@ def as_csv(write, takes_part):
     return line
 
 
+def unanswered(events):
+    """Yields each poll that has no block answer above the next command. Of one above a damaged line that is not known."""
+    poll = None
+    for event in events:
+        if event.kind in LOSSES:
+            poll = None
+        elif event.kind == FRAME and event.octets[0] == BLOCK:
+            poll = None
+        elif event.kind == FRAME and event.octets[0] < TYPE_ANSWER:
+            if poll:
+                yield poll
+            poll = event if event.octets[0] == POLL else None
+    if poll:
+        yield poll
+
+
 def run(option):
     """Decodes the logs; status 1 where a frame is damaged or none is there."""
     write, taken = sys.stdout.write, Filter(option)
@@ -176,7 +193,7 @@ def run(option):
     else:
         line = as_text(write, terminal.painter(option.color), taken.takes_part)
     read = log.Log(option, sys.stdout.flush)
-    for event in read.events():
+    for event in unanswered(read.events()) if option.unanswered else read.events():
         if event.kind not in SHOWN:
             continue
         message = spoken(event)
