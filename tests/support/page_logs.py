@@ -79,7 +79,7 @@ def by_model(text, parts=frozenset()):
 
 def by_page(seen):
     """The same by the page, without lines with parts of messages."""
-    passed = re.search(r'([\d,]+) lines? passed over', seen['note'])
+    passed = re.search(r'([\d,]+) lines? skipped', seen['note'])
     rows = [row for row in seen['rows'] if int(row[0]) not in parts_in(seen)]
     return ([[int(row[0]), row[1] != '', row[2], POSSIBLE in row[4], row[5]] for row in rows],
             int(passed[1].replace(',', '')) if passed else 0)

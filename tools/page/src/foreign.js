@@ -21,7 +21,7 @@ const KINDS = [
 export function kindOf(file, hasOctets) {
   const found = KINDS.find(([test]) => test(file));
   if (found) return found[1];
-  return hasOctets ? 'It is text with octets that spell no message. Perhaps it is a log of another link, or its octets are turned.'
+  return hasOctets ? 'It is text with octets that are no message. Perhaps it is a log of another link, or the bits of its octets are in reverse order.'
     : 'It is text without octets of a message.';
 }
 

@@ -39,17 +39,17 @@ const FORMS = ['', ', read as frames', ', read as a transcript'];
 const SIGNS = { good: '✓', partly: '✓', unjudged: '?', broken: '✗', none: '?' };
 const hasBit = (log, place, bit) => log.codes[place] === BLOCK && (log.status[place] & bit) !== 0;
 
-// What helps, by the reason why lines are passed over.
+// What helps, by the reason why lines are skipped.
 const CURES = {
   [LOG_REASONS.exchanged]: ' (write the log with xxd or hexdump -C)',
   [LOG_REASONS.twoMore]: ' (at “How is it written?” choose SDLC frames, without their check, or an expression)',
 };
 
-// How many lines are passed over, and why; the most frequent reasons first.
+// How many lines are skipped, and why; the most frequent reasons first.
 function passedWords(passed) {
-  const reasons = passed.map((count, reason) => [count, REASONS[reason] + (CURES[reason] || '')]).filter(([count]) => count > 0).sort(([one], [other]) => other - one);
+  const reasons = passed.map((count, reason) => [count, `${REASONS[reason]} ${withCommas(count)}${CURES[reason] || ''}`]).filter(([count]) => count > 0).sort(([one], [other]) => other - one);
   const all = passed.reduce((sum, count) => sum + count, 0);
-  return all === 0 ? '' : ` ${counted(all, 'line')} passed over: ${reasons.map(([count, words]) => `${withCommas(count)} ${words}`).join(', ')}.`;
+  return all === 0 ? '' : ` ${counted(all, 'line')} skipped: ${reasons.map(([, words]) => words).join(', ')}.`;
 }
 
 // What stays doubtful, a sentence each.
@@ -126,7 +126,7 @@ export class MessagesView {
   }
 
   noteOf(log) {
-    const turned = log.end === ENDS.module ? ' It was taken at the module: directions are turned, so that they are those of the CPU.' : '';
+    const turned = log.end === ENDS.module ? ' It was taken at the module: the directions here are those of the CPU, not as the log writes them.' : '';
     const reversed = log.end === ENDS.cpu && log.isReversed ? ' Most directions are those of the other end: was it taken at the module?' : '';
     return `${log.name}${FORMS[log.form]}.${passedWords(log.passed)}${turned}${reversed}${doubtWords(log)}`;
   }

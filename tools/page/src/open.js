@@ -24,7 +24,7 @@ const IN_WORDS = {
   'breaks-rest.transcript': 'A block says that more entries wait, and the next one has none.',
   'breaks-same.transcript': 'A block says that it was asked for again, and it was not.',
   'breaks-sequence.transcript': 'A block says that a number was left out, and none was.',
-  'module-log.txt': 'A log taken at the module: its directions are turned.',
+  'module-log.txt': 'A log taken at the module: its directions are those of the other end.',
   'octets.txt': 'An octet a line, as some analysers write it.',
   'powershell.txt': 'Times and directions as PowerShell writes them.',
   'sdlc.txt': 'Frames of SDLC, with flags and frame check.',
@@ -42,7 +42,7 @@ const IN_WORDS = {
   'refused-configuration.transcript': 'The module refuses inputs that it has.',
   'refused-load.transcript': 'The module refuses a load of its counter.',
   'swapped-entries.transcript': 'Two entries are swapped.',
-  'turned-entry.transcript': 'The state of an entry is turned.',
+  'turned-entry.transcript': 'The state of an entry is inverted.',
   'watchdog-forgotten.transcript': 'The module forgets that a watchdog was set.',
 };
 

@@ -71,16 +71,17 @@ export class PlanView {
       + (plan.isRiddenOut ? '' : ` In an outage of ${outage} ms transitions may be lost.`);
     const rows = [
       ['The CPU has to poll at least every', plan.startEvery + ' ms',
-        (!plan.isFewWaiting ? 'k n ≤ b f: enough of FewChange'
-          : `k (${lost ? '2 n' : 'n'} + f - 1) ≤ w f: room of IsPolledInTime`) + (lost ? ', r + 1 times as often' : '')],
+        (!plan.isFewWaiting ? 'What can change in that time fits into a block (k n ≤ b f; enough of FewChange)'
+          : `What can change in that time has room in the module (k (${lost ? '2 n' : 'n'} + f - 1) ≤ w f; room of IsPolledInTime)`)
+          + (lost ? ', r + 1 times as often' : '')],
       ...plan.isInTime ? [
-        ['The most entries that wait', withCommas(plan.waits), 'few_wait of KeepsUpExactly'],
-        ['A transition is in a block after at most', plan.late + ' ms', lost ? 'late of IsLateBy' : 'young of KeepsUpExactly'],
+        ['The most entries that wait', withCommas(plan.waits), 'What can change, less what the blocks took (few_wait of KeepsUpExactly)'],
+        ['A transition is in a block after at most', plan.late + ' ms', `It waits for the next round${lost ? ', or one after lost ones (late of IsLateBy)' : ', and for the entries above it (young of KeepsUpExactly)'}`],
       ] : [],
       ['The longest outage that loses nothing, if nothing waits before it', withCommas(plan.longestOutage) + ' ms',
-        'room of IsOutage, outage of settled_links_lose_nothing'],
-      [`The most entries that wait after ${withCommas(outage)} ms without a poll`, withCommas(plan.after), 'computed, not proved'],
-      ['Clean rounds until these are in the record', String(plan.caughtUpIn), 'caught_up of clean_rounds_catch_up'],
+        'What can change in it has room in the module (room of IsOutage, outage of settled_links_lose_nothing)'],
+      [`The most entries that wait after ${withCommas(outage)} ms without a poll`, withCommas(plan.after), 'What can change in it, or all that there is room for: computed, not proved'],
+      ['Clean rounds until these are in the record', String(plan.caughtUpIn), 'Each takes a block of entries (caught_up of clean_rounds_catch_up)'],
     ];
     this.answers.replaceChildren(...rows.map(([what, number, why]) => element('tr', {},
       element('th', { scope: 'row' }, what), element('td', { class: 'mono' }, number), element('td', { class: 'soft' }, why))));

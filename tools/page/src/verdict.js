@@ -21,8 +21,8 @@ export function verdictOf(log) {
     const [place, breach] = log.breaches.entries().next().value;
     const rule = `line ${log.lines[place]} breaks the rule ${ruleOf(breach)}`, more = `: ${log.meaning(place)}.`;
     if (log.summary.faults === messages && readable > 1) {
-      return { ...said, kind: VERDICTS.broken, first: place, text: `None of the ${withCommas(readable)} lines with octets spells a message`,
-        more: `; line ${log.lines[place]}: ${log.words(place)[0]}. Perhaps the log is of another link, or its octets are turned.` };
+      return { ...said, kind: VERDICTS.broken, first: place, text: `None of the ${withCommas(readable)} lines with octets is a message`,
+        more: `; line ${log.lines[place]}: ${log.words(place)[0]}. Perhaps the log is of another link, or the bits of its octets are in reverse order.` };
     }
     const text = broken === 1 ? rule.replace('line', 'Line') : `${counted(broken, 'message')} of ${withCommas(readable)} break a rule. The first: ${rule}`;
     return { kind: VERDICTS.broken, text, more, first: place, notJudged };
@@ -60,11 +60,11 @@ function sentencesOf(log, isJudged) {
       + 'not known.');
   }
   if (skipped > 0) {
-    said.push(`${counted(skipped, 'message')} below a breach, up to the next poll, ${are(skipped)} not judged: what was asked above is not sure there.`);
+    said.push(`${counted(skipped, 'message')} below ${log.breaches.size > 0 ? 'a breach' : 'one that is not judged'}, up to the next poll, ${are(skipped)} not judged: what was asked above is not sure there.`);
   }
   if (withoutContent > 0) {
-    said.push(`${counted(withoutContent, 'answer')} below damage, up to the next poll, ${are(withoutContent)} not judged by content: `
-      + 'what the entries are compared with is not sure there.');
+    said.push(`Of ${counted(withoutContent, 'answer')} below damage, up to the next poll, what the entries say is not judged: what they are `
+      + 'compared with is not sure there.');
   }
   if (first !== undefined && poll < 0) said.push('The log has no poll, so it is of the middle of traffic: what breaks a rule here may be right.');
   else if (first < poll) said.push('The log begins in the middle of traffic: what breaks a rule above the first poll may be right.');
