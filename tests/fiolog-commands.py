@@ -116,7 +116,7 @@ def check_words(check):
     check.equal('a log that is read whole', (0, 'fiolog: frames of types that have any length: 2; a cut in one of them is not seen\n'), (done.status, done.err))
     done = fiolog('decode', '-v', text=LOG + 'link down\n')
     check.holds('a line that is skipped', 'line %d: no octets: link down' % (len(SESSION) + 1) in done.err, done.err)
-    check.holds('how many are skipped', '1 of %d lines skipped: no octets 1' % (len(SESSION) + 1) in done.err)
+    check.holds('how many are skipped', '1 of %d lines skipped: no octets' % (len(SESSION) + 1) in done.err)
     for command in (['decode'], ['stats'], ['check'], ['record'], ['convert', '--to', 'frames']):
         done = fiolog(*command, text='nothing here\n')
         check.equal('%s of nothing' % command[0], (1, True), (done.status, 'no frame in 1 lines' in done.err))

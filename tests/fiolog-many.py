@@ -151,7 +151,7 @@ UNJUDGED = {
     'a wrong check': (['14 83 36 05 C4 1B', '14 83 36 06 C4 1B', '14 83 36 05 C4 1B'],
                       {'damaged_lines': 1, 'lost_places': 1}),
 }
-WORDS = {'damaged_lines': '1 damaged line', 'lines_passed_over': '1 skipped line (no octets 1)', 'lost_places': '1 loss of sync',
+WORDS = {'damaged_lines': '1 damaged line', 'lines_passed_over': '1 skipped line (no octets)', 'lost_places': '1 loss of sync',
          'frames_at_lost_places': '3 frames from a loss of sync to the next poll',
          'gaps': '1 gap mark, above which transitions are lost', 'restarts': '1 restart of the module'}
 

@@ -21,7 +21,7 @@ REASONS = {
 }
 # What is of lines, and so is not counted either.
 OF_LINES = ('damaged_lines', 'pieces', 'lines_passed_over', 'frames_of_others', 'gaps', 'restarts')
-# How many reasons of lines that are passed over are named.
+# How many reasons of lines that are skipped are named.
 MOST_REASONS = 3
 
 
@@ -31,8 +31,8 @@ def numbers(unjudged, names=tuple(REASONS)):
 
 
 def reasons_in_words(reasons):
-    """Returns the most frequent reasons why lines are passed over."""
-    return ', '.join('%s %d' % one for one in reasons.most_common(MOST_REASONS))
+    """Returns the most frequent reasons why lines are skipped; how often, if there are several."""
+    return ', '.join('%s %d' % one for one in reasons.most_common(MOST_REASONS)) if len(reasons) > 1 else ''.join(reasons)
 
 
 def words(unjudged, reasons=Counter(), names=tuple(REASONS)):

@@ -47,9 +47,9 @@ const CURES = {
 
 // How many lines are skipped, and why; the most frequent reasons first.
 function passedWords(passed) {
-  const reasons = passed.map((count, reason) => [count, `${REASONS[reason]} ${withCommas(count)}${CURES[reason] || ''}`]).filter(([count]) => count > 0).sort(([one], [other]) => other - one);
+  const reasons = passed.map((count, reason) => [count, reason]).filter(([count]) => count > 0).sort(([one], [other]) => other - one);
   const all = passed.reduce((sum, count) => sum + count, 0);
-  return all === 0 ? '' : ` ${counted(all, 'line')} skipped: ${reasons.map(([, words]) => words).join(', ')}.`;
+  return all === 0 ? '' : ` ${counted(all, 'line')} skipped: ${reasons.map(([count, reason]) => REASONS[reason] + (reasons.length > 1 ? ` ${withCommas(count)}` : '') + (CURES[reason] || '')).join(', ')}.`;
 }
 
 // What stays doubtful, a sentence each.
