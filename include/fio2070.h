@@ -10,7 +10,7 @@
  * alone. On x86-64 it needs a processor with SSE4.2 and POPCNT (see fio2070_processor_fits).
  *
  * What the caller owes, and nothing checks:
- *  - A pointer points to as many objects as its length says, aligned as C asks of their type. Where that
+ *  - A pointer points to as many objects as its length says, aligned as C asks of their type. If that
  *    length is 0 it may be null (tested, not proved); any other pointer is not null.
  *  - Initialise what a const argument points to. What a call only writes may be uninitialised.
  *  - During a call no one else writes what an argument points to, and no one else reads what an
@@ -22,19 +22,21 @@
  *    hold any octets; _start sets each of those of a struct but a log_reader. They may be copied and moved by memcpy. A
  *    log_reader that other code wrote, or that was not started, is no reader: what a call then does is not promised at all.
  *
- * Sources: TEES 2009 is Caltrans TEES 2009. "Own profile" is a choice of this project where TEES
+ * Sources: TEES 2009 is Caltrans TEES 2009. "Own profile" is a choice of this project if TEES
  * leaves one: 64 inputs, 64 outputs, and what docs/PROTOCOL.md marks so.
  *
  * Results are of two kinds:
- *  - A code: 0 is success or "none". Its constants are those of an enum with a name, so that a compiler tells of a
+ *  - A code: 0 is success or "none". Its constants are those of an enum with a name, so that a compiler warns of a
  *    `switch ((enum fio2070_rule)breach.rule)` which forgets one.
- *  - A count, of a call that writes octets, entries, items or text into an array of `room`: how many there are to
- *    write. Where that is more than `room`, nothing was written and nothing changed; a call with room 0 only tells the
- *    count. FIO2070_NO_MESSAGE, more than any room, says that there is nothing such: an encoder whose fields no message
- *    has, or octets that do not carry what is asked for. So `count > room` is the one test for failure, and 0 is a
- *    success with nothing to write.
- * A text ends in a zero octet, which its count leaves out, as snprintf does: it was written if its count is less than
- * `room`. No message has more than FIO2070_LONGEST_FRAME octets.
+ *  - A count: how many octets, entries, items or characters there are to write into an array of `room`. If that is more
+ *    than `room`, nothing was written and nothing changed, so `count > room` is the one test for failure, and 0 is a
+ *    success with nothing to write (but fio2070_wire_write returns 0 for a failure). A call with room 0 only returns the
+ *    count. FIO2070_NO_MESSAGE, more than any room, says that no message has the fields that are given, or that the octets
+ *    do not have what is asked for.
+ * A text ends in a zero octet, which its count leaves out, as that of snprintf does: it was written if its count is less
+ * than `room`. No message has more than FIO2070_LONGEST_FRAME octets.
+ *
+ * The calls are in groups, each with an example: numbers, decode, encode, wire, poller, checker, content, log, parts, module.
  */
 #ifndef FIO2070_H
 #define FIO2070_H
@@ -186,8 +188,8 @@ struct fio2070_fault {
     uint64_t got;
 };
 
-/** Writes the words of a fault as `fio2070 show` does, such as "wrong length needed 14 got 11", with no line end.
- * They are those of its kind, with the numbers that the kind has; FIO2070_FAULT_NONE and what is no kind have the empty
+/** Writes the text of a fault as `fio2070 show` does, such as "wrong length needed 14 got 11", with no line end.
+ * It is that of its kind, with the numbers that the kind has; FIO2070_FAULT_NONE and what is no kind have the empty
  * text. FIO2070_LONGEST_TEXT octets of room are enough. */
 FIO2070_MUST_USE
 size_t fio2070_fault_text(const struct fio2070_fault *fault, char *text, size_t room);
@@ -225,7 +227,7 @@ FIO2070_MUST_USE
 struct fio2070_fault fio2070_read_block(const uint8_t *octets, size_t length, struct fio2070_block_header *header);
 
 /** Copies the entries of a block answer to the front of `entries`, and returns how many they are, 0 to 255:
- * FIO2070_NO_MESSAGE where the octets are no block answer. The rest of `entries` is unchanged. */
+ * FIO2070_NO_MESSAGE if the octets are no block answer. The rest of `entries` is unchanged. */
 FIO2070_MUST_USE
 size_t fio2070_block_entries(const uint8_t *octets, size_t length, struct fio2070_entry *entries, size_t room);
 
@@ -304,7 +306,7 @@ FIO2070_MUST_USE
 struct fio2070_fault fio2070_decode_command(const uint8_t *octets, size_t length, struct fio2070_command *command);
 
 /** Copies the items of a configuration (command 51) to the front of `items`, and returns how many they are, 0 to
- * 255: FIO2070_NO_MESSAGE where the octets are no configuration. The rest of `items` is unchanged. */
+ * 255: FIO2070_NO_MESSAGE if the octets are no configuration. The rest of `items` is unchanged. */
 FIO2070_MUST_USE
 size_t fio2070_command_items(const uint8_t *octets, size_t length, struct fio2070_configuration_item *items,
                              size_t room);
@@ -350,7 +352,7 @@ size_t fio2070_encode_status(uint8_t clear, uint8_t *out, size_t room);
 /** 50, millisecond counter management: the number that the next line sync loads. 5 octets. */
 FIO2070_MUST_USE
 size_t fio2070_encode_load_counter(uint32_t load, uint8_t *out, size_t room);
-/** 51, configure inputs. 2 + 3 * count octets. FIO2070_NO_MESSAGE where there are more than 255 items, and where one
+/** 51, configure inputs. 2 + 3 * count octets. FIO2070_NO_MESSAGE if there are more than 255 items, or one
  * names an input above 127. */
 FIO2070_MUST_USE
 size_t fio2070_encode_configure_inputs(const struct fio2070_configuration_item *items, size_t count, uint8_t *out,
@@ -397,7 +399,7 @@ size_t fio2070_encode_raw_inputs_answer(uint64_t inputs, uint32_t stamp, uint8_t
 /** 181: the filtered states; bit i is input i. 13 octets. */
 FIO2070_MUST_USE
 size_t fio2070_encode_filtered_inputs_answer(uint64_t inputs, uint32_t stamp, uint8_t *out, size_t room);
-/** 182, a block. 8 + 3 * count octets. FIO2070_NO_MESSAGE where there are more than 255 entries, and where one names
+/** 182, a block. 8 + 3 * count octets. FIO2070_NO_MESSAGE if there are more than 255 entries, or one names
  * an input above 127. */
 FIO2070_MUST_USE
 size_t fio2070_encode_block_answer(uint8_t block, const struct fio2070_entry *entries, size_t count, uint8_t status,
@@ -610,8 +612,8 @@ FIO2070_MUST_USE
 struct fio2070_heard fio2070_poller_hear(struct fio2070_poller *poller, const uint8_t *octets, size_t length,
                                          struct fio2070_record_item *items, size_t room);
 
-/** Writes what was heard in the words of `fio2070 simulate`, with no line end: "block entries 3 status 00", "stale 4",
- * "other 177", or "unreadable " and the words of the fault; "no room needed 3" for FIO2070_HEARD_NO_ROOM. What is no kind
+/** Writes what was heard as `fio2070 simulate` does, with no line end: "block entries 3 status 00", "stale 4",
+ * "other 177", or "unreadable " and the text of the fault; "no room needed 3" for FIO2070_HEARD_NO_ROOM. What is no kind
  * has the empty text. FIO2070_LONGEST_TEXT octets of room are enough. */
 FIO2070_MUST_USE
 size_t fio2070_heard_text(const struct fio2070_heard *heard, char *text, size_t room);
@@ -731,11 +733,11 @@ size_t fio2070_rule_text(uint8_t rule, char *text, size_t room);
  * room for it. Then no frame breaks one. */
 void fio2070_checker_start(struct fio2070_checker *checker);
 /** As `fio2070_checker_start`, for a module with these limits: those that `fio2070_sized_module_start` was given. Returns
- * FIO2070_STARTED; where a limit is out of its range, as there, it returns FIO2070_REFUSED, and nothing changes. */
+ * FIO2070_STARTED; if a limit is out of its range, as there, it returns FIO2070_REFUSED, and nothing changes. */
 FIO2070_MUST_USE
 uint8_t fio2070_checker_start_within(struct fio2070_checker *checker, struct fio2070_limits limits);
 /** As `fio2070_checker_start_within`, above the first frame of a log that begins anywhere: what the CPU's end heard above the
- * first frame that it sent is passed over. Start so again after a gap in the log, a damaged frame or a restart. */
+ * first frame that it sent is skipped. Start so again after a gap in the log, a damaged frame or a restart. */
 FIO2070_MUST_USE
 uint8_t fio2070_checker_start_anywhere(struct fio2070_checker *checker, struct fio2070_limits limits);
 /** Takes a frame that the CPU's end sent: writes its breach, and returns the breach's rule. Below a breach the checker goes
@@ -889,7 +891,7 @@ FIO2070_MUST_USE
 size_t fio2070_content_rule_text(uint8_t rule, char *text, size_t room);
 
 /** Starts above the first frame of a log, which may begin anywhere, whatever both ends did above: what the CPU's end heard
- * above the first frame that it sent is passed over. Start again after a gap in the log, a damaged frame or a restart. The
+ * above the first frame that it sent is skipped. Start again after a gap in the log, a damaged frame or a restart. The
  * rules assume what `fio2070_checker_start` does, and of the link, from that frame on:
  *  - no more loads of the counter take effect than are sent: each excuses one breach (order, fresh, apart, state, clock);
  *  - there are fewer than 2^31 scans between a block without C and each block up to the next one without C (order, fresh,
@@ -1041,14 +1043,14 @@ struct fio2070_log_reader {
 void fio2070_log_start(struct fio2070_log_reader *reader, uint8_t form);
 /** Takes octets of the log until all are taken or `batch` has no room for another verdict, and returns how many it took. The
  * log is cut into pieces anywhere. The batch then has the verdicts that were due, each line's once and in order: a line gets
- * its verdict as soon as it is decided, which can be lines later. Each of its frames spells a message. Call it again with the
+ * its verdict as soon as it is decided, which can be lines later. Each of its frames is a message. Call it again with the
  * octets that were not taken. What the batch held before is overwritten.
  *
  * After fio2070_log_end it takes no octets until it has given each verdict. Octets then begin a new log of the same form,
  * whose lines are counted from 1.
  *
  * Proved are: which lines the octets make that it takes; that the verdicts in a batch are those of the next lines, each once
- * and in order, with as many frames and places as they say; that each frame spells a message; and that a new log begins as
+ * and in order, with as many frames and places as they say; that each frame is a message; and that a new log begins as
  * said. How many octets it takes, when a verdict is due and what it says are tested. */
 FIO2070_MUST_USE
 size_t fio2070_log_read(struct fio2070_log_reader *reader, const uint8_t *octets, size_t length,
@@ -1120,7 +1122,7 @@ struct fio2070_configured {
 /** Each input is ignored, both its filters are 5, and its raw level and filtered state are 1 (own
  * profile). */
 void fio2070_filters_start(struct fio2070_filters *filters);
-/** Applies the items in their order; where one names an input above 63, or there are more than 255,
+/** Applies the items in their order; if one names an input above 63, or there are more than 255,
  * none, and nothing changes (own profile). An applied item starts the samples of its input anew from
  * the present filtered state. */
 FIO2070_MUST_USE
@@ -1175,7 +1177,7 @@ struct fio2070_slot {
 
 /** An array of such room. FIO2070_RING makes it of an array, and of nothing else. */
 struct fio2070_ring {
-    struct fio2070_slot *slots; /**< may be null where there are none */
+    struct fio2070_slot *slots; /**< may be null if there are none */
     size_t capacity;            /**< how many there are */
 };
 
@@ -1231,7 +1233,7 @@ struct fio2070_sized_module {
     uint8_t reserved[16];
 };
 
-/** Starts a module that answers `id` to command 60, with these limits. Returns FIO2070_STARTED; where `waiting` is not 1 to
+/** Starts a module that answers `id` to command 60, with these limits. Returns FIO2070_STARTED; if `waiting` is not 1 to
  * 8,192, or `per_block` is 0, FIO2070_REFUSED, and then nothing changes: the struct is not started. */
 FIO2070_MUST_USE
 uint8_t fio2070_sized_module_start(struct fio2070_sized_module *module, uint8_t id, struct fio2070_limits limits);
@@ -1239,7 +1241,7 @@ uint8_t fio2070_sized_module_start(struct fio2070_sized_module *module, uint8_t 
  * waiting entries and the block that was sent last are lost (own profile). */
 void fio2070_sized_module_restart(struct fio2070_sized_module *module);
 /** Steps the counter by one millisecond, then samples each input; bit i of `raw` is the level of input i (own profile: one
- * scan a step). Each reported transition becomes a waiting entry; where as many wait as the limit says it pushes out the
+ * scan a step). Each reported transition becomes a waiting entry; if as many wait as the limit says it pushes out the
  * oldest. */
 void fio2070_sized_module_scan(struct fio2070_sized_module *module, struct fio2070_ring ring, uint64_t raw);
 /** LINESYNC goes from 0 to 1: a load of the counter that was asked for happens now (TEES 2009). */
@@ -1253,11 +1255,11 @@ void fio2070_sized_module_set_errors(struct fio2070_sized_module *module, uint8_
 void fio2070_sized_module_count_receive_error(struct fio2070_sized_module *module);
 /** Counts one more error in transmitting; 255 stays 255 (own profile). */
 void fio2070_sized_module_count_transmit_error(struct fio2070_sized_module *module);
-/** Carries out the command that the octets spell, writes the answer to the front of `out`, and returns how many octets it
+/** Carries out the command in the octets, writes the answer to the front of `out`, and returns how many octets it
  * has, 2 to 773. 0 for a command without an answer: 56, 57 and 59, which change nothing (own profile). FIO2070_NO_MESSAGE
- * if the octets spell no command, and then nothing changes.
+ * if the octets are no command, and then nothing changes.
  *
- * `room` is to be enough for the longest answer of this module, the larger of 13 and 8 + 3 * per_block octets: where it is
+ * `room` is to be enough for the longest answer of this module, the larger of 13 and 8 + 3 * per_block octets: if it is
  * less nothing changes, and that number is returned. */
 FIO2070_MUST_USE
 size_t fio2070_sized_module_receive(struct fio2070_sized_module *module, struct fio2070_ring ring, const uint8_t *octets,
@@ -1287,7 +1289,7 @@ struct fio2070_module {
 };
 
 /** Starts a module that answers `id` to command 60, with these limits: FIO2070_STANDARD_LIMITS are those of TEES 2009, 1,024
- * entries that wait and 255 of a block. Returns FIO2070_STARTED; where `waiting` is not 1 to 1,024, or `per_block` is 0,
+ * entries that wait and 255 of a block. Returns FIO2070_STARTED; if `waiting` is not 1 to 1,024, or `per_block` is 0,
  * FIO2070_REFUSED, and then nothing changes: the struct is not started. */
 FIO2070_MUST_USE
 static inline uint8_t fio2070_module_start(struct fio2070_module *module, uint8_t id, struct fio2070_limits limits) {
