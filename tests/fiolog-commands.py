@@ -371,6 +371,9 @@ def check_faulty_words(check):
                   ['--block', '256'], ['--format', 'nope']):
         done = fiolog('decode', *words, text='3605\n')
         check.equal('decode %s' % ' '.join(words), (2, True), (done.status, words[0] in done.err))
+    good = os.path.join(TOP, 'examples', 'good.transcript')
+    done = fiolog(good)
+    check.equal('a file without a command', (2, True), (done.status, 'fiolog check ' + good in done.err))
     check.equal('live --udp 65536', 2, fiolog('live', '--udp', '65536').status)
     check.equal('lines from one on', '3:     > poll block 7\n', fiolog('decode', '-q', '--lines', '3-', text='3605\n3606\n3607\n').out)
 

@@ -49,6 +49,8 @@ def arguments(words):
         one = choices.add_parser(name, help=COMMANDS[name], description=module.__doc__ if module else '')
         if module:
             module.add_arguments(one)
+    if words and words[0] not in COMMANDS and os.path.exists(words[0]):
+        parser.error('a command comes first, such as: fiolog check %s' % words[0])
     return parser, parser.parse_args(words)
 
 
