@@ -11,7 +11,7 @@ const MOST_OCTETS = 256 * 2 ** 20;
 // Three examples that tell a story: a title, and what is to be seen.
 const STORIES = [
   ['lost-answer.transcript', 'An answer gets lost', 'The CPU does not hear a block, and asks for it again. The module sends the same block once more and marks it: nothing is lost, nothing comes twice.'],
-  ['doubled-entry.transcript', 'A module counts a vehicle twice', 'Every message is in order, and still one entry comes in two blocks. Only the rules on content find it.'],
+  ['doubled-entry.transcript', 'A module counts a vehicle twice', 'Every message is in order, and still one entry comes in two blocks. Only the rules on what entries say find it.'],
   ['given-up-block.transcript', 'A CPU gives up too early', 'The CPU asks for the next block although the last one was never answered: what was in it is gone for good.'],
 ];
 const IN_WORDS = {
