@@ -182,6 +182,8 @@ def check_phone(check, browser, kind, folder):
     check.equal('a tap shows the detail over the list in %s' % kind, [True] * 3, browser.run(SHEET))
     says = browser.run('return document.querySelector(".detail").textContent')
     check.holds('which says the rule in %s' % kind, 'Breaks apart: input 12' in says, says)
+    check.holds('and what it means in %s' % kind, all(words in says for words in (
+        'In a right link: An entry of an input follows the one before', 'clear: a block is clear', 'late: a block is late')), says)
     browser.click('#sheet-before')
     check.equal('a button goes to the message above in %s' % kind, 'Line 6', browser.run('return document.querySelector(".detail h2").textContent'))
     browser.press('escape')

@@ -14,6 +14,21 @@ export const LOG_REASONS = { noReason: 0, noOctets: 1, noMessage: 2, shortMessag
 export const LOG_SIDES = { noSide: 0, fromCpu: 1, fromModule: 2 };
 export const RULES = ['', 'readable', 'pair', 'number', 'advance', 'same', 'sequence', 'limits', 'rest', 'refusal'];
 export const CONTENT_RULES = ['', 'order', 'fresh', 'alternate', 'apart', 'ignored', 'state', 'clock', 'done', 'accepted', 'cleared', 'watchdog'];
+// What a right link does by a rule on content, and when that is judged.
+export const RIGHT = [
+  '',
+  'An entry is later than the entry above it, or has its time and a higher input. Judged if a clear block is above the upper entry, the blocks of both are not late, and no load of the counter excuses it.',
+  'An entry is later than the stamp of the latest block without C, which had all entries up to that stamp. Judged if that block or one above it is clear, the block of the entry is not late, and no load of the counter excuses it.',
+  'The entries of an input have the states 0 and 1 in turn. Judged if the input is watched from the earlier entry on.',
+  'An entry of an input follows the one before no sooner than the filter for its change lets it. Judged if a clear block is above the earlier entry, the blocks of both are not late, and no load of the counter excuses it. The filter is the least that can be in force: at first 1; an item that is sent can lower it; a block that settles the input sets it to its last item, if the answer to that says done.',
+  'An input that is ignored has no entry. Judged if above some block that settles the input its last item ignores it, and the answer to that says done, and no item that is sent below opens the input.',
+  'An answer 181 has the states of the record at its stamp. Judged if a clear block is above the latest 181, neither a late block nor a gap mark is below it, and no load of the counter excuses it: at the first entry later than its stamp, or the end of the first block without C whose stamp is not before it, of each steady input. From there on the next entry of an input has another state, and an input with another state in the next 181 and no entry between is not logged, and has none: till an item of it is sent, if none was since the latest block that settles it.',
+  'The stamp of a 177, 180 or 181, or of a block without E, is not before the latest one above. Judged if no load of the counter excuses it.',
+  'An answer 178 has no S: a load of the counter is never refused.',
+  'An answer 179 has no S, if its configuration names no input above 63.',
+  'An answer 177 has none of the flags that its command clears.',
+  'An answer 186 has Y, if another 186 is above.',
+];
 export const ADVANCE_BREACHES = {
   ahead: 'the CPU went on without an answer, and what block {due} had is lost; or the log lost a line (own profile; TEES allows it)',
   behind: 'the CPU asks again for a block that was answered; or it did not hear that answer, and the log is not its own (own profile)',

@@ -7,6 +7,7 @@ import { fieldsOf, wordsIn } from './fields.js';
 import { hexText } from './hex.js';
 import { DIRECTION } from './messagelist.js';
 import { doubtOf } from './notes.js';
+import { ruleWords } from './rules.js';
 
 const WAYS = { [DIRECTION.none]: 'No direction', [DIRECTION.sent]: 'Sent by the CPU', [DIRECTION.heard]: 'Heard by the CPU' };
 const LONGEST = 4096;
@@ -62,6 +63,8 @@ export function detailOf(log, place, textOf) {
   const doubt = doubtOf(log, place), rule = log.reason(place);
   const reason = rule ? element('p', { class: 'reason' }, `Breaks ${rule}.`)
     : doubt ? element('p', { class: 'doubt' }, `${doubt[0].toUpperCase()}${doubt.slice(1)}.`) : null;
+  const explained = rule ? [element('details', {}, element('summary', {}, 'What this rule says'),
+    ...ruleWords(log.breaches.get(place)).map((words) => element('p', { class: 'soft' }, words)))] : [];
   const lines = log.written(place), octets = log.octets(place).slice(0, LONGEST);
   const all = wordsIn(lines);
   const isMessage = !log.isFaulty[place];
@@ -73,7 +76,7 @@ export function detailOf(log, place, textOf) {
     ...octetSpans.flatMap((it) => [it, '\u200b']));
   const content = log.content(place);
   const broken = content && content.entry >= 0 ? content.entry + 1 : -1;
-  return element('div', {}, head, way, reason, ...(isMessage ? bitsOf(octets[0], lines[0]) : []), linesWith(lines, wordSpans, broken),
+  return element('div', {}, head, way, reason, ...explained, ...(isMessage ? bitsOf(octets[0], lines[0]) : []), linesWith(lines, wordSpans, broken),
     ...octets.length > 0 ? [element('h3', {}, 'Octets'), grid] : []);
 }
 

@@ -32,3 +32,14 @@ export const LINE = {
   bits: 'no frame with a right check in these bits, one a clock: if they are written eight to an octet, try the other order',
   faster: 'no frame at one bit a clock, and nearly all bits last {count} samples or more: the sample clock is faster than the line, so sample on the clock of the line, or keep one sample of each bit',
 };
+// What the words of the rules on content mean.
+export const TERMS = {
+  'clear': 'a block is clear if it has neither C nor E: it has all that had changed when it was made',
+  'settles': 'a block settles an input if each configuration that was sent above it was received before it was made, or is lost: a clear block settles each; one with E and without C each that no configuration named since the first poll for it',
+  'watched': 'an input is watched while no configuration that was sent can have hidden a change of it',
+  'steady': 'an input is steady while no configuration that was sent since a block settled it ignores it',
+  'late': 'a block is late if its stamp is 65,536 ms or more after that of the latest block without C: the 16 bits of its times are then not sure',
+  'excuses': 'a load of the counter can take effect at any time after it was sent, so each excuses one breach of a rule on time',
+  'gap mark': 'an item of the record, where entries are missing: the buffer of the module had overflowed',
+  'item': 'an item of a configuration (51) says of one input whether it is reported, and its filters',
+};

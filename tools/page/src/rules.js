@@ -1,7 +1,8 @@
 // Judges a log by all rules, message by message, as `fiolog check` does. What it can't judge it counts, with the reason.
 
-import { ADVANCE_BREACHES, CONTENT_BREACHES, CONTENT_RULES, INPUTS, RULE_BREACHES, RULES } from './constants.js';
+import { ADVANCE_BREACHES, CONTENT_BREACHES, CONTENT_RULES, INPUTS, RIGHT, RULE_BREACHES, RULES } from './constants.js';
 import { LOAD, POLL, STATUS_BITS } from './library.js';
+import { TERMS } from './log_words.js';
 import { DIRECTION } from './messagelist.js';
 
 // Where a message was logged.
@@ -98,6 +99,13 @@ export class Rules {
 
 // The name of the rule that is broken.
 export const ruleOf = (breach) => (breach.isContent ? CONTENT_RULES : RULES)[breach.rule];
+
+// What the rule says that is broken, and what its words mean.
+export function ruleWords({ rule, isContent }) {
+  if (!isContent) return [`It is broken by a line that ${RULE_BREACHES[rule]}.`];
+  const terms = Object.entries(TERMS).filter(([term]) => new RegExp(`\\b${term}\\b`).test(RIGHT[rule]));
+  return [`In a right link: ${RIGHT[rule]}`, ...terms.map((pair) => `${pair.join(': ')}.`)];
+}
 
 // What was due and what came, or what the breach means.
 export function breachWords(log, place, breach) {
