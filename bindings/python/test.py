@@ -75,12 +75,27 @@ def encoded(name, numbers, text):
         return 'no message' if str(error) == 'there is no such message' else repr(error)
 
 
+def verdicts(form, text):
+    """What a reader says of a log, whole and in pieces of each length, one after another."""
+    log, logs = text.replace('~', '\n').encode(), fio2070.logs
+    reader, said = fio2070.LogReader(list(logs._FORMS)[form]), []
+    for size in range(len(log), 0, -1):
+        found = [one for at in range(0, len(log), size) for one in reader.read(log[at:at + size])] + reader.end()
+        said.append(', '.join(' '.join([
+            '%d %d %d' % (one.line, logs._KINDS.index(one.kind), logs._REASONS.index(one.reason)),
+            *(['time %d' % one.time] if one.time is not None else []), *(['said %d' % logs._SIDES.index(one.said)] if one.said else []),
+            *('frame ' + octets.hex() for octets in one.frames), *('at %d %d %d' % place for place in one.places)]) for one in found))
+    return said[0] if len(set(said)) == 1 else 'not the same in pieces: ' + ' or '.join(sorted(set(said)))
+
+
 def said_by(call, numbers, text):
     """The result of a row, or its error."""
     if call.startswith('encode_'):
         return encoded(call[7:], numbers, text)
     if call in ('widen', 'rule_text', 'content_rule_text'):
         return str(getattr(fio2070, call)(*numbers))
+    if call == 'log':
+        return verdicts(*numbers, text)
     if call.startswith('content'):
         return breaches(fio2070.ContentChecker(begun=call == 'content_begun'), text)
     octets = b'' if call.startswith('checker') else bytes.fromhex(text)
@@ -117,24 +132,6 @@ class Rows(unittest.TestCase):
 
 
 class Logs(unittest.TestCase):
-    def test_verdicts(self):
-        reader = fio2070.LogReader()
-        self.assertEqual(reader.read(LOG) + reader.end(), [
-            (1, 'frames', '', (BLOCK,), ((1, 16, 48),), 26102 * 10**6, '<'),
-            (2, 'passed over', 'no octets', (), (), None, ''),
-            (3, 'blank', '', (), (), None, '')])
-
-    def test_pieces(self):
-        text = LOG * 3 + b'the last line has no end'
-        reader = fio2070.LogReader()
-        whole = reader.read(text) + reader.end()
-        self.assertEqual([one.line for one in whole], list(range(1, 11)))
-        for size in (1, 7, 50):
-            reader, verdicts = fio2070.LogReader(), []
-            for at in range(0, len(text), size):
-                verdicts += reader.read(text[at:at + size])
-            self.assertEqual(verdicts + reader.end(), whole)
-
     def test_many_lines(self):
         # More verdicts than a batch takes.
         reader = fio2070.LogReader()
@@ -165,35 +162,18 @@ class Logs(unittest.TestCase):
     def test_forms(self):
         self.assertRaises(ValueError, fio2070.LogReader, 'other')
 
-    def test_frames_by_order(self):
-        # As `show` reads them: a frame a line.
-        text = (b'# frames\n3605\nB605018c03e700000003e8\n\n30\nzz\n36 05\n36051\n> 3605\n'
-                + b'3b' * 773 + b'\n' + b'3b' * 774 + b'\n34')
-        bad = 'damaged', 'bad line', (), (), None, ''
-        for size in (1, 7, len(text)):
-            verdicts, reader = [], fio2070.LogReader('frames')
-            for at in range(0, len(text), size):
-                verdicts += reader.read(text[at:at + size])
-            self.assertEqual(verdicts + reader.end(), [
-                (1, 'blank', '', (), (), None, ''),
-                (2, 'frames', '', (b'\x36\5',), ((2, 0, 4),), None, ''),
-                (3, 'frames', '', (BLOCK,), ((3, 0, 22),), None, ''),
-                (4, 'blank', '', (), (), None, ''),
-                (5, 'damaged', 'no message', (), (), None, ''),
-                *((line, *bad) for line in range(6, 10)),
-                (10, 'frames', '', (b';' * 773,), ((10, 0, 1546),), None, ''),
-                (11, 'damaged', 'no message', (), (), None, ''),
-                (12, 'frames', '', (b'\x34',), ((12, 0, 2),), None, '')])
+    def test_end(self):
+        # The library is asked until a batch has no verdicts.
+        reader, library = fio2070.LogReader(), fio2070.logs.c.library
+        reader.read(b'last')
+        with mock.patch.object(library, 'fio2070_log_read', wraps=library.fio2070_log_read) as read:
+            self.assertEqual(len(reader.end()), 1)
+        self.assertEqual(read.call_count, 2)
 
-    def test_transcript_by_order(self):
-        # As `check` reads it: the CPU sends commands and hears answers.
-        text = b'> 3605\n< b605018c03e700000003e8\n# 3605\n> 33\n< 3605\n> ba01\n3605\n>3605\n'
-        self.assertEqual(fio2070.LogReader('transcript').read(text), [
-            (1, 'frames', '', (b'\x36\5',), ((1, 2, 6),), None, '>'),
-            (2, 'frames', '', (BLOCK,), ((2, 2, 24),), None, '<'),
-            (3, 'blank', '', (), (), None, ''),
-            *((line, 'damaged', 'no message', (), (), None, said) for line, said in ((4, '>'), (5, '<'), (6, '>'))),
-            *((line, 'damaged', 'bad line', (), (), None, '') for line in (7, 8))])
+    def test_longest_frame_by_order(self):
+        text = b'3b' * 773 + b'\n' + b'3b' * 774 + b'\n'
+        self.assertEqual(fio2070.LogReader('frames').read(text), [
+            (1, 'frames', '', (b';' * 773,), ((1, 0, 1546),), None, ''), (2, 'damaged', 'no message', (), (), None, '')])
 
     def test_long_line_by_order(self):
         for first, verdict in ((b'#', ('blank', '')), (b'3', ('damaged', 'too long'))):

@@ -367,11 +367,11 @@ static void is_a_module(void) {
     CHECK(answers("\x33\1\x40\1\1", 5, "\xb3\1", 2) && answers("\x33\1\x0c\1\1", 5, "\xb3\0", 2));
     CHECK(answers("\x32\0\0\3\xe6", 5, "\xb2\0", 2));
     fio2070_module_line_sync(&device);
-    fio2070_module_scan(&device, ~((uint64_t)1 << 12));
+    fio2070_module_scan(&device, ~((uint64_t)1 << 12 | 1)); /* input 0 within its filter */
     CHECK(fio2070_module_counter(&device) == 999 && fio2070_module_waiting(&device) == 1);
     CHECK(fio2070_module_filtered(&device) == ~((uint64_t)1 << 12));
-    CHECK(fio2070_module_raw(&device) == ~((uint64_t)1 << 12));
-    CHECK(answers("\x34", 1, "\xb4\xff\xef\xff\xff\xff\xff\xff\xff\0\0\3\xe7", 13));
+    CHECK(fio2070_module_raw(&device) == ~((uint64_t)1 << 12 | 1));
+    CHECK(answers("\x34", 1, "\xb4\xfe\xef\xff\xff\xff\xff\xff\xff\0\0\3\xe7", 13));
     CHECK(answers("\x36\5", 2, "\xb6\5\1\x0c\3\xe7\0\0\0\3\xe7", 11));
     CHECK(answers("\x36\5", 2, "\xb6\5\1\x0c\3\xe7\2\0\0\3\xe7", 11));
     CHECK(answers("\x36\7", 2, "\xb6\7\0\1\0\0\3\xe7", 8));
@@ -461,44 +461,6 @@ static void ends_take_nulls(void) {
     CHECK(fio2070_checker_heard(&checker, NULL, 0, &breach) == 0);
 }
 
-/* A block answer, a line without octets, and a last line without an end; fed at once, and cut in two anywhere. */
-static void reads_logs(void) {
-    static const char text[] = "07:15:02.000 RX b6 05 01 8c 03 e7 00 00 00 03 e8\nno octets\nlast";
-    static const uint8_t block[] = {0xb6, 5, 1, 0x8c, 3, 0xe7, 0, 0, 0, 3, 0xe8};
-    static struct fio2070_log_reader reader;
-    static struct fio2070_log_batch batch;
-    size_t length = sizeof text - 1, cut, verdicts, frames;
-    for (cut = 0; cut <= length; cut++) {
-        size_t piece, taken;
-        verdicts = frames = 0;
-        fio2070_log_start(&reader, FIO2070_LOG_AUTO);
-        for (piece = 0; piece < 4; piece++) {
-            size_t from = piece == 1 ? cut : 0, count = piece == 0 ? cut : piece == 1 ? length - cut : 0, place;
-            if (piece == 2) fio2070_log_end(&reader);
-            taken = fio2070_log_read(&reader, (const uint8_t *)text + from, count, &batch);
-            check(taken == count, "octets of a log are taken", __LINE__);
-            for (place = 0; place < batch.verdict_count; place++) {
-                const struct fio2070_log_verdict *it = &batch.verdicts[place];
-                check(it->line == ++verdicts, "each line has its verdict", __LINE__);
-                if (it->line == 1) {
-                    check(it->kind == FIO2070_LOG_SAYS && it->frames == 1 && it->places == 1 && it->has_time == 1 &&
-                              it->time == 26102000000u,
-                          "a line with a block", __LINE__);
-                    check(batch.lengths[0] == sizeof block && memcmp(batch.octets, block, sizeof block) == 0 &&
-                              batch.places[0].line == 1 && batch.places[0].start == 16 && batch.places[0].end == 48,
-                          "its octets and their place", __LINE__);
-                    frames++;
-                } else {
-                    check(it->kind == FIO2070_LOG_PASSED_OVER && it->reason == FIO2070_LOG_NO_OCTETS && it->frames == 0,
-                          "a line without octets", __LINE__);
-                }
-            }
-            check(piece < 3 || batch.verdict_count == 0, "nothing is left", __LINE__);
-        }
-        check(verdicts == 3 && frames == 1, "a log cut in two", __LINE__);
-    }
-}
-
 /* After the end no octets are taken until each verdict is given; then they begin a new log of the same form. */
 static void reads_the_next_log(void) {
     static const char text[] = "# first\n3605\n36";
@@ -568,7 +530,6 @@ int main(void) {
     hears();
     says_what_was_heard();
     checks();
-    reads_logs();
     reads_the_next_log();
     ends_with_verdicts_due();
     refuses_limits();

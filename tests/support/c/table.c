@@ -170,6 +170,26 @@ static void say_line(const struct row *row, size_t length) {
     say_octets(out, count);
 }
 
+static void say_log(const struct row *row) {
+    static struct fio2070_log_reader reader;
+    static struct fio2070_log_batch batch;
+    size_t length = log_in(row->text, octets), size, at;
+    fio2070_log_start(&reader, (uint8_t)row->numbers[0]);
+    for (size = length; size > 0 && (size == length || strcmp(said, row->expected) == 0); size--) {
+        *said = 0;
+        for (at = 0; at < length; at += size) {
+            size_t count = length - at < size ? length - at : size;
+            if (fio2070_log_read(&reader, octets + at, count, &batch) != count) say("not taken: ");
+            say_verdicts(&batch);
+        }
+        fio2070_log_end(&reader);
+        do {
+            (void)!fio2070_log_read(&reader, NULL, 0, &batch);
+            say_verdicts(&batch);
+        } while (batch.verdict_count > 0);
+    }
+}
+
 static void run(const struct row *row) {
     const uint64_t *numbers = row->numbers;
     size_t length = octets_in(row->text, octets);
@@ -186,6 +206,7 @@ static void run(const struct row *row) {
     else if (strncmp(row->call, "checker", 7) == 0) say_breaches(row);
     else if (strncmp(row->call, "content", 7) == 0) say_content_breaches(row);
     else if (strncmp(row->call, "wire_", 5) == 0) say_line(row, length);
+    else if (is_call(row, "log")) say_log(row);
     else say("no such call");
 }
 

@@ -106,6 +106,28 @@ static std::string framed(const row &it, const List &octets) {
     return frame ? said : "no message";
 }
 
+static std::string logged(const row &it) {
+    static fio2070_log_batch batch;
+    static fio2070::LogReader reader;
+    List log(strlen(it.text));
+    log_in(it.text, log.data());
+    reader = fio2070::LogReader(static_cast<fio2070_log_form>(it.numbers[0]));
+    for (std::size_t size = log.size(); size > 0 && (size == log.size() || it.expected == std::string(said)); size--) {
+        *said = 0;
+        for (fio2070::Octets rest = log; !rest.empty();) {
+            const std::size_t taken = reader.read({rest.data(), std::min(size, rest.size())}, batch);
+            say_verdicts(&batch);
+            rest = {rest.data() + taken, rest.size() - taken};
+        }
+        reader.end();
+        do {
+            reader.read({}, batch);
+            say_verdicts(&batch);
+        } while (batch.verdict_count > 0);
+    }
+    return said;
+}
+
 static std::string run(const row &it) {
     const std::string call = it.call;
     List octets(1024);
@@ -121,6 +143,7 @@ static std::string run(const row &it) {
     if (call == "heard_text") return fio2070::Poller(static_cast<std::uint8_t>(it.numbers[0])).hear(octets).text();
     if (call.rfind("checker", 0) == 0) return judged(it);
     if (call.rfind("content", 0) == 0) return content_judged(it);
+    if (call == "log") return logged(it);
     if (call == "wire_check") return std::to_string(fio2070::wire_check(octets));
     if (call == "wire_frame") return framed(it, octets);
     return call == "show" ? fio2070::show(octets) : "no such call";

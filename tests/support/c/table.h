@@ -126,6 +126,29 @@ static void say_content_breach(const struct fio2070_content_breach *it) {
     if (it->items) say(" items %u", it->items);
 }
 
+/* Says each verdict of a batch. */
+static void say_verdicts(const struct fio2070_log_batch *batch) {
+    size_t verdict, frame = 0, octet = 0, place = 0;
+    for (verdict = 0; verdict < batch->verdict_count; verdict++) {
+        const struct fio2070_log_verdict *it = &batch->verdicts[verdict];
+        size_t frames = frame + it->frames, places = place + it->places;
+        say("%s%lu %u %u", *said ? ", " : "", (unsigned long)it->line, it->kind, it->reason);
+        if (it->has_time || it->time) say(" time %llu", (unsigned long long)it->time);
+        if (it->said) say(" said %u", it->said);
+        for (; frame < frames; octet += batch->lengths[frame++]) say(" frame "), say_octets(batch->octets + octet, batch->lengths[frame]);
+        for (; place < places; place++)
+            say(" at %lu %u %u", (unsigned long)batch->places[place].line, batch->places[place].start, batch->places[place].end);
+    }
+    if (frame != batch->frame_count || octet != batch->octet_count || place != batch->place_count) say(", and more");
+}
+
+/* A log whose lines end with `~` in a text. */
+static size_t log_in(const char *text, uint8_t *log) {
+    size_t at;
+    for (at = 0; text[at]; at++) log[at] = text[at] == '~' ? '\n' : (uint8_t)text[at];
+    return at;
+}
+
 static int is_call(const struct row *row, const char *name) { return strcmp(row->call, name) == 0; }
 
 /* The frame below one of a text of frames, or NULL. */

@@ -234,21 +234,6 @@ static void has_checkers() {
     CHECK(refused == refused && refused != fio2070_content_breach());
 }
 
-// After the end of a log octets begin the next one.
-static void reads_logs() {
-    static fio2070::LogReader reader(FIO2070_LOG_TRANSCRIPT);
-    static fio2070_log_batch batch;
-    const std::string text = "> 3605\n3605";
-    const List log(text.begin(), text.end());
-    for (int turn = 0; turn < 2; turn++) {
-        CHECK(reader.read(log, batch) == log.size() && batch.verdict_count == 1 && batch.verdicts[0].line == 1);
-        CHECK(batch.verdicts[0].kind == FIO2070_LOG_SAYS && batch.verdicts[0].said == FIO2070_LOG_FROM_CPU);
-        reader.end();
-        CHECK(reader.read(log, batch) == 0 && batch.verdict_count == 1 && batch.verdicts[0].line == 2);
-        CHECK(batch.verdicts[0].reason == FIO2070_LOG_BAD_LINE);
-    }
-}
-
 // Octets of a text, such as one of bits.
 static List list_of(const std::string &text) { return {text.begin(), text.end()}; }
 
@@ -351,7 +336,6 @@ int main() {
     constructs_a_module();
     has_parts();
     has_checkers();
-    reads_logs();
     writes_a_line();
     reads_a_line();
     reads_a_line_of_bits();

@@ -284,6 +284,7 @@ fn filters_change_after_their_samples() {
         .collect();
     assert_eq!(changes, [0, 0, 0, 0, 0, 0, 4, 0, 0, 0, 4]);
     assert_eq!((filters.raw(), filters.filtered()), (4, 4));
+    assert_eq!((filters.scan(0), filters.raw(), filters.filtered()), (0, 0, 4));
 }
 
 #[test]
@@ -295,48 +296,6 @@ fn a_counter_is_loaded_at_the_line_sync() {
     counter.line_sync();
     counter.tick();
     assert_eq!(counter.now(), 0);
-}
-
-fn told(batch: &LogBatch) -> Vec<(u64, u8, Vec<Vec<u8>>)> {
-    let frames = |frames: Frames<'_>| frames.map(<[u8]>::to_vec).collect();
-    batch
-        .verdicts()
-        .map(|one| (one.line, one.kind, frames(one.frames)))
-        .collect()
-}
-
-/// A block answer, and a line without octets.
-#[test]
-fn a_log_gives_its_frames() {
-    // Reader and batch have a megabyte, which a build for debugging copies.
-    let thread = std::thread::Builder::new().stack_size(1 << 24);
-    thread.spawn(reads_a_log).unwrap().join().unwrap();
-}
-
-fn reads_a_log() {
-    let text = b"07:15:02.000 RX b6 05 01 8c 03 e7 00 00 00 03 e8\nno octets\n";
-    let (mut reader, mut batch) = (
-        LogReader::new(constants::LOG_AUTO),
-        Box::new(LogBatch::new()),
-    );
-    // After the end octets begin the next log.
-    for _ in 0..2 {
-        let mut lines = Vec::new();
-        for piece in text.chunks(7) {
-            assert_eq!(reader.read(piece, &mut batch), piece.len());
-            lines.extend(told(&batch));
-        }
-        reader.end();
-        assert_eq!(reader.read(&[], &mut batch), 0);
-        lines.extend(told(&batch));
-        assert_eq!(
-            lines,
-            [
-                (1, constants::LOG_SAYS, vec![BLOCK.to_vec()]),
-                (2, constants::LOG_PASSED_OVER, vec![])
-            ]
-        );
-    }
 }
 
 /// What a decoder says, each with its address and its message; those of others with their control octet.

@@ -248,6 +248,50 @@ fn by_content_checker(row: &Row) -> String {
     })
 }
 
+fn verdicts_of(batch: &LogBatch, said: &mut Vec<String>) {
+    for verdict in batch.verdicts() {
+        let mut words = format!("{} {} {}", verdict.line, verdict.kind, verdict.reason);
+        words += &verdict
+            .time
+            .map_or(String::new(), |time| format!(" time {time}"));
+        if verdict.said != 0 {
+            words += &format!(" said {}", verdict.said);
+        }
+        for frame in verdict.frames {
+            words += &format!(" frame {}", hex(frame));
+        }
+        for place in verdict.places {
+            words += &format!(" at {} {} {}", place.line, place.start, place.end);
+        }
+        said.push(words);
+    }
+}
+
+/// Whole and in pieces of each length, by one reader.
+fn by_log_reader(row: &Row) -> String {
+    let log = row.text.replace('~', "\n");
+    let mut reader = Box::new(LogReader::new(row.numbers[0] as u8));
+    let (mut batch, mut said) = (Box::new(LogBatch::new()), vec![]);
+    for size in (1..=log.len()).rev() {
+        if size < log.len() && said.join(", ") != row.expected {
+            break;
+        }
+        said.clear();
+        for piece in log.as_bytes().chunks(size) {
+            assert_eq!(reader.read(piece, &mut batch), piece.len());
+            verdicts_of(&batch, &mut said);
+        }
+        reader.end();
+        while {
+            assert_eq!(reader.read(&[], &mut batch), 0);
+            batch.verdicts().next().is_some()
+        } {
+            verdicts_of(&batch, &mut said);
+        }
+    }
+    said.join(", ")
+}
+
 fn run(row: &Row) -> Result<String, Fault> {
     let (octets, mut text) = (octets_of(&row.text), [0; 4096]);
     let number = |place: usize| row.numbers[place];
@@ -274,6 +318,7 @@ fn run(row: &Row) -> Result<String, Fault> {
         }
         "checker" | "checker_anywhere" => by_checker(row),
         "content" | "content_begun" => by_content_checker(row),
+        "log" => by_log_reader(row),
         "wire_check" => wire_check(&octets).to_string(),
         "wire_frame" => {
             let mut out = [0; constants::WIRE_LONGEST];
@@ -285,6 +330,12 @@ fn run(row: &Row) -> Result<String, Fault> {
 
 #[test]
 fn each_row_of_the_table() {
+    // Reader and batch of logs have a megabyte, which a build for debugging copies.
+    let thread = std::thread::Builder::new().stack_size(1 << 24);
+    thread.spawn(run_each_row).unwrap().join().unwrap();
+}
+
+fn run_each_row() {
     let mut count = 0;
     for row in read_rows() {
         let came = run(&row).unwrap_or_else(|fault| fault.to_string());
