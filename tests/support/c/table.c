@@ -64,34 +64,20 @@ static void say_encoded(const struct row *row) {
     else say_octets(out, count);
 }
 
-/* Says the fields of a command, or a fault, with which nothing is written. */
-static void decode_command(size_t length) {
-    struct fio2070_command it, before;
-    struct fio2070_fault fault;
-    memset(&it, 9, sizeof it);
-    before = it;
-    fault = fio2070_decode_command(octets, length, &it);
-    say_fault(fault);
-    if (fault.kind != FIO2070_FAULT_NONE) {
-        if (memcmp(&it, &before, sizeof it) != 0) say(", and written");
-        return;
+/* Says the fields of a command or of an answer, or a fault, with which nothing is written. */
+#define DECODES(message)                                                                           \
+    static void decode_##message(size_t length) {                                                  \
+        struct fio2070_##message it, before;                                                       \
+        struct fio2070_fault fault;                                                                \
+        memset(&it, 9, sizeof it);                                                                 \
+        before = it;                                                                               \
+        fault = fio2070_decode_##message(octets, length, &it);                                     \
+        say_fault(fault);                                                                          \
+        if (fault.kind == FIO2070_FAULT_NONE) say_##message(&it);                                  \
+        else if (memcmp(&it, &before, sizeof it) != 0) say(", and written");                       \
     }
-    say_command(&it);
-}
-
-static void decode_answer(size_t length) {
-    struct fio2070_answer it, before;
-    struct fio2070_fault fault;
-    memset(&it, 9, sizeof it);
-    before = it;
-    fault = fio2070_decode_answer(octets, length, &it);
-    say_fault(fault);
-    if (fault.kind != FIO2070_FAULT_NONE) {
-        if (memcmp(&it, &before, sizeof it) != 0) say(", and written");
-        return;
-    }
-    say_answer(&it);
-}
+DECODES(command)
+DECODES(answer)
 
 static void list_parts(const struct row *row, size_t length) {
     int is_command = is_call(row, "command_items");

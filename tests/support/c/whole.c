@@ -1,5 +1,5 @@
-/* Whole structs: every field of what the library says of a message of each type, the fields that the type lacks among
- * them, which are 0. The octets are those of docs/PROTOCOL.md. The last line is `N passed, M failed`. */
+/* Whole structs: every field of what a poller heard and recorded, those among them that it lacks, which are 0; and the words of
+ * faults. The octets are those of docs/PROTOCOL.md. The last line is `N passed, M failed`. */
 #include "fio2070.h"
 
 #include "checks.h"
@@ -14,114 +14,7 @@ static int same_fault(const struct fio2070_fault *is, const struct fio2070_fault
            is->got == expected->got && memcmp(is->reserved, expected->reserved, sizeof is->reserved) == 0;
 }
 
-static const struct fio2070_fault no_fault = {0, 0, 0, {0}, 0};
-
-/* ---- Commands ---- */
-
-struct command_row {
-    size_t length;
-    const char *octets;
-    uint8_t code, clear, block, timeout, count;
-    uint16_t body;
-    uint32_t load;
-    const char *levels, *controls;
-};
-
 #define ZEROS "\0\0\0\0\0\0\0"
-
-static const struct command_row commands[] = {
-    {2, "\x31\xa5", 49, 0xa5, 0, 0, 0, 0, 0, ZEROS, ZEROS},
-    {5, "\x32\1\2\3\4", 50, 0, 0, 0, 0, 0, 0x01020304, ZEROS, ZEROS},
-    {2, "\x33\0", 51, 0, 0, 0, 0, 0, 0, ZEROS, ZEROS},
-    {8, "\x33\2\x0c\5\3\x83\0\0", 51, 0, 0, 0, 2, 0, 0, ZEROS, ZEROS},
-    {1, "\x34", 52, 0, 0, 0, 0, 0, 0, ZEROS, ZEROS},
-    {1, "\x35", 53, 0, 0, 0, 0, 0, 0, ZEROS, ZEROS},
-    {2, "\x36\5", 54, 0, 5, 0, 0, 0, 0, ZEROS, ZEROS},
-    {17, "\x37\1\2\3\4\5\6\7\x08\x11\x12\x13\x14\x15\x16\x17\x18", 55, 0, 0, 0, 0, 0, 0, "\1\2\3\4\5\6\7\x08",
-     "\x11\x12\x13\x14\x15\x16\x17\x18"},
-    {1, "\x38", 56, 0, 0, 0, 0, 0, 0, ZEROS, ZEROS},
-    {4, "\x38\1\2\3", 56, 0, 0, 0, 0, 3, 0, ZEROS, ZEROS},
-    {2, "\x39\1", 57, 0, 0, 0, 0, 1, 0, ZEROS, ZEROS},
-    {2, "\x3a\xc8", 58, 0, 0, 0xc8, 0, 0, 0, ZEROS, ZEROS},
-    {3, "\x3b\1\2", 59, 0, 0, 0, 0, 2, 0, ZEROS, ZEROS},
-    {1, "\x3c", 60, 0, 0, 0, 0, 0, 0, ZEROS, ZEROS},
-};
-
-static void reads_commands(void) {
-    unsigned place;
-    for (place = 0; place < ROWS(commands); place++) {
-        const struct command_row *row = &commands[place];
-        struct fio2070_command is;
-        struct fio2070_fault fault;
-        memset(&is, 0xa5, sizeof is);
-        fault = fio2070_decode_command((const uint8_t *)row->octets, row->length, &is);
-        check(same_fault(&fault, &no_fault) && is.code == row->code && is.clear == row->clear &&
-                  is.block == row->block && is.timeout == row->timeout && is.count == row->count &&
-                  is.body == row->body && is.load == row->load && memcmp(is.levels, row->levels, 8) == 0 &&
-                  memcmp(is.controls, row->controls, 8) == 0,
-              "commands", place);
-    }
-}
-
-/* ---- Answers ---- */
-
-struct answer_row {
-    size_t length;
-    const char *octets;
-    uint8_t code, flags, receive_errors, transmit_errors, status, block, count;
-    uint16_t body;
-    uint32_t stamp;
-    uint64_t inputs;
-};
-
-#define INPUTS 0x0807060504030201u
-
-static const struct answer_row answers[] = {
-    {8, "\xb1\x80\2\3\1\2\3\4", 177, 0x80, 2, 3, 0, 0, 0, 0, 0x01020304, 0},
-    {2, "\xb2\xfe", 178, 0, 0, 0, 0xfe, 0, 0, 0, 0, 0},
-    {2, "\xb3\1", 179, 0, 0, 0, 1, 0, 0, 0, 0, 0},
-    {13, "\xb4\1\2\3\4\5\6\7\x08\1\2\3\4", 180, 0, 0, 0, 0, 0, 0, 0, 0x01020304, INPUTS},
-    {13, "\xb5\1\2\3\4\5\6\7\x08\1\2\3\4", 181, 0, 0, 0, 0, 0, 0, 0, 0x01020304, INPUTS},
-    {8, "\xb6\5\0\x0f\0\0\3\xe8", 182, 0, 0, 0, 0x0f, 5, 0, 0, 1000, 0},
-    {11, "\xb6\5\1\x8c\3\xe7\2\0\0\3\xe8", 182, 0, 0, 0, 2, 5, 1, 0, 1000, 0},
-    {1, "\xb7", 183, 0, 0, 0, 0, 0, 0, 0, 0, 0},
-    {6, "\xb7\0\0\0\0\5", 183, 0, 0, 0, 0, 0, 0, 5, 0, 0},
-    {3, "\xb8\1\2", 184, 0, 0, 0, 0, 0, 0, 2, 0, 0},
-    {2, "\xb9\1", 185, 0, 0, 0, 0, 0, 0, 1, 0, 0},
-    {2, "\xba\1", 186, 0, 0, 0, 1, 0, 0, 0, 0, 0},
-    {4, "\xbb\1\2\3", 187, 0, 0, 0, 0, 0, 0, 3, 0, 0},
-    {2, "\xbc\2", 188, 0, 0, 0, 0, 0, 0, 1, 0, 0},
-};
-
-static void reads_answers(void) {
-    unsigned place;
-    for (place = 0; place < ROWS(answers); place++) {
-        const struct answer_row *row = &answers[place];
-        struct fio2070_answer is;
-        struct fio2070_fault fault;
-        memset(&is, 0xa5, sizeof is);
-        fault = fio2070_decode_answer((const uint8_t *)row->octets, row->length, &is);
-        check(same_fault(&fault, &no_fault) && is.code == row->code && is.flags == row->flags &&
-                  is.receive_errors == row->receive_errors && is.transmit_errors == row->transmit_errors &&
-                  is.status == row->status && is.block == row->block && is.count == row->count &&
-                  is.body == row->body && is.stamp == row->stamp && is.inputs == row->inputs,
-              "answers", place);
-    }
-}
-
-/* Each answer that is a type and a body is written as it is read. */
-static void writes_bodies(void) {
-    uint8_t out[FIO2070_LONGEST_FRAME];
-    unsigned place;
-    for (place = 0; place < ROWS(answers); place++) {
-        const struct answer_row *row = &answers[place];
-        const uint8_t *octets = (const uint8_t *)row->octets;
-        int is_body = row->code >= 183 && row->code != 186;
-        size_t count = fio2070_encode_other_answer(row->code, octets + 1, row->length - 1, out, sizeof out);
-        check(is_body ? count == row->length && memcmp(out, octets, count) == 0 : count == FIO2070_NO_MESSAGE,
-              "answers with a body", place);
-    }
-}
 
 /* ---- What a poller hears ---- */
 
@@ -229,9 +122,6 @@ static void says_faults(void) {
 
 int main(void) {
     check(fio2070_version() == FIO2070_VERSION, "version", 0);
-    reads_commands();
-    reads_answers();
-    writes_bodies();
     hears();
     records();
     says_faults();
