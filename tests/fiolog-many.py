@@ -121,6 +121,28 @@ def check_files(check, paths):
     check.equal('a file that cannot be read', (3, True), (done.status, 'no-such-file: No such file' in done.err))
 
 
+def check_stats(check):
+    """What `stats` counts: blocks, response times, and answers that were lost at the end of a file."""
+    def numbers(text):
+        return json.loads(fiolog('stats', '--json', text=text).out)
+    block = '> 3605\n< b605010c000a0%d0000000b\n'
+    check.equal('a block with E on a number that is new', 1, numbers(block % 2)['entries'])
+    check.equal('a block that is sent again', 1, numbers(block % 0 + block % 2)['entries'])
+    rounds = ['10:00:00.%d00000 TX 36 0%d\n10:00:00.%s RX B6 0%d 00 00 00 00 00 01\n' % (number, number, at, number)
+              for number, at in ((1, '101500'), (2, '202250'), (3, '309000'))]
+    for count, expected in ((1, (1.5, 1.5, 1.5)), (2, (2.25, 2.25, 2.25)), (3, (2.25, 9, 9))):
+        times = numbers(''.join(rounds[:count]))['response_ms']
+        check.equal('response times of %d polls' % count, (count, *expected), tuple(times.values()))
+    with tempfile.TemporaryDirectory() as folder:
+        paths = [os.path.join(folder, name) for name in ('open', 'whole')]
+        for path, last in zip(paths, ('> 3606\n', '')):
+            with open(path, 'w', encoding='ascii') as file:
+                file.write(block % 0 + last)
+        for order in (paths, paths[::-1]):
+            rows = [json.loads(line) for line in fiolog('stats', '--json', *order).out.splitlines()]
+            check.equal('a poll at the end of the %s of two logs' % ('first' if order is paths else 'second'), 1, rows[-1]['summary']['answers_lost'])
+
+
 def check_dask(check, folder):
     """The snippet of docs/CAPTURES.md over all files."""
     python = '/usr/bin/python3'
@@ -194,6 +216,7 @@ def main():
     check_parts(check)
     check_unjudged(check)
     check_lost(check)
+    check_stats(check)
     with tempfile.TemporaryDirectory() as folder:
         paths = write_logs(folder)
         check_files(check, paths)

@@ -115,6 +115,48 @@ def check_except(check):
         check.equal('--except of a live line', (1, 0), (fiolog('live', '--fifo', path).status, fiolog('live', '--except', 'advance', '--fifo', path).status))
 
 
+def check_places(check):
+    """What is judged below damage, with limits, at the module's end, and in the second of two files."""
+    good, cut = '> 3605\n< b60500000000000a\n> 3606\n', '< b6060000\n'
+    lost = '> 3607\n< b607010c000a040000000b\n'
+    from fio2070 import wire_check
+    spelled = [bytes.fromhex('1483' + octets) for octets in ('3605', 'b60500000000000a', '3606', 'b60600000000000b', '3607')]
+    checked = ''.join('%s %s\n' % ('><'[place % 2], (octets + (wire_check(octets) ^ (place == 3)).to_bytes(2, 'little')).hex(' '))
+                      for place, octets in enumerate(spelled))
+    for name, words, text, expected in (
+            ('the limits hold below damage', ['--limits', '255', '64'], good + cut + lost, []),
+            ('as do the standard ones', [], good + cut + lost, ['line 6: limits']),
+            ('below other damage nobody is', [], good + cut + '> 3607\n', []),
+            ('the CPU did not hear a wrong check', ['--sdlc', '--at', 'cpu'], checked, ['line 5: advance']),
+            ('on the bus it may have', ['--sdlc', '--at', 'bus'], checked, []),
+            ('the state of an entry below a gap mark', ['--limits', '255', '64'], good + '< b606028c000b8c000d040000000e\n', ['line 4: alternate: input 12 went to 1 twice'])):
+        found = fiolog('check', *words, text=text).out
+        check.equal('judged: %s' % name, expected, re.findall(r'^line \d+: \w+(?:: input[^,]*)?', found, re.M))
+    again = '%s 36 05\n%s B6 05 00 00 00 00 00 01\n%s 36 05\n%s B6 05 00 02 00 00 00 01\n'
+    for name, sides, status in (('the CPU', ('TX', 'RX'), 1), ('the module', ('RX', 'TX'), 0)):
+        done = fiolog('check', text=again % (sides * 2))
+        check.equal('a block that is asked for again, in a log of %s' % name, (status, bool(status)), (done.status, 'line 3: advance' in done.out))
+    with tempfile.TemporaryDirectory() as folder:
+        paths = [os.path.join(folder, name) for name in ('first', 'second')]
+        for path in paths:
+            with open(path, 'w', encoding='ascii') as file:
+                file.write('> 34\n< b301\n' + good)
+        for words, count in ((['--start-at-poll'], 0), ([], 2)):
+            check.equal('record %s of two files' % ' '.join(words), count, fiolog('record', *words, *paths).out.count('breaks pair'))
+
+
+def check_said(check):
+    """Why lines are passed over, the text of each, and octets without a zero first."""
+    frames = 'TX 36 05\nRX B6 05 00 00 00 00 00 01\n'
+    text = 'hello\n' * 3 + '01 02 03 04\n' * 2 + 'RX B6 05 01 8C 03 E7 00 00 00 03 E8 A4 7C\n' + frames
+    reasons = re.findall(r'(\d) lines? passed over \((\d) [^,]*, (\d) [^,]*, (\d) [^,)]*\)', fiolog('check', text=text).out)
+    check.equal('three reasons', [('6', '3', '2', '1')], reasons)
+    named = re.findall(r'line (\d): no octets: (\w+)', fiolog('check', '-v', text=frames + 'one\ntwo\nthree\n').err)
+    check.equal('the text of each line', [('3', 'one'), ('4', 'two'), ('5', 'three')], named)
+    done = fiolog('check', text='TX 0x36 0x5\nRX 0xb6 0x5 0x0 0x0 0x0 0x0 0x0 0x1\n')
+    check.holds('octets without zeros', '2 frames have octets as numbers without zeros before them' in done.err, done.err)
+
+
 def check_hints(check):
     """What is to be tried is said where it helps."""
     begin, late = 'try --start-at-poll', 'try --late-answers'
@@ -134,7 +176,7 @@ def check_hints(check):
 def main():
     check = Check()
     use_library(check, 'what fiolog judges')
-    for part in (check_beginning, check_except, check_explained, check_hints, check_cures, check_few):
+    for part in (check_beginning, check_except, check_explained, check_places, check_said, check_hints, check_cures, check_few):
         part(check)
     check.end()
 
