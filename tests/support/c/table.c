@@ -156,6 +156,49 @@ static void say_line(const struct row *row, size_t length) {
     say_octets(out, count);
 }
 
+/* Says what a line says: a frame is held after that, and none else. */
+static void say_at_flag(uint8_t heard, const uint8_t *frame, size_t length) {
+    static const char *const kinds[] = {"", "own", "other", "damaged"};
+    int is_frame = heard == FIO2070_WIRE_MESSAGE || heard == FIO2070_WIRE_OTHER;
+    if (is_frame != (length > 0)) say("held: ");
+    if (heard == FIO2070_WIRE_NOTHING) return;
+    say("%s%s", *said ? ", " : "", heard < 4 ? kinds[heard] : "?");
+    if (is_frame) say(" %02x %02x ", frame[0], frame[1]), say_octets(frame + 2, length);
+}
+
+/* By the call for many, which leaves the same struct as that for one. */
+#define READS(kind, unit, length_of, lose)                                                         \
+    static void read_##kind(const struct row *row, int is_many) {                                  \
+        static struct fio2070_##kind it, by_one;                                                   \
+        const char *part = row->text;                                                              \
+        fio2070_##kind##_start(&it, (uint16_t)row->numbers[0], (uint16_t)row->numbers[1]);         \
+        for (; part != NULL; part = next_frame(part)) {                                            \
+            size_t length = length_of, at = 0, more = 1;                                           \
+            uint8_t heard = 9;                                                                     \
+            if (part != row->text) lose;                                                           \
+            for (; at < length; at += more) {                                                      \
+                if (is_many) more = fio2070_##kind##_read_many(&it, octets + at, length - at, &heard); \
+                else heard = fio2070_##kind##_read(&it, unit);                                     \
+                if (more == 0 || more > length - at) say("no end"), more = length;                 \
+                if (is_many && heard == FIO2070_WIRE_NOTHING && at + more < length) say("too early"); \
+                say_at_flag(heard, it.octets, fio2070_##kind##_message_length(&it));               \
+            }                                                                                      \
+        }                                                                                          \
+        if (is_many && memcmp(&it, &by_one, sizeof it) != 0) say(" otherwise by many");            \
+        memcpy(&by_one, &it, sizeof it);                                                           \
+    }
+READS(wire, octets[at], octets_in(part, octets), fio2070_wire_lose(&it))
+READS(wire_bits, octets[at] == '1', log_in(part, octets), say("lost"))
+
+static void say_heard_line(const struct row *row) {
+    int is_many;
+    for (is_many = 0; is_many < 2 && (!is_many || strcmp(said, row->expected) == 0); is_many++) {
+        *said = 0;
+        if (is_call(row, "wire")) read_wire(row, is_many);
+        else read_wire_bits(row, is_many);
+    }
+}
+
 static void say_log(const struct row *row) {
     static struct fio2070_log_reader reader;
     static struct fio2070_log_batch batch;
@@ -191,6 +234,7 @@ static void run(const struct row *row) {
     else if (is_call(row, "heard_text")) say_heard(row, length);
     else if (strncmp(row->call, "checker", 7) == 0) say_breaches(row);
     else if (strncmp(row->call, "content", 7) == 0) say_content_breaches(row);
+    else if (is_call(row, "wire") || is_call(row, "wire_bits")) say_heard_line(row);
     else if (strncmp(row->call, "wire_", 5) == 0) say_line(row, length);
     else if (is_call(row, "log")) say_log(row);
     else say("no such call");

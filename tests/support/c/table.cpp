@@ -106,6 +106,39 @@ static std::string framed(const row &it, const List &octets) {
     return frame ? said : "no message";
 }
 
+// What a decoder says at a flag.
+static void append(std::string &words, const fio2070::WireHeard &heard) {
+    const char *kinds[] = {"", "own", "other", "damaged"};
+    *said = 0;
+    if (heard.kind() != FIO2070_WIRE_DAMAGED) {
+        say(" %02x %02x ", heard.address(), heard.control());
+        say_octets(heard.message().begin(), heard.message().size());
+    }
+    words += (words.empty() ? "" : ", ") + std::string(kinds[heard.kind()]) + said;
+}
+
+static void lose(fio2070::Wire &wire) { wire.lose(); }
+static void lose(fio2070::WireBits &) {}
+
+// By one octet a call, and by the call for many.
+template <typename Decoder>
+static std::string heard_line(const row &it) {
+    Decoder by_one(static_cast<std::uint16_t>(it.numbers[0]), static_cast<std::uint16_t>(it.numbers[1])), by_many = by_one;
+    std::string one, many;
+    for (const char *part = it.text; part; part = next_frame(part)) {
+        List line(1024);
+        line.resize(is_call(&it, "wire") ? octets_in(part, line.data()) : log_in(part, line.data()));
+        if (part != it.text) lose(by_one), lose(by_many);
+        for (std::uint8_t octet : line) {
+            if (auto heard = by_one.read(octet)) append(one, *heard);
+        }
+        fio2070::Octets rest = line;
+        while (auto heard = by_many.read(rest)) append(many, *heard);
+        if (!rest.empty()) many += " and not all";
+    }
+    return one == many ? one : one + " by one, but by many " + many;
+}
+
 static std::string logged(const row &it) {
     static fio2070_log_batch batch;
     static fio2070::LogReader reader;
@@ -144,6 +177,8 @@ static std::string run(const row &it) {
     if (call.rfind("checker", 0) == 0) return judged(it);
     if (call.rfind("content", 0) == 0) return content_judged(it);
     if (call == "log") return logged(it);
+    if (call == "wire") return heard_line<fio2070::Wire>(it);
+    if (call == "wire_bits") return heard_line<fio2070::WireBits>(it);
     if (call == "wire_check") return std::to_string(fio2070::wire_check(octets));
     if (call == "wire_frame") return framed(it, octets);
     return call == "show" ? fio2070::show(octets) : "no such call";

@@ -234,94 +234,21 @@ static void has_checkers() {
     CHECK(refused == refused && refused != fio2070_content_breach());
 }
 
-// Octets of a text, such as one of bits.
-static List list_of(const std::string &text) { return {text.begin(), text.end()}; }
-
-static std::string bits_of(const List &octets) {
-    std::string bits;
-    int ones = 0;
-    for (std::uint8_t octet : octets) {
-        for (int place = 0; place < 8; place++) {
-            bool is_one = octet >> place & 1;
-            bits += is_one ? '1' : '0';
-            ones = is_one ? ones + 1 : 0;
-            if (ones == 5) bits += '0', ones = 0;
-        }
-    }
-    return bits;
-}
-
-// What a decoder says, in words: own frames, those of others, damage.
-static void append(std::string &words, const fio2070::WireHeard &heard) {
-    const char *kinds[] = {"", "own", "other", "damaged"};
-    words += (words.empty() ? "" : ", ") + std::string(kinds[heard.kind()]);
-    if (heard.kind() != FIO2070_WIRE_DAMAGED) {
-        words += " " + std::to_string(heard.address()) + " " + std::to_string(heard.control());
-        for (std::uint8_t octet : heard.message()) words += " " + std::to_string(octet);
-    }
-}
-
-// The same by one octet a call, and by the call for many.
-template <typename Decoder>
-static std::string said(const List &line, Decoder by_one) {
-    std::string one, many;
-    Decoder by_many = by_one;
-    for (std::uint8_t octet : line) {
-        if (auto heard = by_one.read(octet)) append(one, *heard);
-    }
-    fio2070::Octets rest = line;
-    while (auto heard = by_many.read(rest)) append(many, *heard);
-    return one == many && rest.empty() ? one : one + " by one, but by many " + many;
-}
-
-// Those of a module, and others.
-static const fio2070::Wire OWN(FIO2070_WIRE_ADDRESS, FIO2070_WIRE_CONTROL), OTHER(21, FIO2070_WIRE_CONTROL);
-static const fio2070::WireBits OWN_BITS(FIO2070_WIRE_ADDRESS, FIO2070_WIRE_CONTROL), OTHER_BITS(FIO2070_WIRE_ANY, 0);
-
 static void writes_a_line() {
-    CHECK(fio2070::wire_check(list_of("123456789")) == 0x906e && fio2070::wire_check({}) == 0);
+    const List digits = {'1', '2', '3', '4', '5', '6', '7', '8', '9'};
+    CHECK(fio2070::wire_check(digits) == 0x906e && fio2070::wire_check({}) == 0);
     CHECK(*fio2070::wire_frame({0x36, 0x7e}) == List({0x7e, 0x14, 0x83, 0x36, 0x7d, 0x5e, 0x90, 0xd6, 0x7e}));
     CHECK(!fio2070::wire_frame({}) && !fio2070::wire_frame(List(774, 0)) && fio2070::wire_frame(List(773, 0x7e))->size() > 1550);
-    CHECK(said(*fio2070::wire_frame({0x7e, 0x7d}, 0x7d, 0x7e), fio2070::Wire(FIO2070_WIRE_ANY, 0x7e)) == "own 125 126 126 125");
 }
 
 static void reads_a_line() {
     const List shared = {0x7e, 0x14, 0x83, 0x36, 1, 0xe0, 0x5d, 0x7e, 0x14, 0x83, 0x36, 2, 0x7b, 0x6f, 0x7e};
-    CHECK(said(shared, OWN) == "own 20 131 54 1, own 20 131 54 2");
-    CHECK(said(shared, OTHER) == "other 20 131 54 1, other 20 131 54 2");
-    CHECK(said(shared, fio2070::Wire(FIO2070_WIRE_ANY, 0)) == "other 20 131 54 1, other 20 131 54 2");
-    CHECK(said({0x7e, 0x14, 0x83, 0x36, 5, 0xc4, 0x1b, 0x7d, 0x7e}, OWN) == "damaged");
-    CHECK(said({0x7e, 0xff, 0xff, 0xff, 0xff, 0x7e}, OWN) == "damaged");
-    CHECK(said({0x14, 0x83, 0x36, 5, 0xc4, 0x1b, 0x7e, 0x7e}, OWN).empty() && said({}, OWN).empty());
-    fio2070::Wire wire = OWN;
-    const List frame = *fio2070::wire_frame({0x36, 5});
-    for (std::size_t place = 0; place <= frame.size(); place++) {
-        fio2070::Octets before(frame.data(), place), after(frame.data() + place, frame.size() - place), next = frame;
-        std::string words;
-        wire = OWN;
-        while (auto heard = wire.read(before)) append(words, *heard);
-        wire.lose();
-        while (auto heard = wire.read(after)) append(words, *heard);
-        while (auto heard = wire.read(next)) append(words, *heard);
-        CHECK(words == (place == 0 ? "own 20 131 54 5, own 20 131 54 5" :
-                        place < frame.size() ? "damaged, own 20 131 54 5" : "own 20 131 54 5, damaged, own 20 131 54 5"));
-    }
-    fio2070::Octets rest = shared;
+    const List longest = *fio2070::wire_frame(List(773, 0x7d), 0x7d, 0x7e);
+    fio2070::Wire wire(FIO2070_WIRE_ADDRESS, FIO2070_WIRE_CONTROL), any(FIO2070_WIRE_ANY, 0x7e);
+    fio2070::Octets rest = shared, all = longest;
     auto first = wire.read(rest), second = wire.read(rest);
     CHECK(first->is_message() && octets(first->message()) == List({0x36, 1}) && octets(second->message()) == List({0x36, 2}));
-}
-
-static void reads_a_line_of_bits() {
-    const std::string flag = "01111110", poll = bits_of({0x14, 0x83, 0x36, 5, 0xc4, 0x1b});
-    const std::string full = bits_of({0x14, 0x83, 0xff, 0xff, 0xa3, 0x5e});
-    CHECK(said(list_of("110" + flag + poll + flag), OWN_BITS) == "own 20 131 54 5");
-    CHECK(said(list_of(flag + poll + flag + poll + flag), OTHER_BITS) == "other 20 131 54 5, other 20 131 54 5");
-    CHECK(said(list_of(flag + poll + flag + flag.substr(1) + poll + flag), OWN_BITS) == "own 20 131 54 5, own 20 131 54 5");
-    CHECK(said(list_of(flag + poll + "1111111" + flag + "11111111" + flag + poll + flag), OWN_BITS) ==
-          "damaged, own 20 131 54 5");
-    CHECK(said(list_of(flag + poll + "0" + flag), OWN_BITS) == "damaged");
-    CHECK(said(list_of(flag + bits_of({0xff, 0xff, 0xff, 0xff}) + flag), OWN_BITS) == "damaged");
-    CHECK(full.size() == 51 && said(list_of(flag + full + flag), OWN_BITS) == "own 20 131 255 255");
+    CHECK(octets(any.read(all)->message()) == List(773, 0x7d) && all.empty());
 }
 
 int main() {
@@ -338,7 +265,6 @@ int main() {
     has_checkers();
     writes_a_line();
     reads_a_line();
-    reads_a_line_of_bits();
     std::printf("%d passed, %d failed\n", passed, failed);
     return failed != 0;
 }

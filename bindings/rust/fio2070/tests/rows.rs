@@ -284,7 +284,8 @@ fn filters_change_after_their_samples() {
         .collect();
     assert_eq!(changes, [0, 0, 0, 0, 0, 0, 4, 0, 0, 0, 4]);
     assert_eq!((filters.raw(), filters.filtered()), (4, 4));
-    assert_eq!((filters.scan(0), filters.raw(), filters.filtered()), (0, 0, 4));
+    assert_eq!(filters.scan(0), 0);
+    assert_eq!((filters.raw(), filters.filtered()), (0, 4));
 }
 
 #[test]
@@ -327,37 +328,6 @@ fn read_line(mut wire: Wire, line: &[u8]) -> Vec<String> {
     many
 }
 
-/// The same of a line of bits.
-fn read_bits(mut bits: WireBits, line: &str) -> Vec<String> {
-    let (mut by_many, mut rest, mut many) = (bits.clone(), line.as_bytes(), Vec::new());
-    while let Some(heard) = by_many.read_many(&mut rest) {
-        many.push(said(heard));
-    }
-    let one: Vec<String> = line
-        .bytes()
-        .filter_map(|bit| bits.read(bit).map(said))
-        .collect();
-    assert_eq!((one, rest), (many.clone(), &[][..]));
-    many
-}
-
-/// Octets as bits, lowest first, with a 0 after each five ones.
-fn bits_of(octets: &[u8]) -> String {
-    let (mut bits, mut ones) = (String::new(), 0);
-    for place in 0..8 * octets.len() {
-        let is_one = octets[place / 8] >> (place % 8) & 1 == 1;
-        bits.push(if is_one { '1' } else { '0' });
-        ones = if is_one { ones + 1 } else { 0 };
-        if ones == 5 {
-            bits.push('0');
-            ones = 0;
-        }
-    }
-    bits
-}
-
-const POLL_LINE: [u8; 8] = [0x7e, 0x14, 0x83, 0x36, 5, 0xc4, 0x1b, 0x7e];
-
 fn own() -> Wire {
     Wire::new(Some(constants::WIRE_ADDRESS), Some(constants::WIRE_CONTROL))
 }
@@ -374,80 +344,6 @@ fn a_line_is_written() {
     assert_eq!(
         read_line(Wire::new(None, None), line),
         [format!("own 125 {longest:?}")]
-    );
-}
-
-#[test]
-fn a_line_is_read() {
-    let shared = [
-        0x7e, 0x14, 0x83, 0x36, 1, 0xe0, 0x5d, 0x7e, 0x14, 0x83, 0x36, 2, 0x7b, 0x6f, 0x7e,
-    ];
-    assert_eq!(
-        read_line(own(), &shared),
-        ["own 20 [54, 1]", "own 20 [54, 2]"]
-    );
-    for wire in [Wire::new(Some(21), None), Wire::new(None, Some(0))] {
-        assert_eq!(
-            read_line(wire, &shared),
-            ["other 20 131 [54, 1]", "other 20 131 [54, 2]"]
-        );
-    }
-    let aborted = [0x7e, 0x14, 0x83, 0x36, 5, 0xc4, 0x1b, 0x7d, 0x7e];
-    assert_eq!(read_line(own(), &aborted), ["damaged"]);
-    let no_message = [0x7e, 0xff, 0xff, 0xff, 0xff, 0x7e];
-    assert_eq!(read_line(own(), &no_message), ["damaged"]);
-    assert!(read_line(own(), &POLL_LINE[1..]).is_empty());
-    assert!(read_line(own(), &[0x7e; 3]).is_empty());
-}
-
-#[test]
-fn an_octet_that_is_lost_damages_its_part() {
-    for place in 0..=POLL_LINE.len() {
-        let mut wire = own();
-        let mut words = Vec::new();
-        words.extend(
-            POLL_LINE[..place]
-                .iter()
-                .filter_map(|octet| wire.read(*octet).map(said)),
-        );
-        wire.lose();
-        words.extend(read_line(wire, &[&POLL_LINE[place..], &POLL_LINE].concat()));
-        let due: &[&str] = match place {
-            0 => &["own 20 [54, 5]", "own 20 [54, 5]"],
-            8 => &["own 20 [54, 5]", "damaged", "own 20 [54, 5]"],
-            _ => &["damaged", "own 20 [54, 5]"],
-        };
-        assert_eq!(words, due, "at {place}");
-    }
-}
-
-#[test]
-fn a_line_of_bits_is_read() {
-    let own = WireBits::new(Some(constants::WIRE_ADDRESS), Some(constants::WIRE_CONTROL));
-    let (flag, poll) = ("01111110", bits_of(&POLL_LINE[1..7]));
-    let full = bits_of(&[0x14, 0x83, 0xff, 0xff, 0xa3, 0x5e]);
-    let empty = bits_of(&[0xff; 4]);
-    for (line, due) in [
-        (format!("110{flag}{poll}{flag}"), &["own 20 [54, 5]"][..]),
-        (format!("{flag}{full}{flag}"), &["own 20 [255, 255]"]),
-        (
-            format!("{flag}{poll}{flag}{poll}{flag}1111110{poll}{flag}"),
-            &["own 20 [54, 5]", "own 20 [54, 5]", "own 20 [54, 5]"],
-        ),
-        (
-            format!("{flag}{poll}1111111{flag}11111111{flag}{poll}{flag}"),
-            &["damaged", "own 20 [54, 5]"],
-        ),
-        (
-            format!("{flag}{poll}0{flag}{empty}{flag}"),
-            &["damaged", "damaged"],
-        ),
-    ] {
-        assert_eq!(read_bits(own.clone(), &line), due, "{line}");
-    }
-    assert_eq!(
-        read_bits(WireBits::new(None, Some(0)), &format!("{flag}{poll}{flag}")),
-        ["other 20 131 [54, 5]"]
     );
 }
 

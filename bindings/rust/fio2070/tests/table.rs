@@ -248,6 +248,50 @@ fn by_content_checker(row: &Row) -> String {
     })
 }
 
+fn heard_words(heard: WireHeard<'_>) -> String {
+    let (kind, address, control, message) = match heard {
+        WireHeard::Damaged => return "damaged".to_string(),
+        WireHeard::Message {
+            address,
+            control,
+            message,
+        } => ("own", address, control, message),
+        WireHeard::Other {
+            address,
+            control,
+            message,
+        } => ("other", address, control, message),
+    };
+    format!("{kind} {address:02x} {control:02x} {}", hex(message))
+}
+
+/// What a decoder says of a line, by one octet a call and by the call for many.
+macro_rules! heard_line {
+    ($row:expr, $decoder:ident, $octets_of:expr, $lose:expr) => {{
+        let any = |place: usize| u8::try_from($row.numbers[place]).ok();
+        let mut by_one = $decoder::new(any(0), any(1));
+        let (mut by_many, mut one, mut many) = (by_one.clone(), vec![], vec![]);
+        for (place, part) in $row.text.split(", ").enumerate() {
+            let line = $octets_of(part);
+            if place > 0 {
+                $lose(&mut by_one);
+                $lose(&mut by_many);
+            }
+            one.extend(
+                line.iter()
+                    .filter_map(|octet| by_one.read(*octet).map(heard_words)),
+            );
+            let mut rest = &line[..];
+            while let Some(heard) = by_many.read_many(&mut rest) {
+                many.push(heard_words(heard));
+            }
+            assert!(rest.is_empty());
+        }
+        assert_eq!(one, many);
+        one.join(", ")
+    }};
+}
+
 fn verdicts_of(batch: &LogBatch, said: &mut Vec<String>) {
     for verdict in batch.verdicts() {
         let mut words = format!("{} {} {}", verdict.line, verdict.kind, verdict.reason);
@@ -319,6 +363,8 @@ fn run(row: &Row) -> Result<String, Fault> {
         "checker" | "checker_anywhere" => by_checker(row),
         "content" | "content_begun" => by_content_checker(row),
         "log" => by_log_reader(row),
+        "wire" => heard_line!(row, Wire, octets_of, Wire::lose),
+        "wire_bits" => heard_line!(row, WireBits, str::as_bytes, |_: &mut WireBits| ()),
         "wire_check" => wire_check(&octets).to_string(),
         "wire_frame" => {
             let mut out = [0; constants::WIRE_LONGEST];
