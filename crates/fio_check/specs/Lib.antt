@@ -19,4 +19,5 @@ pub mod ContentFaults
 pub mod ContentCheckers
 pub mod ContentKept
 pub mod ContentLaws
+pub mod LinkJudges
 pub mod Finding

@@ -37,7 +37,9 @@ mod input_sets;
 pub mod laws;
 mod limits;
 mod line;
+mod link_judge;
 mod observation;
+mod outcome;
 mod rules;
 mod verdict;
 
@@ -48,5 +50,6 @@ pub use facts::Facts;
 pub use limits::Limits;
 pub use line::Line;
 pub use observation::Observation;
+pub use outcome::{Excuse, LogPlace, Outcome, Unjudged};
 pub use rules::{Rule, rule_broken, rule_broken_within};
 pub use verdict::{Verdict, check_trace};

@@ -1,0 +1,249 @@
+-- The judge of a link: what it says of each frame of a log in which lines may be lost, of a module that may be restarted and
+-- whose counter may be loaded.
+--
+-- It is both checkers of such a log. The place is *lost* below a line that is lost, a restart, a load that took effect, and a
+-- breach of a rule on transcripts: nothing is judged till the next poll, at which both checkers begin anew.
+use Rattle.std.specs.Prelude.{ℕ, ◌==◌, Bool, ◌&&◌, ◌||◌, true, false, List, [], ◌∷◌, ◌++◌, Option, Some, None, max, nat_lt, not, option_and_then, if◌then◌else◌}
+use Rattle.fio_check.specs.Checkers.{checker_anywhere, checker_below_breach, checker_with, checker_within, found_by, passes_over}
+use Rattle.fio_check.specs.ContentAbove.{one_excuse_less}
+use Rattle.fio_check.specs.ContentCheckers.{ContentChecking, checking_at_start, checking_with, found_in_frame}
+use Rattle.fio_check.specs.ContentFacts.{no_content}
+use Rattle.fio_check.specs.ContentSaid.{is_before, stamp_of}
+use Rattle.fio_check.specs.Lines.{answer_from}
+use Rattle.fio_check.specs.Observations.{observation_in}
+use Rattle.fio_check.specs.Places.{is_some_and}
+use Rattle.fio_check.specs.declared.checker.Breach.{Breach}
+use Rattle.fio_check.specs.declared.checker.Checker.{Checker}
+use Rattle.fio_check.specs.declared.checker.Skips.{Skips}
+use Rattle.fio_check.specs.declared.checker.Skips.TheVariants.{ToCommand, ToPoll}
+use Rattle.fio_check.specs.declared.content.ContentBreach.{ContentBreach}
+use Rattle.fio_check.specs.declared.content_rules.ContentRule.{ContentRule}
+use Rattle.fio_check.specs.declared.content_rules.ContentRule.TheVariants.{Watchdog}
+use Rattle.fio_check.specs.declared.facts.Facts.{Facts}
+use Rattle.fio_check.specs.declared.limits.Limits.{Limits}
+use Rattle.fio_check.specs.declared.observation.Observation.{Observation}
+use Rattle.fio_check.specs.declared.observation.Observation.TheVariants.{Poll}
+use Rattle.fio_check.specs.declared.outcome.Excuse.TheVariants.{Load, Unheard}
+use Rattle.fio_check.specs.declared.outcome.LogPlace.{LogPlace}
+use Rattle.fio_check.specs.declared.outcome.LogPlace.TheVariants.{Cpu}
+use Rattle.fio_check.specs.declared.outcome.Outcome.{Outcome}
+use Rattle.fio_check.specs.declared.outcome.Outcome.TheVariants.{Kept, Broken, BrokenContent, Excused, Restarted, NotJudged}
+use Rattle.fio_check.specs.declared.outcome.Unjudged.{Unjudged}
+use Rattle.fio_check.specs.declared.outcome.Unjudged.TheVariants.{AboveCommand, PlaceLost}
+
+-- what a judge keeps
+pub record Judging : Type 0 where
+  pub checker : Checker
+  pub content : ContentChecking
+  -- the latest stamp that was judged, but of a block that is sent again
+  pub latest : Option ℕ
+  -- lines are lost below it
+  pub lost : Bool
+
+-- ---- where it begins
+
+-- above the first line of a log that begins anywhere, of a module with these limits
+abbrev pub judging_anywhere : Limits → Judging
+judging_anywhere limits = record {
+  checker = checker_anywhere limits;
+  content = checking_at_start false;
+  latest = None;
+  lost = false;
+}
+
+-- above the first line of a log that begins with both ends
+abbrev pub judging_begun : Limits → Judging
+judging_begun limits = record {
+  checker = checker_within limits;
+  content = checking_at_start true;
+  latest = None;
+  lost = false;
+}
+
+-- ---- where the place is lost
+
+-- a checker of the rules on content that knows nothing of what is above but this many loads of the counter, which may still take
+-- effect
+abbrev pub checking_again : ℕ → ContentChecking
+checking_again loads = record {
+  begun = false;
+  kept = record { number = None; facts = record no_content { excuses = loads } };
+}
+
+-- the loads of the counter that may still take effect: those that were sent and have excused no breach yet
+abbrev pub loads_left : Judging → ℕ
+loads_left judging = judging.content.kept.facts.excuses
+
+-- the checker of the rules on content where this many loads may still take effect
+abbrev pub with_loads : ℕ → ContentChecking → ContentChecking
+with_loads loads content =
+    record content { kept = record content.kept { facts = record content.kept.facts { excuses = loads } } }
+
+-- The place is lost below a stamp, if there is one, that is taken for the time of a counter that was set anew. This many loads
+-- may still take effect.
+abbrev pub place_lost : Judging → ℕ → Option ℕ → Judging
+place_lost judging loads stamp = record {
+  checker = checker_below_breach judging.checker.limits;
+  content = checking_again loads;
+  latest = stamp;
+  lost = false;
+}
+
+-- the checker of transcripts below lines that are lost: above the first command it passes over what it passes over anyway
+abbrev pub checker_below_lines : Checker → Skips → Checker
+checker_below_lines checker ToCommand = checker
+checker_below_lines checker skips = checker_below_breach checker.limits
+
+-- Lines are lost here, also where a part of a log ends and another begins. One of them may have been a load of the counter.
+abbrev pub judging_lost : Judging → Judging
+judging_lost judging = record judging {
+  checker = checker_below_lines judging.checker judging.checker.skips;
+  content = with_loads (max 1 (loads_left judging)) judging.content;
+  lost = true;
+}
+
+-- ---- what a frame is
+
+-- the stamp of a frame that is heard, but of a block that is sent again
+abbrev pub stamp_in : Bool → List ℕ → Option ℕ
+stamp_in from_cpu octets = option_and_then stamp_of (answer_from from_cpu octets)
+
+-- a stamp, if there is one, is before the latest one
+abbrev pub is_set_back : Judging → Option ℕ → Bool
+is_set_back judging stamp = is_some_and stamp (λ now. is_some_and judging.latest (is_before now))
+
+-- A poll has the number of the latest poll: if that was answered, the CPU's end may not have heard the answer.
+abbrev pub is_asked_again : Facts → Observation → Bool
+is_asked_again facts (Poll number) = is_some_and facts.polled (λ polled. number == polled)
+is_asked_again facts observation = false
+
+-- whether a log is taken at the CPU's end, so that the CPU's end heard each answer in it
+abbrev pub is_at_cpu : LogPlace → Bool
+is_at_cpu Cpu = true
+is_at_cpu at = false
+
+-- a poll may be right by an answer above that the CPU's end did not hear
+abbrev pub is_unheard : Judging → LogPlace → Observation → Bool
+is_unheard judging at observation = not (is_at_cpu at) && is_asked_again judging.checker.facts observation
+
+-- the checker of the rules on content above a frame that is judged, by what the other one passes over: a poll below which the
+-- place is known again is judged by one that begins anew
+abbrev pub content_above : Judging → Skips → ContentChecking
+content_above judging ToPoll = checking_again (loads_left judging)
+content_above judging skips = judging.content
+
+-- the same by the judge
+abbrev pub content_here : Judging → ContentChecking
+content_here judging = content_above judging judging.checker.skips
+
+-- why a frame is not judged, by what is passed over
+abbrev pub unjudged_by : Skips → Unjudged
+unjudged_by ToCommand = AboveCommand
+unjudged_by skips = PlaceLost
+
+-- A stamp is set back: by a load of the counter, if one may take effect; else the module was restarted.
+abbrev pub outcome_set_back : Judging → Outcome
+outcome_set_back judging = if judging.lost || nat_lt 0 (loads_left judging) then Excused Load else Restarted
+
+-- A rule on content is broken: by the rule on the watchdog the module was restarted.
+abbrev pub outcome_of_content : ContentBreach → ContentRule → Outcome
+outcome_of_content breach Watchdog = Restarted
+outcome_of_content breach rule = BrokenContent breach
+
+-- what a frame is in which these breaches are found, by whether it may be right by an answer that was not heard
+abbrev pub outcome_found : Bool → Option Breach → Option ContentBreach → Outcome
+outcome_found true (Some breach) content = Excused Unheard
+outcome_found false (Some breach) content = Broken breach
+outcome_found unheard None (Some breach) = outcome_of_content breach breach.rule
+outcome_found unheard None None = Kept
+
+-- what a frame is that is judged, but for its stamp
+abbrev pub outcome_judged : Judging → LogPlace → Bool → List ℕ → Outcome
+outcome_judged judging at from_cpu octets = outcome_found (is_unheard judging at (observation_in from_cpu octets))
+    (found_by judging.checker from_cpu (observation_in from_cpu octets))
+    (found_in_frame (content_here judging) from_cpu octets)
+
+-- what a frame is, logged there, by whether the CPU sent it
+abbrev pub outcome_in : Judging → LogPlace → Bool → List ℕ → Outcome
+outcome_in judging at from_cpu octets = if passes_over judging.checker from_cpu (observation_in from_cpu octets)
+    then NotJudged (unjudged_by judging.checker.skips)
+    else (if is_set_back judging (stamp_in from_cpu octets)
+    then outcome_set_back judging
+    else outcome_judged judging at from_cpu octets)
+
+-- ---- the judge with a frame more
+
+-- with a frame that is not judged: a command counts as a load, if it is one
+abbrev pub judging_passed : Judging → Bool → List ℕ → Judging
+judging_passed judging true octets = record judging { content = checking_with judging.content true octets }
+judging_passed judging false octets = judging
+
+-- the loads that are left below one that took effect. If lines are lost since the latest stamp, it may have been one of those.
+abbrev pub loads_below : Judging → ℕ
+loads_below judging = if judging.lost then loads_left judging else one_excuse_less (loads_left judging)
+
+-- with a frame in which this checker of transcripts finds no breach
+abbrev pub judging_taken : Judging → Checker → Bool → List ℕ → Judging
+judging_taken judging checker from_cpu octets = record judging {
+  checker = checker_with checker from_cpu (observation_in from_cpu octets);
+  content = checking_with (content_here judging) from_cpu octets;
+}
+
+-- with a stamp, if there is one, that is not set back
+abbrev pub judging_at : Judging → Option ℕ → Judging
+judging_at judging None = judging
+judging_at judging (Some stamp) = record judging { latest = Some stamp; lost = false }
+
+-- with a frame that keeps the rules of transcripts
+abbrev pub judging_kept : Judging → Bool → List ℕ → Judging
+judging_kept judging from_cpu octets =
+    judging_at (judging_taken judging judging.checker from_cpu octets) (stamp_in from_cpu octets)
+
+-- with a frame that is this
+abbrev pub judging_below_outcome : Outcome → Judging → Bool → List ℕ → Judging
+judging_below_outcome Kept judging from_cpu octets = judging_kept judging from_cpu octets
+judging_below_outcome (BrokenContent breach) judging from_cpu octets = judging_kept judging from_cpu octets
+judging_below_outcome (Broken breach) judging from_cpu octets =
+    record judging { checker = checker_with judging.checker from_cpu (observation_in from_cpu octets) }
+judging_below_outcome (Excused Load) judging from_cpu octets =
+    place_lost judging (loads_below judging) (stamp_in from_cpu octets)
+-- the poll is taken by a checker of transcripts that begins anew
+judging_below_outcome (Excused Unheard) judging from_cpu octets =
+    judging_taken judging (checker_within judging.checker.limits) from_cpu octets
+-- an answer to a watchdog has no stamp: so there is no latest one below
+judging_below_outcome Restarted judging from_cpu octets =
+    place_lost judging (loads_left judging) (stamp_in from_cpu octets)
+judging_below_outcome (NotJudged reason) judging from_cpu octets = judging_passed judging from_cpu octets
+
+-- with a frame more
+abbrev pub judging_with : Judging → LogPlace → Bool → List ℕ → Judging
+judging_with judging at from_cpu octets =
+    judging_below_outcome (outcome_in judging at from_cpu octets) judging from_cpu octets
+
+-- ---- all lines
+
+-- a line: a frame, logged there, by whether the CPU sent it; or a mark that lines are lost here
+pub data LogLine : Type 0 where
+  Frame : (at : LogPlace) → (from_cpu : Bool) → (octets : List ℕ) → LogLine
+  Lost : LogLine
+
+-- the judge with a line more
+abbrev pub judging_with_line : Judging → LogLine → Judging
+judging_with_line judging (Frame at from_cpu octets) = judging_with judging at from_cpu octets
+judging_with_line judging Lost = judging_lost judging
+
+-- the judge below lines
+abbrev pub judging_below : Judging → List LogLine → Judging
+judging_below judging [] = judging
+judging_below judging (line ∷ lines) = judging_below (judging_with_line judging line) lines
+
+-- what a line is, if it is a frame
+abbrev pub outcome_on : Judging → LogLine → List Outcome
+outcome_on judging (Frame at from_cpu octets) = outcome_in judging at from_cpu octets ∷ []
+outcome_on judging Lost = []
+
+-- what the frames of lines are, in order
+abbrev pub outcomes_of : Judging → List LogLine → List Outcome
+outcomes_of judging [] = []
+outcomes_of judging (line ∷ lines) =
+    outcome_on judging line ++ outcomes_of (judging_with_line judging line) lines
