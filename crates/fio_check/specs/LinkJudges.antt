@@ -4,8 +4,10 @@
 -- It is both checkers of such a log. The place is *lost* below a line that is lost, a restart, a load that took effect, and a
 -- breach of a rule on transcripts: nothing is judged till the next poll, at which both checkers begin anew.
 use Rattle.std.specs.Prelude.{ℕ, ◌==◌, Bool, ◌&&◌, ◌||◌, true, false, List, [], ◌∷◌, ◌++◌, Option, Some, None, max, nat_lt, not, option_and_then, if◌then◌else◌}
+use Rattle.fio_message.specs.Status.{says_again}
+use Rattle.fio_message.specs.declared.answers.Answer.{Answer}
+use Rattle.fio_message.specs.declared.answers.Answer.TheVariants.{Block}
 use Rattle.fio_check.specs.Checkers.{checker_anywhere, checker_below_breach, checker_with, checker_within, found_by, passes_over}
-use Rattle.fio_check.specs.ContentAbove.{one_excuse_less}
 use Rattle.fio_check.specs.ContentCheckers.{ContentChecking, checking_at_start, checking_with, found_in_frame}
 use Rattle.fio_check.specs.ContentFacts.{no_content}
 use Rattle.fio_check.specs.ContentSaid.{is_before, stamp_of}
@@ -37,6 +39,8 @@ pub record Judging : Type 0 where
   pub content : ContentChecking
   -- the latest stamp that was judged, but of a block that is sent again
   pub latest : Option ℕ
+  -- what was the latest stamp at the first poll for the block that is due, if that poll was judged below another
+  pub asked : Option ℕ
   -- lines are lost below it
   pub lost : Bool
 
@@ -48,6 +52,7 @@ judging_anywhere limits = record {
   checker = checker_anywhere limits;
   content = checking_at_start false;
   latest = None;
+  asked = None;
   lost = false;
 }
 
@@ -57,6 +62,7 @@ judging_begun limits = record {
   checker = checker_within limits;
   content = checking_at_start true;
   latest = None;
+  asked = None;
   lost = false;
 }
 
@@ -86,6 +92,7 @@ place_lost judging loads stamp = record {
   checker = checker_below_breach judging.checker.limits;
   content = checking_again loads;
   latest = stamp;
+  asked = None;
   lost = false;
 }
 
@@ -108,9 +115,29 @@ judging_lost judging = record judging {
 abbrev pub stamp_in : Bool → List ℕ → Option ℕ
 stamp_in from_cpu octets = option_and_then stamp_of (answer_from from_cpu octets)
 
--- a stamp, if there is one, is before the latest one
-abbrev pub is_set_back : Judging → Option ℕ → Bool
-is_set_back judging stamp = is_some_and stamp (λ now. is_some_and judging.latest (is_before now))
+-- the stamp of an answer, also of a block that is sent again
+abbrev pub any_stamp_of : Answer → Option ℕ
+any_stamp_of (Block block entries status stamp) = Some stamp
+any_stamp_of answer = stamp_of answer
+
+-- that of a frame that is heard
+abbrev pub any_stamp_in : Bool → List ℕ → Option ℕ
+any_stamp_in from_cpu octets = option_and_then any_stamp_of (answer_from from_cpu octets)
+
+-- The stamp before which that of an answer is not, as long as the counter runs on. A block that is sent again was made below the
+-- first poll for it.
+abbrev pub stamp_above : Judging → Answer → Option ℕ
+stamp_above judging (Block block entries status stamp) = if says_again status then judging.asked else judging.latest
+stamp_above judging answer = judging.latest
+
+-- an answer has a stamp before that one
+abbrev pub is_answer_set_back : Judging → Answer → Bool
+is_answer_set_back judging answer =
+    is_some_and (any_stamp_of answer) (λ stamp. is_some_and (stamp_above judging answer) (is_before stamp))
+
+-- a frame is such an answer
+abbrev pub is_set_back : Judging → Bool → List ℕ → Bool
+is_set_back judging from_cpu octets = is_some_and (answer_from from_cpu octets) (is_answer_set_back judging)
 
 -- A poll has the number of the latest poll: if that was answered, the CPU's end may not have heard the answer.
 abbrev pub is_asked_again : Facts → Observation → Bool
@@ -167,7 +194,7 @@ outcome_judged judging at from_cpu octets = outcome_found (is_unheard judging at
 abbrev pub outcome_in : Judging → LogPlace → Bool → List ℕ → Outcome
 outcome_in judging at from_cpu octets = if passes_over judging.checker from_cpu (observation_in from_cpu octets)
     then NotJudged (unjudged_by judging.checker.skips)
-    else (if is_set_back judging (stamp_in from_cpu octets)
+    else (if is_set_back judging from_cpu octets
     then outcome_set_back judging
     else outcome_judged judging at from_cpu octets)
 
@@ -178,15 +205,23 @@ abbrev pub judging_passed : Judging → Bool → List ℕ → Judging
 judging_passed judging true octets = record judging { content = checking_with judging.content true octets }
 judging_passed judging false octets = judging
 
--- the loads that are left below one that took effect. If lines are lost since the latest stamp, it may have been one of those.
-abbrev pub loads_below : Judging → ℕ
-loads_below judging = if judging.lost then loads_left judging else one_excuse_less (loads_left judging)
+-- the loads that are left below a frame: the checker of the rules on content uses one up if it excuses what the frame breaks
+abbrev pub loads_below : Judging → Bool → List ℕ → ℕ
+loads_below judging from_cpu octets = (checking_with judging.content from_cpu octets).kept.facts.excuses
+
+-- The latest stamp at the first poll for the block that is due, below a frame: a poll with another number than the one above is the
+-- first for its block. Of a poll that has none above it is not known whether it is.
+abbrev pub asked_below : Judging → Observation → Option ℕ
+asked_below judging (Poll number) =
+    option_and_then (λ polled. if number == polled then judging.asked else judging.latest) judging.checker.facts.polled
+asked_below judging observation = judging.asked
 
 -- with a frame in which this checker of transcripts finds no breach
 abbrev pub judging_taken : Judging → Checker → Bool → List ℕ → Judging
 judging_taken judging checker from_cpu octets = record judging {
   checker = checker_with checker from_cpu (observation_in from_cpu octets);
   content = checking_with (content_here judging) from_cpu octets;
+  asked = asked_below judging (observation_in from_cpu octets);
 }
 
 -- with a stamp, if there is one, that is not set back
@@ -206,13 +241,13 @@ judging_below_outcome (BrokenContent breach) judging from_cpu octets = judging_k
 judging_below_outcome (Broken breach) judging from_cpu octets =
     record judging { checker = checker_with judging.checker from_cpu (observation_in from_cpu octets) }
 judging_below_outcome (Excused Load) judging from_cpu octets =
-    place_lost judging (loads_below judging) (stamp_in from_cpu octets)
+    place_lost judging (loads_below judging from_cpu octets) (any_stamp_in from_cpu octets)
 -- the poll is taken by a checker of transcripts that begins anew
 judging_below_outcome (Excused Unheard) judging from_cpu octets =
     judging_taken judging (checker_within judging.checker.limits) from_cpu octets
 -- an answer to a watchdog has no stamp: so there is no latest one below
 judging_below_outcome Restarted judging from_cpu octets =
-    place_lost judging (loads_left judging) (stamp_in from_cpu octets)
+    place_lost judging (loads_below judging from_cpu octets) (any_stamp_in from_cpu octets)
 judging_below_outcome (NotJudged reason) judging from_cpu octets = judging_passed judging from_cpu octets
 
 -- with a frame more
