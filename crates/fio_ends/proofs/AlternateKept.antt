@@ -298,7 +298,7 @@ module _ (settings : Settings) (range : AreInRange settings) (first : ℕ) (begi
             followed-received machine.to_module machine.last_to_module (end_at settings now machine.round) input watched.shaded low now place frame (omega arith) at watched.level (known.watched_ones watched is);
       }))
 
-  alternate_is_invariant : IsInvariant settings first begin Alternate (Unit {0}) tt (λ state machine event. tt) (λ state machine later. Unit {0})
+  pub alternate_is_invariant : IsInvariant settings first begin Alternate (Unit {0}) tt (λ state machine event. tt) (λ state machine later. Unit {0})
       (λ state from machine facts. FollowHolds settings machine facts)
   alternate_is_invariant = record {
     goes_on = λ state machine event rest holds. tt;

@@ -44,7 +44,7 @@ module _ (rule : ContentRule) (keeps : KeepsOthers rule)
     (blocks : (facts : ContentFacts) (answer : Block) → KeepsRule rule facts (Heard (block_answer answer)))
     (heard : (facts : ContentFacts) (life : Life) (command : Command) (answer : Answer) → Awaits facts command → Says life command answer
     → KeepsRule rule facts (Heard answer)) where
-  stateless : (settings : Settings) (first : ℕ) (begin : Machine)
+  pub stateless : (settings : Settings) (first : ℕ) (begin : Machine)
       → IsInvariant settings first begin rule (Unit {0}) tt (λ state machine event. tt) (λ state machine later. Unit {0}) (λ state from machine facts. Unit {0})
   stateless settings first begin = record {
     goes_on = λ state machine event rest holds. tt;
@@ -69,7 +69,7 @@ module _ (rule : ContentRule) (keeps : KeepsOthers rule)
 
 -- ---- done
 
-done_heard : (facts : ContentFacts) (life : Life) (command : Command) (answer : Answer) → Awaits facts command → Says life command answer
+pub done_heard : (facts : ContentFacts) (life : Life) (command : Command) (answer : Answer) → Awaits facts command → Says life command answer
     → breaks_answer facts answer Done ≡ false
 done_heard facts life (commands.Status clear) answer awaits says = rw says refl
 done_heard facts life (commands.LoadCounter load) answer awaits says = rw says (error_back false)
@@ -106,7 +106,7 @@ present_or_absent (item ∷ items) =
     ap (λ absent. not (there && all) && not (absent || any)) (none_there there item.input refl)
     ∙ by_item there all any (present_or_absent items)
 
-accepted_heard : (facts : ContentFacts) (life : Life) (command : Command) (answer : Answer) → Awaits facts command → Says life command answer
+pub accepted_heard : (facts : ContentFacts) (life : Life) (command : Command) (answer : Answer) → Awaits facts command → Says life command answer
     → breaks_answer facts answer Accepted ≡ false
 accepted_heard facts life (commands.Status clear) answer awaits says = rw says refl
 accepted_heard facts life (commands.LoadCounter load) answer awaits says = rw says refl
@@ -149,7 +149,7 @@ none_left life clear =
     ∙ none_of_bit (is_flag_up place life) (bit_at clear place) (bit_at-lt clear place)
     ∙ sym (bit_at-zero place))
 
-cleared_heard : (facts : ContentFacts) (life : Life) (command : Command) (answer : Answer) → Awaits facts command → Says life command answer
+pub cleared_heard : (facts : ContentFacts) (life : Life) (command : Command) (answer : Answer) → Awaits facts command → Says life command answer
     → breaks_answer facts answer Cleared ≡ false
 cleared_heard facts life (commands.Status clear) answer awaits says =
     let flags = flags_of (Commanded (commands.Status clear) ∷ life) in
@@ -172,7 +172,7 @@ cleared_never_accuses = kept_by_answers Cleared (λ facts input low wide status 
 -- ---- watchdog
 
 -- a watchdog that is set stays so
-abbrev IsSet : Life → Type 0
+abbrev pub IsSet : Life → Type 0
 IsSet life = is_some (watchdog_of life) ≡ true
 
 set-command : (command : Option Command) (life : Life) → IsSet life → IsSet (life_after_command command life)
@@ -186,7 +186,7 @@ set-more (Commanded (commands.Watchdog timeout) ∷ more) life set = refl
 set-more (other ∷ more) life set = set-more more life set
 
 -- where the answer to a watchdog was heard, it is set since then
-abbrev KeepsWatchdog : Life → ContentFacts → Type 0
+abbrev pub KeepsWatchdog : Life → ContentFacts → Type 0
 KeepsWatchdog from facts = facts.watchdog_set ≡ true → IsSet from
 
 watchdog_heard : (facts : ContentFacts) (life : Life) (command : Command) (answer : Answer) → Says life command answer
@@ -242,7 +242,7 @@ dog_below facts answer = below (content_with facts (Heard (block_answer answer))
     below above (Gap ∷ items) = below (content_with above (Recorded Gap)) items
     below above (Entry input level low wide ∷ items) = below (content_with above (Recorded (Entry input level low wide))) items
 
-watchdog_is_invariant : (settings : Settings) (first : ℕ) (begin : Machine)
+pub watchdog_is_invariant : (settings : Settings) (first : ℕ) (begin : Machine)
     → IsInvariant settings first begin Watchdog (Unit {0}) tt (λ state machine event. tt) (λ state machine later. Unit {0}) (λ state from machine facts. KeepsWatchdog from facts)
 watchdog_is_invariant settings first begin = record {
   goes_on = λ state machine event rest holds. tt;

@@ -92,7 +92,7 @@ module _ (settings : Settings) (range : AreInRange settings) (first : ℕ) (begi
 
   module _ (state : S) (from : Life) (machine : Machine) (facts : Facts) (kept : ContentKept) (known : IsKnown settings first begin from machine)
       (a : Agrees settings first machine facts kept) (p : P state from machine kept.facts) where
-    content-poll : let number = number_of first machine.round in
+    pub content-poll : let number = number_of first machine.round in
         KeepsContent settings rule (P (next state machine events.Poll) (life_of machine.history)) first facts kept (record { from_cpu = true; octets = command_octets (commands.Poll number) } ∷ [])
         (after_sending machine (commands.Poll number))
     content-poll =
@@ -101,7 +101,7 @@ module _ (settings : Settings) (range : AreInRange settings) (first : ℕ) (begi
         sent state from machine facts kept events.Poll (commands.Poll number) (seen.Poll number) known a.polls p refl fits refl
         (λ polled is. own_number machine kept (numbered machine facts kept a facts.polled refl)) (λ is. absurd (cc is))
 
-    content-send : (command : Command) → sending_refusal command ≡ None → IsCommand command
+    pub content-send : (command : Command) → sending_refusal command ≡ None → IsCommand command
         → KeepsContent settings rule (P (next state machine (events.Send command)) (life_of machine.history)) first facts kept (record { from_cpu = true; octets = command_octets command } ∷ []) (after_sending machine command)
     content-send command fine within =
         let stays = number_stays kept.number command fine in
@@ -234,7 +234,7 @@ module _ (settings : Settings) (range : AreInRange settings) (first : ℕ) (begi
         (command, ap (λ (s : SentFrame). command_in s.octets) (sym is) ∙ u.spells)
 
     -- each event keeps the invariant
-    content-event : (event : Event) → refusal machine event ≡ None → IsNotRestart event → IsWithinRanges event → IsPrompt machine due event
+    pub content-event : (event : Event) → refusal machine event ≡ None → IsNotRestart event → IsWithinRanges event → IsPrompt machine due event
         → (rest : List Event) → Holds state machine (event ∷ rest)
         → KeepsContent settings rule (P (next state machine event) (from_after machine from event)) first facts kept (frames_at first machine event) (after settings first machine event)
     content-event (events.Scan raw) fine none within prompt rest holds =
@@ -269,7 +269,7 @@ module _ (settings : Settings) (range : AreInRange settings) (first : ℕ) (begi
         (λ place frame le at new is. hears_due place frame at new is f.stage) prompt.0 prompt.1 rest holds
 
   -- what is known stays so
-  begun_after : (from : Life) (machine : Machine) (event : Event) → GoesOn (life_of begin.history) from → GoesOn from (life_of machine.history) → GoesOn (life_of begin.history) (from_after machine from event)
+  pub begun_after : (from : Life) (machine : Machine) (event : Event) → GoesOn (life_of begin.history) from → GoesOn from (life_of machine.history) → GoesOn (life_of begin.history) (from_after machine from event)
   begun_after from machine events.Poll begun now = goes_on-both (life_of begin.history) from (life_of machine.history) begun now
   begun_after from machine (events.Send command) begun now = goes_on-both (life_of begin.history) from (life_of machine.history) begun now
   begun_after from machine (events.ToCpu index) begun now = goes_on-both (life_of begin.history) from (life_of machine.history) begun now
@@ -296,7 +296,7 @@ module _ (settings : Settings) (range : AreInRange settings) (first : ℕ) (begi
   round_received machine index None = omega arith
   round_received machine index (Some frame) = omega arith
 
-  rounds_after : (machine : Machine) (event : Event) → begin.round ≤ machine.round → begin.round ≤ (after settings first machine event).round
+  pub rounds_after : (machine : Machine) (event : Event) → begin.round ≤ machine.round → begin.round ≤ (after settings first machine event).round
   rounds_after machine (events.ToCpu index) low = omega (arith, round_heard machine index (item_numbered machine.to_cpu index))
   rounds_after machine (events.ToModule index) low = omega (arith, round_received machine index (item_numbered machine.to_module index))
   rounds_after machine events.Poll low = low

@@ -19,7 +19,7 @@ use Rattle.fio_ends.proofs.IgnoredKept.{ignored_never_accuses}
 -- ---- one event
 
 -- an event keeps all rules
-record KeepsAll (facts : ContentFacts) (event : ContentEvent) : Type 0 where
+pub record KeepsAll (facts : ContentFacts) (event : ContentEvent) : Type 0 where
   pub order : KeepsRule Order facts event
   pub fresh : KeepsRule Fresh facts event
   pub alternate : KeepsRule Alternate facts event
@@ -52,7 +52,7 @@ none_of_entry facts input low wide level k =
     none_of_six (breaks_entry facts input entry Order) (breaks_entry facts input entry Fresh) (breaks_entry facts input entry Alternate) (breaks_entry facts input entry Apart)
     (breaks_entry facts input entry Ignored) (breaks_entry facts input entry State) Order Fresh Alternate Apart Ignored State k.order k.fresh k.alternate k.apart k.ignored k.state.1
 
-none_broken : (facts : ContentFacts) (event : ContentEvent) → KeepsAll facts event → rule_broken_by facts event ≡ None
+pub none_broken : (facts : ContentFacts) (event : ContentEvent) → KeepsAll facts event → rule_broken_by facts event ≡ None
 none_broken facts (Heard answer) k = ap (option_map {U = BrokenRule} (λ rule. record { input = None; rule = rule })) (none_of_answer facts answer k)
 none_broken facts (Recorded (Entry input level low wide)) k =
     ap₂ option_or k.state.0 (ap (option_map {U = BrokenRule} (λ rule. record { input = Some input; rule = rule })) (none_of_entry facts input low wide level k))

@@ -233,7 +233,7 @@ module _ (settings : Settings) (range : AreInRange settings) (first : ℕ) (begi
       item-taken machine.to_module machine.last_to_module input (facts.inputs input).named (facts.inputs input).item (facts.inputs input).taken low h.life (life_of machine.history) a.0
       (subst (IsSentLast machine.to_module) a.1 h.sent_last) h.received (subst (λ c. IsSince c h.life (life_of machine.history)) a.1 h.since) a.2 some parts.1 k)) k
 
-  ignored_is_invariant : IsInvariant settings first begin Ignored (Unit {0}) tt (λ state machine event. tt) (λ state machine later. Unit {0})
+  pub ignored_is_invariant : IsInvariant settings first begin Ignored (Unit {0}) tt (λ state machine event. tt) (λ state machine later. Unit {0})
       (λ state from machine facts. ShutHolds settings machine facts)
   ignored_is_invariant = record {
     goes_on = λ state machine event rest holds. tt;

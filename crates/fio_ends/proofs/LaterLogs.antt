@@ -45,11 +45,11 @@ module _ (settings : Settings) (first : ℕ) (last : Machine) where
   leads_on (event ∷ events) more machine between all here = leads_on events more (after settings first machine event) between all.1 here.1
 
   -- a log that begins one event later
-  record IsMoved (before later : List Event) (event : Event) (machine : Machine) : Type 0 where
+  pub record IsMoved (before later : List Event) (event : Event) (machine : Machine) : Type 0 where
     pub run : IsPromptRun settings first ((before ++ event ∷ []) ++ later) last
     pub leads : Leads settings first start (before ++ event ∷ []) (after settings first machine event)
 
-  moved : (before later : List Event) (event : Event) (machine : Machine) → IsPromptRun settings first (before ++ (event ∷ later)) last
+  pub moved : (before later : List Event) (event : Event) (machine : Machine) → IsPromptRun settings first (before ++ (event ∷ later)) last
       → Leads settings first start before machine → IsMoved before later event machine
   moved before later event machine run leads =
       let next = leads_on before (event ∷ later) start machine run.is_run leads in

@@ -93,3 +93,8 @@ pub mod PollTurns
 pub mod PollLogs
 pub mod WholePollLogs
 pub mod PollExamples
+pub mod AllRules
+pub mod BegunAgain
+pub mod JudgeSteps
+pub mod JudgeLost
+pub mod JudgedRuns

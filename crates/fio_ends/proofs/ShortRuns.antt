@@ -160,8 +160,10 @@ module _ (settings : Settings) (first : ℕ) (last : Machine) (short : scans_of 
       let taken = each-drop IsShort begin.round (take last.round blocks) (each-take IsShort last.round blocks (blocks_short settings (life_of last.history) short)) in
       record {
         loads = loads;
-        blocks = blocks_near (scans_above begun) (blocks_taken settings begin last) taken;
-        stamps = stamps_near later begin 0 (scans_above begun) none leads (omega arith);
-        inputs = inputs_near (λ input. None) (flat_map (λ block. block.transitions) (blocks_taken settings begin last)) (all_early (blocks_taken settings begin last) taken);
-        states = all_states_near later begin 0 None none leads (omega arith) (λ scans is. absurd (cc is));
+        near = record {
+          blocks = blocks_near (scans_above begun) (blocks_taken settings begin last) taken;
+          stamps = stamps_near later begin 0 (scans_above begun) none leads (omega arith);
+          inputs = inputs_near (λ input. None) (flat_map (λ block. block.transitions) (blocks_taken settings begin last)) (all_early (blocks_taken settings begin last) taken);
+          states = all_states_near later begin 0 None none leads (omega arith) (λ scans is. absurd (cc is));
+        };
       }

@@ -31,7 +31,7 @@ loads-command (Some (commands.LoadCounter load)) life = refl
 loads-command (Some other) life = refl
 
 module _ (settings : Settings) (first : ℕ) (machine : Machine) where
-  heard-life : (index : ℕ) (found : Option SentFrame) → (after_delivery_to_cpu first machine index found).history ≡ machine.history
+  pub heard-life : (index : ℕ) (found : Option SentFrame) → (after_delivery_to_cpu first machine index found).history ≡ machine.history
   heard-life index None = refl
   heard-life index (Some frame) = by_block (block_in frame.octets)
     where

@@ -83,7 +83,7 @@ pub record KeepsTimed (settings : Settings) (begin : Machine) (above : Option �
   pub timed : IsSteady (life_of base) (life_of machine.history) → Timed settings (at_life begin base) above s from machine facts
 
 -- where nothing is known of times, that is so from any life on
-timeless_timed : (settings : Settings) (base : Machine) (above : Option ℕ) (s : TimeState) (from : Life) (machine : Machine) (facts : ContentFacts) → IsTimeless facts
+pub timeless_timed : (settings : Settings) (base : Machine) (above : Option ℕ) (s : TimeState) (from : Life) (machine : Machine) (facts : ContentFacts) → IsTimeless facts
     → Always settings machine facts → end_at settings (life_of machine.history) machine.round ≤ length (log_of from) → Timed settings base above s from machine facts
 timeless_timed settings base above s from machine facts t always recorded = record {
   clock = record { stamped = λ stamp at. absurd (cc (sym t.clock ∙ at)) };
@@ -106,12 +106,12 @@ timeless_timed settings base above s from machine facts t always recorded = reco
   };
 }
 
-goes_on-command : (before now : Life) (command : Option Command) → GoesOn before now → GoesOn before (life_after_command command now)
+pub goes_on-command : (before now : Life) (command : Option Command) → GoesOn before now → GoesOn before (life_after_command command now)
 goes_on-command before now None g = g
 goes_on-command before now (Some command) g = goes_on-more before now (Commanded command) g
 
 -- a machine after an event past the bus
-past_life : (settings : Settings) (first : ℕ) (machine : Machine) (event : Event) → IsPastBus event → GoesOn (life_of machine.history) (life_of (after settings first machine event).history)
+pub past_life : (settings : Settings) (first : ℕ) (machine : Machine) (event : Event) → IsPastBus event → GoesOn (life_of machine.history) (life_of (after settings first machine event).history)
 past_life settings first machine (events.Scan raw) past = goes_on-more _ _ _ (goes_on-same (life_of machine.history) (life_of machine.history) refl)
 past_life settings first machine events.LineSync past = goes_on-more _ _ _ (goes_on-same (life_of machine.history) (life_of machine.history) refl)
 past_life settings first machine (events.Raise mask) past = goes_on-more _ _ _ (goes_on-same (life_of machine.history) (life_of machine.history) refl)
@@ -198,11 +198,11 @@ module _ (settings : Settings) (range : AreInRange settings) (first : ℕ) (begi
 
   -- ---- a command is sent
 
-  abbrev loads_by : Command → ℕ
+  abbrev pub loads_by : Command → ℕ
   loads_by (commands.LoadCounter load) = 1
   loads_by command = 0
 
-  sends_loads : (machine : Machine) (event : Event) (command : Command) → IsSending first machine event command → loads_sent event ≡ loads_by command
+  pub sends_loads : (machine : Machine) (event : Event) (command : Command) → IsSending first machine event command → loads_sent event ≡ loads_by command
   sends_loads machine events.Poll command may = ap loads_by (sym may)
   sends_loads machine (events.Send sent) command may = by sent ∙ ap loads_by (sym may.0)
     where
@@ -216,7 +216,7 @@ module _ (settings : Settings) (range : AreInRange settings) (first : ℕ) (begi
   sends_loads machine (events.ToCpu index) command may = absurd may
   sends_loads machine events.Restart command may = absurd may
 
-  sent_has : (facts : ContentFacts) (command : Command) (s jumps : ℕ) → HasExcuses (began + s) jumps facts.excuses
+  pub sent_has : (facts : ContentFacts) (command : Command) (s jumps : ℕ) → HasExcuses (began + s) jumps facts.excuses
       → HasExcuses (began + (s + loads_by command)) jumps (content_step facts (Sent command)).excuses
   sent_has facts (commands.LoadCounter load) s jumps has =
       (let same : (began + s) + 1 ≡ began + (s + 1) = omega arith in subst (λ n. HasExcuses n jumps (one_excuse_more facts.excuses)) same (one_more (began + s) jumps facts.excuses has))
@@ -482,9 +482,9 @@ asks_first : (begun : Bool) (settings : Settings) (first : ℕ) (machine last : 
     → (begun ≡ true → LoadsAreSent settings first (loads_of (life_of machine.history)) machine later) → HasNearTimes begun settings first machine later last
     → AsksTimes settings first machine (scans_above begun) (time_above begun) machine later
 asks_first begun settings first machine last later none leads loads premise = record {
-  taken = record { last = last; leads = leads; none = none; asked = record { blocks_near = premise.blocks; near = premise.inputs } };
-  stamps = premise.stamps;
-  states = premise.states;
+  taken = record { last = last; leads = leads; none = none; asked = record { blocks_near = premise.near.blocks; near = premise.near.inputs } };
+  stamps = premise.near.stamps;
+  states = premise.near.states;
   loads = (let same : loads_of (life_of machine.history) ≡ loads_of (life_of machine.history) + 0 = omega arith in
       subst (λ n. LoadsAreSent settings first n machine later) same (either begun premise.loads loads));
 }

@@ -160,11 +160,15 @@ StatesAreNear settings first machine asked seen (event ∷ events) =
 
 -- ---- a log
 
--- What the rules on time ask of a log: no more loads of the counter take effect in it than are sent in it, and what is compared
--- is near.
-pub record HasNearTimes (begun : Bool) (settings : Settings) (first : ℕ) (begin : Machine) (later : List Event) (last : Machine) : Type 0 where
-  pub loads : NoMoreLoads begun settings first begin later
+-- what is compared in a log is near
+pub record AreTimesNear (begun : Bool) (settings : Settings) (first : ℕ) (begin : Machine) (later : List Event) (last : Machine) : Type 0 where
   pub blocks : BlocksAreNear (scans_above begun) (blocks_taken settings begin last)
   pub stamps : StampsAreNear settings first begin 0 (scans_above begun) later
   pub inputs : InputsAreNear (λ input. None) (flat_map (λ block. block.transitions) (blocks_taken settings begin last))
   pub states : StatesAreNear settings first begin 0 None later
+
+-- What the rules on time ask of a log: no more loads of the counter take effect in it than are sent in it, and what is compared
+-- is near.
+pub record HasNearTimes (begun : Bool) (settings : Settings) (first : ℕ) (begin : Machine) (later : List Event) (last : Machine) : Type 0 where
+  pub loads : NoMoreLoads begun settings first begin later
+  pub near : AreTimesNear begun settings first begin later last

@@ -7,6 +7,7 @@ pub mod RunRecords
 pub mod ContentRuns
 pub mod ContentPremises
 pub mod Explainable
+pub mod LinkLogs
 pub mod PollLogs
 pub mod Calls
 pub mod Lines

@@ -5,6 +5,7 @@ ghost use Rattle.fio_ends.specs.ContentPremises.{HasNearTimes};
 ghost use Rattle.fio_ends.specs.ContentRuns.{AccusesNone, Always, ContentNeverAccuses};
 ghost use Rattle.fio_ends.specs.LineRuns.{EachFrameMayCome, EachStruckFrameMayCome, HeadlineOverLines, LinesAreRuns, LinesBringRecords};
 ghost use Rattle.fio_ends.specs.Lines.{AtCpu, AtModule};
+ghost use Rattle.fio_ends.specs.LinkLogs.{AccusesNoneBelowLoads, JudgeAccusesNone};
 ghost use Rattle.fio_ends.specs.Explainable.{AccusedAreNotExplainable};
 ghost use Rattle.fio_ends.specs.PollLogs.{AreOfBothKinds, LogsOfPollsAreDecided, WholeLogsOfPollsAreDecided};
 ghost use Rattle.fio_ends.specs.Pollers.{GoodIsOfPoller};
@@ -117,6 +118,21 @@ pub fn state_never_accuses()
 #[tactic(auto, using(crate::proofs::FaultsOfLogs::accuses_none))]
 pub fn content_accuses_no_right_link()
     ensures { AccusesNone HasNearTimes }
+{}
+
+/// So it is with a checker that begins anywhere below loads of the counter that may still take effect: it finds nothing in what the
+/// CPU's end logs of a prompt run from any event on, if it knows how many these are, and all that is compared is near.
+#[tactic(auto, using(crate::proofs::BegunAgain::accuses_none_below_loads))]
+pub fn content_accuses_no_right_link_below_loads()
+    ensures { AccusesNoneBelowLoads }
+{}
+
+/// The judge of a link accuses no right link: what the CPU's end logs of a prompt run from any event on keeps all rules, where any
+/// frames may be missing at marks. One load of the counter is under way at most where the log goes on below a mark, and none where
+/// it begins; and all that is compared is near.
+#[tactic(auto, using(crate::proofs::JudgedRuns::judge_accuses_none))]
+pub fn judge_accuses_no_right_link()
+    ensures { JudgeAccusesNone }
 {}
 
 /// Each log that the checker of content accuses is one that no right link explains, whatever its samples, losses and earlier

@@ -1,0 +1,127 @@
+-- What the judge of a link does with a frame in which no breach is found.
+use Rattle.fio_ends.proofs.Names.{◌≡◌, ◌∙◌, ℕ, Bool, true, false, List, [], ◌∷◌, ◌++◌, ◌⊎◌, inl, inr, Option, Some, None, refl, ap, sym, subst, if◌then◌else◌, nat_lt, AllByRecursion, Facts, Limits, Observation, observation_in, observation_of}
+use Rattle.std.specs.Prelude.{◌||◌}
+use Rattle.fio_check.specs.Checkers.{checker_skipping, checker_with, found_by, passes_over}
+use Rattle.fio_check.specs.ContentCheckers.{checking_with, found_in_frame}
+use Rattle.fio_check.specs.LinkJudges.{Frame, Judging, LogLine, Lost, content_here, is_set_back, is_unheard, judging_at, judging_below, judging_below_outcome, judging_kept, judging_passed, judging_taken, judging_with, judging_with_line, loads_below, loads_left, outcome_found, outcome_in, outcome_judged, outcome_on, outcome_set_back, outcomes_of, place_lost, stamp_in, unjudged_by}
+use Rattle.fio_check.specs.declared.checker.Breach.{Breach}
+use Rattle.fio_check.specs.declared.checker.Checker.{Checker}
+use Rattle.fio_check.specs.declared.checker.Skips.{Skips}
+use Rattle.fio_check.specs.declared.checker.Skips.TheVariants.{Nothing, ToCommand, ToPoll}
+use Rattle.fio_check.specs.declared.content.ContentBreach.{ContentBreach}
+use Rattle.fio_check.specs.declared.observation.Observation.TheVariants as seen
+use Rattle.fio_check.specs.declared.outcome.Excuse.TheVariants.{Load}
+use Rattle.fio_check.specs.declared.outcome.LogPlace.{LogPlace}
+use Rattle.fio_check.specs.declared.outcome.Outcome.{Outcome}
+use Rattle.fio_check.specs.declared.outcome.Outcome.TheVariants.{Kept, Excused, Restarted, NotJudged}
+use Rattle.fio_check.proofs.Checkers.{taking}
+use Rattle.fio_message.specs.declared.answers.Answer.{Answer}
+use Rattle.fio_message.specs.declared.answers.Answer.TheVariants as answers
+use Rattle.fio_ends.specs.LinkLogs.{AccusesNeither}
+use Rattle.fio_ends.specs.Transcripts.{CpuFrame}
+
+-- the stamp of a frame is set back
+abbrev pub turns_back : Judging → CpuFrame → Bool
+turns_back judging frame = is_set_back judging frame.from_cpu frame.octets
+
+-- the judge accuses neither end by a frame, and is this below it
+pub record Judged (judging : Judging) (at : LogPlace) (from_cpu : Bool) (octets : List ℕ) (below : Judging) : Type 0 where
+  pub fine : AccusesNeither (outcome_in judging at from_cpu octets)
+  pub is : judging_with judging at from_cpu octets ≡ below
+
+module _ (judging : Judging) (at : LogPlace) (from_cpu : Bool) (octets : List ℕ) where
+  abbrev back_here : Bool
+  back_here = turns_back judging (record { from_cpu = from_cpu; octets = octets })
+
+  abbrev said : Observation
+  said = observation_in from_cpu octets
+
+  abbrev here : Outcome → Bool → Bool → Outcome
+  here judged over back = if over then NotJudged (unjudged_by judging.checker.skips) else (if back then outcome_set_back judging else judged)
+
+  by_outcome : (outcome : Outcome) → outcome_in judging at from_cpu octets ≡ outcome → AccusesNeither outcome
+      → Judged judging at from_cpu octets (judging_below_outcome outcome judging from_cpu octets)
+  by_outcome outcome is fine = record { fine = subst AccusesNeither (sym is) fine; is = ap (λ o. judging_below_outcome o judging from_cpu octets) is }
+
+  -- one that is passed over
+  pub passed : passes_over judging.checker from_cpu said ≡ true → Judged judging at from_cpu octets (judging_passed judging from_cpu octets)
+  passed over = by_outcome (NotJudged (unjudged_by judging.checker.skips)) (rw over refl) tt
+
+  none_found : (unheard : Bool) → outcome_found unheard None None ≡ Kept
+  none_found true = refl
+  none_found false = refl
+
+  -- one in which nothing is found
+  pub kept : passes_over judging.checker from_cpu said ≡ false → back_here ≡ false
+      → found_by judging.checker from_cpu said ≡ None → found_in_frame (content_here judging) from_cpu octets ≡ None
+      → Judged judging at from_cpu octets (judging_kept judging from_cpu octets)
+  kept over back rules content =
+      by_outcome Kept (ap (λ b. here (outcome_judged judging at from_cpu octets) b back_here) over
+      ∙ ap (here (outcome_judged judging at from_cpu octets) false) back
+      ∙ ap (λ found. outcome_found (is_unheard judging at said) found (found_in_frame (content_here judging) from_cpu octets)) rules
+      ∙ ap (outcome_found (is_unheard judging at said) None) content ∙ none_found (is_unheard judging at said)) tt
+
+  -- one whose stamp is set back: the place is lost
+  pub set_back : passes_over judging.checker from_cpu said ≡ false → back_here ≡ true
+      → (stamp : Option ℕ) × Judged judging at from_cpu octets (place_lost judging (loads_below judging from_cpu octets) stamp)
+  set_back over back = by (outcome_set_back judging) refl (excused_or_restarted (judging.lost || nat_lt 0 (loads_left judging)))
+    where
+      excused_or_restarted : (may : Bool) → ((if may then Excused Load else Restarted) ≡ Excused Load) ⊎ ((if may then Excused Load else Restarted) ≡ Restarted)
+      excused_or_restarted true = inl refl
+      excused_or_restarted false = inr refl
+
+      by : (outcome : Outcome) → outcome_set_back judging ≡ outcome → (outcome ≡ Excused Load) ⊎ (outcome ≡ Restarted)
+          → (stamp : Option ℕ) × Judged judging at from_cpu octets (place_lost judging (loads_below judging from_cpu octets) stamp)
+      by outcome is (inl excused) = (_, by_outcome (Excused Load) (rw (over, back) (is ∙ excused)) tt)
+      by outcome is (inr restarted) = (_, by_outcome Restarted (rw (over, back) (is ∙ restarted)) tt)
+
+-- ---- what is passed over
+
+pub takes_all : (limits : Limits) (facts : Facts) (from_cpu : Bool) (said : Observation) → passes_over (taking limits facts) from_cpu said ≡ false
+takes_all limits facts from_cpu (seen.Poll number) = refl
+takes_all limits facts from_cpu other = refl
+
+-- what is heard where the place is lost
+pub heard_passed : (skips : Skips) (limits : Limits) → (skips ≡ Nothing → ⊥) → (answer : Option Answer)
+    → passes_over (checker_skipping skips limits) false (observation_of None answer) ≡ true
+heard_passed Nothing limits lost answer = absurd (lost refl)
+heard_passed ToCommand limits lost None = refl
+heard_passed ToCommand limits lost (Some (answers.Block number entries status stamp)) = refl
+heard_passed ToCommand limits lost (Some other) = refl
+heard_passed ToPoll limits lost None = refl
+heard_passed ToPoll limits lost (Some (answers.Block number entries status stamp)) = refl
+heard_passed ToPoll limits lost (Some other) = refl
+
+-- a command above which nothing was sent
+pub command_taken : (limits : Limits) (said : Observation) → passes_over (checker_skipping ToCommand limits) true said ≡ false
+command_taken limits (seen.Poll number) = refl
+command_taken limits other = refl
+
+-- ---- below a frame that keeps the rules
+
+at_checker : (judging : Judging) (stamp : Option ℕ) → (judging_at judging stamp).checker ≡ judging.checker
+at_checker judging None = refl
+at_checker judging (Some stamp) = refl
+
+at_content : (judging : Judging) (stamp : Option ℕ) → (judging_at judging stamp).content ≡ judging.content
+at_content judging None = refl
+at_content judging (Some stamp) = refl
+
+module _ (judging : Judging) (from_cpu : Bool) (octets : List ℕ) where
+  abbrev taken : Judging
+  taken = judging_taken judging judging.checker from_cpu octets
+
+  pub kept_checker : (judging_kept judging from_cpu octets).checker ≡ checker_with judging.checker from_cpu (observation_in from_cpu octets)
+  kept_checker = at_checker taken (stamp_in from_cpu octets)
+
+  pub kept_content : (judging_kept judging from_cpu octets).content ≡ checking_with (content_here judging) from_cpu octets
+  kept_content = at_content taken (stamp_in from_cpu octets)
+
+-- ---- lines
+
+-- no outcome of lines accuses, nor of those below
+pub outcomes-append : (front rest : List LogLine) (judging : Judging) → AllByRecursion AccusesNeither (outcomes_of judging front)
+    → AllByRecursion AccusesNeither (outcomes_of (judging_below judging front) rest) → AllByRecursion AccusesNeither (outcomes_of judging (front ++ rest))
+outcomes-append [] rest judging fine below = below
+outcomes-append (Frame at from_cpu octets ∷ front) rest judging fine below = (fine.0, outcomes-append front rest (judging_with judging at from_cpu octets) fine.1 below)
+outcomes-append (Lost ∷ front) rest judging fine below = outcomes-append front rest (judging_with_line judging Lost) fine below

@@ -1,0 +1,114 @@
+-- Logs of a right link that begin anywhere, below loads of the counter that may still take effect, and in which lines may be lost.
+use Rattle.std.specs.Prelude.{◌≡◌, ℕ, ◌+◌, Bool, true, false, List, [], ◌∷◌, ◌++◌, map, Option, Some, None, if◌then◌else◌}
+use Rattle.std.specs.List.{AllByRecursion}
+use Rattle.fio_module.specs.Settings.{Settings, AreInRange}
+use Rattle.fio_module.specs.Life.{life_of, loads_of}
+use Rattle.fio_check.specs.ContentCheckers.{found_first}
+use Rattle.fio_check.specs.Lines.{TranscriptLine}
+use Rattle.fio_check.specs.LinkJudges.{LogLine, Frame, Lost, checking_again, judging_anywhere, outcomes_of}
+use Rattle.fio_check.specs.declared.limits.Limits.{Limits}
+use Rattle.fio_check.specs.declared.outcome.LogPlace.{LogPlace}
+use Rattle.fio_check.specs.declared.outcome.Outcome.{Outcome}
+use Rattle.fio_check.specs.declared.outcome.Outcome.TheVariants.{Broken, BrokenContent}
+use Rattle.fio_link.specs.declared.event.Event.{Event}
+use Rattle.fio_link.specs.Link.{Machine, Leads, after, start}
+use Rattle.fio_ends.specs.ContentPremises.{AreTimesNear, LoadsAreSent}
+use Rattle.fio_ends.specs.PromptRuns.{IsPromptRun, SuitModule, events_from_command, is_command, machine_at_command}
+use Rattle.fio_ends.specs.Transcripts.{CpuFrame, HaveFrames, frames_at, frames_from}
+
+-- ---- loads of the counter that were sent above
+
+-- this many loads of the counter are under way at most: from here on no more take effect than these and those that are sent
+abbrev pub AreUnderWay : ℕ → Settings → ℕ → Machine → List Event → Type 0
+AreUnderWay loads settings first machine events =
+    LoadsAreSent settings first (loads_of (life_of machine.history) + loads) machine events
+
+-- A checker of content that begins anywhere, below this many loads that may still take effect, accuses no right link: it finds
+-- nothing in what the CPU's end logs of a prompt run from any event on.
+unfoldable pub AccusesNoneBelowLoads : Type 0
+AccusesNoneBelowLoads =
+    (loads : ℕ) (settings : Settings) (first : ℕ) (before later : List Event) (machine last : Machine) →
+    AreInRange settings → IsPromptRun settings first (before ++ later) last →
+    Leads settings first start before machine →
+    AreUnderWay loads settings first (machine_at_command settings first machine later) (events_from_command later) →
+    AreTimesNear false settings first (machine_at_command settings first machine later) (events_from_command later) last →
+    (lines : List TranscriptLine) → HaveFrames lines (frames_from settings first machine later) →
+    found_first (checking_again loads) lines ≡ None
+
+-- ---- a log in which lines may be lost
+
+-- what becomes of an event in a log, and the marks where lines are lost
+pub data LogStep : Type 0 where
+  -- its frames, if it has any, are in the log, logged there
+  Logged : (at : LogPlace) → (event : Event) → LogStep
+  -- its frames are missing
+  Missing : (event : Event) → LogStep
+  -- a mark
+  Marked : LogStep
+
+-- the events, whether their frames are in the log or not
+abbrev pub events_of : List LogStep → List Event
+events_of [] = []
+events_of (Logged at event ∷ steps) = event ∷ events_of steps
+events_of (Missing event ∷ steps) = event ∷ events_of steps
+events_of (Marked ∷ steps) = events_of steps
+
+-- a frame in a log, logged there
+abbrev pub logged_at : LogPlace → CpuFrame → LogLine
+logged_at at frame = Frame at frame.from_cpu frame.octets
+
+-- the log of what the CPU's end sends and hears from a machine on
+abbrev pub log_from : Settings → ℕ → Machine → List LogStep → List LogLine
+log_from settings first machine [] = []
+log_from settings first machine (Logged at event ∷ steps) =
+    map (logged_at at) (frames_at first machine event) ++ log_from settings first (after settings first machine event) steps
+log_from settings first machine (Missing event ∷ steps) = log_from settings first (after settings first machine event) steps
+log_from settings first machine (Marked ∷ steps) = Lost ∷ log_from settings first machine steps
+
+-- frames are missing only below a mark, with no frame between; by whether it is so above
+abbrev pub AreMarked : Bool → List LogStep → Type 0
+AreMarked marked [] = Unit {0}
+AreMarked marked (Logged at event ∷ steps) = AreMarked false steps
+AreMarked marked (Missing event ∷ steps) = (marked ≡ true) × AreMarked marked steps
+AreMarked marked (Marked ∷ steps) = AreMarked true steps
+
+-- this many loads are under way at most at a command that is logged, if a part of a log begins with it
+abbrev pub AreUnderWayAt : Option ℕ → Settings → ℕ → Machine → List Event → Type 0
+AreUnderWayAt None settings first machine events = Unit {0}
+AreUnderWayAt (Some loads) settings first machine events = AreUnderWay loads settings first machine events
+
+-- a part of a log begins with the first command above which it was this, and goes on below it
+abbrev pub below_command : Event → Option ℕ → Option ℕ
+below_command event begins = if is_command event then None else begins
+
+-- Few loads are under way where a part of a log begins, with its first command: none at the begin of the log, and one at most
+-- below a mark. By how many may be where the next part begins, if it has not begun.
+abbrev pub FewAreUnderWay : Settings → ℕ → Machine → Option ℕ → List LogStep → Type 0
+FewAreUnderWay settings first machine begins [] = Unit {0}
+FewAreUnderWay settings first machine begins (Logged at event ∷ steps) =
+    (is_command event ≡ true → AreUnderWayAt begins settings first machine (event ∷ events_of steps))
+    × FewAreUnderWay settings first (after settings first machine event) (below_command event begins) steps
+FewAreUnderWay settings first machine begins (Missing event ∷ steps) =
+    FewAreUnderWay settings first (after settings first machine event) begins steps
+FewAreUnderWay settings first machine begins (Marked ∷ steps) = FewAreUnderWay settings first machine (Some 1) steps
+
+-- an outcome accuses neither end
+abbrev pub AccusesNeither : Outcome → Type 0
+AccusesNeither (Broken breach) = ⊥
+AccusesNeither (BrokenContent breach) = ⊥
+AccusesNeither outcome = Unit {0}
+
+-- The judge of a link accuses no right link: no outcome accuses, of what the CPU's end logs of a prompt run from any event on,
+-- where any frames may be missing at marks. Its limits suit the module; one load of the counter is under way at most where the
+-- log goes on below a mark, and none where it begins; and all that is compared is near.
+unfoldable pub JudgeAccusesNone : Type 0
+JudgeAccusesNone =
+    (settings : Settings) (limits : Limits) (first : ℕ) (before : List Event) (steps : List LogStep) (machine last : Machine) →
+    AreInRange settings → SuitModule settings limits →
+    IsPromptRun settings first (before ++ events_of steps) last →
+    Leads settings first start before machine →
+    AreMarked false steps →
+    FewAreUnderWay settings first machine (Some 0) steps →
+    AreTimesNear false settings first (machine_at_command settings first machine (events_of steps))
+    (events_from_command (events_of steps)) last →
+    AllByRecursion AccusesNeither (outcomes_of (judging_anywhere limits) (log_from settings first machine steps))
