@@ -318,7 +318,7 @@ module _ (settings : Settings) (range : AreInRange settings) (first : ℕ) (begi
   }
 
 -- at the start of both ends no change is hidden
-follow_begun : (settings : Settings) → FollowHolds settings start content_begun
+pub follow_begun : (settings : Settings) → FollowHolds settings start content_begun
 follow_begun settings input low =
     subst (KeepsFollowed [] [] 0 0 input true) (sym (begun_input input low))
     (record {

@@ -1,29 +1,34 @@
 -- The judge of a link accuses no right link: event by event of a prompt run, where frames may be missing at marks.
-use Rattle.fio_ends.proofs.Names.{◌≡◌, ◌∙◌, ◌+◌, ◌<◌, ◌≤◌, ◌⊎◌, inl, inr, ℕ, Bool, true, false, List, [], ◌∷◌, ◌++◌, map, option_map, Option, Some, None, refl, ap, sym, subst, arith, is_some, AllByRecursion, if◌then◌else◌, append_assoc, Life, life_of, loads_of, Settings, AreInRange, ContentKept, kept_with, facts_with, no_facts, first_broken_within, Facts, Limits, Observation, observation_in, Event, Machine, SentFrame, start, number_of, number_of-fits, refusal, after, Leads, item_numbered, IsNotRestart, HaveNoRestart, kept, CpuFrame, frame_heard, frames_at, due_after, ArePrompt, IsPrompt, IsWithinRanges, SuitModule}
+use Rattle.fio_ends.proofs.Names.{◌≡◌, ◌∙◌, ◌+◌, ◌<◌, ◌≤◌, ◌⊎◌, inl, inr, ℕ, Bool, true, false, List, [], ◌∷◌, ◌++◌, map, option_map, Option, Some, None, refl, ap, sym, subst, arith, is_some, AllByRecursion, if◌then◌else◌, append_assoc, Life, life_of, loads_of, Settings, AreInRange, ContentKept, kept_with, facts_with, no_facts, first_broken_within, Facts, Limits, Observation, observation_in, Event, Machine, SentFrame, start, number_of, number_of-fits, refusal, after, Leads, item_numbered, IsNotRestart, HaveNoRestart, kept, kept_at_start, CpuFrame, frame_heard, frames_at, due_after, ArePrompt, IsPrompt, IsWithinRanges, SuitModule}
 use Rattle.std.specs.Prelude.{max}
 use Rattle.std.proofs.Math.Nat.{le-max_left}
 use Rattle.fio_message.specs.declared.commands.Command.TheVariants as commands
 use Rattle.fio_message.specs.Commands.{command_octets}
 use Rattle.fio_check.specs.Checkers.{checker_below_breach, checker_skipping, checker_with, found_by, passes_over}
 use Rattle.fio_check.specs.ContentCheckers.{ContentChecking, checking_with, content_found, found_in_frame}
-use Rattle.fio_check.specs.LinkJudges.{Judging, LogLine, checker_below_lines, checking_again, content_above, content_here, judging_anywhere, judging_below, judging_lost, loads_below, loads_left, outcomes_of, with_loads}
+use Rattle.fio_check.specs.LinkJudges.{Judging, LogLine, checker_below_lines, checking_again, content_above, content_here, judging_anywhere, judging_begun, judging_below, judging_lost, loads_below, loads_left, outcomes_of, with_loads}
 use Rattle.fio_check.specs.declared.checker.Checker.{Checker}
 use Rattle.fio_check.specs.declared.checker.Skips.{Skips}
 use Rattle.fio_check.specs.declared.checker.Skips.TheVariants.{ToCommand, ToPoll}
 use Rattle.fio_check.specs.declared.outcome.LogPlace.{LogPlace}
 use Rattle.fio_check.proofs.Checkers.{found-taking, taking, with-taking}
 use Rattle.fio_link.specs.declared.event.Event.TheVariants as events
-use Rattle.fio_ends.specs.ContentPremises.{AreTimesNear, LoadsAreSent, StampsAreNear, StatesAreNear, loads_sent}
+use Rattle.fio_ends.specs.ContentPremises.{AreTimesNear, LoadsAreSent, StampsAreNear, StatesAreNear, loads_sent, scans_above}
 use Rattle.fio_ends.specs.LinkLogs.{AccusesNeither, AreMarked, AreUnderWayAt, FewAreUnderWay, JudgeAccusesNone, LogStep, Logged, Marked, Missing, below_command, events_of, log_from, logged_at}
 use Rattle.fio_ends.specs.PromptRuns.{IsPromptRun, events_from_command, is_command, machine_at_command}
+use Rattle.fio_check.proofs.ContentStart.{begun_is}
+use Rattle.fio_ends.proofs.AlternateKept.{follow_begun}
 use Rattle.fio_ends.proofs.AllRules.{AllKnown, kept_again, none_in_frame}
 use Rattle.fio_ends.proofs.ApartTimes.{AreNearByInput}
 use Rattle.fio_ends.proofs.BegunAgain.{Sends, Went, went-again, went-on}
 use Rattle.fio_ends.proofs.ClockKept.{clock_above}
-use Rattle.fio_ends.proofs.ContentFrame.{Agrees}
+use Rattle.fio_ends.proofs.ContentFrame.{Agrees, agrees-start}
 use Rattle.fio_ends.proofs.ContentLines.{content_below}
-use Rattle.fio_ends.proofs.ContentSteps.{IsKnown}
+use Rattle.fio_ends.proofs.ContentSteps.{IsKnown, PollsKnown}
+use Rattle.fio_ends.proofs.FirstLoads.{loads_are_sent}
+use Rattle.fio_ends.proofs.FirstPolls.{polls_begun}
 use Rattle.fio_ends.proofs.Following.{Follows, facts_below, follows-start, from_after, goes_on-both, goes_on-same}
+use Rattle.fio_ends.proofs.IgnoredKept.{both_begun}
 use Rattle.fio_ends.proofs.JudgeLost.{AreHeard, IsLost, IsReached, MayTakeEffect, all_heard, began, command_passed, has_later, heard_lost, is_somewhere, known_of, lost_at_mark, lost_command, lost_further, may_begin_at, no_loads_but, reached_after, reached_of, sends_if}
 use Rattle.fio_ends.proofs.JudgeSteps.{command_taken, kept as kept_frame, kept_checker, kept_content, outcomes-append, passed, set_back, takes_all, turns_back}
 use Rattle.fio_ends.proofs.LaterLogs.{IsMoved, moved}
@@ -35,7 +40,7 @@ use Rattle.fio_ends.proofs.StateKept.{state_above}
 use Rattle.fio_ends.proofs.StateKnown.{StateState, state_after}
 use Rattle.fio_ends.proofs.Taken.{Asks, asks_on}
 use Rattle.fio_ends.proofs.Timeless.{HasExcuses}
-use Rattle.fio_ends.proofs.TimesKept.{AsksTimes, TimeState, time_after}
+use Rattle.fio_ends.proofs.TimesKept.{AsksTimes, TimeState, time_above, time_after, times_begun}
 
 -- an event has one frame at most
 abbrev IsShort : List CpuFrame → Type 0
@@ -60,7 +65,8 @@ below_none event = by (is_command event) None refl
     by true begins none = refl
     by false begins none = none
 
-module _ (settings : Settings) (range : AreInRange settings) (first : ℕ) (limits : Limits) (suit : SuitModule settings limits) (begin : Machine) where
+module _ (settings : Settings) (range : AreInRange settings) (first : ℕ) (limits : Limits) (suit : SuitModule settings limits) (begin : Machine)
+    (begun : Bool) (above : Option ℕ) where
   abbrev loads_at : ℕ
   loads_at = loads_of (life_of begin.history)
 
@@ -69,17 +75,17 @@ module _ (settings : Settings) (range : AreInRange settings) (first : ℕ) (limi
 
   -- what is asked of the rest of a log, but of loads
   record AsksNear (c : ClockState) (t : StateState) (machine : Machine) (later : List Event) : Type 0 where
-    pub taken : Asks settings first begin (AreNearByInput None) machine later
+    pub taken : Asks settings first begin (AreNearByInput above) machine later
     pub stamps : StampsAreNear settings first machine c.asked c.before later
     pub states : StatesAreNear settings first machine t.asked t.seen later
 
   near_on : (c : ClockState) (t : StateState) (machine : Machine) (event : Event) (rest : List Event) → AsksNear c t machine (event ∷ rest)
       → AsksNear (clock_after c machine event) (state_after settings t machine event) (after settings first machine event) rest
   near_on c t machine event rest a =
-      record { taken = asks_on settings first begin (AreNearByInput None) machine event rest a.taken; stamps = a.stamps.1; states = a.states.1 }
+      record { taken = asks_on settings first begin (AreNearByInput above) machine event rest a.taken; stamps = a.stamps.1; states = a.states.1 }
 
   asks_with : (c : ClockState) (t : StateState) (sent : ℕ) (machine : Machine) (later : List Event) → AsksNear c t machine later → LoadsAreSent settings first (loads_at + sent) machine later
-      → AsksTimes settings first begin None (time_at c t sent) machine later
+      → AsksTimes settings first begin above (time_at c t sent) machine later
   asks_with c t sent machine later a loads = record { taken = a.taken; stamps = a.stamps; states = a.states; loads = loads }
 
   abbrev Lost : Option ℕ → Machine → ℕ → List Event → Judging → Type 0
@@ -94,7 +100,7 @@ module _ (settings : Settings) (range : AreInRange settings) (first : ℕ) (limi
     pub known : IsKnown settings first begin from machine
     pub follows : Follows settings first from machine due facts
     pub agrees : Agrees settings first machine facts kept
-    pub content : AllKnown settings begin None (time_at c t sent) from machine kept.facts
+    pub content : AllKnown settings begin above (time_at c t sent) from machine kept.facts
     pub loads : LoadsAreSent settings first (loads_at + sent) machine later
     pub checker_is : judging.checker ≡ taking limits facts
     pub content_is : judging.content ≡ record { begun = true; kept = kept }
@@ -132,7 +138,7 @@ module _ (settings : Settings) (range : AreInRange settings) (first : ℕ) (limi
     takes from_cpu said = ap (λ checker. passes_over checker from_cpu said) checker_is ∙ takes_all limits facts from_cpu said
 
     -- it keeps all rules: the next one is judged too
-    goes_on : (at : LogPlace) (frame : CpuFrame) (went : Went settings first begin None (time_at c t sent) from due facts kept (frame ∷ []) machine)
+    goes_on : (at : LogPlace) (frame : CpuFrame) (went : Went settings first begin above (time_at c t sent) from due facts kept (frame ∷ []) machine)
         → turns_back judging frame ≡ false → KeepsJudge None c t machine due later judging (logged_at at frame ∷ [])
     goes_on at frame went back =
         let from_cpu = frame.from_cpu in
@@ -166,7 +172,7 @@ module _ (settings : Settings) (range : AreInRange settings) (first : ℕ) (limi
         }
 
     -- its stamp is set back: the place is lost
-    set_back_at : (at : LogPlace) (frame : CpuFrame) (went : Went settings first begin None (time_at c t sent) from due facts kept (frame ∷ []) machine)
+    set_back_at : (at : LogPlace) (frame : CpuFrame) (went : Went settings first begin above (time_at c t sent) from due facts kept (frame ∷ []) machine)
         → turns_back judging frame ≡ true → KeepsJudge None c t machine due later judging (logged_at at frame ∷ [])
     set_back_at at frame went back =
         let from_cpu = frame.from_cpu in
@@ -194,7 +200,7 @@ module _ (settings : Settings) (range : AreInRange settings) (first : ℕ) (limi
         }
 
     -- the frames of an event
-    judge_frames : (at : LogPlace) (frames : List CpuFrame) → IsShort frames → Went settings first begin None (time_at c t sent) from due facts kept frames machine
+    judge_frames : (at : LogPlace) (frames : List CpuFrame) → IsShort frames → Went settings first begin above (time_at c t sent) from due facts kept frames machine
         → KeepsJudge None c t machine due later judging (map (logged_at at) frames)
     judge_frames at [] short went = record {
       fine = tt;
@@ -230,7 +236,7 @@ module _ (settings : Settings) (range : AreInRange settings) (first : ℕ) (limi
       (map (logged_at at) (frames_at first machine event))
   judges_on c t at event rest machine due judging near j fine none within prompt =
       let next = after settings first machine event in
-      let went = went-on settings range first begin false None (time_at c t j.sent) j.from machine due j.facts j.known j.follows j.kept j.agrees j.content event rest fine none within prompt
+      let went = went-on settings range first begin begun above (time_at c t j.sent) j.from machine due j.facts j.known j.follows j.kept j.agrees j.content event rest fine none within prompt
       (asks_with c t j.sent machine (event ∷ rest) near j.loads) in
       let same : (loads_at + j.sent) + loads_sent event ≡ loads_at + (j.sent + loads_sent event) = omega arith in
       judge_frames (clock_after c machine event) (state_after settings t machine event) (j.sent + loads_sent event) (from_after machine j.from event) next (due_after machine due event) rest j.facts j.kept
@@ -265,8 +271,8 @@ module _ (settings : Settings) (range : AreInRange settings) (first : ℕ) (limi
       let sent = may.0 in
       let said = observation_in true octets in
       let frame : CpuFrame = record { from_cpu = true; octets = octets } in
-      let went = subst (λ frames. Went settings first begin None (time_after settings (time_at c t sent) machine event) (life_of machine.history) (due_after machine due event) no_facts (kept_again excuses) frames next) frames_are
-      (went-again settings range first begin false None (time_at c t sent) from machine due facts (known_of settings range first limits begin machine r) follows excuses may.2 event sends fine within) in
+      let went = subst (λ frames. Went settings first begin above (time_after settings (time_at c t sent) machine event) (life_of machine.history) (due_after machine due event) no_facts (kept_again excuses) frames next) frames_are
+      (went-again settings range first begin begun above (time_at c t sent) from machine due facts (known_of settings range first limits begin machine r) follows excuses may.2 event sends fine within) in
       let none : first_broken_within limits no_facts said ≡ None = (went.rules limits suit).0 in
       let over_here : passes_over judging.checker true said ≡ false = ap (λ checker. passes_over checker true said) checker ∙ over in
       let finds : found_by (checker_skipping skips limits) true said ≡ None = rw (over, none) refl in
@@ -450,7 +456,7 @@ module _ (settings : Settings) (range : AreInRange settings) (first : ℕ) (limi
       let r = reaches settings range first before (events_of steps) [] start machine last 0 no_facts (kept settings range first [] start refl tt) (follows-start settings first)
       a.leads a.run.is_run a.run.no_restart a.run.within a.run.prompt in
       let left : loads_left judging ≡ excuses = ap (λ (content : ContentChecking). content.kept.facts.excuses) j.content in
-      judged settings range first limits suit machine steps (clock_above false) state_above machine last r.due judging (Some loads) marked
+      judged settings range first limits suit machine false None steps (clock_above false) state_above machine last r.due judging (Some loads) marked
       (record { taken = record { last = last; leads = r.leads; none = r.no_restart; asked = record { blocks_near = near.blocks; near = near.inputs } }; stamps = near.stamps; states = near.states })
       (inl (record {
         reached = record { is_kept = r.is_kept; since = goes_on-same _ _ refl; rounds = omega arith };
@@ -512,8 +518,43 @@ module _ (settings : Settings) (range : AreInRange settings) (first : ℕ) (limi
         few = subst (λ b. FewAreUnderWay settings first next (if b then None else Some loads) steps) is a.few.1;
       }) near))))
 
+-- of one that begins with both ends
+begun_whole : (settings : Settings) (range : AreInRange settings) (first : ℕ) (limits : Limits) (suit : SuitModule settings limits) (last : Machine) (steps : List LogStep)
+    → IsPromptRun settings first (events_of steps) last → AreMarked false steps → FewAreUnderWay settings first start None steps → AreTimesNear true settings first start (events_of steps) last
+    → AllByRecursion AccusesNeither (outcomes_of (judging_begun limits) (log_from settings first start steps))
+begun_whole settings range first limits suit last steps run marks few near =
+    judged settings range first limits suit start true (scans_above true) steps (clock_above true) state_above start last 0 (judging_begun limits) None false
+    (record { taken = record { last = last; leads = run.is_run; none = run.no_restart; asked = record { blocks_near = near.blocks; near = near.inputs } }; stamps = near.stamps; states = near.states })
+    (inr (
+      refl,
+      record {
+        sent = 0;
+        from = [];
+        facts = no_facts;
+        kept = kept_at_start true;
+        known = record { is_kept = kept settings range first [] start refl tt; begun = goes_on-same _ _ refl; rounds = omega arith; now = goes_on-same _ _ refl };
+        follows = follows-start settings first;
+        agrees = agrees-start settings true first start (subst (PollsKnown settings start) (sym begun_is) (polls_begun settings (λ input. false)));
+        content = subst (AllKnown settings start (scans_above true) (time_above true) [] start) (sym begun_is)
+            (record { timed = times_begun settings; watchdog = λ is. absurd (cc is); follow = follow_begun settings; shut = both_begun settings });
+        loads = loads_are_sent settings first (events_of steps) last run.is_run run.no_restart run.within run.prompt;
+        checker_is = refl;
+        content_is = refl;
+      },
+    ))
+    run.is_run run.no_restart run.within run.prompt marks (λ is. absurd (cc is)) few
+
 pub judge_accuses_none : JudgeAccusesNone
 unfolding JudgeAccusesNone
-judge_accuses_none settings limits first before steps machine last range suit run leads marks few near =
+judge_accuses_none false settings limits first before steps machine last range suit run leads begins marks few near =
     above_it settings range first limits suit last steps before machine 0 0 false (judging_anywhere limits) (record { checker = refl; content = refl })
     (record { run = run; leads = leads; few_excused = omega arith; marks = marks; few = few }) near
+judge_accuses_none true settings limits first before steps machine last range suit run leads begins marks few near = nothing_before before begins run leads
+  where
+    nothing_before : (before : List Event) → before ≡ [] → IsPromptRun settings first (before ++ events_of steps) last → Leads settings first start before machine
+        → AllByRecursion AccusesNeither (outcomes_of (judging_begun limits) (log_from settings first machine steps))
+    nothing_before (event ∷ before) none run leads = absurd (cc none)
+    nothing_before [] none run leads =
+        subst (λ m. FewAreUnderWay settings first m None steps → AreTimesNear true settings first m (events_of steps) last
+        → AllByRecursion AccusesNeither (outcomes_of (judging_begun limits) (log_from settings first m steps))) (sym leads)
+        (begun_whole settings range first limits suit last steps run marks) few near

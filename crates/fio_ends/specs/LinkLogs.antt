@@ -5,7 +5,7 @@ use Rattle.fio_module.specs.Settings.{Settings, AreInRange}
 use Rattle.fio_module.specs.Life.{life_of, loads_of}
 use Rattle.fio_check.specs.ContentCheckers.{found_first}
 use Rattle.fio_check.specs.Lines.{TranscriptLine}
-use Rattle.fio_check.specs.LinkJudges.{LogLine, Frame, Lost, checking_again, judging_anywhere, outcomes_of}
+use Rattle.fio_check.specs.LinkJudges.{Judging, LogLine, Frame, Lost, checking_again, judging_anywhere, judging_begun, outcomes_of}
 use Rattle.fio_check.specs.declared.limits.Limits.{Limits}
 use Rattle.fio_check.specs.declared.outcome.LogPlace.{LogPlace}
 use Rattle.fio_check.specs.declared.outcome.Outcome.{Outcome}
@@ -13,6 +13,7 @@ use Rattle.fio_check.specs.declared.outcome.Outcome.TheVariants.{Broken, BrokenC
 use Rattle.fio_link.specs.declared.event.Event.{Event}
 use Rattle.fio_link.specs.Link.{Machine, Leads, after, start}
 use Rattle.fio_ends.specs.ContentPremises.{AreTimesNear, LoadsAreSent}
+use Rattle.fio_ends.specs.ContentRuns.{MayBegin, judged_events, judged_from}
 use Rattle.fio_ends.specs.PromptRuns.{IsPromptRun, SuitModule, events_from_command, is_command, machine_at_command}
 use Rattle.fio_ends.specs.Transcripts.{CpuFrame, HaveFrames, frames_at, frames_from}
 
@@ -98,17 +99,25 @@ AccusesNeither (Broken breach) = ⊥
 AccusesNeither (BrokenContent breach) = ⊥
 AccusesNeither outcome = Unit {0}
 
--- The judge of a link accuses no right link: no outcome accuses, of what the CPU's end logs of a prompt run from any event on,
--- where any frames may be missing at marks. Its limits suit the module; one load of the counter is under way at most where the
--- log goes on below a mark, and none where it begins; and all that is compared is near.
+-- the judge above the first line of a log, by whether it begins with both ends
+abbrev pub judging_at_start : Bool → Limits → Judging
+judging_at_start begun limits = if begun then judging_begun limits else judging_anywhere limits
+
+-- how many loads may be under way where a log begins: none in one that begins later than both ends, where they could be
+abbrev pub loads_at_start : Bool → Option ℕ
+loads_at_start begun = if begun then None else Some 0
+
+-- The judge of a link accuses no right link: no outcome accuses, of what the CPU's end logs of a prompt run, from the start of
+-- both ends or from any event on, where any frames may be missing at marks. Its limits suit the module; one load of the counter
+-- is under way at most where the log goes on below a mark, and none where it begins; and all that is compared is near.
 unfoldable pub JudgeAccusesNone : Type 0
 JudgeAccusesNone =
-    (settings : Settings) (limits : Limits) (first : ℕ) (before : List Event) (steps : List LogStep) (machine last : Machine) →
+    (begun : Bool) (settings : Settings) (limits : Limits) (first : ℕ) (before : List Event) (steps : List LogStep) (machine last : Machine) →
     AreInRange settings → SuitModule settings limits →
     IsPromptRun settings first (before ++ events_of steps) last →
-    Leads settings first start before machine →
+    Leads settings first start before machine → MayBegin begun before →
     AreMarked false steps →
-    FewAreUnderWay settings first machine (Some 0) steps →
-    AreTimesNear false settings first (machine_at_command settings first machine (events_of steps))
-    (events_from_command (events_of steps)) last →
-    AllByRecursion AccusesNeither (outcomes_of (judging_anywhere limits) (log_from settings first machine steps))
+    FewAreUnderWay settings first machine (loads_at_start begun) steps →
+    AreTimesNear begun settings first (judged_from begun settings first machine (events_of steps))
+    (judged_events begun (events_of steps)) last →
+    AllByRecursion AccusesNeither (outcomes_of (judging_at_start begun limits) (log_from settings first machine steps))
