@@ -1,13 +1,13 @@
 -- In reading order: the poller of a transcript; the transcript of a run; prompt runs; their records; the rules on content and
--- what they ask of a log; logs that a right link explains, and logs of polls; calls of both ends in C; both ends over lines.
+-- what they ask of a log; logs in which lines are lost; logs that a right link explains, and logs of polls; calls of both ends in C; both ends over lines.
 pub mod Pollers
 pub mod Transcripts
 pub mod PromptRuns
 pub mod RunRecords
 pub mod ContentRuns
 pub mod ContentPremises
-pub mod Explainable
 pub mod LinkLogs
+pub mod Explainable
 pub mod PollLogs
 pub mod Calls
 pub mod Lines

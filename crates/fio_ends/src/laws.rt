@@ -127,9 +127,9 @@ pub fn content_accuses_no_right_link_below_loads()
     ensures { AccusesNoneBelowLoads }
 {}
 
-/// The judge of a link accuses no right link: what the CPU's end logs of a prompt run from any event on keeps all rules, where any
-/// frames may be missing at marks. One load of the counter is under way at most where the log goes on below a mark, and none where
-/// it begins; and all that is compared is near.
+/// The judge of a link accuses no right link: in what the CPU's end logs of a prompt run, from the start of both ends or from any
+/// event on, no frame breaks a rule, where any frames may be missing at marks. One load of the counter is under way at most where
+/// the log goes on below a mark, and none where it begins; and all that is compared is near.
 #[tactic(auto, using(crate::proofs::JudgedRuns::judge_accuses_none))]
 pub fn judge_accuses_no_right_link()
     ensures { JudgeAccusesNone }
