@@ -126,7 +126,7 @@ limits-kept checker true breach facts = refl
 limits-kept checker false None facts = refl
 limits-kept checker false (Some found) facts = refl
 
-limits-stay : (checker : Checker) (from_cpu : Bool) (observation : Observation) → (checker_with checker from_cpu observation).limits ≡ checker.limits
+pub limits-stay : (checker : Checker) (from_cpu : Bool) (observation : Observation) → (checker_with checker from_cpu observation).limits ≡ checker.limits
 limits-stay checker from_cpu observation = limits-kept checker (passes_over checker from_cpu observation) (breach_of checker.limits checker.facts observation) (facts_with checker.facts observation)
 
 limits-at : (limits : Limits) (lines : List TranscriptLine) (place : ℕ) → (checker_at limits lines place).limits ≡ limits

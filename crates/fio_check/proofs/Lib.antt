@@ -22,3 +22,4 @@ pub mod Shaded
 pub mod Found
 pub mod BreachesSoFar
 pub mod Checkers
+pub mod LinkJudges

@@ -20,4 +20,5 @@ pub mod ContentCheckers
 pub mod ContentKept
 pub mod ContentLaws
 pub mod LinkJudges
+pub mod LinkKept
 pub mod Finding

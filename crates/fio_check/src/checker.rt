@@ -73,7 +73,7 @@ impl Checker {
         Checker::skipping(Skips::ToCommand, limits)
     }
 
-    fn skipping(skips: Skips, limits: Limits) -> Checker
+    pub(crate) fn skipping(skips: Skips, limits: Limits) -> Checker
         ensures { result ≡ checker_skipping skips limits }
     {
         Checker {
@@ -101,7 +101,8 @@ impl Checker {
         self.take(false, Observation::of(false, octets))
     }
 
-    fn take(&mut self, from_cpu: bool, observation: Observation) -> Option<Breach>
+    /// Takes a frame that says this, and returns its breach.
+    pub(crate) fn take(&mut self, from_cpu: bool, observation: Observation) -> Option<Breach>
         ensures breach { result ≡ found_by self.old from_cpu observation }
         ensures next { self.new ≡ checker_with self.old from_cpu observation }
     {
@@ -118,7 +119,8 @@ impl Checker {
         breach
     }
 
-    fn passes_over(&self, from_cpu: bool, observation: Observation) -> bool
+    /// Returns whether it passes over a frame that says this.
+    pub(crate) fn passes_over(&self, from_cpu: bool, observation: Observation) -> bool
         ensures { result ≡ passes_over self.now from_cpu observation }
     {
         match observation {

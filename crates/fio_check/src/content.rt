@@ -1,5 +1,5 @@
 //! The checker of the rules on content, one frame at a time.
-ghost use Rattle.std.specs.Prelude.{◌≡◌, ◌+◌, ◌≤◌, ◌++◌, ℕ, fold, length, map, true, false, None};
+ghost use Rattle.std.specs.Prelude.{◌≡◌, ◌+◌, ◌≤◌, ◌++◌, ℕ, fold, length, map, max, true, false, None};
 ghost use Rattle.std.specs.Option.{option_or};
 ghost use Rattle.fio_message.specs.Status.{says_lost};
 ghost use Rattle.fio_message.specs.Views.{answer_of, command_of, entries_of};
@@ -8,6 +8,7 @@ ghost use Rattle.fio_cpu.specs.declared.record.Item.TheVariants as Item;
 ghost use Rattle.fio_check.specs.ContentCheckers.{breach_among, breach_below, breach_found, checking_at_start, checking_with, checking_with_answer, checking_with_command, found_in_answer, found_in_frame, kept_below};
 ghost use Rattle.fio_check.specs.ContentEvents.{Ended, Heard, Recorded, events_of_answer, items_and_end, number_with_answer, number_with_command};
 ghost use Rattle.fio_check.specs.ContentFacts.{content_with};
+ghost use Rattle.fio_check.specs.LinkJudges.{checking_again, with_loads};
 ghost use Rattle.fio_check.specs.ContentKept.{content_checking, content_kept, facts_kept, is_flagged};
 
 use crate::content_above::ContentAbove;
@@ -79,6 +80,31 @@ impl ContentChecker {
             number: 0,
             begun,
             reserved: [0; 5],
+        }
+    }
+
+    /// Returns how many loads of the counter may still take effect: those that were sent and have excused no breach yet. 255
+    /// stays.
+    pub fn loads_left(&self) -> u8
+        ensures { result ≡ (content_kept self.now).facts.excuses }
+    {
+        self.above.excuses
+    }
+
+    /// Begins anew: of what is above it keeps only how many loads of the counter may still take effect.
+    pub fn begin_again(&mut self)
+        ensures { content_checking self.new ≡ checking_again (content_kept self.old).facts.excuses }
+    {
+        *self = ContentChecker::above(ContentAbove::below_loads(self.above.excuses), 0);
+    }
+
+    /// Takes a place where lines are lost: one of them may have been a load of the counter.
+    pub fn may_miss_load(&mut self)
+        ensures { content_checking self.new
+            ≡ with_loads (max 1 (content_kept self.old).facts.excuses) (content_checking self.old) }
+    {
+        if self.above.excuses == 0 {
+            self.above.excuses = 1;
         }
     }
 

@@ -98,6 +98,17 @@ impl ContentAbove {
         }
     }
 
+    /// Nothing is above but this many loads of the counter that may still take effect.
+    #[inline(always)]
+    pub(crate) fn below_loads(loads: u8) -> ContentAbove
+        ensures { facts_kept result ≡ (record no_content { excuses = loads }) }
+    {
+        ContentAbove {
+            excuses: loads,
+            ..ContentAbove::new()
+        }
+    }
+
     /// Both ends begin.
     #[inline(always)]
     pub(crate) fn begun() -> ContentAbove

@@ -10,7 +10,8 @@
 //! (`Facts`), the rules (`Rules`), the verdict (`Verdicts`), the checker
 //! (`Checkers`). Their laws (`Laws`) are the contracts of
 //! the module `laws`. Those of the rules on content follow: events, what is above one by places
-//! (`ContentAbove`), the rules, the same event by event (`ContentFacts`), the checker.
+//! (`ContentAbove`), the rules, the same event by event (`ContentFacts`), the checker. `LinkJudge` has both checkers, and says
+//! whom to accuse by a log in which lines may be lost (`LinkJudges`).
 //!
 //! # Examples
 //!
@@ -49,6 +50,7 @@ pub use content_rules::{BrokenRule, ContentRule};
 pub use facts::Facts;
 pub use limits::Limits;
 pub use line::Line;
+pub use link_judge::LinkJudge;
 pub use observation::Observation;
 pub use outcome::{Excuse, LogPlace, Outcome, Unjudged};
 pub use rules::{Rule, rule_broken, rule_broken_within};

@@ -1,15 +1,377 @@
-//! The judge of a link.
-ghost use Rattle.std.specs.Prelude.{◌≡◌};
-ghost use Rattle.fio_check.specs.LinkJudges.{is_at_cpu};
+//! The judge of a link: whom to accuse by a log in which lines may be lost, of a module that may be restarted.
+ghost use Rattle.std.specs.Prelude.{◌≡◌, Bool, None, false};
+ghost use Rattle.fio_message.specs.Views.{answer_of};
+ghost use Rattle.fio_check.specs.ContentCheckers.{checking_with, found_in_frame};
+ghost use Rattle.fio_check.specs.Checkers.{checker_with};
+ghost use Rattle.fio_check.specs.ContentKept.{content_checking};
+ghost use Rattle.fio_check.specs.LinkJudges.{any_stamp_in, any_stamp_of, asked_below, content_here, is_answer_set_back, is_asked_again, is_at_cpu, is_set_back, is_unheard, judging_anywhere, judging_at, judging_begun, judging_below_outcome, judging_lost, judging_passed, judging_with, loads_below, loads_left, outcome_found, outcome_in, outcome_judged, outcome_of_content, outcome_set_back, place_lost, stamp_above, stamp_in, unjudged_by};
+ghost use Rattle.fio_check.specs.LinkKept.{judging};
+ghost use Rattle.fio_check.specs.Observations.{observation_in};
 
-use crate::outcome::LogPlace;
+use crate::checker::{Checker, Skips};
+use crate::content::{ContentBreach, ContentChecker};
+use crate::content_above::stamp_of;
+use crate::content_rules::ContentRule;
+use crate::content_times::is_before;
+use crate::facts::Facts;
+use crate::limits::Limits;
+use crate::observation::Observation;
+use crate::outcome::{Excuse, LogPlace, Outcome, Unjudged};
+use fio_message::{AnswerView, BlockStatus, read_answer};
 
-/// Returns whether a log is taken at the CPU's end.
-pub(crate) fn is_at_cpu(at: LogPlace) -> bool
+/// The judge of a link: it takes a log frame by frame, and says of each what it is. Where lines are lost it accuses nobody by what
+/// may stand in them; a module that is restarted, and a counter that is loaded, are no faults.
+///
+/// Below a lost line, a restart, a load that took effect, and a breach of a rule of transcripts nothing is judged till the next
+/// poll, and from there on all rules are applied anew.
+#[derive(Clone, Copy, Debug)]
+pub struct LinkJudge {
+    /// The checker of the rules of transcripts.
+    checker: Checker,
+    /// The checker of the rules on content.
+    content: ContentChecker,
+    /// The latest stamp that was judged, but of a block that is sent again.
+    latest: Option<u32>,
+    /// What was the latest stamp at the first poll for the block that is due.
+    asked: Option<u32>,
+    /// Whether lines are lost below the latest stamp.
+    lost: bool,
+}
+
+impl LinkJudge {
+    /// Returns a judge above the first line of a log that begins anywhere, of a module with these limits.
+    pub fn anywhere(limits: Limits) -> LinkJudge
+        ensures { judging result ≡ judging_anywhere limits }
+    {
+        LinkJudge::above(Checker::anywhere(limits), ContentChecker::new())
+    }
+
+    /// Returns a judge above the first line of a log that begins with both ends, of a module with these limits.
+    pub fn begun(limits: Limits) -> LinkJudge
+        ensures { judging result ≡ judging_begun limits }
+    {
+        LinkJudge::above(Checker::within(limits), ContentChecker::begun())
+    }
+
+    #[inline(always)]
+    fn above(checker: Checker, content: ContentChecker) -> LinkJudge
+        ensures { result ≡ (record { checker = checker; content = content; latest = None; asked = None; lost = false }) }
+    {
+        LinkJudge {
+            checker,
+            content,
+            latest: None,
+            asked: None,
+            lost: false,
+        }
+    }
+
+    /// Takes a place where lines are lost, or where a part of a log ends and another begins.
+    pub fn lose(&mut self)
+        ensures { judging self.new ≡ judging_lost (judging self.old) }
+    {
+        if !matches!(self.checker.skips, Skips::ToCommand) {
+            self.checker = Checker::skipping(Skips::ToPoll, self.checker.limits);
+        }
+        self.content.may_miss_load();
+        self.lost = true;
+    }
+
+    /// Takes a frame that was logged there, by whether the CPU's end sent it, and returns what it is.
+    pub fn frame(&mut self, at: LogPlace, from_cpu: bool, octets: &[u8]) -> Outcome
+        ensures outcome { result ≡ outcome_in (judging self.old) at from_cpu octets.now }
+        ensures next { judging self.new ≡ judging_with (judging self.old) at from_cpu octets.now }
+    {
+        let observation = Observation::of(from_cpu, octets);
+        if self.checker.passes_over(from_cpu, observation) {
+            return self.pass_over(from_cpu, octets);
+        }
+        if self.is_set_back(from_cpu, octets) {
+            return self.set_back(from_cpu, octets);
+        }
+        self.judge(at, from_cpu, octets, observation)
+    }
+
+    /// Takes a frame that is not judged: a command may be a load of the counter.
+    fn pass_over(&mut self, from_cpu: bool, octets: &[u8]) -> Outcome
+        ensures outcome { result ≡ Outcome.NotJudged (unjudged_by self.old.checker.skips) }
+        ensures next { judging self.new ≡ judging_passed (judging self.old) from_cpu octets.now }
+    {
+        if from_cpu {
+            self.content.sent(octets);
+        }
+        Outcome::NotJudged(unjudged_by(self.checker.skips))
+    }
+
+    // ---- Stamps
+
+    /// Returns whether the stamp of a frame is before one that it is not before as long as the counter runs on.
+    fn is_set_back(&self, from_cpu: bool, octets: &[u8]) -> bool
+        ensures { result ≡ is_set_back (judging self.now) from_cpu octets.now }
+    {
+        if from_cpu {
+            return false;
+        }
+        match read_answer(octets) {
+            Ok(answer) => self.is_answer_set_back(&answer),
+            Err(_) => false,
+        }
+    }
+
+    /// Returns whether the stamp of an answer is before one that it is not before as long as the counter runs on.
+    fn is_answer_set_back(&self, answer: &AnswerView<'_>) -> bool
+        ensures { result ≡ is_answer_set_back (judging self.now) (answer_of answer.now) }
+    {
+        match (any_stamp_of(answer), self.stamp_above(answer)) {
+            (Some(stamp), Some(above)) => is_before(stamp, above),
+            _ => false,
+        }
+    }
+
+    /// Returns the stamp before which that of an answer is not as long as the counter runs on. A block that is sent again was
+    /// made below the first poll for it.
+    fn stamp_above(&self, answer: &AnswerView<'_>) -> Option<u32>
+        ensures { result ≡ stamp_above (judging self.now) (answer_of answer.now) }
+    {
+        match *answer {
+            AnswerView::Block { status, .. } if BlockStatus::from_octet(status).again() =>
+                self.asked,
+            _ => self.latest,
+        }
+    }
+
+    /// Takes a frame whose stamp is set back.
+    fn set_back(&mut self, from_cpu: bool, octets: &[u8]) -> Outcome
+        ensures outcome { result ≡ outcome_set_back (judging self.old) }
+        ensures next { judging self.new ≡ place_lost (judging self.old)
+            (loads_below (judging self.old) from_cpu octets.now) (any_stamp_in from_cpu octets.now) }
+    {
+        let loaded = self.lost || self.content.loads_left() > 0;
+        let _excused = take_content(&mut self.content, from_cpu, octets);
+        self.lose_place(any_stamp_in(from_cpu, octets));
+        if loaded {
+            Outcome::Excused(Excuse::Load)
+        } else {
+            Outcome::Restarted
+        }
+    }
+
+    /// Loses the place below a stamp, if there is one.
+    fn lose_place(&mut self, stamp: Option<u32>)
+        ensures { judging self.new ≡ place_lost (judging self.old) (loads_left (judging self.old)) stamp }
+    {
+        self.checker = Checker::skipping(Skips::ToPoll, self.checker.limits);
+        self.content.begin_again();
+        self.latest = stamp;
+        self.asked = None;
+        self.lost = false;
+    }
+
+    // ---- Frames that are judged
+
+    /// Judges a frame that says this, but for its stamp.
+    fn judge(
+        &mut self,
+        at: LogPlace,
+        from_cpu: bool,
+        octets: &[u8],
+        observation: Observation,
+    ) -> Outcome
+        requires { observation ≡ observation_in from_cpu octets.now }
+        ensures outcome { result ≡ outcome_judged (judging self.old) at from_cpu octets.now }
+        ensures next { judging self.new ≡ judging_below_outcome result (judging self.old) from_cpu octets.now }
+    {
+        let asked = self.asked_below(observation);
+        let mut checker = self.checker;
+        match checker.take(from_cpu, observation) {
+            None => self.judge_content(checker, asked, from_cpu, octets),
+            Some(_) if self.is_unheard(at, observation) => {
+                let mut anew = Checker::within(self.checker.limits);
+                let _none = anew.take(from_cpu, observation);
+                let _nothing = self.take(anew, asked, from_cpu, octets);
+                Outcome::Excused(Excuse::Unheard)
+            }
+            Some(breach) => {
+                self.checker = checker;
+                Outcome::Broken(breach)
+            }
+        }
+    }
+
+    /// Judges a frame that keeps the rules of transcripts, by the rules on content.
+    fn judge_content(
+        &mut self,
+        checker: Checker,
+        asked: Option<u32>,
+        from_cpu: bool,
+        octets: &[u8],
+    ) -> Outcome
+        requires checker { checker ≡ checker_with self.old.checker from_cpu (observation_in from_cpu octets.now) }
+        requires asked { asked ≡ asked_below (judging self.old) (observation_in from_cpu octets.now) }
+        ensures outcome { (unheard : Bool) → result
+            ≡ outcome_found unheard None (found_in_frame (content_here (judging self.old)) from_cpu octets.now) }
+        ensures next { judging self.new ≡ judging_below_outcome result (judging self.old) from_cpu octets.now }
+    {
+        match self.take(checker, asked, from_cpu, octets) {
+            Some(breach) if breach.rule == ContentRule::Watchdog => {
+                self.lose_place(any_stamp_in(from_cpu, octets));
+                Outcome::Restarted
+            }
+            Some(breach) => {
+                self.set_latest(stamp_in(from_cpu, octets));
+                Outcome::BrokenContent(breach)
+            }
+            None => {
+                self.set_latest(stamp_in(from_cpu, octets));
+                Outcome::Kept
+            }
+        }
+    }
+
+    /// Takes a frame below which the checker of transcripts and the latest stamp at the first poll are these, and returns its
+    /// breach of a rule on content.
+    fn take(
+        &mut self,
+        checker: Checker,
+        asked: Option<u32>,
+        from_cpu: bool,
+        octets: &[u8],
+    ) -> Option<ContentBreach>
+        ensures found { result ≡ found_in_frame (content_here (judging self.old)) from_cpu octets.now }
+        ensures next { judging self.new ≡ (record (judging self.old) {
+          checker = checker;
+          content = checking_with (content_here (judging self.old)) from_cpu octets.now;
+          asked = asked;
+        }) }
+    {
+        self.begin_content();
+        self.checker = checker;
+        self.asked = asked;
+        take_content(&mut self.content, from_cpu, octets)
+    }
+
+    /// Begins the rules on content anew, if the place is lost above.
+    fn begin_content(&mut self)
+        ensures { judging self.new ≡ (record (judging self.old) { content = content_here (judging self.old) }) }
+    {
+        if matches!(self.checker.skips, Skips::ToPoll) {
+            self.content.begin_again();
+        }
+    }
+
+    /// Sets the latest stamp, if there is one.
+    fn set_latest(&mut self, stamp: Option<u32>)
+        ensures { judging self.new ≡ judging_at (judging self.old) stamp }
+    {
+        if stamp.is_some() {
+            self.latest = stamp;
+            self.lost = false;
+        }
+    }
+
+    /// Returns the latest stamp at the first poll for the block that is due, below a frame that says this.
+    fn asked_below(&self, observation: Observation) -> Option<u32>
+        ensures { result ≡ asked_below (judging self.now) observation }
+    {
+        match observation {
+            Observation::Poll { number } => {
+                let polled = self.checker.facts.polled?;
+                if number == polled {
+                    self.asked
+                } else {
+                    self.latest
+                }
+            }
+            _ => self.asked,
+        }
+    }
+
+    /// Returns whether a frame that says this may be right by an answer above that the CPU's end did not hear.
+    fn is_unheard(&self, at: LogPlace, observation: Observation) -> bool
+        ensures { result ≡ is_unheard (judging self.now) at observation }
+    {
+        !is_at_cpu(at) && is_asked_again(&self.checker.facts, observation)
+    }
+}
+
+/// Takes a frame, by whether the CPU's end sent it, and returns its breach of a rule on content.
+fn take_content(
+    content: &mut ContentChecker,
+    from_cpu: bool,
+    octets: &[u8],
+) -> Option<ContentBreach>
+    ensures found { result ≡ found_in_frame (content_checking content.old) from_cpu octets.now }
+    ensures next { content_checking content.new ≡ checking_with (content_checking content.old) from_cpu octets.now }
+{
+    if from_cpu {
+        content.sent(octets);
+        return None;
+    }
+    content.heard(octets)
+}
+
+/// Returns whether a log is taken at the CPU's end, so that the CPU's end heard each answer in it.
+fn is_at_cpu(at: LogPlace) -> bool
     ensures { result ≡ is_at_cpu at }
 {
     match at {
         LogPlace::Cpu => true,
         _ => false,
+    }
+}
+
+/// Returns whether a frame that says this is a poll with the number of the latest one.
+fn is_asked_again(facts: &Facts, observation: Observation) -> bool
+    ensures { result ≡ is_asked_again facts.now observation }
+{
+    match (observation, facts.polled) {
+        (Observation::Poll { number }, Some(polled)) => number == polled,
+        _ => false,
+    }
+}
+
+/// Returns why a frame is not judged, by what is passed over.
+fn unjudged_by(skips: Skips) -> Unjudged
+    ensures { result ≡ unjudged_by skips }
+{
+    match skips {
+        Skips::ToCommand => Unjudged::AboveCommand,
+        _ => Unjudged::PlaceLost,
+    }
+}
+
+/// Returns the stamp of an answer, also of a block that is sent again.
+fn any_stamp_of(answer: &AnswerView<'_>) -> Option<u32>
+    ensures { result ≡ any_stamp_of (answer_of answer.now) }
+{
+    match *answer {
+        AnswerView::Block { stamp, .. } => Some(stamp),
+        _ => stamp_of(answer),
+    }
+}
+
+/// Returns the stamp of a frame that is heard, also of a block that is sent again.
+fn any_stamp_in(from_cpu: bool, octets: &[u8]) -> Option<u32>
+    ensures { result ≡ any_stamp_in from_cpu octets.now }
+{
+    if from_cpu {
+        return None;
+    }
+    match read_answer(octets) {
+        Ok(answer) => any_stamp_of(&answer),
+        Err(_) => None,
+    }
+}
+
+/// Returns the stamp of a frame that is heard, but of a block that is sent again.
+fn stamp_in(from_cpu: bool, octets: &[u8]) -> Option<u32>
+    ensures { result ≡ stamp_in from_cpu octets.now }
+{
+    if from_cpu {
+        return None;
+    }
+    match read_answer(octets) {
+        Ok(answer) => stamp_of(&answer),
+        Err(_) => None,
     }
 }

@@ -1,0 +1,59 @@
+-- The judge of a link, one frame at a time.
+use Rattle.fio_check.proofs.Names.{◌≡◌, ◌∙◌, ℕ, Bool, true, false, List, [], ◌∷◌, Option, Some, None, refl, sym, ap, ap₂}
+use Rattle.fio_message.specs.declared.answers.Answer.{Answer}
+use Rattle.fio_message.specs.declared.commands.Command.{Command}
+use Rattle.fio_check.specs.Checkers.{checker_below_breach, checker_with}
+use Rattle.fio_check.specs.ContentCheckers.{ContentKept, breach_among, checking_with, found_in_frame}
+use Rattle.fio_check.specs.ContentEvents.{content_events}
+use Rattle.fio_check.specs.Lines.{answer_from, command_from}
+use Rattle.fio_check.specs.LinkJudges.{Judging, checking_again, content_above, content_here, loads_below, place_lost}
+use Rattle.fio_check.specs.Observations.{observation_in}
+use Rattle.fio_check.proofs.Checkers.{limits-stay}
+use Rattle.fio_check.specs.declared.checker.Checker.{Checker}
+use Rattle.fio_check.specs.declared.checker.Skips.{Skips}
+use Rattle.fio_check.specs.declared.checker.Skips.TheVariants.{Nothing, ToCommand, ToPoll}
+use Rattle.fio_check.specs.declared.content.ContentBreach.{ContentBreach}
+
+-- ---- a checker of the rules on content that begins anew
+
+-- a command breaks no rule on content
+pub command-keeps : (kept : ContentKept) (number : Option ℕ) (command : Option Command)
+    → breach_among kept.facts 0 (content_events number command None) ≡ None
+command-keeps kept number None = refl
+command-keeps kept number (Some command) = refl
+
+-- one that begins anew finds nothing
+pub again-finds-nothing : (loads : ℕ) (from_cpu : Bool) (octets : List ℕ) → found_in_frame (checking_again loads) from_cpu octets ≡ None
+again-finds-nothing loads true octets = command-keeps (checking_again loads).kept None (command_from true octets)
+again-finds-nothing loads false octets = refl
+
+here-by : (judging : Judging) (skips : Skips) (from_cpu : Bool) (octets : List ℕ) (breach : ContentBreach)
+    → found_in_frame (content_above judging skips) from_cpu octets ≡ Some breach
+    → content_above judging skips ≡ judging.content
+here-by judging Nothing from_cpu octets breach found = refl
+here-by judging ToCommand from_cpu octets breach found = refl
+here-by judging ToPoll from_cpu octets breach found =
+    (let none : None ≡ Some breach = sym (again-finds-nothing judging.content.kept.facts.excuses from_cpu octets) ∙ found in absurd (cc))
+
+-- so where a rule on content is broken, the checker is none that begins anew
+pub here-is : (judging : Judging) (from_cpu : Bool) (octets : List ℕ) (breach : ContentBreach)
+    → found_in_frame (content_here judging) from_cpu octets ≡ Some breach
+    → content_here judging ≡ judging.content
+here-is judging from_cpu octets breach found = here-by judging judging.checker.skips from_cpu octets breach found
+
+-- a restart that the rule on the watchdog tells, below a frame that both checkers took
+pub restart-loses : (before : Judging) (checker : Checker) (asked stamp : Option ℕ) (from_cpu : Bool) (octets : List ℕ) (breach : ContentBreach)
+    → checker ≡ checker_with before.checker from_cpu (observation_in from_cpu octets)
+    → found_in_frame (content_here before) from_cpu octets ≡ Some breach
+    → place_lost (record before { checker = checker; content = checking_with (content_here before) from_cpu octets; asked = asked })
+    (checking_with (content_here before) from_cpu octets).kept.facts.excuses stamp
+    ≡ place_lost before (loads_below before from_cpu octets) stamp
+restart-loses before checker asked stamp from_cpu octets breach is found =
+    ap₂ {C = Judging} (λ limits loads. record {
+      checker = checker_below_breach limits;
+      content = checking_again loads;
+      latest = stamp;
+      asked = None;
+      lost = false;
+    }) (ap (λ (c : Checker). c.limits) is ∙ limits-stay before.checker from_cpu (observation_in from_cpu octets))
+    (ap (λ content. (checking_with content from_cpu octets).kept.facts.excuses) (here-is before from_cpu octets breach found))
