@@ -11,3 +11,5 @@ pub mod FrameLemmas
 pub mod MessageRunLemmas
 pub mod TellingLemmas
 pub mod OwnVerdictLemmas
+pub mod NumberLemmas
+pub mod NumberListLemmas

@@ -57,7 +57,7 @@ words-once line opening closing place word other here there =
     same-word word other (here.here ∙ sym there.here) start stop end
 
 -- the first character of a part of a line
-part-first : (line : List ℕ) (place end first : ℕ) (others : List ℕ) → slice_range line place end ≡ first ∷ others
+pub part-first : (line : List ℕ) (place end first : ℕ) (others : List ℕ) → slice_range line place end ≡ first ∷ others
     → place < end → slice_index line place ≡ first
 part-first line place end first others is order =
     let head : get_or (take (end - place) (drop place line)) 0 0 ≡ first = ap (λ l. get_or l 0 0) is in

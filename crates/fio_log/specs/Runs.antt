@@ -3,12 +3,13 @@ use Rattle.std.specs.Prelude.{◌≡◌, ℕ, ◌+◌, ◌-◌, ◌%◌, ◌<◌
 use Rattle.std.specs.List.{All}
 use Rattle.fio_log.specs.Digits.{is_separator}
 use Rattle.fio_log.specs.Readings.{octets_of}
-use Rattle.fio_log.specs.Words.{IsWord, may_begin}
+use Rattle.fio_log.specs.Words.{IsWord, StandsAt, may_begin}
 use Rattle.fio_log.specs.declared.octets.TheConstants.{RUN_OCTETS}
 use Rattle.fio_log.specs.Literals.{character_of, is_empty}
-use Rattle.fio_log.specs.Numbers.{is_break, is_closing, number_of}
+use Rattle.fio_log.specs.Numbers.{AreNumbers, closing_of, least_in, opening_of}
 use Rattle.fio_log.specs.Written.{IsWritten}
 use Rattle.fio_log.specs.declared.marks.Word.{Word}
+use Rattle.fio_log.specs.declared.numbers.Bracket.{Bracket}
 use Rattle.fio_log.specs.declared.runs.Run.{Run}
 
 -- a word has digits, and is in a line at a place or after it
@@ -90,9 +91,15 @@ pub record IsLiteral (line : List ℕ) (place : ℕ) (octets : List ℕ) (end : 
   pub within : end ≤ length line
   pub written : IsWritten character_of is_empty line (place + 1) octets (end - 1)
 
--- Numbers in brackets are in a line from a place to an end, and the octets are all the numbers, up to the last one's end.
+-- Numbers in brackets are in a line from a place to an end: a bracket, the numbers, all of them signed or none, and the bracket
+-- that closes it. One number in round brackets is none. The octets are all the numbers, no more than are kept.
 pub record IsNumbers (line : List ℕ) (place : ℕ) (octets : List ℕ) (end : ℕ) : Type 0 where
+  pub bracket : Bracket
+  pub is_signed : Bool
+  pub first : ℕ
   pub last : ℕ
-  pub within : end ≤ length line
-  pub closed : is_closing (slice_range line last end) ≡ true
-  pub written : IsWritten number_of is_break line place octets last
+  pub opened : StandsAt line (opening_of bracket) place first
+  pub numbers : AreNumbers is_signed line first octets last
+  pub closed : StandsAt line (closing_of bracket) last end
+  pub enough : least_in bracket ≤ length octets
+  pub fits : length octets ≤ RUN_OCTETS

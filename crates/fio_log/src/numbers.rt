@@ -1,84 +1,156 @@
 //! Octets that are written as decimal numbers in brackets.
-ghost use Rattle.std.specs.Prelude.{◌≡◌, ◌≤◌, ◌<◌, IfSome, length, slice_range, true};
-ghost use Rattle.fio_log.specs.Numbers.{decimal_digit, decimal_of, is_break, is_closing, number_of};
+ghost use Rattle.std.specs.Prelude.{◌≡◌, ◌==◌, ℕ, ◌≤◌, ◌<◌, Bool, false, true, IfSome, List, Some, length, option_and_then, slice_index, slice_range};
+ghost use Rattle.fio_log.specs.Digits.{is_between};
+ghost use Rattle.fio_log.specs.Numbers.{bracket_of, closing_of, decimal_digit, decimal_of, is_comma, least_in, number_of, octet_in, opening_of};
 ghost use Rattle.fio_log.specs.Runs.{IsNumbers};
+ghost use Rattle.fio_log.specs.Words.{StandsAt};
+ghost use Rattle.fio_log.specs.declared.numbers.Bracket.{Bracket};
 
 use crate::digits::is_decimal;
-use crate::marks::end_of;
+use crate::marks::{character, end_of};
 use crate::octets::Octets;
 
-/// The brackets that may open before decimal numbers.
-const OPENING: [&[u8]; 4] = [b"[", b"(", b"{", b"<<"];
+/// The brackets that may be around decimal numbers.
+#[derive(Clone, Copy, Debug, PartialEq, Eq)]
+pub(crate) enum Bracket {
+    /// `(` and `)`.
+    Round,
+    /// `[` and `]`.
+    Square,
+    /// `{` and `}`.
+    Curly,
+    /// `<<` and `>>`.
+    Angles,
+}
 
-/// What may be between two of them.
-const COMMAS: [&[u8]; 3] = [b", ", b",", b" "];
+/// A decimal number from -128 to 255.
+#[derive(Clone, Copy, Debug, PartialEq, Eq)]
+pub(crate) struct Number {
+    /// The octet that it spells.
+    pub octet: u8,
+    /// Whether it is below 0.
+    pub is_negative: bool,
+    /// Whether it is above 127.
+    pub is_high: bool,
+}
 
 /// Returns where the brackets that open at `place` end, if they contain decimal numbers that are octets, and
-/// writes these to `octets`. They are from -128 to 255, not both negative and above 127, without zeros before them, and
+/// writes these to `octets`. They are all from -128 to 127 or all from 0 to 255, without zeros before them, and
 /// a comma, a blank or both between. One number in round brackets is none, and more than the most are none.
 pub fn numbers_at(line: &[u8], place: usize, octets: &mut Octets) -> Option<usize>
-    ensures { IfSome result (IsNumbers line.now place octets.new.items) }
+    ensures numbers { IfSome result (IsNumbers line.now place octets.new.items) }
+    ensures only { (numbers : List ℕ) → (end : ℕ) → IsNumbers line.now place numbers end
+        → (result ≡ Some end) × (octets.new.items ≡ numbers) }
 {
-    let mut end = break_end(line, place, &OPENING)?;
-    let close = closing(line[place]);
+    let (bracket, first) = opened_at(line, place)?;
     octets.clear();
+    let mut end = first;
     let (mut is_negative, mut is_high) = (false, false);
     'numbers: while end < line.len() && !octets.is_full() {
         let behind = number_end(line, end);
-        let octet = number(&line[end..behind])?;
-        octets.push(octet);
-        let is_signed = line[end] == b'-';
-        is_negative |= is_signed & (octet > 0);
-        is_high |= !is_signed & (octet > 127);
-        if let Some(shut) = end_of(line, behind, close) {
-            let is_lone = octets.len() == 1 && line[place] == b'(';
-            return if is_lone || is_negative && is_high {
-                None
-            } else {
-                Some(shut)
-            };
+        let number = read_number(&line[end..behind])?;
+        octets.push(number.octet);
+        is_negative |= number.is_negative;
+        is_high |= number.is_high;
+        if let Some(shut) = end_of(line, behind, closing(bracket)) {
+            let is_list = (octets.len() >= least_in(bracket)) & !(is_negative & is_high);
+            return if is_list { Some(shut) } else { None };
         }
-        end = break_end(line, behind, &COMMAS)?;
+        end = comma_end(line, behind)?;
     }
     None
 }
 
-/// Returns where a break ends: the first of `breaks` that is at `place`.
-fn break_end(line: &[u8], place: usize, breaks: &[&[u8]]) -> Option<usize>
-    ensures { IfSome result (λ end.
-        (place < end) × (end ≤ length line.now) × (is_break (slice_range line.now place end) ≡ true)) }
+/// Returns the bracket that opens at `place`, and where it ends.
+fn opened_at(line: &[u8], place: usize) -> Option<(Bracket, usize)>
+    ensures opened { IfSome result (λ opened. StandsAt line.now (opening_of opened.0) place opened.1) }
+    ensures only { (bracket : Bracket) → (end : ℕ) → StandsAt line.now (opening_of bracket) place end
+        → result ≡ Some (bracket, end) }
 {
-    for text in breaks {
-        if let Some(end) = end_of(line, place, text)
-            && place < end
-            && is_break(&line[place..end])
-        {
-            return Some(end);
-        }
-    }
-    None
+    let first = line.get(place)?;
+    let bracket = bracket_of(*first)?;
+    let end = end_of(line, place, opening(bracket))?;
+    Some((bracket, end))
 }
 
-/// Returns whether a text may be before a number.
-fn is_break(text: &[u8]) -> bool
-    ensures { result ≡ is_break text.now }
+/// Returns the bracket that a character begins.
+fn bracket_of(character: u8) -> Option<Bracket>
+    ensures { result ≡ bracket_of character }
+{
+    match character {
+        b'(' => Some(Bracket::Round),
+        b'[' => Some(Bracket::Square),
+        b'{' => Some(Bracket::Curly),
+        b'<' => Some(Bracket::Angles),
+        _ => None,
+    }
+}
+
+/// Returns the characters that open a bracket.
+fn opening(bracket: Bracket) -> &'static [u8]
+    ensures { result.now ≡ opening_of bracket }
+{
+    match bracket {
+        Bracket::Round => b"(",
+        Bracket::Square => b"[",
+        Bracket::Curly => b"{",
+        Bracket::Angles => b"<<",
+    }
+}
+
+/// Returns the characters that close a bracket.
+fn closing(bracket: Bracket) -> &'static [u8]
+    ensures { result.now ≡ closing_of bracket }
+{
+    match bracket {
+        Bracket::Round => b")",
+        Bracket::Square => b"]",
+        Bracket::Curly => b"}",
+        Bracket::Angles => b">>",
+    }
+}
+
+/// Returns how many numbers a bracket has at least.
+fn least_in(bracket: Bracket) -> usize
+    ensures { result ≡ least_in bracket }
+{
+    match bracket {
+        Bracket::Round => 2,
+        _ => 1,
+    }
+}
+
+/// Returns where the comma, the blank or both that are at `place` end.
+fn comma_end(line: &[u8], place: usize) -> Option<usize>
+    requires { place ≤ length line.now }
+    ensures comma { IfSome result (λ end.
+        (place < end) × (end ≤ length line.now) × (is_comma (slice_range line.now place end) ≡ true)) }
+    ensures only { (end : ℕ) → is_comma (slice_range line.now place end) ≡ true → end < length line.now
+        → (slice_index line.now end == 32) ≡ false → result ≡ Some end }
+{
+    let end = after_comma(line, place);
+    is_comma(line.get(place..end)?).then_some(end)
+}
+
+/// Returns where a comma, a blank or both would end at `place`.
+fn after_comma(line: &[u8], place: usize) -> usize
+    requires { place ≤ length line.now }
+    ensures order { place < result }
+    ensures only { (end : ℕ) → is_comma (slice_range line.now place end) ≡ true → end < length line.now
+        → (slice_index line.now end == 32) ≡ false → result ≡ end }
+{
+    let is_wide = (character(line, place) == b',') & (character(line, place + 1) == b' ');
+    if is_wide { place + 2 } else { place + 1 }
+}
+
+/// Returns whether a text may be between two numbers: a comma, a blank, or a comma and a blank.
+fn is_comma(text: &[u8]) -> bool
+    ensures { result ≡ is_comma text.now }
 {
     match *text {
-        [sign] => matches!(sign, b' ' | b'(' | b',' | b'[' | b'{'),
-        [sign, other] => sign == b',' && other == b' ' || sign == b'<' && other == b'<',
+        [sign] => sign == b',' || sign == b' ',
+        [sign, other] => sign == b',' && other == b' ',
         _ => false,
-    }
-}
-
-/// Returns the bracket that closes what `opening` opens.
-fn closing(opening: u8) -> &'static [u8]
-    ensures { is_closing result.now ≡ true }
-{
-    match opening {
-        b'[' => b"]",
-        b'(' => b")",
-        b'{' => b"}",
-        _ => b">>",
     }
 }
 
@@ -87,6 +159,9 @@ fn number_end(line: &[u8], place: usize) -> usize
     requires { place < length line.now }
     ensures order { place ≤ result }
     ensures within { result ≤ length line.now }
+    ensures sign { slice_index line.now place ≡ 45 → place < result }
+    ensures digits { (k : ℕ) → place < k → k < result → is_between 48 57 (slice_index line.now k) ≡ true }
+    ensures all { is_between 48 57 (slice_index line.now result) ≡ false }
 {
     let mut end = if line[place] == b'-' {
         place + 1
@@ -99,18 +174,24 @@ fn number_end(line: &[u8], place: usize) -> usize
     end
 }
 
-/// Returns the octet that a number from -128 to 255 spells.
-fn number(text: &[u8]) -> Option<u8>
-    ensures { result ≡ number_of text.now }
+/// Returns the number from -128 to 255 that a text spells.
+fn read_number(text: &[u8]) -> Option<Number>
+    ensures { (is_signed : Bool) → number_of is_signed text.now ≡ option_and_then (octet_in is_signed) result }
 {
     if let [b'-', ref digits @ ..] = *text {
         let number = decimal(digits)?;
-        if number > 128 {
-            return None;
-        }
-        Some(((256 - number) % 256) as u8)
+        (number <= 128).then_some(Number {
+            octet: (256_u16.wrapping_sub(number) % 256) as u8,
+            is_negative: number > 0,
+            is_high: false,
+        })
     } else {
-        u8::try_from(decimal(text)?).ok()
+        let octet = u8::try_from(decimal(text)?).ok()?;
+        Some(Number {
+            octet,
+            is_negative: false,
+            is_high: octet > 127,
+        })
     }
 }
 

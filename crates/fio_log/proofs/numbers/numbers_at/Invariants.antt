@@ -1,15 +1,17 @@
-use Rattle.std.proofs.Common.{◌≡◌, ◌-◌, ◌<◌, ◌≤◌, ℕ, true, length}
-use Rattle.std.specs.Prelude.{slice_range}
-use Rattle.fio_log.specs.Numbers.{is_break, number_of}
-use Rattle.fio_log.specs.Written.{IsWritten}
+use Rattle.std.proofs.Common.{◌≡◌, ◌-◌, ◌≤◌, ℕ, Bool, false, List, length}
+use Rattle.fio_log.specs.Numbers.{AreNumbers, are_outside, closing_of}
+use Rattle.fio_log.specs.Words.{StandsAt}
+use Rattle.fio_log.proofs.NumberListLemmas.{AreBefore, AreRead}
 use Rattle.fio_log.proofs.numbers.numbers_at.Given as goal
 
 abbrev pub invariant-numbers : goal.invariant-numbers
 invariant-numbers l = record {
-  order : l.place < l.end;
   within : l.end ≤ length l.line;
-  written : (last : ℕ) × (last ≤ l.end) × (is_break (slice_range l.line last l.end) ≡ true)
-      × IsWritten number_of is_break l.line l.place l.octets.items last;
+  before : (is_signed : Bool) → are_outside is_signed l.is_negative l.is_high ≡ false
+      → AreBefore is_signed l.line l.first l.octets.items l.end;
+  behind : (is_signed : Bool) (all : List ℕ) (last stop : ℕ) → AreNumbers is_signed l.line l.first all last
+      → StandsAt l.line (closing_of l.bracket) last stop
+      → AreRead is_signed l.line l.octets.items l.end l.is_negative l.is_high all last;
 }
 
 abbrev pub decreases-numbers : goal.decreases-numbers
