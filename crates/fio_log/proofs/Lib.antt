@@ -13,3 +13,5 @@ pub mod TellingLemmas
 pub mod OwnVerdictLemmas
 pub mod NumberLemmas
 pub mod NumberListLemmas
+pub mod LiteralLemmas
+pub mod LiteralListLemmas

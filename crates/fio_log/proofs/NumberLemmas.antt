@@ -19,12 +19,12 @@ test-true true value n is = refl
 test-true false value n is = cc
 
 -- a test whose other value is there
-test-else : (test : Bool) (value : Option ℕ) (n : ℕ) → (if test then None else value) ≡ Some n → value ≡ Some n
+pub test-else : (test : Bool) (value : Option ℕ) (n : ℕ) → (if test then None else value) ≡ Some n → value ≡ Some n
 test-else true value n is = cc
 test-else false value n is = is
 
 -- what follows a value is there only if that is
-then-some : (next : ℕ → Option ℕ) (value : Option ℕ) (n : ℕ) → option_and_then next value ≡ Some n
+pub then-some : (next : ℕ → Option ℕ) (value : Option ℕ) (n : ℕ) → option_and_then next value ≡ Some n
     → (first : ℕ) × (value ≡ Some first) × (next first ≡ Some n)
 then-some next None n is = cc
 then-some next (Some first) n is = (first, refl, is)

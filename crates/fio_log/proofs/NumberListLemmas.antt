@@ -152,7 +152,7 @@ pub octet-within : (is_signed : Bool) (number : Number) → are_outside is_signe
 octet-within is_signed number is = rw is refl
 
 -- what a test says whose other value is there
-octet-if : (test : Bool) (own octet : ℕ) → (if test then None else Some own) ≡ Some octet → (test ≡ false) × (own ≡ octet)
+pub octet-if : (test : Bool) (own octet : ℕ) → (if test then None else Some own) ≡ Some octet → (test ≡ false) × (own ≡ octet)
 octet-if true own octet is = cc
 octet-if false own octet is = (refl, cc)
 

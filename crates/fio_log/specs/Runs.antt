@@ -5,9 +5,8 @@ use Rattle.fio_log.specs.Digits.{is_separator}
 use Rattle.fio_log.specs.Readings.{octets_of}
 use Rattle.fio_log.specs.Words.{IsWord, StandsAt, may_begin}
 use Rattle.fio_log.specs.declared.octets.TheConstants.{RUN_OCTETS}
-use Rattle.fio_log.specs.Literals.{character_of, is_empty}
+use Rattle.fio_log.specs.Literals.{AreCharacters, IsMarked, is_quote}
 use Rattle.fio_log.specs.Numbers.{AreNumbers, closing_of, least_in, opening_of}
-use Rattle.fio_log.specs.Written.{IsWritten}
 use Rattle.fio_log.specs.declared.marks.Word.{Word}
 use Rattle.fio_log.specs.declared.numbers.Bracket.{Bracket}
 use Rattle.fio_log.specs.declared.runs.Run.{Run}
@@ -85,11 +84,18 @@ pub record IsSingle (line opening closing : List ℕ) (place : ℕ) : Type 0 whe
   pub one : word.stop ≡ word.start + 1
   pub marked : is_marked opening closing ≡ true
 
--- A string literal is in a line from a place to an end, and its octets are all the characters between its quotes.
+-- A string literal is in a line from a place to an end: a quote, characters, and the same quote, with a `b` before it or a
+-- backslash in it. Its octets are all of these characters, no more than are kept.
 pub record IsLiteral (line : List ℕ) (place : ℕ) (octets : List ℕ) (end : ℕ) : Type 0 where
-  pub forward : place < end
+  pub is_plain : Bool
+  pub last : ℕ
+  pub opened : is_quote (slice_index line place) ≡ true
+  pub characters : AreCharacters is_plain (slice_index line place) line (place + 1) octets last
+  pub closed : slice_index line last ≡ slice_index line place
+  pub behind : end ≡ last + 1
   pub within : end ≤ length line
-  pub written : IsWritten character_of is_empty line (place + 1) octets (end - 1)
+  pub marked : IsMarked line place last
+  pub fits : length octets ≤ RUN_OCTETS
 
 -- Numbers in brackets are in a line from a place to an end: a bracket, the numbers, all of them signed or none, and the bracket
 -- that closes it. One number in round brackets is none. The octets are all the numbers, no more than are kept.

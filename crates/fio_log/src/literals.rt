@@ -1,9 +1,10 @@
 //! Octets that are written as the characters of a string literal.
-ghost use Rattle.std.specs.Prelude.{◌≡◌, ◌≤◌, ◌<◌, IfSome, length};
-ghost use Rattle.fio_log.specs.Literals.{character_of, escape_of, octal_digit};
+ghost use Rattle.std.specs.Prelude.{◌≡◌, ◌==◌, ◌≤◌, ◌<◌, ◌+◌, ℕ, Bool, List, IfSome, MatchOption, length, option_and_then, slice_index};
+ghost use Rattle.fio_log.specs.Literals.{character_of, escape_of, is_bytes, is_hexadecimal, is_octal, is_open, is_printable, is_quote, kept_in, length_with, octal_digit, octet_in};
 ghost use Rattle.fio_log.specs.Runs.{IsLiteral};
 
 use crate::digits::{is_letter, octet};
+use crate::marks::character as character_at;
 use crate::octets::Octets;
 
 /// A string literal in a line.
@@ -17,33 +18,46 @@ pub struct Literal {
     pub is_escaped: bool,
 }
 
+/// A character of a string literal.
+#[derive(Clone, Copy, Debug, PartialEq, Eq)]
+pub(crate) struct LiteralCharacter {
+    /// The octet that it spells.
+    pub octet: u8,
+    /// Whether it is written as itself.
+    pub is_itself: bool,
+    /// Whether it could be, and is written as a hexadecimal escape.
+    pub is_escaped: bool,
+}
+
 /// Returns the string literal whose quote is at `place`, and writes its octets to `octets`. It has an escape, or
 /// `b` before it, and does not write some printable characters as themselves and others as hexadecimal escapes.
 pub fn literal_at(line: &[u8], place: usize, octets: &mut Octets) -> Option<Literal>
-    ensures { IfSome result (λ literal. IsLiteral line.now place octets.new.items literal.end) }
+    ensures literal { IfSome result (λ literal. IsLiteral line.now place octets.new.items literal.end) }
+    ensures only { (characters : List ℕ) → (end : ℕ) → IsLiteral line.now place characters end
+        → MatchOption result ⊥ (λ literal. literal.end ≡ end) × (octets.new.items ≡ characters) }
 {
     let quote = *line.get(place)?;
-    if quote != b'"' && quote != b'\'' {
+    if !is_quote(quote) {
         return None;
     }
     octets.clear();
     let mut end = place + 1;
     let mut has_escape = is_bytes(line, place);
     let (mut is_plain, mut is_escaped) = (false, false);
-    'characters: while end < line.len() && line[end] != quote {
+    'characters: while is_open(line, end, quote) {
         let behind = end + character_length(line, end);
-        let text = line.get(end..behind)?;
-        let octet = character(text)?;
+        let character = read_character(line.get(end..behind)?)?;
         if octets.is_full() {
             return None;
         }
-        octets.push(octet);
-        has_escape |= text.len() > 1;
-        is_plain |= text.len() == 1;
-        is_escaped |= is_hexadecimal(text) && is_printable(octet);
+        octets.push(character.octet);
+        has_escape |= behind - end > 1;
+        is_plain |= character.is_itself;
+        is_escaped |= character.is_escaped;
         end = behind;
     }
-    if end < line.len() && has_escape && !(is_plain && is_escaped) {
+    let is_literal = (end < line.len()) & has_escape & !(is_plain & is_escaped);
+    if is_literal {
         Some(Literal {
             end: end + 1,
             is_plain,
@@ -54,15 +68,28 @@ pub fn literal_at(line: &[u8], place: usize, octets: &mut Octets) -> Option<Lite
     }
 }
 
+/// Returns whether a character is a quote.
+fn is_quote(character: u8) -> bool
+    ensures { result ≡ is_quote character }
+{
+    character == b'"' || character == b'\''
+}
+
+/// Returns whether a character is at `place` of the line that is not `quote`.
+fn is_open(line: &[u8], place: usize, quote: u8) -> bool
+    ensures { result ≡ is_open line.now place quote }
+{
+    place < line.len() && line[place] != quote
+}
+
 /// Returns whether the quote at `place` has a `b` before it that is not the end of a word.
 fn is_bytes(line: &[u8], place: usize) -> bool
     requires { place < length line.now }
+    ensures { result ≡ is_bytes line.now place }
 {
-    match &line[..place] {
-        [.., before, b'b' | b'B'] => !is_letter(*before),
-        [b'b' | b'B'] => true,
-        _ => false,
-    }
+    place > 0
+        && matches!(line[place - 1], b'b' | b'B')
+        && (place == 1 || !is_letter(line[place - 2]))
 }
 
 /// Returns how many octets the character at `place` has, an escape with its digits: 1 to 6.
@@ -70,15 +97,49 @@ fn character_length(line: &[u8], place: usize) -> usize
     requires { place < length line.now }
     ensures some { 0 < result }
     ensures small { result ≤ 6 }
+    ensures value { result ≡ length_with (slice_index line.now place) (slice_index line.now (place + 1))
+        (slice_index line.now (place + 2)) (slice_index line.now (place + 3)) }
 {
-    match &line[place..] {
-        [b'\\', b'x', ..] => 4,
-        [b'\\', b'u', ..] => 6,
-        [b'\\', b'0'..=b'7', b'0'..=b'7', b'0'..=b'7', ..] => 4,
-        [b'\\', b'0'..=b'7', b'0'..=b'7', ..] => 3,
-        [b'\\', ..] => 2,
-        _ => 1,
+    if line[place] == b'\\' {
+        escape_length(
+            character_at(line, place + 1),
+            character_at(line, place + 2),
+            character_at(line, place + 3),
+        )
+    } else {
+        1
     }
+}
+
+/// Returns how many octets an escape has, with its backslash, if these characters come after that: 2 to 6.
+fn escape_length(first: u8, second: u8, third: u8) -> usize
+    ensures { result ≡ length_with 92 first second third }
+{
+    match first {
+        b'x' => 4,
+        b'u' => 6,
+        b'0'..=b'7' if is_octal(second) => { if is_octal(third) { 4 } else { 3 } }
+        _ => 2,
+    }
+}
+
+/// Returns whether a character is an octal digit.
+fn is_octal(character: u8) -> bool
+    ensures { result ≡ is_octal character }
+{
+    matches!(character, b'0'..=b'7')
+}
+
+/// Returns the character of a literal that a text is.
+fn read_character(text: &[u8]) -> Option<LiteralCharacter>
+    ensures { (is_plain : Bool) → octet_in is_plain text.now ≡ option_and_then (kept_in is_plain) result }
+{
+    let octet = character(text)?;
+    Some(LiteralCharacter {
+        octet,
+        is_itself: text.len() == 1,
+        is_escaped: is_hexadecimal(text) & is_printable(octet),
+    })
 }
 
 /// Returns the octet that a character spells.
@@ -125,11 +186,15 @@ fn octal(character: u8) -> Option<u16>
 }
 
 /// Returns whether a character is a hexadecimal escape.
-fn is_hexadecimal(text: &[u8]) -> bool {
-    matches!(text, [b'\\', b'x' | b'u', ..])
+fn is_hexadecimal(text: &[u8]) -> bool
+    ensures { result ≡ is_hexadecimal text.now }
+{
+    character_at(text, 0) == b'\\' && matches!(character_at(text, 1), b'x' | b'u')
 }
 
 /// Returns whether an octet could be written as itself in a literal.
-fn is_printable(octet: u8) -> bool {
+fn is_printable(octet: u8) -> bool
+    ensures { result ≡ is_printable octet }
+{
     matches!(octet, b' '..=b'~') && !matches!(octet, b'"' | b'\'' | b'\\')
 }
