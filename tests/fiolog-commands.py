@@ -119,7 +119,7 @@ def check_words(check):
     check.holds('how many are skipped', '1 of %d lines skipped: no octets' % (len(SESSION) + 1) in done.err)
     for command in (['decode'], ['stats'], ['check'], ['record'], ['convert', '--to', 'frames']):
         done = fiolog(*command, text='nothing here\n')
-        check.equal('%s of nothing' % command[0], (1, True), (done.status, 'no frame in 1 lines' in done.err))
+        check.equal('%s of nothing' % command[0], (1, True), (done.status, 'no frame in 1 line:' in done.err))
     check.equal('a file that is not there', 3, fiolog('decode', 'no-such-file').status)
     check.equal('no subcommand', 2, fiolog().status)
     check.equal('a pattern without octets', 2, fiolog('decode', '--pattern', '(', text='').status)

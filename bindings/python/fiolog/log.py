@@ -127,8 +127,8 @@ class Log:
         is possible."""
         passed, found = self.kinds[PASSED], self.kinds[FRAME] + self.kinds[BAD]
         if passed and not self.option.quiet:
-            say('%d of %d lines skipped: %s%s' % (passed, self.lines, reasons_in_words(self.reasons),
-                                                '' if self.option.verbose else ' (-v names each)'))
+            say('%d of %d line%s skipped: %s%s' % (passed, self.lines, 's' * (self.lines != 1), reasons_in_words(self.reasons),
+                                                  '' if self.option.verbose else ' (-v names each)'))
         for reason, cure in () if self.option.quiet else CURES.items():
             if self.reasons[reason] or self.damages[reason]:
                 say('%s: %s' % (reason, cure))
@@ -147,7 +147,7 @@ class Log:
         say_others(self.others, self.option.quiet and found)
         if not found and not (takes_possible and self.kinds[POSSIBLE]):
             say(self.why or ('this is a binary file: pass it through `xxd` or `hexdump -C`; or, if it is what a line carried, see --line'
-                             if self.is_binary else 'no frame in %d lines: docs/CAPTURES.md says what is read' % self.lines))
+                             if self.is_binary else 'no frame in %d line%s: docs/CAPTURES.md says what is read' % (self.lines, 's' * (self.lines != 1))))
             return False
         return True
 
