@@ -1,16 +1,14 @@
 -- Characters of string literals: how long they are, and one after another in a line.
-use Rattle.std.proofs.Common.{◌≡◌, ℕ, zero, suc, ◌+◌, ◌-◌, ◌*◌, ◌≤◌, ◌<◌, ◌++◌, Bool, true, false, List, [], ◌∷◌, ◌⊎◌, inl, inr, length, take, drop, length-drop, Option, Some, None, refl, ap, sym, ◌∙◌, append_assoc, arith}
-use Rattle.std.specs.Prelude.{◌==◌, ◌||◌, ◌&&◌, not, nat_lt, if◌then◌else◌, nat_le, option_and_then, slice_index, slice_range}
+use Rattle.std.proofs.Common.{◌≡◌, ℕ, ◌+◌, ◌-◌, ◌*◌, ◌≤◌, ◌<◌, Bool, true, false, List, [], ◌∷◌, length, drop, length-drop, Option, Some, None, refl, ap, ◌∙◌, arith}
+use Rattle.std.specs.Prelude.{◌==◌, ◌||◌, ◌&&◌, not, if◌then◌else◌, nat_le, option_and_then, slice_index, slice_range}
 use Rattle.std.proofs.lemmas.Bool.{false≢true}
 use Rattle.std.proofs.lemmas.Bool.Decides.{nat_tests}
 use Rattle.std.proofs.lemmas.List.{length-take}
 use Rattle.std.proofs.lemmas.List.Edits.{length-between}
-use Rattle.fio_log.proofs.NumberLemmas.{at-part, then-some, test-else}
-use Rattle.fio_log.proofs.NumberListLemmas.{octet-if, outside-both}
+use Rattle.fio_log.proofs.NumberLemmas.{at-part, then-some}
+use Rattle.fio_log.proofs.NumberListLemmas.{octet-if}
 use Rattle.fio_log.specs.Digits.{is_between, octet_of}
-use Rattle.fio_log.specs.Literals.{AreCharacters, IsMarked, character_of, escape_of, is_hexadecimal, is_itself, is_octal, is_open, is_printable, is_short_octal, kept_in, length_with, octal_digit, octet_in, with_octal}
-use Rattle.fio_log.specs.Numbers.{are_outside}
-use Rattle.fio_log.specs.declared.literals.LiteralCharacter.{LiteralCharacter}
+use Rattle.fio_log.specs.Literals.{character_of, escape_of, is_hexadecimal, is_itself, is_octal, is_printable, is_short_octal, length_with, octal_digit, octet_in, with_octal}
 
 -- a test whose first value is there was true
 test-some : (test : Bool) (value : Option ℕ) (n : ℕ) → (if test then value else None) ≡ Some n

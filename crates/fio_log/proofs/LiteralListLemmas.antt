@@ -1,11 +1,10 @@
 -- String literals in a line, one character after another.
-use Rattle.std.proofs.Common.{◌≡◌, ℕ, ◌+◌, ◌-◌, ◌≤◌, ◌<◌, ◌++◌, Bool, true, false, List, [], ◌∷◌, ◌⊎◌, inl, inr, length, Option, Some, None, refl, ap, sym, ◌∙◌, append_assoc, arith}
-use Rattle.std.specs.Prelude.{◌==◌, ◌||◌, ◌&&◌, not, nat_lt, if◌then◌else◌, slice_index, slice_range}
-use Rattle.std.proofs.lemmas.Bool.{false≢true}
+use Rattle.std.proofs.Common.{◌≡◌, ℕ, ◌+◌, ◌≤◌, ◌<◌, ◌++◌, Bool, true, false, List, [], ◌∷◌, inl, inr, length, Some, refl, ap, sym, ◌∙◌, append_assoc, arith}
+use Rattle.std.specs.Prelude.{◌==◌, ◌||◌, ◌&&◌, not, if◌then◌else◌, slice_index, slice_range}
 use Rattle.std.proofs.lemmas.Bool.Decides.{nat_tests}
-use Rattle.fio_log.proofs.LiteralLemmas.{character-apart, character-ends, character-inside, length_at}
+use Rattle.fio_log.proofs.LiteralLemmas.{character-ends, character-inside, length_at}
 use Rattle.fio_log.proofs.NumberListLemmas.{octet-if, outside-both}
-use Rattle.fio_log.specs.Literals.{AreCharacters, IsMarked, is_bytes, is_octal, is_open, is_short_octal, kept_in, length_with, octet_in}
+use Rattle.fio_log.specs.Literals.{AreCharacters, IsMarked, is_octal, is_open, is_short_octal, kept_in, length_with, octet_in}
 use Rattle.fio_log.specs.Numbers.{are_outside}
 use Rattle.fio_log.specs.declared.literals.LiteralCharacter.{LiteralCharacter}
 

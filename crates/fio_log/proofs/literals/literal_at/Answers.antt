@@ -1,12 +1,11 @@
-use Rattle.std.proofs.Common.{◌≡◌, ◌≤◌, ◌<◌, ◌++◌, Bool, true, false, List, [], ◌∷◌, ℕ, ◌⊎◌, inl, inr, length, Some, None, refl, ap, sym, ◌∙◌, append-nil, length-append, arith}
+use Rattle.std.proofs.Common.{◌≡◌, ◌≤◌, ◌<◌, ◌++◌, Bool, true, false, List, [], ◌∷◌, ℕ, ◌⊎◌, inl, inr, length, Some, refl, ap, sym, ◌∙◌, append-nil, length-append, arith}
 use Rattle.std.specs.Prelude.{◌==◌, ◌+◌, ◌-◌, ◌||◌, ◌&&◌, not, nat_lt, slice_index, slice_range}
 use Rattle.std.proofs.lemmas.Bool.{false≢true}
 use Rattle.std.proofs.lemmas.Bool.Decides.{leb_tells, nat_tests}
-use Rattle.fio_log.specs.Literals.{IsMarked, is_open, is_quote, octet_in}
-use Rattle.fio_log.specs.Numbers.{are_outside}
+use Rattle.fio_log.specs.Literals.{is_open, is_quote, octet_in}
 use Rattle.fio_log.specs.declared.octets.TheConstants.{RUN_OCTETS}
 use Rattle.fio_log.proofs.LiteralLemmas.{character-apart, length_at}
-use Rattle.fio_log.proofs.LiteralListLemmas.{AreReadHere, character-more, characters-order, closed-at, kept-within, long-slash, marked-on, more-at, next-character, open-is, read-here, slash-long}
+use Rattle.fio_log.proofs.LiteralListLemmas.{character-more, characters-order, closed-at, kept-within, long-slash, marked-on, more-at, next-character, open-is, read-here, slash-long}
 use Rattle.fio_log.proofs.NumberListLemmas.{outside-more, outside-none, outside-not, outside-one}
 use Rattle.fio_log.proofs.literals.literal_at.Goals as goal
 

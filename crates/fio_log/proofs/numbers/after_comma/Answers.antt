@@ -1,4 +1,4 @@
-use Rattle.std.proofs.Common.{true, false, sym, ◌∙◌, arith}
+use Rattle.std.proofs.Common.{true, false, arith}
 use Rattle.std.proofs.lemmas.Bool.Decides.{nat_tests}
 use Rattle.fio_log.proofs.NumberLemmas.{comma-once}
 use Rattle.fio_log.proofs.numbers.after_comma.Goals as goal

@@ -1,10 +1,8 @@
-use Rattle.std.proofs.Common.{◌≡◌, ◌≤◌, ◌<◌, ◌++◌, Bool, true, false, List, [], ◌∷◌, ℕ, length, Some, None, refl, ap, sym, ◌∙◌, append-nil, length-append, arith}
+use Rattle.std.proofs.Common.{◌≡◌, ◌≤◌, ◌++◌, Bool, true, false, [], ◌∷◌, ℕ, length, Some, refl, ap, sym, ◌∙◌, append-nil, length-append, arith}
 use Rattle.std.proofs.lemmas.Bool.{false≢true}
 use Rattle.std.proofs.lemmas.Bool.Decides.{nat_tests}
 use Rattle.std.specs.Prelude.{◌==◌, ◌+◌, ◌||◌, ◌&&◌, not, nat_le}
-use Rattle.fio_log.specs.Numbers.{number_of, octet_in}
 use Rattle.fio_log.specs.declared.octets.TheConstants.{RUN_OCTETS}
-use Rattle.fio_log.proofs.NumberLemmas.{IsNumberEnd}
 use Rattle.fio_log.proofs.NumberListLemmas.{closed-here, comma-more, list-from, next-number, numbers-inside, numbers-more, octet-within, open-here, outside-more, outside-none, outside-not, outside-one, read-on}
 use Rattle.fio_log.proofs.numbers.numbers_at.Goals as goal
 

@@ -1,7 +1,6 @@
-use Rattle.std.proofs.Common.{◌≡◌, Some, arith, refl, sym, ◌∙◌}
+use Rattle.std.proofs.Common.{◌≡◌, arith}
 use Rattle.std.proofs.lemmas.Bool.Decides.{nat_tests}
 use Rattle.std.specs.Prelude.{slice_index}
-use Rattle.fio_log.specs.Numbers.{opening_of}
 use Rattle.fio_log.specs.Words.{StandsAt}
 use Rattle.fio_log.proofs.NumberLemmas.{opening-at}
 use Rattle.fio_log.proofs.numbers.opened_at.Goals as goal
