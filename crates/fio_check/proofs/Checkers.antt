@@ -95,13 +95,13 @@ finds_the_first_breach lines =
 
 -- ---- below a breach
 
-with-breach : (limits : Limits) (checker taken : Checker) (passes : Bool) (breach : Option Breach) → is_some (if passes then None else breach) ≡ true
+pub with-breach : (limits : Limits) (checker taken : Checker) (passes : Bool) (breach : Option Breach) → is_some (if passes then None else breach) ≡ true
     → (if passes then checker else (if is_some breach then checker_below_breach limits else taken)) ≡ checker_below_breach limits
 with-breach limits checker taken true breach is = absurd (cc)
 with-breach limits checker taken false None is = absurd (cc)
 with-breach limits checker taken false (Some breach) is = refl
 
-passes-it : (limits : Limits) (from_cpu : Bool) (observation : Observation) → number_polled observation ≡ None
+pub passes-it : (limits : Limits) (from_cpu : Bool) (observation : Observation) → number_polled observation ≡ None
     → passes_over (checker_below_breach limits) from_cpu observation ≡ true
 passes-it limits from_cpu (Poll number) none = absurd (cc)
 passes-it limits from_cpu (Command answer absent) none = refl

@@ -23,3 +23,4 @@ pub mod Found
 pub mod BreachesSoFar
 pub mod Checkers
 pub mod LinkJudges
+pub mod LinkLaws

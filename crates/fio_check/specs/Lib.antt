@@ -21,4 +21,5 @@ pub mod ContentKept
 pub mod ContentLaws
 pub mod LinkJudges
 pub mod LinkKept
+pub mod LinkLaws
 pub mod Finding

@@ -10,6 +10,8 @@ ghost use Rattle.fio_check.specs.Facts.{is_answering, number_polled, status_of_b
 ghost use Rattle.fio_check.specs.Finding.{FindsDoubled, FindsDropped, FindsSwapped, FindsTurned, FindsTurnedLater};
 ghost use Rattle.fio_check.specs.Laws.{HasOneVerdict, IsTheLatest, KeepsFacts};
 ghost use Rattle.fio_check.specs.Lines.{TranscriptLine};
+ghost use Rattle.fio_check.specs.LinkJudges.{Judging, LogLine};
+ghost use Rattle.fio_check.specs.LinkLaws.{HasOutcomes, LinkGoesOn, LosesPlace, SaysTheSame};
 ghost use Rattle.fio_check.specs.Observations.{observation_at};
 ghost use Rattle.fio_check.specs.Verdicts.{verdict_on};
 ghost use Rattle.fio_check.specs.declared.limits.Limits.{Limits};
@@ -92,4 +94,29 @@ pub fn turned_entries_are_found()
 /// it is compared with what follows it, the next entry of its input or a 181 that the record comes to.
 pub fn dropped_entries_are_found()
     ensures { (begun : Bool) → FindsDropped begun }
+{}
+
+/// The judge of a link says of each frame exactly one outcome, and of marks none.
+#[tactic(auto, using(crate::proofs::LinkLaws::has_outcomes))]
+pub fn frames_have_outcomes()
+    ensures { (judging : Judging) (lines : List LogLine) → HasOutcomes judging lines }
+{}
+
+/// Below a lost line, a restart, a load that took effect and a breach of a rule of transcripts the place is lost.
+#[tactic(auto, using(crate::proofs::LinkLaws::loses_the_place))]
+pub fn judges_lose_the_place()
+    ensures { (judging : Judging) → LosesPlace judging }
+{}
+
+/// Where the place is lost a judge judges nothing above the next poll, and from that poll on says what one says that begins
+/// there.
+#[tactic(auto, using(crate::proofs::LinkLaws::goes_on))]
+pub fn judges_go_on()
+    ensures { (judging : Judging) (above : List LogLine) → LinkGoesOn judging above }
+{}
+
+/// Of a whole log at the CPU's end the judge accuses first what the two checkers find first.
+#[tactic(auto, using(crate::proofs::LinkLaws::says_the_same))]
+pub fn judges_say_what_checkers_find()
+    ensures { (limits : Limits) (lines : List TranscriptLine) → SaysTheSame limits lines }
 {}

@@ -1,0 +1,165 @@
+-- Laws of the judge of a link.
+use Rattle.std.specs.Prelude.{◌≡◌, ℕ, Bool, true, false, List, [], ◌∷◌, Option, Some, None, filter, is_some, length, map, max, option_map, if◌then◌else◌}
+use Rattle.std.specs.List.{list_any}
+use Rattle.std.specs.Option.{option_or}
+use Rattle.fio_message.specs.declared.commands.Command.{Command}
+use Rattle.fio_check.specs.Checkers.{checker_anywhere, checker_below_breach, checker_with, checker_within, found_by}
+use Rattle.fio_check.specs.ContentAbove.{one_excuse_more}
+use Rattle.fio_check.specs.ContentCheckers.{ContentChecking, checking_at_start, checking_with, found_in_frame}
+use Rattle.fio_check.specs.ContentEvents.{Sent}
+use Rattle.fio_check.specs.ContentSaid.{is_loading}
+use Rattle.fio_check.specs.Facts.{number_polled}
+use Rattle.fio_check.specs.Lines.{TranscriptLine, command_from}
+use Rattle.fio_check.specs.LinkJudges.{Frame, Judging, LogLine, Lost, checking_again, is_set_back, judging_anywhere, judging_begun, judging_below, judging_lost, judging_with, loads_left, outcome_in, outcomes_of}
+use Rattle.fio_check.specs.Observations.{observation_in}
+use Rattle.fio_check.specs.Places.{is_some_and}
+use Rattle.fio_check.specs.declared.checker.Breach.{Breach}
+use Rattle.fio_check.specs.declared.checker.Checker.{Checker}
+use Rattle.fio_check.specs.declared.checker.Skips.TheVariants.{ToCommand}
+use Rattle.fio_check.specs.declared.limits.Limits.{Limits}
+use Rattle.fio_check.specs.declared.content.ContentBreach.{ContentBreach}
+use Rattle.fio_check.specs.declared.content_rules.ContentRule.{ContentRule}
+use Rattle.fio_check.specs.declared.content_rules.ContentRule.TheVariants.{Watchdog}
+use Rattle.fio_check.specs.declared.outcome.LogPlace.{LogPlace}
+use Rattle.fio_check.specs.declared.outcome.LogPlace.TheVariants.{Cpu}
+use Rattle.fio_check.specs.declared.outcome.Excuse.TheVariants.{Load}
+use Rattle.fio_check.specs.declared.outcome.Outcome.{Outcome}
+use Rattle.fio_check.specs.declared.outcome.Outcome.TheVariants.{Broken, BrokenContent, Excused, NotJudged, Restarted}
+use Rattle.fio_check.specs.declared.outcome.Unjudged.TheVariants.{PlaceLost}
+
+-- ---- each frame
+
+-- a line is a frame, and no mark
+abbrev pub is_frame : LogLine → Bool
+is_frame (Frame at from_cpu octets) = true
+is_frame Lost = false
+
+-- each frame has one outcome
+abbrev pub HasOutcomes : Judging → List LogLine → Type 0
+HasOutcomes judging lines = length (outcomes_of judging lines) ≡ length (filter is_frame lines)
+
+-- ---- a place that is lost
+
+-- the place is lost: all is passed over till the next poll
+abbrev pub IsLost : Judging → Type 0
+IsLost judging = judging.checker ≡ checker_below_breach judging.checker.limits
+
+-- below a frame that is this the place is lost
+abbrev pub loses_place : Outcome → Bool
+loses_place (Broken breach) = true
+loses_place Restarted = true
+loses_place (Excused Load) = true
+loses_place outcome = false
+
+-- a frame is a poll
+abbrev pub is_poll : Bool → List ℕ → Bool
+is_poll from_cpu octets = is_some (number_polled (observation_in from_cpu octets))
+
+-- a line is a poll
+abbrev pub is_poll_line : LogLine → Bool
+is_poll_line (Frame at from_cpu octets) = is_poll from_cpu octets
+is_poll_line Lost = false
+
+-- a frame is a load of the counter
+abbrev pub is_load : Bool → List ℕ → Bool
+is_load from_cpu octets = is_some_and (command_from from_cpu octets) (λ command. is_some (is_loading (Sent command)))
+
+-- so many loads may take effect below a line: one more below a load, and at least one where lines are lost
+abbrev pub loads_with : ℕ → LogLine → ℕ
+loads_with loads (Frame at from_cpu octets) = if is_load from_cpu octets then one_excuse_more loads else loads
+loads_with loads Lost = max 1 loads
+
+-- and below lines
+abbrev pub loads_below_lines : ℕ → List LogLine → ℕ
+loads_below_lines loads [] = loads
+loads_below_lines loads (line ∷ lines) = loads_below_lines (loads_with loads line) lines
+
+-- lines are lost among these
+abbrev pub are_lost : Bool → List LogLine → Bool
+are_lost lost [] = lost
+are_lost lost (Frame at from_cpu octets ∷ lines) = are_lost lost lines
+are_lost lost (Lost ∷ lines) = are_lost true lines
+
+-- a judge that begins at a poll where so many loads may take effect, below this stamp
+abbrev pub judging_again : Judging → ℕ → Bool → Judging
+judging_again judging loads lost = record judging {
+  checker = checker_within judging.checker.limits;
+  content = checking_again loads;
+  asked = None;
+  lost = lost;
+}
+
+-- Below a place that is lost nothing is judged above the next poll; and from that poll on the judge says what one says that begins
+-- there with as many loads as may take effect.
+pub record LinkGoesOn (judging : Judging) (above : List LogLine) : Type 0 where
+  pub passes : IsLost judging → list_any is_poll_line above ≡ false
+      → outcomes_of judging above ≡ map (λ line. NotJudged PlaceLost) (filter is_frame above)
+  pub starts : (at : LogPlace) (octets : List ℕ) (below : List LogLine) → IsLost judging
+      → list_any is_poll_line above ≡ false → is_poll true octets ≡ true
+      → outcomes_of (judging_below judging above) (Frame at true octets ∷ below)
+      ≡ outcomes_of (judging_again judging (loads_below_lines (loads_left judging) above) (are_lost judging.lost above))
+      (Frame at true octets ∷ below)
+
+-- where the place is lost
+pub record LosesPlace (judging : Judging) : Type 0 where
+  pub mark : (judging.checker.skips ≡ ToCommand → ⊥) → IsLost (judging_lost judging)
+  pub frame : (at : LogPlace) (from_cpu : Bool) (octets : List ℕ)
+      → loses_place (outcome_in judging at from_cpu octets) ≡ true
+      → IsLost (judging_with judging at from_cpu octets)
+
+-- ---- a whole transcript
+
+-- a breach, and the number of its line
+pub record Accused : Type 0 where
+  pub line : ℕ
+  pub outcome : Outcome
+
+-- an outcome accuses an end
+abbrev pub accused : ℕ → Outcome → Option Accused
+accused line (Broken breach) = Some (record { line = line; outcome = Broken breach })
+accused line (BrokenContent breach) = Some (record { line = line; outcome = BrokenContent breach })
+accused line outcome = None
+
+-- what the judge accuses first, of what was logged at the CPU's end
+abbrev pub accused_first : Judging → List TranscriptLine → Option Accused
+accused_first judging [] = None
+accused_first judging (line ∷ lines) =
+    option_or (accused line.number (outcome_in judging Cpu line.from_cpu line.octets))
+    (accused_first (judging_with judging Cpu line.from_cpu line.octets) lines)
+
+-- a breach that the checker of transcripts finds in a line
+abbrev pub broken_on : ℕ → Breach → Accused
+broken_on line breach = record { line = line; outcome = Broken breach }
+
+-- one that the checker of the rules on content finds
+abbrev pub content_on : ℕ → ContentBreach → Accused
+content_on line breach = record { line = line; outcome = BrokenContent breach }
+
+-- what two checkers find first: of one line what that of transcripts finds, if it finds anything
+abbrev pub both_find_first : Checker → ContentChecking → List TranscriptLine → Option Accused
+both_find_first checker content [] = None
+both_find_first checker content (line ∷ lines) =
+    option_or (option_map (broken_on line.number) (found_by checker line.from_cpu (observation_in line.from_cpu line.octets)))
+    (option_or (option_map (content_on line.number) (found_in_frame content line.from_cpu line.octets))
+    (both_find_first (checker_with checker line.from_cpu (observation_in line.from_cpu line.octets))
+    (checking_with content line.from_cpu line.octets) lines))
+
+-- a breach is of the rule on the watchdog
+abbrev pub is_of_watchdog : ContentRule → Bool
+is_of_watchdog Watchdog = true
+is_of_watchdog rule = false
+
+-- by no line the module was restarted, and no load took effect: no stamp is set back, and the rule on the watchdog is not broken
+abbrev pub RunsOn : Judging → List TranscriptLine → Type 0
+RunsOn judging [] = Unit {0}
+RunsOn judging (line ∷ lines) = (is_set_back judging line.from_cpu line.octets ≡ false)
+    × (is_some_and (found_in_frame judging.content line.from_cpu line.octets) (λ breach. is_of_watchdog breach.rule) ≡ false)
+    × RunsOn (judging_with judging Cpu line.from_cpu line.octets) lines
+
+-- Of a whole log at the CPU's end, by which the counter runs on, the judge accuses first what two checkers find first: that of
+-- transcripts, and that of the rules on content.
+pub record SaysTheSame (limits : Limits) (lines : List TranscriptLine) : Type 0 where
+  pub anywhere : RunsOn (judging_anywhere limits) lines → accused_first (judging_anywhere limits) lines
+      ≡ both_find_first (checker_anywhere limits) (checking_at_start false) lines
+  pub begun : RunsOn (judging_begun limits) lines → accused_first (judging_begun limits) lines
+      ≡ both_find_first (checker_within limits) (checking_at_start true) lines
