@@ -1,11 +1,10 @@
 -- The judge of a link, one frame at a time.
-use Rattle.fio_check.proofs.Names.{◌≡◌, ◌∙◌, ℕ, Bool, true, false, List, [], ◌∷◌, Option, Some, None, refl, sym, ap, ap₂}
-use Rattle.fio_message.specs.declared.answers.Answer.{Answer}
+use Rattle.fio_check.proofs.Names.{◌≡◌, ◌∙◌, ℕ, Bool, true, false, List, Option, Some, None, refl, sym, ap, ap₂}
 use Rattle.fio_message.specs.declared.commands.Command.{Command}
 use Rattle.fio_check.specs.Checkers.{checker_below_breach, checker_with}
 use Rattle.fio_check.specs.ContentCheckers.{ContentKept, breach_among, checking_with, found_in_frame}
 use Rattle.fio_check.specs.ContentEvents.{content_events}
-use Rattle.fio_check.specs.Lines.{answer_from, command_from}
+use Rattle.fio_check.specs.Lines.{command_from}
 use Rattle.fio_check.specs.LinkJudges.{Judging, checking_again, content_above, content_here, loads_below, place_lost}
 use Rattle.fio_check.specs.Observations.{observation_in}
 use Rattle.fio_check.proofs.Checkers.{limits-stay}

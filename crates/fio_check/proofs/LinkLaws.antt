@@ -1,13 +1,13 @@
 -- Laws of the judge of a link.
-use Rattle.fio_check.proofs.Names.{◌≡◌, ◌⊎◌, ◌∙◌, ℕ, suc, inl, inr, Bool, true, false, List, [], ◌∷◌, Option, Some, None, refl, sym, ap, ap₂, fold, length, map, list_any, option_or, is_some, option_map, if◌then◌else◌, is_some_and, facts_with, number_polled, TranscriptLine, ContentChecking, ContentFacts, checking_at_start, checking_with, found_in_frame, content_with, Sent}
+use Rattle.fio_check.proofs.Names.{◌≡◌, ◌⊎◌, ◌∙◌, ℕ, suc, inl, inr, Bool, true, false, List, [], ◌∷◌, Option, Some, None, refl, sym, ap, ap₂, fold, map, list_any, option_or, is_some, option_map, if◌then◌else◌, is_some_and, facts_with, number_polled, TranscriptLine, ContentChecking, ContentFacts, checking_with, found_in_frame, content_with, Sent}
 use Rattle.std.specs.Prelude.{◌||◌, filter, max, nat_lt}
 use Rattle.fio_message.specs.declared.commands.Command.{Command}
-use Rattle.fio_check.specs.Checkers.{breach_of, checker_anywhere, checker_below_breach, checker_with, checker_within, found_by, passes_over, skips_frame}
+use Rattle.fio_check.specs.Checkers.{breach_of, checker_below_breach, checker_with, found_by, passes_over, skips_frame}
 use Rattle.fio_check.specs.ContentAbove.{one_excuse_more}
 use Rattle.fio_check.specs.ContentEvents.{content_events}
 use Rattle.fio_check.specs.ContentSaid.{is_loading}
 use Rattle.fio_check.specs.Lines.{command_from}
-use Rattle.fio_check.specs.LinkJudges.{Frame, Judging, LogLine, Lost, checking_again, checker_below_lines, content_above, content_here, is_set_back, judging_anywhere, judging_at, judging_begun, judging_below, judging_below_outcome, is_unheard, judging_kept, judging_lost, judging_taken, judging_with, loads_left, outcome_found, outcome_in, outcome_judged, outcome_of_content, outcome_set_back, outcomes_of, stamp_in, unjudged_by, with_loads}
+use Rattle.fio_check.specs.LinkJudges.{Frame, Judging, LogLine, Lost, checker_below_lines, content_above, content_here, is_set_back, judging_anywhere, judging_at, judging_begun, judging_below, judging_below_outcome, is_unheard, judging_kept, judging_lost, judging_taken, judging_with, loads_left, outcome_found, outcome_in, outcome_judged, outcome_of_content, outcome_set_back, outcomes_of, stamp_in, unjudged_by, with_loads}
 use Rattle.fio_check.specs.LinkLaws.{Accused, HasOutcomes, IsLost, LinkGoesOn, LosesPlace, RunsOn, SaysTheSame, accused, accused_first, are_lost, both_find_first, broken_on, content_on, is_frame, is_of_watchdog, is_poll, is_poll_line, judging_again, loads_below_lines, loads_with, loses_place}
 use Rattle.fio_check.specs.Observations.{observation_in}
 use Rattle.fio_check.specs.declared.checker.Breach.{Breach}
@@ -247,8 +247,8 @@ module _ (judging : Judging) (at : LogPlace) (from_cpu : Bool) (octets : List �
       → checker_with judging.checker from_cpu says_it ≡ checker_below_breach judging.checker.limits
   broken-lost breach is =
       let judged = in-is (passes_over judging.checker from_cpu says_it) (is_set_back judging from_cpu octets)
-          (unjudged_by judging.checker.skips) (outcome_set_back judging) (outcome_judged judging at from_cpu octets) breach
-          (set-back-is judging.lost (nat_lt 0 (loads_left judging)) breach) is in
+      (unjudged_by judging.checker.skips) (outcome_set_back judging) (outcome_judged judging at from_cpu octets) breach
+      (set-back-is judging.lost (nat_lt 0 (loads_left judging)) breach) is in
       with-breach judging.checker.limits judging.checker
       (record judging.checker { facts = facts_with judging.checker.facts says_it; skips = Nothing })
       (passes_over judging.checker from_cpu says_it) (breach_of judging.checker.limits judging.checker.facts says_it)
@@ -411,9 +411,9 @@ module _ (judging : Judging) (number : ℕ) (from_cpu : Bool) (octets : List ℕ
           let taken = judging_taken judging judging.checker from_cpu octets in
           let checker = ap (λ (j : Judging). j.checker) same ∙ at-checker taken stamp in
           let opened = taken-is judging.checker.limits judging.checker
-              (record judging.checker { facts = facts_with judging.checker.facts observed; skips = Nothing })
-              (passes_over judging.checker from_cpu observed) (breach_of judging.checker.limits judging.checker.facts observed)
-              passes broken_is in
+          (record judging.checker { facts = facts_with judging.checker.facts observed; skips = Nothing })
+          (passes_over judging.checker from_cpu observed) (breach_of judging.checker.limits judging.checker.facts observed)
+          passes broken_is in
           inr (record {
             mine = ap (accused number) outcome;
             broken = broken_is;
