@@ -1,9 +1,9 @@
 -- What the judge of a link does with a frame in which no breach is found.
-use Rattle.fio_ends.proofs.Names.{◌≡◌, ◌∙◌, ℕ, Bool, true, false, List, [], ◌∷◌, ◌++◌, ◌⊎◌, inl, inr, Option, Some, None, refl, ap, sym, subst, if◌then◌else◌, nat_lt, AllByRecursion, Facts, Limits, Observation, observation_in, observation_of}
+use Rattle.fio_ends.proofs.Names.{◌≡◌, ◌∙◌, ℕ, Bool, true, false, List, [], ◌∷◌, ◌++◌, ◌⊎◌, inl, inr, Option, Some, None, refl, ap, sym, subst, if◌then◌else◌, nat_lt, AllByRecursion, ContentKept, kept_with, facts_with, no_facts, first_broken_within, Facts, Limits, Observation, observation_in, observation_of}
 use Rattle.std.specs.Prelude.{◌||◌}
 use Rattle.fio_check.specs.Checkers.{checker_skipping, checker_with, found_by, passes_over}
-use Rattle.fio_check.specs.ContentCheckers.{checking_with, found_in_frame}
-use Rattle.fio_check.specs.LinkJudges.{Frame, Judging, LogLine, Lost, content_here, is_set_back, is_unheard, judging_at, judging_below, judging_below_outcome, judging_kept, judging_passed, judging_taken, judging_with, judging_with_line, loads_below, loads_left, outcome_found, outcome_in, outcome_judged, outcome_on, outcome_set_back, outcomes_of, place_lost, stamp_in, unjudged_by}
+use Rattle.fio_check.specs.ContentCheckers.{checking_with, content_found, found_in_frame}
+use Rattle.fio_check.specs.LinkJudges.{Frame, Judging, LogLine, Lost, content_above, content_here, is_set_back, is_unheard, judging_at, judging_below, judging_below_outcome, judging_kept, judging_passed, judging_taken, judging_with, judging_with_line, loads_below, loads_left, outcome_found, outcome_in, outcome_judged, outcome_on, outcome_set_back, outcomes_of, place_lost, stamp_in, unjudged_by}
 use Rattle.fio_check.specs.declared.checker.Breach.{Breach}
 use Rattle.fio_check.specs.declared.checker.Checker.{Checker}
 use Rattle.fio_check.specs.declared.checker.Skips.{Skips}
@@ -14,7 +14,7 @@ use Rattle.fio_check.specs.declared.outcome.Excuse.TheVariants.{Load}
 use Rattle.fio_check.specs.declared.outcome.LogPlace.{LogPlace}
 use Rattle.fio_check.specs.declared.outcome.Outcome.{Outcome}
 use Rattle.fio_check.specs.declared.outcome.Outcome.TheVariants.{Kept, Excused, Restarted, NotJudged}
-use Rattle.fio_check.proofs.Checkers.{taking}
+use Rattle.fio_check.proofs.Checkers.{found-taking, taking, with-taking}
 use Rattle.fio_message.specs.declared.answers.Answer.{Answer}
 use Rattle.fio_message.specs.declared.answers.Answer.TheVariants as answers
 use Rattle.fio_ends.specs.LinkLogs.{AccusesNeither}
@@ -44,22 +44,30 @@ module _ (judging : Judging) (at : LogPlace) (from_cpu : Bool) (octets : List �
   by_outcome outcome is fine = record { fine = subst AccusesNeither (sym is) fine; is = ap (λ o. judging_below_outcome o judging from_cpu octets) is }
 
   -- one that is passed over
+  pub passed_is : passes_over judging.checker from_cpu said ≡ true → outcome_in judging at from_cpu octets ≡ NotJudged (unjudged_by judging.checker.skips)
+  passed_is over = rw over refl
+
   pub passed : passes_over judging.checker from_cpu said ≡ true → Judged judging at from_cpu octets (judging_passed judging from_cpu octets)
-  passed over = by_outcome (NotJudged (unjudged_by judging.checker.skips)) (rw over refl) tt
+  passed over = by_outcome (NotJudged (unjudged_by judging.checker.skips)) (passed_is over) tt
 
   none_found : (unheard : Bool) → outcome_found unheard None None ≡ Kept
   none_found true = refl
   none_found false = refl
 
   -- one in which nothing is found
+  pub kept_is : passes_over judging.checker from_cpu said ≡ false → back_here ≡ false
+      → found_by judging.checker from_cpu said ≡ None → found_in_frame (content_here judging) from_cpu octets ≡ None
+      → outcome_in judging at from_cpu octets ≡ Kept
+  kept_is over back rules content =
+      ap (λ b. here (outcome_judged judging at from_cpu octets) b back_here) over
+      ∙ ap (here (outcome_judged judging at from_cpu octets) false) back
+      ∙ ap (λ found. outcome_found (is_unheard judging at said) found (found_in_frame (content_here judging) from_cpu octets)) rules
+      ∙ ap (outcome_found (is_unheard judging at said) None) content ∙ none_found (is_unheard judging at said)
+
   pub kept : passes_over judging.checker from_cpu said ≡ false → back_here ≡ false
       → found_by judging.checker from_cpu said ≡ None → found_in_frame (content_here judging) from_cpu octets ≡ None
       → Judged judging at from_cpu octets (judging_kept judging from_cpu octets)
-  kept over back rules content =
-      by_outcome Kept (ap (λ b. here (outcome_judged judging at from_cpu octets) b back_here) over
-      ∙ ap (here (outcome_judged judging at from_cpu octets) false) back
-      ∙ ap (λ found. outcome_found (is_unheard judging at said) found (found_in_frame (content_here judging) from_cpu octets)) rules
-      ∙ ap (outcome_found (is_unheard judging at said) None) content ∙ none_found (is_unheard judging at said)) tt
+  kept over back rules content = by_outcome Kept (kept_is over back rules content) tt
 
   -- one whose stamp is set back: the place is lost
   pub set_back : passes_over judging.checker from_cpu said ≡ false → back_here ≡ true
@@ -117,11 +125,74 @@ module _ (judging : Judging) (from_cpu : Bool) (octets : List ℕ) where
   pub kept_content : (judging_kept judging from_cpu octets).content ≡ checking_with (content_here judging) from_cpu octets
   kept_content = at_content taken (stamp_in from_cpu octets)
 
+-- the judge takes a frame that keeps all rules, and both checkers go on below it
+pub record KeepsFrame (limits : Limits) (judging : Judging) (at : LogPlace) (frame : CpuFrame) (facts : Facts) (below : ContentKept) : Type 0 where
+  pub outcome : outcome_in judging at frame.from_cpu frame.octets ≡ Kept
+  pub is : judging_with judging at frame.from_cpu frame.octets ≡ judging_kept judging frame.from_cpu frame.octets
+  pub checker : (judging_with judging at frame.from_cpu frame.octets).checker ≡ taking limits facts
+  pub content : (judging_with judging at frame.from_cpu frame.octets).content ≡ record { begun = true; kept = below }
+
+pub checking_on : (kept : ContentKept) (from_cpu : Bool) (octets : List ℕ)
+    → checking_with (record { begun = true; kept = kept }) from_cpu octets ≡ record { begun = true; kept = kept_with kept from_cpu octets }
+checking_on kept true octets = refl
+checking_on kept false octets = refl
+
+finds_on : (kept : ContentKept) (from_cpu : Bool) (octets : List ℕ) → content_found kept from_cpu octets ≡ None
+    → found_in_frame (record { begun = true; kept = kept }) from_cpu octets ≡ None
+finds_on kept true octets none = none
+finds_on kept false octets none = none
+
+module _ (limits : Limits) (judging : Judging) (at : LogPlace) (frame : CpuFrame) where
+  abbrev sent : Bool
+  sent = frame.from_cpu
+
+  abbrev said_here : Observation
+  said_here = observation_in frame.from_cpu frame.octets
+
+  by_kept : (facts : Facts) (below : ContentKept) → passes_over judging.checker sent said_here ≡ false → turns_back judging frame ≡ false
+      → found_by judging.checker sent said_here ≡ None → found_in_frame (content_here judging) sent frame.octets ≡ None
+      → checker_with judging.checker sent said_here ≡ taking limits facts → checking_with (content_here judging) sent frame.octets ≡ record { begun = true; kept = below }
+      → KeepsFrame limits judging at frame facts below
+  by_kept facts below over back rules content checker checking =
+      let j = kept judging at sent frame.octets over back rules content in
+      record {
+        outcome = kept_is judging at sent frame.octets over back rules content;
+        is = j.is;
+        checker = ap (λ (j : Judging). j.checker) j.is ∙ kept_checker judging sent frame.octets ∙ checker;
+        content = ap (λ (j : Judging). j.content) j.is ∙ kept_content judging sent frame.octets ∙ checking;
+      }
+
+  -- where each frame is judged
+  pub frame_kept : (facts : Facts) (kept : ContentKept) → judging.checker ≡ taking limits facts → judging.content ≡ record { begun = true; kept = kept } → turns_back judging frame ≡ false
+      → first_broken_within limits facts said_here ≡ None → content_found kept sent frame.octets ≡ None
+      → KeepsFrame limits judging at frame (facts_with facts said_here) (kept_with kept sent frame.octets)
+  frame_kept facts kept checker content back none finds =
+      let on : content_here judging ≡ record { begun = true; kept = kept } = ap (λ (c : Checker). content_above judging c.skips) checker ∙ content in
+      by_kept (facts_with facts said_here) (kept_with kept sent frame.octets) (ap (λ c. passes_over c sent said_here) checker ∙ takes_all limits facts sent said_here) back
+      (ap (λ c. found_by c sent said_here) checker ∙ found-taking limits facts sent said_here ∙ rw none refl)
+      (ap (λ c. found_in_frame c sent frame.octets) on ∙ finds_on kept sent frame.octets finds)
+      (ap (λ c. checker_with c sent said_here) checker ∙ with-taking limits facts sent said_here none)
+      (ap (λ c. checking_with c sent frame.octets) on ∙ checking_on kept sent frame.octets)
+
+-- a command at which both checkers begin anew
+pub frame_again : (limits : Limits) (judging : Judging) (at : LogPlace) (octets : List ℕ) (skips : Skips) (kept : ContentKept) → judging.checker ≡ checker_skipping skips limits
+    → content_above judging skips ≡ record { begun = false; kept = kept } → passes_over (checker_skipping skips limits) true (observation_in true octets) ≡ false
+    → first_broken_within limits no_facts (observation_in true octets) ≡ None → content_found kept true octets ≡ None
+    → KeepsFrame limits judging at (record { from_cpu = true; octets = octets }) (facts_with no_facts (observation_in true octets)) (kept_with kept true octets)
+frame_again limits judging at octets skips kept checker above over none finds =
+    let said_here = observation_in true octets in
+    let on : content_here judging ≡ record { begun = false; kept = kept } = ap (λ (c : Checker). content_above judging c.skips) checker ∙ above in
+    let rules : found_by (checker_skipping skips limits) true said_here ≡ None = rw (over, none) refl in
+    let takes : checker_with (checker_skipping skips limits) true said_here ≡ taking limits (facts_with no_facts said_here) = rw (over, none) refl in
+    by_kept limits judging at (record { from_cpu = true; octets = octets }) (facts_with no_facts said_here) (kept_with kept true octets)
+    (ap (λ c. passes_over c true said_here) checker ∙ over) refl (ap (λ c. found_by c true said_here) checker ∙ rules)
+    (ap (λ c. found_in_frame c true octets) on ∙ finds) (ap (λ c. checker_with c true said_here) checker ∙ takes) (ap (λ c. checking_with c true octets) on)
+
 -- ---- lines
 
--- no outcome of lines accuses, nor of those below
-pub outcomes-append : (front rest : List LogLine) (judging : Judging) → AllByRecursion AccusesNeither (outcomes_of judging front)
-    → AllByRecursion AccusesNeither (outcomes_of (judging_below judging front) rest) → AllByRecursion AccusesNeither (outcomes_of judging (front ++ rest))
-outcomes-append [] rest judging fine below = below
-outcomes-append (Frame at from_cpu octets ∷ front) rest judging fine below = (fine.0, outcomes-append front rest (judging_with judging at from_cpu octets) fine.1 below)
-outcomes-append (Lost ∷ front) rest judging fine below = outcomes-append front rest (judging_with_line judging Lost) fine below
+-- what holds of the outcomes of lines, and of those below
+pub outcomes-append : (P : Outcome → Type 0) (front rest : List LogLine) (judging : Judging) → AllByRecursion P (outcomes_of judging front)
+    → AllByRecursion P (outcomes_of (judging_below judging front) rest) → AllByRecursion P (outcomes_of judging (front ++ rest))
+outcomes-append P [] rest judging fine below = below
+outcomes-append P (Frame at from_cpu octets ∷ front) rest judging fine below = (fine.0, outcomes-append P front rest (judging_with judging at from_cpu octets) fine.1 below)
+outcomes-append P (Lost ∷ front) rest judging fine below = outcomes-append P front rest (judging_with_line judging Lost) fine below

@@ -30,7 +30,7 @@ use Rattle.fio_ends.proofs.FirstPolls.{polls_begun}
 use Rattle.fio_ends.proofs.Following.{Follows, facts_below, follows-start, from_after, goes_on-both, goes_on-same}
 use Rattle.fio_ends.proofs.IgnoredKept.{both_begun}
 use Rattle.fio_ends.proofs.JudgeLost.{AreHeard, IsLost, IsReached, MayTakeEffect, all_heard, began, command_passed, has_later, heard_lost, is_somewhere, known_of, lost_at_mark, lost_command, lost_further, may_begin_at, no_loads_but, reached_after, reached_of, sends_if}
-use Rattle.fio_ends.proofs.JudgeSteps.{command_taken, kept as kept_frame, kept_checker, kept_content, outcomes-append, passed, set_back, takes_all, turns_back}
+use Rattle.fio_ends.proofs.JudgeSteps.{checking_on, command_taken, frame_again, frame_kept, outcomes-append, passed, set_back, takes_all, turns_back}
 use Rattle.fio_ends.proofs.LaterLogs.{IsMoved, moved}
 use Rattle.fio_ends.proofs.Lives.{loads_grow}
 use Rattle.fio_ends.proofs.PromptRuns.{reaches}
@@ -116,21 +116,6 @@ module _ (settings : Settings) (range : AreInRange settings) (first : ℕ) (limi
 
   -- ---- a frame that is judged
 
-  checking_on : (kept : ContentKept) (from_cpu : Bool) (octets : List ℕ)
-      → checking_with (record { begun = true; kept = kept }) from_cpu octets ≡ record { begun = true; kept = kept_with kept from_cpu octets }
-  checking_on kept true octets = refl
-  checking_on kept false octets = refl
-
-  finds_on : (kept : ContentKept) (from_cpu : Bool) (octets : List ℕ) → content_found kept from_cpu octets ≡ None
-      → found_in_frame (record { begun = true; kept = kept }) from_cpu octets ≡ None
-  finds_on kept true octets none = none
-  finds_on kept false octets none = none
-
-  -- where nothing is passed over, the checker of content goes on
-  here_on : (judging : Judging) (facts : Facts) (kept : ContentKept) → judging.checker ≡ taking limits facts → judging.content ≡ record { begun = true; kept = kept }
-      → content_here judging ≡ record { begun = true; kept = kept }
-  here_on judging facts kept checker content = ap (λ (c : Checker). content_above judging c.skips) checker ∙ content
-
   module _ (c : ClockState) (t : StateState) (sent : ℕ) (from : Life) (machine : Machine) (due : ℕ) (later : List Event) (facts : Facts) (kept : ContentKept)
       (loads : LoadsAreSent settings first (loads_at + sent) machine later) (judging : Judging) (checker_is : judging.checker ≡ taking limits facts)
       (content_is : judging.content ≡ record { begun = true; kept = kept }) where
@@ -141,32 +126,23 @@ module _ (settings : Settings) (range : AreInRange settings) (first : ℕ) (limi
     goes_on : (at : LogPlace) (frame : CpuFrame) (went : Went settings first begin above (time_at c t sent) from due facts kept (frame ∷ []) machine)
         → turns_back judging frame ≡ false → KeepsJudge None c t machine due later judging (logged_at at frame ∷ [])
     goes_on at frame went back =
-        let from_cpu = frame.from_cpu in
-        let octets = frame.octets in
-        let said = observation_in from_cpu octets in
-        let none : first_broken_within limits facts said ≡ None = (went.rules limits suit).0 in
-        let rules : found_by judging.checker from_cpu said ≡ None = ap (λ checker. found_by checker from_cpu said) checker_is ∙ found-taking limits facts from_cpu said ∙ rw none refl in
-        let on = here_on judging facts kept checker_is content_is in
-        let content : found_in_frame (content_here judging) from_cpu octets ≡ None =
-        ap (λ content. found_in_frame content from_cpu octets) on ∙ finds_on kept from_cpu octets (none_in_frame kept frame [] went.content.keep) in
-        let j = kept_frame judging at from_cpu octets (takes from_cpu said) back rules content in
+        let k = frame_kept limits judging at frame facts kept checker_is content_is back (went.rules limits suit).0 (none_in_frame kept frame [] went.content.keep) in
         record {
-          fine = (j.fine, tt);
+          fine = (subst AccusesNeither (sym k.outcome) tt, tt);
           there = inr (
             refl,
             record {
               sent = sent;
               from = from;
-              facts = facts_with facts said;
-              kept = kept_with kept from_cpu octets;
+              facts = facts_with facts (observation_in frame.from_cpu frame.octets);
+              kept = kept_with kept frame.from_cpu frame.octets;
               known = went.known;
               follows = went.follows;
               agrees = went.content.agrees;
               content = went.content.holds;
               loads = loads;
-              checker_is = ap (λ (j : Judging). j.checker) j.is ∙ kept_checker judging from_cpu octets ∙ ap (λ checker. checker_with checker from_cpu said) checker_is
-                  ∙ with-taking limits facts from_cpu said none;
-              content_is = ap (λ (j : Judging). j.content) j.is ∙ kept_content judging from_cpu octets ∙ ap (λ content. checking_with content from_cpu octets) on ∙ checking_on kept from_cpu octets;
+              checker_is = k.checker;
+              content_is = k.content;
             },
           );
         }
@@ -273,18 +249,11 @@ module _ (settings : Settings) (range : AreInRange settings) (first : ℕ) (limi
       let frame : CpuFrame = record { from_cpu = true; octets = octets } in
       let went = subst (λ frames. Went settings first begin above (time_after settings (time_at c t sent) machine event) (life_of machine.history) (due_after machine due event) no_facts (kept_again excuses) frames next) frames_are
       (went-again settings range first begin begun above (time_at c t sent) from machine due facts (known_of settings range first limits begin machine r) follows excuses may.2 event sends fine within) in
-      let none : first_broken_within limits no_facts said ≡ None = (went.rules limits suit).0 in
-      let over_here : passes_over judging.checker true said ≡ false = ap (λ checker. passes_over checker true said) checker ∙ over in
-      let finds : found_by (checker_skipping skips limits) true said ≡ None = rw (over, none) refl in
-      let rules : found_by judging.checker true said ≡ None = ap (λ checker. found_by checker true said) checker ∙ finds in
-      let takes : checker_with (checker_skipping skips limits) true said ≡ taking limits (facts_with no_facts said) = rw (over, none) refl in
-      let again : content_here judging ≡ checking_again excuses = ap (λ (checker : Checker). content_above judging checker.skips) checker ∙ above_is in
-      let found : found_in_frame (content_here judging) true octets ≡ None = ap (λ content. found_in_frame content true octets) again ∙ none_in_frame (kept_again excuses) frame [] went.content.keep in
-      let j = kept_frame judging at true octets over_here refl rules found in
+      let k = frame_again limits judging at octets skips (kept_again excuses) checker above_is over (went.rules limits suit).0 (none_in_frame (kept_again excuses) frame [] went.content.keep) in
       let same : (loads_at + sent) + loads_sent event ≡ loads_at + (sent + loads_sent event) = omega arith in
       subst (λ frames. KeepsJudge None (clock_after c machine event) (state_after settings t machine event) next (due_after machine due event) rest judging (map (logged_at at) frames)) (sym frames_are)
       (record {
-        fine = (j.fine, tt);
+        fine = (subst AccusesNeither (sym k.outcome) tt, tt);
         there = inr (
           refl,
           record {
@@ -297,8 +266,8 @@ module _ (settings : Settings) (range : AreInRange settings) (first : ℕ) (limi
             agrees = went.content.agrees;
             content = went.content.holds;
             loads = subst (λ n. LoadsAreSent settings first n next rest) same may.1.1;
-            checker_is = ap (λ (j : Judging). j.checker) j.is ∙ kept_checker judging true octets ∙ ap (λ checker. checker_with checker true said) checker ∙ takes;
-            content_is = ap (λ (j : Judging). j.content) j.is ∙ kept_content judging true octets ∙ ap (λ content. checking_with content true octets) again;
+            checker_is = k.checker;
+            content_is = k.content;
           },
         );
       })
@@ -417,7 +386,7 @@ module _ (settings : Settings) (range : AreInRange settings) (first : ℕ) (limi
       let next = after settings first machine event in
       let lines = map (logged_at at) (frames_at first machine event) in
       let step = logged_on begins c t at event (events_of steps) machine due judging near there few.0 leads.0 none.0 within.0 prompt.0 in
-      outcomes-append lines (log_from settings first next steps) judging step.fine
+      outcomes-append AccusesNeither lines (log_from settings first next steps) judging step.fine
       (judged steps (clock_after c machine event) (state_after settings t machine event) next last (due_after machine due event) (judging_below judging lines) (below_command event begins) false
       (near_on c t machine event (events_of steps) near) step.there leads.1 none.1 within.1 prompt.1 marks (λ is. absurd (cc is)) few.1)
   judged (Missing event ∷ steps) c t machine last due judging begins marked near there leads none within prompt marks some few =
@@ -507,7 +476,7 @@ module _ (settings : Settings) (range : AreInRange settings) (first : ℕ) (limi
       (λ is near. (let m = moved settings first last before (events_of steps) event machine a.run a.leads in
       let next = after settings first machine event in
       let heard = heard_lost settings range first limits start judging ToCommand j.checker (λ nothing. absurd (cc nothing)) at (frames_at first machine event) (all_heard first machine event is) in
-      outcomes-append (map (logged_at at) (frames_at first machine event)) (log_from settings first next steps) judging heard.0
+      outcomes-append AccusesNeither (map (logged_at at) (frames_at first machine event)) (log_from settings first next steps) judging heard.0
       (subst (λ j. AllByRecursion AccusesNeither (outcomes_of j (log_from settings first next steps))) (sym heard.1)
       (above_it steps (before ++ event ∷ []) next excuses loads false judging j
       (record {

@@ -98,3 +98,5 @@ pub mod BegunAgain
 pub mod JudgeSteps
 pub mod JudgeLost
 pub mod JudgedRuns
+pub mod JudgeStamps
+pub mod JudgedCalm

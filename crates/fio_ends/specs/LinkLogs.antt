@@ -1,15 +1,16 @@
 -- Logs of a right link that begin anywhere, below loads of the counter that may still take effect, and in which lines may be lost.
-use Rattle.std.specs.Prelude.{◌≡◌, ℕ, ◌+◌, Bool, true, false, List, [], ◌∷◌, ◌++◌, map, Option, Some, None, if◌then◌else◌}
+use Rattle.std.specs.Prelude.{◌≡◌, ℕ, ◌+◌, ◌<◌, ◌^◌, Bool, true, false, List, [], ◌∷◌, ◌++◌, map, Option, Some, None, if◌then◌else◌}
 use Rattle.std.specs.List.{AllByRecursion}
 use Rattle.fio_module.specs.Settings.{Settings, AreInRange}
-use Rattle.fio_module.specs.Life.{life_of, loads_of}
+use Rattle.fio_module.specs.Life.{life_of, loads_of, scans_of}
 use Rattle.fio_check.specs.ContentCheckers.{found_first}
 use Rattle.fio_check.specs.Lines.{TranscriptLine}
 use Rattle.fio_check.specs.LinkJudges.{Judging, LogLine, Frame, Lost, checking_again, judging_anywhere, judging_begun, outcomes_of}
 use Rattle.fio_check.specs.declared.limits.Limits.{Limits}
 use Rattle.fio_check.specs.declared.outcome.LogPlace.{LogPlace}
 use Rattle.fio_check.specs.declared.outcome.Outcome.{Outcome}
-use Rattle.fio_check.specs.declared.outcome.Outcome.TheVariants.{Broken, BrokenContent}
+use Rattle.fio_check.specs.declared.outcome.Outcome.TheVariants.{Broken, BrokenContent, Kept, NotJudged}
+use Rattle.fio_check.specs.declared.outcome.Unjudged.TheVariants.{AboveCommand}
 use Rattle.fio_link.specs.declared.event.Event.{Event}
 use Rattle.fio_link.specs.Link.{Machine, Leads, after, start}
 use Rattle.fio_ends.specs.ContentPremises.{AreTimesNear, LoadsAreSent}
@@ -121,3 +122,36 @@ JudgeAccusesNone =
     AreTimesNear begun settings first (judged_from begun settings first machine (events_of steps))
     (judged_events begun (events_of steps)) last →
     AllByRecursion AccusesNeither (outcomes_of (judging_at_start begun limits) (log_from settings first machine steps))
+
+-- ---- a log without marks
+
+-- each frame is in the log
+abbrev pub AreLogged : List LogStep → Type 0
+AreLogged [] = Unit {0}
+AreLogged (Logged at event ∷ steps) = AreLogged steps
+AreLogged (other ∷ steps) = ⊥
+
+-- no load of the counter takes effect from one machine on to another, and fewer than 2^31 scans lie between them
+pub record IsCalm (begin last : Machine) : Type 0 where
+  pub no_loads : loads_of (life_of last.history) ≡ loads_of (life_of begin.history)
+  pub short : scans_of (life_of last.history) < scans_of (life_of begin.history) + 2 ^ 31
+
+-- a frame keeps all rules, or is heard above the first command
+abbrev pub IsRight : Outcome → Type 0
+IsRight Kept = Unit {0}
+IsRight (NotJudged AboveCommand) = Unit {0}
+IsRight outcome = ⊥
+
+-- Nor does the judge excuse a frame or take the module for restarted, where no frame is missing: from the first command on each
+-- frame keeps all rules. No load of the counter takes effect in the log, and it lasts fewer than 2^31 scans.
+unfoldable pub JudgeKeepsAll : Type 0
+JudgeKeepsAll =
+    (settings : Settings) (limits : Limits) (first : ℕ) (before : List Event) (steps : List LogStep) (machine last : Machine) →
+    AreInRange settings → SuitModule settings limits →
+    IsPromptRun settings first (before ++ events_of steps) last →
+    Leads settings first start before machine →
+    AreLogged steps →
+    IsCalm (machine_at_command settings first machine (events_of steps)) last →
+    AreTimesNear false settings first (machine_at_command settings first machine (events_of steps))
+    (events_from_command (events_of steps)) last →
+    AllByRecursion IsRight (outcomes_of (judging_anywhere limits) (log_from settings first machine steps))

@@ -5,7 +5,7 @@ ghost use Rattle.fio_ends.specs.ContentPremises.{HasNearTimes};
 ghost use Rattle.fio_ends.specs.ContentRuns.{AccusesNone, Always, ContentNeverAccuses};
 ghost use Rattle.fio_ends.specs.LineRuns.{EachFrameMayCome, EachStruckFrameMayCome, HeadlineOverLines, LinesAreRuns, LinesBringRecords};
 ghost use Rattle.fio_ends.specs.Lines.{AtCpu, AtModule};
-ghost use Rattle.fio_ends.specs.LinkLogs.{AccusesNoneBelowLoads, JudgeAccusesNone};
+ghost use Rattle.fio_ends.specs.LinkLogs.{AccusesNoneBelowLoads, JudgeAccusesNone, JudgeKeepsAll};
 ghost use Rattle.fio_ends.specs.Explainable.{AccusedAreNotExplainable};
 ghost use Rattle.fio_ends.specs.PollLogs.{AreOfBothKinds, LogsOfPollsAreDecided, WholeLogsOfPollsAreDecided};
 ghost use Rattle.fio_ends.specs.Pollers.{GoodIsOfPoller};
@@ -133,6 +133,14 @@ pub fn content_accuses_no_right_link_below_loads()
 #[tactic(auto, using(crate::proofs::JudgedRuns::judge_accuses_none))]
 pub fn judge_accuses_no_right_link()
     ensures { JudgeAccusesNone }
+{}
+
+/// Nor does the judge excuse a frame, or take the module for restarted, where no frame is missing: from the first command on each
+/// frame keeps all rules, whatever block is sent again. No load of the counter takes effect in the log, and it lasts fewer than
+/// 2^31 scans.
+#[tactic(auto, using(crate::proofs::JudgedCalm::judge_keeps_all))]
+pub fn judge_keeps_each_right_frame()
+    ensures { JudgeKeepsAll }
 {}
 
 /// Each log that the checker of content accuses is one that no right link explains, whatever its samples, losses and earlier
