@@ -1,5 +1,5 @@
 -- All rules on content at once, along a prompt run.
-use Rattle.fio_ends.proofs.Names.{◌≡◌, ◌∙◌, ◌+◌, ◌≤◌, ℕ, Bool, true, false, List, [], ◌∷◌, Option, Some, None, refl, ap, ap₂, sym, subst, arith, AllByRecursion, option_map, IsCommand, Life, life_of, loads_of, Settings, AreInRange, ContentFacts, ContentKept, content_with, no_content, ContentEvent, rule_broken_by, events_in, no_facts, ContentRule, Accepted, Alternate, Apart, Cleared, Clock, Done, Fresh, Ignored, Order, State, Watchdog, Facts, Event, Machine, number_of, sending_refusal, refusal, after, after_sending, Leads, IsNotRestart, HaveNoRestart, IsKept, CpuFrame, frames_at, due_after, IsPrompt, IsWithinRanges, command_octets}
+use Rattle.fio_ends.proofs.Names.{◌≡◌, ◌+◌, ℕ, Bool, true, false, List, [], ◌∷◌, Option, None, refl, ap, ap₂, option_map, IsCommand, Life, life_of, loads_of, Settings, AreInRange, ContentFacts, ContentKept, content_with, no_content, ContentEvent, events_in, no_facts, ContentRule, Accepted, Alternate, Apart, Cleared, Clock, Done, Fresh, Ignored, Order, State, Watchdog, Facts, Event, Machine, number_of, sending_refusal, refusal, after, after_sending, IsNotRestart, CpuFrame, frames_at, IsPrompt, IsWithinRanges, command_octets}
 use Rattle.std.specs.Option.{option_or}
 use Rattle.fio_message.specs.declared.commands.Command.{Command}
 use Rattle.fio_message.specs.declared.commands.Command.TheVariants as commands
@@ -19,7 +19,7 @@ use Rattle.fio_ends.proofs.FirstPolls.{polls_begin}
 use Rattle.fio_ends.proofs.Following.{Follows, GoesOn, facts_below, from_after, goes_on-same}
 use Rattle.fio_ends.proofs.IgnoredKept.{ignored_is_invariant}
 use Rattle.fio_ends.proofs.Shut.{ShutHolds}
-use Rattle.fio_ends.proofs.Timeless.{HasExcuses, KeepsTimeRules}
+use Rattle.fio_ends.proofs.Timeless.{HasExcuses}
 use Rattle.fio_ends.proofs.TimesKept.{AsksTimes, KeepsTimed, TimeState, time_above, time_after, timeless_timed, times_are_invariant}
 
 -- ---- each of the rules

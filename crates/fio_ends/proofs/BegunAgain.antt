@@ -1,11 +1,10 @@
 -- The checkers begin anew at any command of a prompt run, below loads of the counter that may take effect, and go on.
-use Rattle.fio_ends.proofs.Names.{◌≡◌, ◌∙◌, ◌+◌, ◌≤◌, inr, ℕ, Bool, false, true, List, [], ◌∷◌, ◌++◌, map, Option, Some, None, refl, ap, ap₂, sym, subst, arith, AllByRecursion, option_map, if◌then◌else◌, IsCommand, Life, life_of, loads_of, Settings, AreInRange, ContentKept, kept_with, no_facts, ContentRule, Done, Facts, Limits, Event, Machine, start, number_of, sending_refusal, refusal, after, after_sending, Leads, IsNotRestart, HaveNoRestart, IsKept, kept, kept_all, CpuFrame, TranscriptLine, frame_on, frames_at, frames_from, due_after, ArePrompt, IsPrompt, IsWithinRanges, SuitModule}
+use Rattle.fio_ends.proofs.Names.{◌≡◌, ◌+◌, inr, ℕ, Bool, false, true, List, [], ◌∷◌, ◌++◌, map, Option, None, refl, ap, ap₂, sym, subst, arith, AllByRecursion, option_map, if◌then◌else◌, Life, life_of, loads_of, Settings, AreInRange, ContentKept, kept_with, no_facts, Done, Facts, Limits, Event, Machine, start, refusal, after, Leads, IsNotRestart, HaveNoRestart, kept, kept_all, CpuFrame, TranscriptLine, frame_on, frames_at, frames_from, due_after, ArePrompt, IsPrompt, IsWithinRanges, SuitModule}
 use Rattle.std.specs.Option.{option_or}
-use Rattle.fio_message.specs.declared.commands.Command.{Command}
 use Rattle.fio_check.specs.ContentCheckers.{checking_with, content_found, found_first, found_in_frame, found_on}
 use Rattle.fio_check.specs.Lines.{from_first_command}
 use Rattle.fio_link.specs.declared.event.Event.TheVariants as events
-use Rattle.fio_ends.specs.ContentPremises.{AreTimesNear, LoadsAreSent, scans_above}
+use Rattle.fio_ends.specs.ContentPremises.{AreTimesNear, scans_above}
 use Rattle.fio_ends.specs.LinkLogs.{AccusesNoneBelowLoads, AreUnderWay}
 use Rattle.fio_ends.specs.PromptRuns.{IsPromptRun}
 use Rattle.fio_ends.specs.Transcripts.{HaveFrames}
@@ -15,14 +14,14 @@ use Rattle.fio_ends.proofs.ContentFrame.{Agrees}
 use Rattle.fio_ends.proofs.ContentLines.{FramesKeep, content_below, frames_keep}
 use Rattle.fio_ends.proofs.ContentRuns.{begun_after, rounds_after}
 use Rattle.fio_ends.proofs.ContentSteps.{IsKnown}
-use Rattle.fio_ends.proofs.Following.{Follows, GoesOn, Keeps, facts_below, follows-start, from_after, goes_on-both, goes_on-same, may_begin}
+use Rattle.fio_ends.proofs.Following.{Follows, facts_below, follows-start, from_after, goes_on-both, goes_on-same, may_begin}
 use Rattle.fio_ends.proofs.GoodLines.{KeepRules}
 use Rattle.fio_ends.proofs.LaterLogs.{from_any}
 use Rattle.fio_ends.proofs.PromptRuns.{BeginsWithCommand, ReachesLater, keeps-event, reaches}
 use Rattle.fio_ends.proofs.Sends.{sends-other, sends-poll}
 use Rattle.fio_ends.proofs.StateKept.{state_above}
 use Rattle.fio_ends.proofs.Timeless.{HasExcuses}
-use Rattle.fio_ends.proofs.TimesKept.{AsksTimes, TimeState, time_above, time_after}
+use Rattle.fio_ends.proofs.TimesKept.{AsksTimes, TimeState, time_after}
 
 -- what an event of a run keeps: its frames break no rule, and all is known below them
 pub record Went (settings : Settings) (first : ℕ) (begin : Machine) (above : Option ℕ) (s : TimeState) (from : Life) (due : ℕ) (facts : Facts) (kept : ContentKept)

@@ -1,8 +1,7 @@
 -- Where the place is lost in the log of a prompt run: what the judge of a link knows there, and how it goes on.
-use Rattle.fio_ends.proofs.Names.{◌≡◌, ◌∙◌, ◌+◌, ◌-◌, ◌≤◌, ◌⊎◌, inl, inr, ℕ, Bool, true, false, List, [], ◌∷◌, ◌++◌, map, Option, Some, None, refl, ap, sym, subst, arith, fold, is_some, AllByRecursion, if◌then◌else◌, Command, IsCommand, command_octets, command_in, Life, life_of, loads_of, Settings, AreInRange, ContentFacts, content_with, content_step, Sent, kept_with, content_events, facts_with, no_facts, Facts, Limits, Observation, observation_in, Event, Machine, SentFrame, sending_refusal, refusal, after, after_delivery, after_delivery_to_module, item_numbered, IsNotRestart, IsKept, kept_all, CpuFrame, frame_heard, frames_at, due_after, IsPrompt, IsWithinRanges, SuitModule, Done, answer_in, names_absent, answer_type_to, number_of}
+use Rattle.fio_ends.proofs.Names.{◌≡◌, ◌∙◌, ◌+◌, ◌-◌, ◌≤◌, ◌⊎◌, inl, inr, ℕ, true, false, List, [], ◌∷◌, map, Option, Some, None, refl, ap, sym, subst, arith, fold, AllByRecursion, Command, IsCommand, command_octets, command_in, Life, life_of, loads_of, Settings, AreInRange, ContentFacts, content_with, content_step, Sent, kept_with, content_events, Facts, Limits, observation_in, Event, Machine, SentFrame, sending_refusal, refusal, after, after_delivery_to_module, item_numbered, IsNotRestart, IsKept, kept_all, CpuFrame, frame_heard, frames_at, due_after, IsPrompt, IsWithinRanges, Done, answer_in}
 use Rattle.std.specs.Prelude.{max}
 use Rattle.std.proofs.Math.Nat.{le-max_left}
-use Rattle.fio_message.specs.declared.commands.Command.TheVariants as commands
 use Rattle.fio_check.specs.Checkers.{checker_skipping, passes_over}
 use Rattle.fio_check.specs.ContentCheckers.{ContentChecking, checking_with}
 use Rattle.fio_check.specs.LinkJudges.{Judging, checker_below_lines, checking_again, judging_below, judging_lost, judging_passed, judging_with, loads_left, outcomes_of, with_loads}
@@ -13,19 +12,19 @@ use Rattle.fio_check.specs.declared.outcome.LogPlace.{LogPlace}
 use Rattle.fio_check.proofs.Unexcused.{sent_step}
 use Rattle.fio_link.specs.declared.event.Event.TheVariants as events
 use Rattle.fio_ends.specs.ContentPremises.{LoadsAreSent, loads_sent}
-use Rattle.fio_ends.specs.LinkLogs.{AccusesNeither, AreUnderWay, AreUnderWayAt, logged_at}
+use Rattle.fio_ends.specs.LinkLogs.{AccusesNeither, AreUnderWayAt, logged_at}
 use Rattle.fio_ends.specs.PromptRuns.{is_command}
 use Rattle.fio_ends.proofs.AllRules.{done_is}
 use Rattle.fio_ends.proofs.BegunAgain.{Sends}
 use Rattle.fio_ends.proofs.ContentRuns.{rounds_after}
-use Rattle.fio_ends.proofs.ContentSteps.{IsKnown, IsPastBus}
+use Rattle.fio_ends.proofs.ContentSteps.{IsKnown}
 use Rattle.fio_ends.proofs.Following.{Follows, GoesOn, facts_below, from_after, goes_on-both, goes_on-same}
 use Rattle.fio_ends.proofs.JudgeSteps.{heard_passed, passed}
 use Rattle.fio_ends.proofs.Lives.{loads_grow}
 use Rattle.fio_ends.proofs.PromptRuns.{keeps-event}
 use Rattle.fio_ends.proofs.Sends.{other_said, read_back, said_of}
 use Rattle.fio_ends.proofs.Steady.{heard-life}
-use Rattle.fio_ends.proofs.Timeless.{HasExcuses, as_many}
+use Rattle.fio_ends.proofs.Timeless.{HasExcuses}
 use Rattle.fio_ends.proofs.TimesKept.{goes_on-command, past_life, sends_loads, sent_has}
 
 -- ---- events

@@ -1,6 +1,6 @@
 -- Stamps are never set back in a log that lasts fewer than 2^31 scans and in which no load takes effect, whatever block is sent
 -- again.
-use Rattle.fio_ends.proofs.Names.{◌≡◌, ◌∙◌, ◌+◌, ◌<◌, ◌≤◌, ◌^◌, ◌⊎◌, inl, inr, ℕ, Bool, true, false, List, [], ◌∷◌, ◌++◌, length, Option, Some, None, refl, ap, sym, subst, arith, if◌then◌else◌, ◌||◌, ◌==◌, eqb_tells, fold, slice_get, slice_get_within, option_and_then, list_any, Answer, Command, Block, IsCommand, command_in, poll_in, answer_in, answered_block, answer_type_to, is_absent, observation_of, is_some_and, says_again, same_Some, Life, life_of, loads_of, scans_of, Settings, AreInRange, MadeBlock, blocks_of, ContentFacts, content_with, Heard, Sent, Done, events_of_block, items_of_block, Event, SentFrame, Machine, number_of, after, after_sending, after_delivery_to_module, after_taken, item_numbered, Leads, HaveNoRestart, next_round, command_octets}
+use Rattle.fio_ends.proofs.Names.{◌≡◌, ◌∙◌, ◌+◌, ◌<◌, ◌≤◌, ◌^◌, ◌⊎◌, inl, inr, ℕ, Bool, true, false, List, [], ◌∷◌, length, Option, Some, None, refl, ap, sym, subst, arith, if◌then◌else◌, ◌||◌, ◌==◌, eqb_tells, slice_get_within, option_and_then, list_any, Answer, Command, Block, IsCommand, poll_in, answer_in, answered_block, answer_type_to, is_absent, observation_of, is_some_and, says_again, same_Some, Life, life_of, loads_of, scans_of, Settings, AreInRange, MadeBlock, blocks_of, ContentFacts, content_with, Heard, Sent, Done, items_of_block, Event, SentFrame, Machine, number_of, after, after_sending, after_taken, item_numbered, Leads, HaveNoRestart, command_octets}
 use Rattle.std.specs.Option.{option_or}
 use Rattle.fio_message.specs.Blocks.{block_answer}
 use Rattle.fio_message.specs.declared.answers.Answer.TheVariants as answers
@@ -356,11 +356,11 @@ module _ (settings : Settings) (range : AreInRange settings) (first : ℕ) (begi
       asked = p.asked;
       polled = λ number is. elim (p.polled number is) as (λ _. (number ≡ number_of first machine.round)
           ⊎ AreBefore machine.to_module (polls_with (poll_in frame.octets) frame.round machine.polls) machine.round (length machine.to_module)) [
-        | inl here ↦ inl here
-        | inr before ↦
-            inr (before_received machine.to_module machine.polls machine.round (length machine.to_module) place frame (poll_in frame.octets) at refl
-            (slice_get_within machine.to_module place frame at) before)
-      ];
+            | inl here ↦ inl here
+            | inr before ↦
+                inr (before_received machine.to_module machine.polls machine.round (length machine.to_module) place frame (poll_in frame.octets) at refl
+                (slice_get_within machine.to_module place frame at) before)
+          ];
     };
     hears = λ s from machine facts place rest command answer known h a p. (
       done_heard facts h.life command answer h.awaits (says_of settings from machine facts place command answer h),

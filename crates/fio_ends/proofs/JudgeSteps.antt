@@ -3,12 +3,10 @@ use Rattle.fio_ends.proofs.Names.{◌≡◌, ◌∙◌, ℕ, Bool, true, false, 
 use Rattle.std.specs.Prelude.{◌||◌}
 use Rattle.fio_check.specs.Checkers.{checker_skipping, checker_with, found_by, passes_over}
 use Rattle.fio_check.specs.ContentCheckers.{checking_with, content_found, found_in_frame}
-use Rattle.fio_check.specs.LinkJudges.{Frame, Judging, LogLine, Lost, content_above, content_here, is_set_back, is_unheard, judging_at, judging_below, judging_below_outcome, judging_kept, judging_passed, judging_taken, judging_with, judging_with_line, loads_below, loads_left, outcome_found, outcome_in, outcome_judged, outcome_on, outcome_set_back, outcomes_of, place_lost, stamp_in, unjudged_by}
-use Rattle.fio_check.specs.declared.checker.Breach.{Breach}
+use Rattle.fio_check.specs.LinkJudges.{Frame, Judging, LogLine, Lost, content_above, content_here, is_set_back, is_unheard, judging_at, judging_below, judging_below_outcome, judging_kept, judging_passed, judging_taken, judging_with, judging_with_line, loads_below, loads_left, outcome_found, outcome_in, outcome_judged, outcome_set_back, outcomes_of, place_lost, stamp_in, unjudged_by}
 use Rattle.fio_check.specs.declared.checker.Checker.{Checker}
 use Rattle.fio_check.specs.declared.checker.Skips.{Skips}
 use Rattle.fio_check.specs.declared.checker.Skips.TheVariants.{Nothing, ToCommand, ToPoll}
-use Rattle.fio_check.specs.declared.content.ContentBreach.{ContentBreach}
 use Rattle.fio_check.specs.declared.observation.Observation.TheVariants as seen
 use Rattle.fio_check.specs.declared.outcome.Excuse.TheVariants.{Load}
 use Rattle.fio_check.specs.declared.outcome.LogPlace.{LogPlace}

@@ -1,6 +1,6 @@
 -- Where no frame is missing, and no load takes effect, each frame of a right link keeps all rules for the judge, from the first
 -- command on.
-use Rattle.fio_ends.proofs.Names.{◌≡◌, ◌∙◌, ◌+◌, ◌<◌, ◌≤◌, ◌⊎◌, inl, inr, ℕ, Bool, true, false, List, [], ◌∷◌, ◌++◌, map, Option, Some, None, refl, ap, ap₂, sym, subst, arith, ◌==◌, AllByRecursion, if◌then◌else◌, option_and_then, Life, life_of, loads_of, Settings, AreInRange, Answer, answer_in, ContentFacts, ContentKept, kept_with, facts_with, no_facts, is_some_and, Facts, Limits, Observation, observation_in, observation_of, answer_type_to, names_absent, says_again, Done, Event, Machine, SentFrame, start, number_of, number_of-fits, refusal, after, Leads, item_numbered, IsNotRestart, HaveNoRestart, IsKept, kept, CpuFrame, frame_heard, frames_at, due_after, ArePrompt, IsPrompt, IsWithinRanges, SuitModule, command_octets}
+use Rattle.fio_ends.proofs.Names.{◌≡◌, ◌∙◌, ◌+◌, ◌<◌, ◌≤◌, inr, ℕ, Bool, true, false, List, [], ◌∷◌, ◌++◌, map, Option, Some, None, refl, ap, ap₂, sym, subst, arith, ◌==◌, AllByRecursion, if◌then◌else◌, option_and_then, Life, life_of, loads_of, Settings, AreInRange, Answer, answer_in, ContentFacts, ContentKept, kept_with, facts_with, no_facts, is_some_and, Facts, Limits, observation_in, observation_of, answer_type_to, names_absent, says_again, Done, Event, Machine, SentFrame, start, number_of, number_of-fits, refusal, after, Leads, item_numbered, IsNotRestart, HaveNoRestart, IsKept, kept, CpuFrame, frame_heard, frames_at, due_after, ArePrompt, IsPrompt, IsWithinRanges, SuitModule, command_octets}
 use Rattle.std.specs.Option.{option_or}
 use Rattle.std.specs.Prelude.{◌||◌}
 use Rattle.fio_message.specs.declared.answers.Answer.TheVariants as answers
@@ -31,14 +31,13 @@ use Rattle.fio_ends.proofs.Following.{Follows, follows-start, from_after, goes_o
 use Rattle.fio_ends.proofs.JudgeLost.{AreHeard, all_heard, sends_if}
 use Rattle.fio_ends.proofs.JudgeStamps.{IsCalmOn, KeepsStamps, StampState, calm_on, comes_back, lives_on, stamps_above, stamps_after, stamps_are_invariant, stamps_begin, stamps_heard, stamps_polled}
 use Rattle.fio_ends.proofs.JudgeSteps.{KeepsFrame, command_taken, frame_again, frame_kept, heard_passed, outcomes-append, passed, passed_is}
-use Rattle.fio_ends.proofs.LaterLogs.{IsMoved, moved}
+use Rattle.fio_ends.proofs.LaterLogs.{moved}
 use Rattle.fio_ends.proofs.Lives.{loads_grow}
 use Rattle.fio_ends.proofs.PromptRuns.{ReachesLater, reaches}
 use Rattle.fio_ends.proofs.Sends.{other_said, said_of}
 use Rattle.fio_ends.proofs.Stamps.{ClockState, clock_after}
 use Rattle.fio_ends.proofs.StateKept.{state_above}
 use Rattle.fio_ends.proofs.StateKnown.{StateState, state_after}
-use Rattle.fio_ends.proofs.Timeless.{HasExcuses}
 use Rattle.fio_ends.proofs.TimesKept.{AsksTimes, TimeState, time_after}
 
 -- ---- what the judge keeps of stamps

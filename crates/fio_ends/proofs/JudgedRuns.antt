@@ -1,17 +1,17 @@
 -- The judge of a link accuses no right link: event by event of a prompt run, where frames may be missing at marks.
-use Rattle.fio_ends.proofs.Names.{◌≡◌, ◌∙◌, ◌+◌, ◌<◌, ◌≤◌, ◌⊎◌, inl, inr, ℕ, Bool, true, false, List, [], ◌∷◌, ◌++◌, map, option_map, Option, Some, None, refl, ap, sym, subst, arith, is_some, AllByRecursion, if◌then◌else◌, append_assoc, Life, life_of, loads_of, Settings, AreInRange, ContentKept, kept_with, facts_with, no_facts, first_broken_within, Facts, Limits, Observation, observation_in, Event, Machine, SentFrame, start, number_of, number_of-fits, refusal, after, Leads, item_numbered, IsNotRestart, HaveNoRestart, kept, kept_at_start, CpuFrame, frame_heard, frames_at, due_after, ArePrompt, IsPrompt, IsWithinRanges, SuitModule}
+use Rattle.fio_ends.proofs.Names.{◌≡◌, ◌∙◌, ◌+◌, ◌<◌, ◌≤◌, ◌⊎◌, inl, inr, ℕ, Bool, true, false, List, [], ◌∷◌, ◌++◌, map, Option, Some, None, refl, ap, sym, subst, arith, is_some, AllByRecursion, if◌then◌else◌, Life, life_of, loads_of, Settings, AreInRange, ContentKept, kept_with, facts_with, no_facts, Facts, Limits, Observation, observation_in, Event, Machine, SentFrame, start, number_of, number_of-fits, refusal, after, Leads, item_numbered, IsNotRestart, HaveNoRestart, kept, kept_at_start, CpuFrame, frame_heard, frames_at, due_after, ArePrompt, IsPrompt, IsWithinRanges, SuitModule}
 use Rattle.std.specs.Prelude.{max}
 use Rattle.std.proofs.Math.Nat.{le-max_left}
 use Rattle.fio_message.specs.declared.commands.Command.TheVariants as commands
 use Rattle.fio_message.specs.Commands.{command_octets}
-use Rattle.fio_check.specs.Checkers.{checker_below_breach, checker_skipping, checker_with, found_by, passes_over}
-use Rattle.fio_check.specs.ContentCheckers.{ContentChecking, checking_with, content_found, found_in_frame}
-use Rattle.fio_check.specs.LinkJudges.{Judging, LogLine, checker_below_lines, checking_again, content_above, content_here, judging_anywhere, judging_begun, judging_below, judging_lost, loads_below, loads_left, outcomes_of, with_loads}
+use Rattle.fio_check.specs.Checkers.{checker_below_breach, checker_skipping, passes_over}
+use Rattle.fio_check.specs.ContentCheckers.{ContentChecking, checking_with}
+use Rattle.fio_check.specs.LinkJudges.{Judging, LogLine, checker_below_lines, checking_again, content_above, judging_anywhere, judging_begun, judging_below, judging_lost, loads_below, loads_left, outcomes_of, with_loads}
 use Rattle.fio_check.specs.declared.checker.Checker.{Checker}
 use Rattle.fio_check.specs.declared.checker.Skips.{Skips}
 use Rattle.fio_check.specs.declared.checker.Skips.TheVariants.{ToCommand, ToPoll}
 use Rattle.fio_check.specs.declared.outcome.LogPlace.{LogPlace}
-use Rattle.fio_check.proofs.Checkers.{found-taking, taking, with-taking}
+use Rattle.fio_check.proofs.Checkers.{taking}
 use Rattle.fio_link.specs.declared.event.Event.TheVariants as events
 use Rattle.fio_ends.specs.ContentPremises.{AreTimesNear, LoadsAreSent, StampsAreNear, StatesAreNear, loads_sent, scans_above}
 use Rattle.fio_ends.specs.LinkLogs.{AccusesNeither, AreMarked, AreUnderWayAt, FewAreUnderWay, JudgeAccusesNone, LogStep, Logged, Marked, Missing, below_command, events_of, log_from, logged_at}
@@ -23,15 +23,14 @@ use Rattle.fio_ends.proofs.ApartTimes.{AreNearByInput}
 use Rattle.fio_ends.proofs.BegunAgain.{Sends, Went, went-again, went-on}
 use Rattle.fio_ends.proofs.ClockKept.{clock_above}
 use Rattle.fio_ends.proofs.ContentFrame.{Agrees, agrees-start}
-use Rattle.fio_ends.proofs.ContentLines.{content_below}
 use Rattle.fio_ends.proofs.ContentSteps.{IsKnown, PollsKnown}
 use Rattle.fio_ends.proofs.FirstLoads.{loads_are_sent}
 use Rattle.fio_ends.proofs.FirstPolls.{polls_begun}
-use Rattle.fio_ends.proofs.Following.{Follows, facts_below, follows-start, from_after, goes_on-both, goes_on-same}
+use Rattle.fio_ends.proofs.Following.{Follows, follows-start, from_after, goes_on-both, goes_on-same}
 use Rattle.fio_ends.proofs.IgnoredKept.{both_begun}
-use Rattle.fio_ends.proofs.JudgeLost.{AreHeard, IsLost, IsReached, MayTakeEffect, all_heard, began, command_passed, has_later, heard_lost, is_somewhere, known_of, lost_at_mark, lost_command, lost_further, may_begin_at, no_loads_but, reached_after, reached_of, sends_if}
+use Rattle.fio_ends.proofs.JudgeLost.{IsLost, IsReached, MayTakeEffect, all_heard, command_passed, has_later, heard_lost, is_somewhere, known_of, lost_at_mark, lost_command, lost_further, may_begin_at, no_loads_but, reached_of, sends_if}
 use Rattle.fio_ends.proofs.JudgeSteps.{checking_on, command_taken, frame_again, frame_kept, outcomes-append, passed, set_back, takes_all, turns_back}
-use Rattle.fio_ends.proofs.LaterLogs.{IsMoved, moved}
+use Rattle.fio_ends.proofs.LaterLogs.{moved}
 use Rattle.fio_ends.proofs.Lives.{loads_grow}
 use Rattle.fio_ends.proofs.PromptRuns.{reaches}
 use Rattle.fio_ends.proofs.Sends.{said_of}
