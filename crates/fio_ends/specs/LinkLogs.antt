@@ -74,17 +74,17 @@ AreMarked marked (Logged at event ∷ steps) = AreMarked false steps
 AreMarked marked (Missing event ∷ steps) = (marked ≡ true) × AreMarked marked steps
 AreMarked marked (Marked ∷ steps) = AreMarked true steps
 
--- this many loads are under way at most at a command that is logged, if a part of a log begins with it
+-- where a part of a log begins this many loads are under way at most, if it has not begun above
 abbrev pub AreUnderWayAt : Option ℕ → Settings → ℕ → Machine → List Event → Type 0
 AreUnderWayAt None settings first machine events = Unit {0}
 AreUnderWayAt (Some loads) settings first machine events = AreUnderWay loads settings first machine events
 
--- a part of a log begins with the first command above which it was this, and goes on below it
+-- the same below an event that is logged: with a command the part has begun
 abbrev pub below_command : Event → Option ℕ → Option ℕ
 below_command event begins = if is_command event then None else begins
 
--- Few loads are under way where a part of a log begins, with its first command: none at the begin of the log, and one at most
--- below a mark. By how many may be where the next part begins, if it has not begun.
+-- A part of a log begins at its first line, and another below each mark. Few loads are under way at the first command that is
+-- logged in it: as many as this in the part that has not begun above, if one has not, and one in each that begins below a mark.
 abbrev pub FewAreUnderWay : Settings → ℕ → Machine → Option ℕ → List LogStep → Type 0
 FewAreUnderWay settings first machine begins [] = Unit {0}
 FewAreUnderWay settings first machine begins (Logged at event ∷ steps) =
@@ -104,7 +104,7 @@ AccusesNeither outcome = Unit {0}
 abbrev pub judging_at_start : Bool → Limits → Judging
 judging_at_start begun limits = if begun then judging_begun limits else judging_anywhere limits
 
--- how many loads may be under way where a log begins: none in one that begins later than both ends, where they could be
+-- how many loads are under way at most where a log begins: none. Of one that begins with both ends nothing is asked.
 abbrev pub loads_at_start : Bool → Option ℕ
 loads_at_start begun = if begun then None else Some 0
 
