@@ -67,7 +67,7 @@ def built(check, room, name, compiler, *options):
             return None
     objects = [os.path.join(folder, one) for one in sorted(os.listdir(folder))]
     linker = [option for option in options if option.startswith('-fsanitize')]
-    status, said = run([compiler, *linker, *objects, os.path.join(room, 'libfio2070.a'), '-o', program])
+    status, said = run([compiler, *linker, *objects, os.path.join(TOP, 'libfio2070.a'), '-o', program])
     check.equal('build by ' + name, '', said)
     return program if status == 0 else None
 
@@ -378,15 +378,13 @@ def cpus_end(check, tester, python, faulty):
 
 def wires(check, room):
     """The command over a pipe, a socket and a pseudo-terminal, with the adapters in C and in Python, right and wrong."""
-    done = run(['make', '-s', '-C', TOP, room + '/fio2070-test', room + '/libfio2070.so', 'OUT=' + room])
-    check.equal('build of fio2070-test', (0, ''), done)
-    tester, adapter = os.path.join(room, 'fio2070-test'), os.path.join(room, 'adapter')
+    tester, adapter = os.path.join(TOP, 'fio2070-test'), os.path.join(room, 'adapter')
     folder = os.path.join(TOP, 'tools/conformance/adapters')
     check.equal('build of the adapter', (0, ''), run(
         ['cc', '-Wall', '-Wextra', '-Werror', '-I', os.path.join(TOP, 'include'), os.path.join(folder, 'adapter.c'),
-         os.path.join(room, 'libfio2070.a'), '-o', adapter]))
+         os.path.join(TOP, 'libfio2070.a'), '-o', adapter]))
     python = 'FIO2070_LIBRARY=%s PYTHONPATH=%s PYTHONDONTWRITEBYTECODE=1 %s/adapter.py' % (
-        os.path.join(room, 'libfio2070.so'), os.path.join(TOP, 'bindings/python'), folder)
+        os.path.join(TOP, 'libfio2070.so'), os.path.join(TOP, 'bindings/python'), folder)
     faulty = os.path.join(room, 'gcc')
     same, differs = (0, 'no difference in '), (1, 'rules that differ: ')
     over(check, 'wire: adapter in C', [tester, '--command', adapter, '20000'], same)
@@ -445,7 +443,7 @@ def sanitized(check, room):
 def main():
     check = Check(events=(100_000, 1_000_000))
     with tempfile.TemporaryDirectory() as room:
-        run(['make', '-s', '-C', TOP, room + '/libfio2070.a', 'OUT=' + room])
+        check.equal('make library', (0, ''), run(['make', '-s', '-C', TOP, 'library']))
         program = built(check, room, 'gcc', 'gcc', '-std=c99', '-O2')
         if check.whole('build by g++'):
             built(check, room, 'g++', 'g++', '-x', 'c++', '-std=c++11') if shutil.which('g++') else check.skip(

@@ -59,11 +59,9 @@ def built(name, compiler, options, files):
 
 
 def archive():
-    """The archive of the library, as this tree makes it."""
-    path = os.path.join(room, 'libfio2070.a')
-    if not os.path.exists(path):
-        run('make', '-s', '-C', TOP, path, 'OUT=' + room)
-    return path
+    """The archive of the library, which `make library` makes in this tree if it is not there."""
+    run('make', '-s', '-C', TOP, 'library')
+    return os.path.join(TOP, 'libfio2070.a')
 
 
 def repeated(words, seconds):
