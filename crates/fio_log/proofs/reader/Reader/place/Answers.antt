@@ -13,6 +13,10 @@ returns-then-self-clause-given c = λ inside fits.
     let within : c.args.index < length joined.rows.items =
     omega (arith, inside, ap length told, length_row_places joined.from joined.notation joined.rows.items) in
     let other : Place = record { line = 0; start = 0; end = 0; notation = joined.notation } in
-    let small : joined.from + c.args.index < 2 ^ 64 = omega (arith, fits other, ap (λ places. (get_or places c.args.index other).line) told,
-        row_places-line joined.from joined.notation joined.rows.items c.args.index other within) in
+    let small : joined.from + c.args.index < 2 ^ 64 = omega (
+      arith,
+      fits other,
+      ap (λ places. (get_or places c.args.index other).line) told,
+      row_places-line joined.from joined.notation joined.rows.items c.args.index other within,
+    ) in
     c.place.ensures.given within small
