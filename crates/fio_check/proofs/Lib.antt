@@ -24,3 +24,4 @@ pub mod BreachesSoFar
 pub mod Checkers
 pub mod LinkJudges
 pub mod LinkLaws
+pub mod BothFind

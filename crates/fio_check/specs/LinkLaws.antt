@@ -1,17 +1,17 @@
 -- Laws of the judge of a link.
-use Rattle.std.specs.Prelude.{◌≡◌, ℕ, Bool, true, false, List, [], ◌∷◌, Option, Some, None, filter, is_some, length, map, max, option_map, if◌then◌else◌}
+use Rattle.std.specs.Prelude.{◌≡◌, ℕ, Bool, true, false, List, [], ◌∷◌, Option, Some, None, filter, is_some, length, map, max, option_and_then, option_map, slice_get, if◌then◌else◌}
 use Rattle.std.specs.List.{list_any}
 use Rattle.std.specs.Option.{option_or}
-use Rattle.fio_check.specs.Checkers.{checker_anywhere, checker_below_breach, checker_with, checker_within, found_by}
+use Rattle.fio_check.specs.Checkers.{checker_anywhere, checker_below_breach, checker_with, checker_within, found_by, found_from}
 use Rattle.fio_check.specs.ContentAbove.{one_excuse_more}
-use Rattle.fio_check.specs.ContentCheckers.{ContentChecking, checking_at_start, checking_with, found_in_frame}
+use Rattle.fio_check.specs.ContentCheckers.{ContentChecking, FoundFault, checking_at_start, checking_with, found_first, found_in_frame, found_on}
 use Rattle.fio_check.specs.ContentEvents.{Sent}
 use Rattle.fio_check.specs.ContentSaid.{is_loading}
 use Rattle.fio_check.specs.Facts.{number_polled}
 use Rattle.fio_check.specs.Lines.{TranscriptLine, command_from}
 use Rattle.fio_check.specs.LinkJudges.{Frame, Judging, LogLine, Lost, checking_again, is_set_back, judging_anywhere, judging_begun, judging_below, judging_lost, judging_with, loads_left, outcome_in, outcomes_of}
 use Rattle.fio_check.specs.Observations.{observation_in}
-use Rattle.fio_check.specs.Places.{is_some_and}
+use Rattle.fio_check.specs.Places.{earliest_above, is_some_and}
 use Rattle.fio_check.specs.declared.checker.Breach.{Breach}
 use Rattle.fio_check.specs.declared.checker.Checker.{Checker}
 use Rattle.fio_check.specs.declared.checker.Skips.TheVariants.{ToCommand}
@@ -142,6 +142,30 @@ both_find_first checker content (line ∷ lines) =
     (option_or (option_map (content_on line.number) (found_in_frame content line.from_cpu line.octets))
     (both_find_first (checker_with checker line.from_cpu (observation_in line.from_cpu line.octets))
     (checking_with content line.from_cpu line.octets) lines))
+
+-- a breach of a rule on content, in a line with this number
+abbrev pub fault_in : ℕ → Outcome → Option FoundFault
+fault_in line (BrokenContent breach) = Some (found_on line breach)
+fault_in line outcome = None
+
+-- the same of what is accused
+abbrev pub fault_accused : Accused → Option FoundFault
+fault_accused accused = fault_in accused.line accused.outcome
+
+-- what the checker of transcripts finds in the line at a place
+abbrev pub broken_at : Checker → List TranscriptLine → ℕ → Option Accused
+broken_at checker lines place = option_and_then
+    (λ line. option_map (broken_on line.number) (found_from checker lines place)) (slice_get lines place)
+
+-- the first of it
+abbrev pub broken_first : Checker → List TranscriptLine → Option Accused
+broken_first checker lines = earliest_above (broken_at checker lines) (length lines)
+
+-- What two checkers find first is what either finds first by itself, if the other one finds nothing.
+pub record FindFirst (checker : Checker) (content : ContentChecking) (lines : List TranscriptLine) : Type 0 where
+  pub by_content : broken_first checker lines ≡ None
+      → option_and_then fault_accused (both_find_first checker content lines) ≡ found_first content lines
+  pub by_transcript : found_first content lines ≡ None → both_find_first checker content lines ≡ broken_first checker lines
 
 -- a breach is of the rule on the watchdog
 abbrev pub is_of_watchdog : ContentRule → Bool

@@ -2,7 +2,7 @@
 //! nothing.
 ghost use Rattle.std.specs.Prelude.{◌≡◌, ℕ, Bool, List, option_map};
 ghost use Rattle.fio_check.specs.Checkers.{BeginsAnywhere, GoesOn, verdict_of_checker};
-ghost use Rattle.fio_check.specs.ContentCheckers.{checking_at_start, fault_found, found_first};
+ghost use Rattle.fio_check.specs.ContentCheckers.{ContentChecking, checking_at_start, fault_found, found_first};
 ghost use Rattle.fio_check.specs.ContentEvents.{LineEvent};
 ghost use Rattle.fio_check.specs.ContentLaws.{KeepsContent};
 ghost use Rattle.fio_check.specs.ContentFaults.{content_fault_in};
@@ -11,9 +11,10 @@ ghost use Rattle.fio_check.specs.Finding.{FindsDoubled, FindsDropped, FindsSwapp
 ghost use Rattle.fio_check.specs.Laws.{HasOneVerdict, IsTheLatest, KeepsFacts};
 ghost use Rattle.fio_check.specs.Lines.{TranscriptLine};
 ghost use Rattle.fio_check.specs.LinkJudges.{Judging, LogLine};
-ghost use Rattle.fio_check.specs.LinkLaws.{HasOutcomes, LinkGoesOn, LosesPlace, SaysTheSame};
+ghost use Rattle.fio_check.specs.LinkLaws.{FindFirst, HasOutcomes, LinkGoesOn, LosesPlace, SaysTheSame};
 ghost use Rattle.fio_check.specs.Observations.{observation_at};
 ghost use Rattle.fio_check.specs.Verdicts.{verdict_on};
+ghost use Rattle.fio_check.specs.declared.checker.Checker.{Checker};
 ghost use Rattle.fio_check.specs.declared.limits.Limits.{Limits};
 
 /// The latest poll above a line is the latest that is sent above it, and so are the latest block
@@ -119,4 +120,10 @@ pub fn judges_go_on()
 #[tactic(auto, using(crate::proofs::LinkLaws::says_the_same))]
 pub fn judges_say_what_checkers_find()
     ensures { (limits : Limits) (lines : List TranscriptLine) → SaysTheSame limits lines }
+{}
+
+/// What two checkers find first is what either finds first by itself, if the other one finds nothing.
+#[tactic(auto, using(crate::proofs::BothFind::find_first))]
+pub fn checkers_find_side_by_side()
+    ensures { (checker : Checker) (content : ContentChecking) (lines : List TranscriptLine) → FindFirst checker content lines }
 {}
