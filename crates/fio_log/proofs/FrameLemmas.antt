@@ -1,15 +1,13 @@
 -- Frames and the places where they are written, put together.
-use Rattle.std.proofs.Common.{◌≡◌, ◌≤◌, ◌<◌, ℕ, true, zero, suc, ◌+◌, ◌-◌, List, [], ◌∷◌, ◌++◌, length, take, drop, get_or, refl, ap, sym, ◌∙◌, arith, append-nil, append_assoc, inl, length-append}
+use Rattle.std.proofs.Common.{◌≡◌, ◌≤◌, ◌<◌, ℕ, zero, suc, ◌+◌, ◌-◌, List, [], ◌∷◌, ◌++◌, length, take, drop, get_or, refl, ap, sym, ◌∙◌, arith, append-nil, append_assoc, inl, length-append}
 use Rattle.std.specs.List.{All}
 use Rattle.std.proofs.lemmas.List.{drop-append-le, length-drop, length-take-le, take-append-le, take_all, take_more}
 use Rattle.std.proofs.lemmas.List.Elements.{All-append, All-nil}
 use Rattle.std.proofs.Math.Seq.{drop-append-add}
-use Rattle.fio_log.specs.Frames.{AreAt, AreFramesAt, IsWithin, Log, row_place, row_places, places_told}
+use Rattle.fio_log.specs.Frames.{AreAt, AreFramesAt, IsWithin, Log, row_place, row_places}
 use Rattle.fio_log.specs.LineRuns.{IsWrittenAt}
 use Rattle.fio_log.specs.Verdicts.{AreOfLine, ArePast}
-use Rattle.fio_log.specs.declared.judge.joined.Joined.{Joined}
 use Rattle.fio_log.specs.declared.judge.joined.Row.{Row}
-use Rattle.fio_log.specs.declared.judge.tell.Frames.{Frames}
 use Rattle.fio_log.specs.declared.places.Notation.{Notation}
 use Rattle.fio_log.specs.declared.places.Place.{Place}
 
@@ -152,17 +150,3 @@ pub rows-of_line : (line : ℕ) (notation : Notation) (rows : List Row) → AreO
 rows-of_line line notation [] = tt
 rows-of_line line notation (row ∷ rows) =
     (refl, omega arith, rows-past (row_place line notation row) (line + 1) notation rows (omega arith))
-
--- the line of a row's place
-pub row_places-line : (line : ℕ) (notation : Notation) (rows : List Row) (index : ℕ) (other : Place) → index < length rows
-    → (get_or (row_places line notation rows) index other).line ≡ line + index
-row_places-line line notation [] index other inside = absurd (omega (arith, inside))
-row_places-line line notation (row ∷ rows) zero other inside = omega arith
-row_places-line line notation (row ∷ rows) (suc index) other inside =
-    let below : line + suc index ≡ line + 1 + index = omega arith in
-    rw below (row_places-line (line + 1) notation rows index other (omega (arith, inside)))
-
--- the places of a chain are those of its rows
-pub chain-places : (joined : Joined) (frames : Frames) → frames.are_chain ≡ true
-    → places_told joined frames ≡ row_places joined.from joined.notation joined.rows.items
-chain-places joined frames is = rw is refl

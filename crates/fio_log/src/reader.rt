@@ -1,5 +1,5 @@
 //! The reader of a log: octets to lines, and lines to verdicts.
-ghost use Rattle.std.specs.Prelude.{◌≡◌, ◌+◌, ◌^◌, ◌≤◌, ◌<◌, ◌↔◌, true, false, IfSome, IsSome, MatchOption, Some, [], get_or, length, slice_index_or, take};
+ghost use Rattle.std.specs.Prelude.{◌≡◌, ◌+◌, ◌≤◌, ◌<◌, ◌↔◌, true, false, IfSome, IsSome, MatchOption, Some, [], get_or, length, slice_index_or, take};
 ghost use Rattle.fio_log.specs.Lines.{finished, is_whole, no_line};
 ghost use Rattle.fio_log.specs.LineRuns.{IsLineRun};
 ghost use Rattle.fio_log.specs.Sayings.{spells};
@@ -9,7 +9,6 @@ ghost use Rattle.fio_log.specs.OwnVerdicts.{IsOwnVerdict, own_form_of};
 ghost use Rattle.fio_log.specs.Verdicts.{AreAgreed};
 ghost use Rattle.fio_log.specs.Telling.{HasNoMore, HasTaken, HasTold, IsLineOf, IsReaderOf, KeepsVerdict, frames_of, has_told_all, places_of, read_at_end};
 ghost use Rattle.fio_log.specs.declared.own_texts.OwnForm.{OwnForm};
-ghost use Rattle.fio_log.specs.declared.places.Place.{Place};
 ghost use Rattle.fio_log.specs.declared.verdict.Form.TheVariants.{Auto};
 
 use crate::chains::CHAIN_OCTETS;
@@ -50,7 +49,7 @@ pub struct Reader {
 }
 
 impl Model for Reader {
-    ghost use Rattle.std.specs.Prelude.{◌≡◌, ◌+◌, ◌^◌, ◌≤◌, ◌<◌, Some, true};
+    ghost use Rattle.std.specs.Prelude.{◌≡◌, ◌+◌, ◌≤◌, ◌<◌, Some, true};
     ghost use Rattle.fio_log.specs.Lines.{is_whole};
     ghost use Rattle.fio_log.specs.OwnVerdicts.{IsToldByOrder, own_form_of};
     ghost use Rattle.fio_log.specs.Telling.{Telling};
@@ -440,9 +439,7 @@ impl Reader {
 
     /// Returns a place where octets of the last verdict's frames are written.
     pub fn place(&self, index: usize) -> Option<Place>
-        ensures same { IfSome result (λ place. place ≡ slice_index_or (places_of self.now) index place) }
-        ensures given { index < length (places_of self.now)
-            → ((other : Place) → (slice_index_or (places_of self.now) index other).line < 2 ^ 64) → IsSome result }
+        ensures { IfSome result (λ place. place ≡ slice_index_or (places_of self.now) index place) }
     {
         if self.frames.are_chain {
             self.judge.join.lines.place(index)

