@@ -4,6 +4,7 @@ pub mod SayingLemmas
 pub mod SlotLemmas
 pub mod ReadingLemmas
 pub mod OwnTextLemmas
+pub mod RoomLemmas
 pub mod RunLemmas
 pub mod WordLemmas
 pub mod LineLemmas

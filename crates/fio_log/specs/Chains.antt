@@ -1,11 +1,15 @@
 -- Chains: several messages in a row.
-use Rattle.std.specs.Prelude.{◌≡◌, ℕ, ◌≤◌, true, List, length, slice_range}
+use Rattle.std.specs.Prelude.{◌≡◌, ℕ, ◌≤◌, ◌-◌, true, List, length, slice_range}
 use Rattle.fio_log.specs.Sayings.{spells}
 use Rattle.fio_log.specs.declared.chains.Part.{Part}
 
 -- the octets of a part
 abbrev pub part_of : List ℕ → Part → List ℕ
 part_of octets part = slice_range octets part.start part.end
+
+-- how many octets a part has
+abbrev pub part_length : Part → ℕ
+part_length part = part.end - part.start
 
 -- a part of octets spells a message
 pub record IsPart (octets : List ℕ) (part : Part) : Type 0 where

@@ -1,10 +1,11 @@
 -- What a reader has read of a log, and of which lines it has returned the verdict.
 use Rattle.std.specs.Prelude.{◌≡◌, ℕ, ◌+◌, ◌≤◌, ◌==◌, ◌&&◌, Bool, true, false, if◌then◌else◌, List, [], length}
-use Rattle.std.specs.List.{All}
+use Rattle.std.specs.List.{All, concat}
 use Rattle.fio_log.specs.Frames.{AreFramesOf, IsJudgeOf, Log, frames_told, places_told}
 use Rattle.fio_log.specs.Lines.{Making, finished, is_whole, lines_after, only, with_making}
 use Rattle.fio_log.specs.LineRuns.{IsLineRun}
 use Rattle.fio_log.specs.Verdicts.{AreAgreed}
+use Rattle.fio_log.specs.declared.chains.TheConstants.{CHAIN_FRAMES, CHAIN_OCTETS}
 use Rattle.fio_log.specs.declared.judge.Judge.{Judge}
 use Rattle.fio_log.specs.declared.places.Place.{Place}
 use Rattle.fio_log.specs.declared.line_run.LineRun.{LineRun}
@@ -69,6 +70,12 @@ pub record HasTaken (before : Telling) (octets : List ℕ) (after : Telling) : T
   pub form : after.form ≡ before.form
   pub is_ended : after.is_ended ≡ before.is_ended
 
+-- There are few frames and places, and the frames have few octets: no more than those of several lines that are kept.
+pub record AreFew (told : List (List ℕ)) (written : List Place) : Type 0 where
+  pub frames : length told ≤ CHAIN_FRAMES
+  pub octets : length (concat told) ≤ CHAIN_OCTETS
+  pub places : length written ≤ CHAIN_OCTETS
+
 -- A reader has returned the verdict of the next line.
 pub record HasTold (before : Telling) (verdict : Verdict) (after : Telling) : Type 0 where
   pub next : verdict.line ≡ before.told + 1
@@ -76,6 +83,7 @@ pub record HasTold (before : Telling) (verdict : Verdict) (after : Telling) : Ty
   pub within : after.told ≤ after.read
   pub frames : length (frames_of after) ≡ verdict.frames
   pub places : length (places_of after) ≡ verdict.places
+  pub few : AreFew (frames_of after) (places_of after)
   pub agreed : AreAgreed verdict.line verdict.kind verdict.reason (frames_of after) (places_of after)
   pub form : after.form ≡ before.form
   pub making : after.making ≡ before.making

@@ -1,8 +1,9 @@
 //! Chains: messages of known length, or frames with flags and checks, one after the other in the octets of several lines.
-ghost use Rattle.std.specs.Prelude.{◌≡◌, ◌≤◌, ◌<◌, ◌↔◌, ◌+◌, [], ◌∷◌, ◌++◌, true, false, IfSome, IsSome, IsTrue, length, get_or, map, slice_range, take};
-ghost use Rattle.std.specs.List.{All};
+ghost use Rattle.std.specs.Prelude.{◌≡◌, ◌≤◌, ◌<◌, ◌↔◌, ◌+◌, ◌-◌, [], ◌∷◌, ◌++◌, true, false, IfSome, IsSome, IsTrue, length, get_or, map, slice_range, take};
+ghost use Rattle.std.specs.List.{All, concat, sum_by};
 ghost use Rattle.arrayvec.specs.ArrayVec.{array_vec_len};
-ghost use Rattle.fio_log.specs.Chains.{IsPart, part_of};
+ghost use Rattle.fio_log.specs.Chains.{IsPart, part_length, part_of};
+ghost use Rattle.fio_log.specs.declared.chains.TheConstants.{CHAIN_OCTETS};
 ghost use Rattle.fio_log.specs.Sayings.{spells};
 
 use crate::messages::has_open_length;
@@ -30,7 +31,9 @@ pub(crate) struct Part {
 pub(crate) struct Chain {
     octets: ArrayVec<u8, CHAIN_OCTETS>,
     parts: ArrayVec<Part, CHAIN_FRAMES>,
+    ghost few: { length octets.items ≤ CHAIN_OCTETS },
     ghost spelled: { All (IsPart octets.items) parts.items },
+    ghost room: { sum_by part_length parts.items ≤ length octets.items },
 }
 
 impl Chain {
@@ -77,8 +80,11 @@ impl Chain {
     }
 
     /// Returns how many messages are known.
+    #[tactic(auto, using(crate::proofs::RoomLemmas::parts_few))]
     pub(crate) fn len(&self) -> usize
-        ensures { result ≡ array_vec_len self.now.parts }
+        ensures count { result ≡ array_vec_len self.now.parts }
+        ensures few { result ≤ CHAIN_FRAMES }
+        ensures octets { length (concat (map (part_of self.now.octets.items) self.now.parts.items)) ≤ CHAIN_OCTETS }
     {
         self.parts.len()
     }
@@ -100,8 +106,11 @@ impl Chain {
 
     /// Appends a message; returns whether there was room.
     fn add(&mut self, part: Part) -> bool
-        requires { IsPart self.old.octets.items part }
-        ensures { self.new.octets ≡ self.old.octets }
+        requires part { IsPart self.old.octets.items part }
+        requires room { sum_by part_length self.old.parts.items + part_length part ≤ length self.old.octets.items }
+        ensures octets { self.new.octets ≡ self.old.octets }
+        ensures more { result ≡ true → sum_by part_length self.new.parts.items
+            ≡ sum_by part_length self.old.parts.items + part_length part }
     {
         if self.parts.is_full() {
             return false;
@@ -154,7 +163,9 @@ struct Next {
 fn next_in(octets: &[u8], place: usize) -> Option<Next>
     requires { place < length octets.now }
     ensures forward { IfSome result (λ next. place < next.end) }
+    ensures within { IfSome result (λ next. next.end ≤ length octets.now) }
     ensures part { IfSome result (λ next. IfSome next.part (IsPart octets.now)) }
+    ensures room { IfSome result (λ next. IfSome next.part (λ part. place + part_length part ≤ next.end)) }
 {
     if octets[place] != FLAG {
         let length = message_length(&octets[place..])?;
@@ -183,7 +194,9 @@ fn next_in(octets: &[u8], place: usize) -> Option<Next>
 fn framed_in(octets: &[u8], place: usize) -> Option<(Part, usize)>
     requires { place < length octets.now }
     ensures forward { IfSome result (λ found. place < found.1) }
+    ensures within { IfSome result (λ found. found.1 ≤ length octets.now) }
     ensures part { IfSome result (λ found. IsPart octets.now found.0) }
+    ensures room { IfSome result (λ found. place + part_length found.0 ≤ found.1) }
 {
     let most = octets.len().min(place + FRAME_OCTETS + 6);
     'ends: for end in place + 6..most {
@@ -203,7 +216,8 @@ fn framed_in(octets: &[u8], place: usize) -> Option<(Part, usize)>
 
 /// Returns the part of octets from a place to another, if it spells a message.
 fn part_in(octets: &[u8], start: usize, end: usize) -> Option<Part>
-    ensures { IfSome result (IsPart octets.now) }
+    ensures part { IfSome result (IsPart octets.now) }
+    ensures length { IfSome result (λ part. part_length part ≡ end - start) }
 {
     spelled(octets.get(start..end)?).ok()?;
     let start = u16::try_from(start).ok()?;

@@ -439,7 +439,8 @@ impl Reader {
 
     /// Returns a place where octets of the last verdict's frames are written.
     pub fn place(&self, index: usize) -> Option<Place>
-        ensures { IfSome result (λ place. place ≡ slice_index_or (places_of self.now) index place) }
+        ensures given { IsSome result ↔ (index < length (places_of self.now)) }
+        ensures same { IfSome result (λ place. place ≡ slice_index_or (places_of self.now) index place) }
     {
         if self.frames.are_chain {
             self.judge.join.lines.place(index)

@@ -1,7 +1,5 @@
 //! Octets of several lines, and where they are written.
-ghost use Rattle.std.specs.Prelude.{◌≡◌, ◌+◌, ◌≤◌, ◌<◌, [], false, true, length, slice_index_or, IfSome};
-ghost use Rattle.fio_log.specs.LineRuns.{IsWrittenAt};
-ghost use Rattle.fio_log.specs.Frames.{AreJoined, Log, row_place, row_places};
+ghost use Rattle.std.specs.Prelude.{◌≡◌, ◌+◌, ◌≤◌, ◌<◌, ◌^◌, ◌↔◌, [], false, true, length, slice_index_or, IfSome, IsSome};
 
 use crate::chains::{CHAIN_OCTETS, Chain};
 use crate::places::{Notation, Place};
@@ -18,6 +16,8 @@ pub(crate) struct Row {
 }
 
 impl Row {
+    ghost use Rattle.fio_log.specs.Frames.{row_place};
+
     /// Returns the row between two indexes of a line; `None` if a row cannot have these.
     fn between(start: usize, end: usize) -> Option<Row>
         ensures start { IfSome result (λ row. row.start ≡ start) }
@@ -61,9 +61,13 @@ pub(crate) struct Joined {
     pub chain: Chain,
     /// Where each row is written, from the first line on.
     pub rows: ArrayVec<Row, CHAIN_OCTETS>,
+    ghost numbered: { from + length rows.items ≤ 2 ^ 64 },
 }
 
 impl Joined {
+    ghost use Rattle.fio_log.specs.LineRuns.{IsWrittenAt};
+    ghost use Rattle.fio_log.specs.Frames.{AreJoined, Log, row_places};
+
     /// Returns no lines.
     pub(crate) fn new() -> Joined
         ensures { (log : Log) → AreJoined log result }
@@ -123,7 +127,7 @@ impl Joined {
         let Some(row) = Row::between(start, end) else {
             return false;
         };
-        if self.rows.is_full() || !self.chain.extend(octets) {
+        if self.rows.is_full() || self.next_line().is_none() || !self.chain.extend(octets) {
             return false;
         }
         self.rows.push(row);
@@ -132,7 +136,8 @@ impl Joined {
 
     /// Returns the place of a row.
     pub(crate) fn place(&self, index: usize) -> Option<Place>
-        ensures { IfSome result (λ place. place ≡ slice_index_or
+        ensures given { IsSome result ↔ (index < length self.now.rows.items) }
+        ensures same { IfSome result (λ place. place ≡ slice_index_or
             (row_places self.now.from self.now.notation self.now.rows.items) index place) }
     {
         let row = self.rows.as_slice().get(index)?;

@@ -1,7 +1,9 @@
 //! The verdict of a line, with its frames and their places.
-ghost use Rattle.std.specs.Prelude.{◌≡◌, [], ◌∷◌, ◌++◌, ◌↔◌, false, length, map, true};
+ghost use Rattle.std.specs.Prelude.{◌≡◌, ◌≤◌, [], ◌∷◌, ◌++◌, ◌↔◌, false, length, map, true};
 ghost use Rattle.fio_log.specs.Frames.{AreFramesOf, IsEntryOf, IsJudgeOf, Log, frames_told, octets_in, places_told, run_places};
+ghost use Rattle.std.specs.List.{concat};
 ghost use Rattle.fio_log.specs.Verdicts.{AreAgreed, AreOfLine, HasFrames, HasReason};
+ghost use Rattle.fio_log.specs.declared.chains.TheConstants.{CHAIN_FRAMES, CHAIN_OCTETS};
 
 use crate::directions::Direction;
 use crate::judge::Judge;
@@ -54,8 +56,11 @@ impl Frames {
     }
 
     /// Returns how many frames there are. The chain is that of the lines that were joined last.
+    #[tactic(auto, using(crate::proofs::RoomLemmas::messages_short))]
     pub(crate) fn count(&self, lines: &Joined) -> usize
-        ensures { result ≡ length (frames_told lines.now self.now) }
+        ensures count { result ≡ length (frames_told lines.now self.now) }
+        ensures few { result ≤ CHAIN_FRAMES }
+        ensures octets { length (concat (frames_told lines.now self.now)) ≤ CHAIN_OCTETS }
     {
         if self.are_chain {
             lines.chain.len()
@@ -67,7 +72,8 @@ impl Frames {
     /// Returns at how many places they are written.
     #[tactic(auto, using(crate::proofs::FrameLemmas::length_row_places))]
     pub(crate) fn place_count(&self, lines: &Joined) -> usize
-        ensures { result ≡ length (places_told lines.now self.now) }
+        ensures count { result ≡ length (places_told lines.now self.now) }
+        ensures few { result ≤ CHAIN_OCTETS }
     {
         if self.are_chain {
             lines.rows.len()

@@ -2,8 +2,8 @@ use Rattle.std.proofs.Common.{◌≡◌, ◌+◌, ◌<◌, length, get_or, ◌�
 use Rattle.fio_log.proofs.FrameLemmas.{row_places-at}
 use Rattle.fio_log.proofs.judge.joined.Joined.place.Goals as goal
 
-pub returns : goal.returns
-returns c =
+pub returns-clause-same : goal.returns-clause-same
+returns-clause-same c =
     let rows = c.args.self.now.rows.items in
     let row = c.in_ok-row.ensures.lookup in
     let line : c.in_ok-line.line ≡ c.args.self.now.from + c.args.index = search rules in
