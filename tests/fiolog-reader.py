@@ -139,6 +139,26 @@ def check_lines(check):
         check.equal('a pair, %s of whose lines say messages' % name, expected, [octets.hex() for octets in Read(above + pair).octets])
 
 
+def check_long_lines(check):
+    """A line that is nothing but messages, one after another, of which one confirms itself, gives each of them, however long it is;
+    if they are not all of it, it gives none."""
+    few, poll = b''.join(SESSION[:6]), bytes.fromhex('3605')
+    frames = random_session(7, 400)
+    known = [octets for octets in SESSION + frames if not is_loose(octets)]
+    for name, octets, expected in (
+            ('a few messages', few, SESSION[:6]), ('many messages', b''.join(known), known), ('many blocks', SESSION[10] * 140, SESSION[10:11] * 140),
+            ('none that confirms itself', bytes.fromhex('360536063607b300'), []), ('a cut end', b''.join(known)[:-1], []), ('a cut beginning', b''.join(known)[1:], []),
+            ('more octets than are kept', SESSION[10] * 158, [])):
+        for form in (bytes.hex, lambda octets: octets.hex(' ').upper()):
+            if len(form(octets)) < 65_536:
+                line = form(octets)
+                check.equal('a line of %s, %d characters' % (name, len(line)), expected, Read(line + '\n').octets)
+                check.equal('two lines of %s, %d characters' % (name, len(line)), expected * 2, Read(line + '\n\n' + line).octets)
+                check.equal('a line of %s with a word, %d characters' % (name, len(line)), [], Read('x ' + line + '\n').octets)
+    read = Read(few.hex() + '\n' + poll.hex() + '\n')
+    check.equal('a line of messages above a poll', [*SESSION[:6], poll], read.octets)
+
+
 # What is written before the octets of a line, and the side that it says of them.
 SIDES = {
     'TX': '>', 'rx:': '<', 'Sent ': '>', 'recv(3, ': '<', 'TX then RX': '<', 'in 5 ms': '<', 'CPU -> FIO:': '<', 'CPU ->': '>', 'FIO <-': '<',
@@ -284,7 +304,7 @@ def check_model(check):
 def main():
     check = Check()
     use_library(check, 'all of fiolog')
-    for part in (check_forms, check_lines, check_sides, check_reasons, check_strangers, check_other_text, check_model):
+    for part in (check_forms, check_lines, check_long_lines, check_sides, check_reasons, check_strangers, check_other_text, check_model):
         part(check)
     seeds = 2 if check.whole('damage, seed 1') else 1
     for place, name in enumerate(LOGGERS):

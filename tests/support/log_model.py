@@ -6,7 +6,7 @@ from typing import NamedTuple, Optional, Tuple
 
 from support.log_clock import DIGITS, HEX, MONTHS, without_time
 from support.log_sources import Sources, numbers_in
-from support.log_runs import (BLANK, HELD, LATER, LINE, LOOSE, MOST, ROW, SHAPES, WORD, YOUNG, frames_of, hex_runs, is_pair, lacks,
+from support.log_runs import (BLANK, HELD, LATER, LINE, LONG, LOOSE, MOST, ROW, SHAPES, WORD, YOUNG, frames_of, hex_runs, is_pair, lacks,
                               length_of, remark_of, runs, spells)
 
 NO_OCTETS, NO_MESSAGE, SHORT, SEVERAL, LONGER, TOO_LONG, BAD_LINE = (
@@ -306,7 +306,7 @@ class Reader:
         """Whether a line is the next row of messages, one after another."""
         row = line.said[0] if len(line.said) == 1 else None
         first = join.first
-        if not row or row.run.mark != first.run.mark or not row.is_whole() or row.sure or not join.last == join.width >= len(row.octets) or (
+        if not row or join.width >= LONG or row.run.mark != first.run.mark or not row.is_whole() or row.sure or not join.last == join.width >= len(row.octets) or (
                 row.ways and first.ways and not row.ways & first.ways) or len(join.octets) > MOST:
             return ''
         join.add(row, line)
@@ -337,7 +337,8 @@ class Reader:
         entry, self.open = self.open, None
         join = entry.join
         one = join.first
-        if len(entry.numbers) == 1 and join.way != 'dump' and (join.way in ('wrap', 'stream') or (masked(one.before, True), one.run.mark,
+        is_alone = join.way == 'wrap' or join.way == 'stream' and not (len(join.octets) < MOST and frames_of(join.octets, True)[1])
+        if len(entry.numbers) == 1 and join.way != 'dump' and (is_alone or join.way == 'burst' and (masked(one.before, True), one.run.mark,
                                                                                      'burst') not in self.shapes):
             self.decide(entry)
             return

@@ -8,6 +8,8 @@ from support.log_lines import text_of
 from support.log_octets import ANY_LENGTH, Run, column_of, is_written_alike, needed, said
 
 WIDTH = 8               # octets of a row, at least
+LONG = 780              # so many octets of a line, or more, are read by themselves
+MOST = 16_384           # octets that are read together, at most
 
 
 class Entry:
@@ -136,7 +138,7 @@ def whole_of(line):
 
 def stream_at(lines, place):
     """Rows of one width, the last one perhaps shorter, that are all of their lines: the first begins with a message, and is none.
-    A row that says a sure message is none."""
+    A row that says a sure message is none. A single row has a message that confirms itself."""
     first = whole_of(lines[place])
     length = first and needed(first.octets)
     if not length or len(first.octets) < max(WIDTH, length + 1) or said(first.octets) or not said(first.octets[:length]):
@@ -144,11 +146,12 @@ def stream_at(lines, place):
     rows = [first]
     for line in itertools.islice(lines, place + 1, None):
         run = whole_of(line)
-        if run is None or len(rows[-1].octets) < len(first.octets) or len(run.octets) > len(first.octets) or (
+        if run is None or len(first.octets) >= LONG or len(rows[-1].octets) < len(first.octets) or len(run.octets) > len(first.octets) or (
                 not is_written_alike(run, first) or (said(run.octets) or (b'', False))[1]):
             break
         rows.append(run)
-    return rows if len(rows) > 1 else []
+    is_whole = len(first.octets) < MOST and any(is_sure for _, is_sure in stream_of(rows))
+    return rows if len(rows) > 1 or is_whole else []
 
 
 def octet_of(line, length=1):

@@ -7,6 +7,8 @@ from support.log_clock import DIGITS, HEX, is_word
 LENGTHS = {49: 2, 50: 5, 52: 1, 53: 1, 54: 2, 55: 17, 58: 2, 60: 1, 177: 8, 178: 2, 179: 2, 180: 13, 181: 13, 186: 2}
 LOOSE = {56, 57, 59, 183, 184, 185, 187, 188}
 LONGEST, ROW, MOST, HELD, LATER, YOUNG, SHAPES, LINE = 773, 8, 1 << 14, 64, 2, 16, 256, 1 << 16
+# A run of so many octets is a line by itself, to which no row is joined.
+LONG = LONGEST + 7
 BLANK, WORD = ' \t\u00a0', '_.'
 
 

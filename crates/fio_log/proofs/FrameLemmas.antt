@@ -1,14 +1,18 @@
 -- Frames and the places where they are written, put together.
 use Rattle.std.proofs.Common.{◌≡◌, ◌≤◌, ◌<◌, ℕ, zero, suc, ◌+◌, ◌-◌, List, [], ◌∷◌, ◌++◌, length, take, drop, get_or, refl, ap, sym, ◌∙◌, arith, append-nil, append_assoc, inl, length-append}
 use Rattle.std.specs.List.{All}
+use Rattle.std.specs.Prelude.{slice_range}
 use Rattle.std.proofs.lemmas.List.{drop-append-le, length-drop, length-take-le, take-append-le, take_all, take_more}
 use Rattle.std.proofs.lemmas.List.Elements.{All-append, All-nil}
 use Rattle.std.proofs.Math.Seq.{drop-append-add}
 use Rattle.fio_log.specs.Frames.{AreAt, AreFramesAt, IsWithin, Log, row_place, row_places}
 use Rattle.fio_log.specs.LineRuns.{IsWrittenAt}
+use Rattle.fio_log.specs.Readings.{octets_of}
+use Rattle.fio_log.specs.Runs.{AreLongWords}
 use Rattle.fio_log.specs.Verdicts.{AreOfLine, ArePast}
 use Rattle.fio_log.specs.declared.judge.joined.Row.{Row}
 use Rattle.fio_log.specs.declared.places.Notation.{Notation}
+use Rattle.fio_log.specs.declared.places.Notation.TheVariants.{Long}
 use Rattle.fio_log.specs.declared.places.Place.{Place}
 
 -- octets at some places, and others at more places
@@ -103,6 +107,18 @@ AreJoined-push log octets more from notation rows row end ends joined written =
     rw (row_places-append from notation rows row)
     (AreAt-append log octets more (row_places from notation rows) (row_place (from + length rows) notation row ∷ []) joined
     (AreAt-one log more (row_place (from + length rows) notation row) (rw (sym ends) at written)))
+
+-- one long row of a line
+pub AreJoined-long : (log : Log) (line : ℕ) (text octets : List ℕ) (row : Row) (start end : ℕ) (rows : List Row)
+    → text ≡ log line → row.start ≡ start → row.start + row.length ≡ end → end ≤ length text
+    → octets ≡ octets_of (slice_range text start end) → rows ≡ row ∷ [] → AreAt log octets (row_places line Long rows)
+AreJoined-long log line text octets row start end rows same begins ends within all one =
+    let written : AreLongWords (log line) row.start (row.start + row.length) octets = record {
+      order = omega arith;
+      within = omega (arith, ends, ap length same, within);
+      all = rw (ends, begins, sym same) all;
+    } in
+    rw one (AreAt-one log octets (row_place line Long row) written)
 
 -- a row has one place
 pub length_row_places : (line : ℕ) (notation : Notation) (rows : List Row)

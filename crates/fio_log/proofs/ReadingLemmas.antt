@@ -20,6 +20,15 @@ pub kept-none : (most : ℕ) (xs ys : List ℕ) → length xs ≡ most → xs �
 kept-none most xs ys full =
     sym (take-append-le most xs ys (omega arith) ∙ take_all most xs (omega arith))
 
+-- what is shorter than the most is all
+pub take-less : (most : ℕ) (xs : List ℕ) → length (take most xs) < most → take most xs ≡ xs
+take-less zero xs less = absurd (omega (arith, less))
+take-less (suc most) [] less = refl
+take-less (suc most) (x ∷ xs) less = ap (λ l. x ∷ l) (take-less most xs (omega (arith, less)))
+
+pub all-kept : (most : ℕ) (kept xs : List ℕ) → kept ≡ take most xs → length kept < most → kept ≡ xs
+all-kept most kept xs is less = is ∙ take-less most xs (rw is at less)
+
 -- what is kept of octets, and perhaps one more
 pub kept-more : (most : ℕ) (kept xs after : List ℕ) (more : Option ℕ) → kept ≡ take most xs
     → MatchOption more (after ≡ kept) (λ x. after ≡ take most (kept ++ x ∷ []))

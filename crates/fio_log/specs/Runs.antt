@@ -26,6 +26,13 @@ pub record AreWords (line : List ℕ) (start end : ℕ) (octets : List ℕ) : Ty
   pub within : end ≤ length line
   pub all : octets ≡ take RUN_OCTETS (octets_of (slice_range line start end))
 
+-- Octets are written as hexadecimal words in a line from a place to an end: they are all that the characters there spell,
+-- however many.
+pub record AreLongWords (line : List ℕ) (start end : ℕ) (octets : List ℕ) : Type 0 where
+  pub order : start ≤ end
+  pub within : end ≤ length line
+  pub all : octets ≡ octets_of (slice_range line start end)
+
 -- A run is in a line at a place or after it. The next run may begin only after the place where this one begins.
 pub record IsSpan (line : List ℕ) (from : ℕ) (run : Run) : Type 0 where
   pub above : from ≤ run.start

@@ -4,9 +4,11 @@ ghost use Rattle.std.specs.List.{All, concat, sum_by};
 ghost use Rattle.arrayvec.specs.ArrayVec.{array_vec_len};
 ghost use Rattle.fio_log.specs.Chains.{IsPart, part_length, part_of};
 ghost use Rattle.fio_log.specs.declared.chains.TheConstants.{CHAIN_OCTETS};
+ghost use Rattle.fio_log.specs.Readings.{octets_of};
 ghost use Rattle.fio_log.specs.Sayings.{spells};
 
 use crate::messages::has_open_length;
+use crate::octets::read_words;
 use crate::sayings::{FLAG, Saying, is_counted, needed_of, read_saying, spelled};
 use arrayvec::ArrayVec;
 use fio_message::FRAME_OCTETS;
@@ -69,6 +71,15 @@ impl Chain {
     {
         self.parts.clear();
         self.octets.try_extend_from_slice(octets).is_ok()
+    }
+
+    /// Reads the octets that a text of hexadecimal words spells in place of those that it has, and returns whether it keeps all.
+    pub(crate) fn read(&mut self, text: &[u8]) -> bool
+        ensures { result ≡ true → self.new.octets.items ≡ octets_of text.now }
+    {
+        self.parts.clear();
+        read_words(text, &mut self.octets);
+        !self.octets.is_full()
     }
 
     /// Takes the octets out that come after the first ones.

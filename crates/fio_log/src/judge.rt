@@ -236,7 +236,7 @@ impl Judge {
             return false;
         };
         self.decider.forget_chain();
-        self.join.begin(joining, line.number, row, runs.time)
+        self.join.begin(joining, line, row, runs.time)
     }
 
     /// Returns the run of a line that the next line may continue, and why.

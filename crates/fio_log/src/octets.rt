@@ -14,9 +14,9 @@ pub const RUN_OCTETS: usize = FRAME_OCTETS + 7;
 /// The octets of a run.
 pub type Octets = ArrayVec<u8, RUN_OCTETS>;
 
-/// Reads the octets that a text of hexadecimal words spells. Those above the most are not kept.
-pub(crate) fn read_words(text: &[u8], octets: &mut Octets)
-    ensures { octets.new.items ≡ take RUN_OCTETS (octets_of text.now) }
+/// Reads the octets that a text of hexadecimal words spells. Those above the most, `MOST`, are not kept.
+pub(crate) fn read_words<const MOST: usize>(text: &[u8], octets: &mut ArrayVec<u8, MOST>)
+    ensures { octets.new.items ≡ take MOST (octets_of text.now) }
 {
     octets.clear();
     let mut waiting: Option<u8> = None;
@@ -54,9 +54,9 @@ fn waits_then(waiting: Option<u8>, digit: Option<u8>) -> Option<u8>
 }
 
 /// Appends an octet if there is one; one above the most is not kept.
-fn add_some(octets: &mut Octets, octet: Option<u8>)
+fn add_some<const MOST: usize>(octets: &mut ArrayVec<u8, MOST>, octet: Option<u8>)
     ensures { MatchOption octet (octets.new.items ≡ octets.old.items)
-        (λ one. octets.new.items ≡ take RUN_OCTETS (octets.old.items ++ one ∷ [])) }
+        (λ one. octets.new.items ≡ take MOST (octets.old.items ++ one ∷ [])) }
 {
     if let Some(octet) = octet {
         add_one(octets, octet);
@@ -64,8 +64,8 @@ fn add_some(octets: &mut Octets, octet: Option<u8>)
 }
 
 /// Appends an octet; one above the most is not kept.
-fn add_one(octets: &mut Octets, octet: u8)
-    ensures { octets.new.items ≡ take RUN_OCTETS (octets.old.items ++ octet ∷ []) }
+fn add_one<const MOST: usize>(octets: &mut ArrayVec<u8, MOST>, octet: u8)
+    ensures { octets.new.items ≡ take MOST (octets.old.items ++ octet ∷ []) }
 {
     if !octets.is_full() {
         octets.push(octet);

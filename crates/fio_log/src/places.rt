@@ -12,6 +12,8 @@ pub enum Notation {
     Numbers,
     /// As a string literal.
     Literal,
+    /// As hexadecimal words, all of which are kept, however many.
+    Long,
 }
 
 /// Where octets are written in a log. Colour sequences, NUL and byte order marks are no characters of a line.

@@ -35,12 +35,12 @@ impl Judge {
     fn is_one_line(&self) -> bool {
         let is_alone = self.join.lines.rows.len() <= 1;
         match self.join.joining {
-            Joining::Rows | Joining::Stream => is_alone,
+            Joining::Rows => is_alone,
             Joining::Octets => {
                 let around = self.join.surroundings();
                 is_alone && self.decider.shapes.ways(&around).is_none()
             }
-            Joining::Dump => false,
+            Joining::Stream | Joining::Dump => false,
         }
     }
 
@@ -67,18 +67,20 @@ impl Judge {
         }
     }
 
-    /// Decides on an entry whose octets may be a chain of messages. If it is, all that wait above it are decided first.
+    /// Decides on an entry whose octets may be a chain of messages. A chain in one line is one only if it is sure. If it is a
+    /// chain, all that wait above it are decided first.
     fn decide_chain(&mut self, slot: Slot)
         ensures { (log : Log) → IsJudgeOf log self.old → IsJudgeOf log self.new }
     {
         let around = self.join.surroundings();
+        let may_be_one = self.join.joining != Joining::Stream || self.join.lines.rows.len() > 1;
         match self.join.lines.chain.split() {
-            Some(is_sure) => {
+            Some(is_sure) if is_sure || may_be_one => {
                 let is_bare = self.join.is_bare(&around);
                 self.decider
                     .decide_chain(&self.entries, slot, &around, is_sure, is_bare);
             }
-            None => self.decider.decide(&self.entries, slot),
+            _ => self.decider.decide(&self.entries, slot),
         }
     }
 }

@@ -5,6 +5,7 @@ ghost use Rattle.fio_log.specs.Frames.{AreJoined, Log};
 ghost use Rattle.fio_log.specs.LineRuns.{IsLineRun};
 
 use crate::around::Around;
+use crate::judge::Line;
 use crate::judge::joined::Joined;
 use crate::judge::open::{is_all_of_line, is_octet_row, last_run, says_longer};
 use crate::judge::shapes::Shapes;
@@ -87,19 +88,25 @@ impl Join {
         self.is_begun = false;
     }
 
-    /// Begins with the first row, and returns whether there was room for it.
+    /// Begins with the first row, and returns whether there was room for it. Of a stream all octets of its line are kept.
     pub(crate) fn begin(
         &mut self,
         joining: Joining,
-        line: u64,
+        line: Line,
         run: &LineRun,
         time: Option<u64>,
     ) -> bool
-        ensures { (log : Log) → IsLineRun (log line) run.now → AreJoined log self.new.lines }
+        ensures { (log : Log) → line.entry.text.now ≡ log line.entry.number
+            → IsLineRun (log line.entry.number) run.now → AreJoined log self.new.lines }
     {
         self.clear(joining, run.around, run.octets.len());
         self.is_begun = matches!(run.saying, Saying::Begins { .. });
-        self.lines.begin(line, run.notation);
+        if joining == Joining::Stream && run.octets.is_full() {
+            return self
+                .lines
+                .begin_long(line.number, line.text, run.start, run.end);
+        }
+        self.lines.begin(line.number, run.notation);
         self.add(run, time)
     }
 

@@ -1,5 +1,6 @@
 //! Octets of several lines, and where they are written.
-ghost use Rattle.std.specs.Prelude.{◌≡◌, ◌+◌, ◌≤◌, ◌<◌, ◌^◌, ◌↔◌, [], false, true, length, slice_index_or, IfSome, IsSome};
+ghost use Rattle.std.specs.Prelude.{◌≡◌, ◌+◌, ◌≤◌, ◌<◌, ◌^◌, ◌↔◌, [], false, true, length, slice_index_or, slice_range, IfSome, IsSome};
+ghost use Rattle.fio_log.specs.Readings.{octets_of};
 
 use crate::chains::{CHAIN_OCTETS, Chain};
 use crate::places::{Notation, Place};
@@ -91,6 +92,27 @@ impl Joined {
         self.notation = notation;
         self.chain.clear();
         self.rows.clear();
+    }
+
+    /// Begins with a row of hexadecimal words, which is written from a place of a line to an end, and returns whether there was
+    /// room for all its octets.
+    pub(crate) fn begin_long(&mut self, line: u64, text: &[u8], start: usize, end: usize) -> bool
+        ensures joined { (log : Log) → text.now ≡ log line → AreJoined log self.new }
+        ensures whole { result ≡ true → self.new.chain.octets.items ≡ octets_of (slice_range text.now start end) }
+    {
+        self.begin(line, Notation::Long);
+        let Some(row) = Row::between(start, end) else {
+            return false;
+        };
+        if end > text.len() {
+            return false;
+        }
+        if !self.chain.read(&text[start..end]) {
+            self.chain.clear();
+            return false;
+        }
+        self.rows.push(row);
+        true
     }
 
     /// Returns the number of the next line.
