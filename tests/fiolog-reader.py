@@ -159,6 +159,33 @@ def check_long_lines(check):
     check.equal('a line of messages above a poll', [*SESSION[:6], poll], read.octets)
 
 
+def check_parts(check):
+    """A message that confirms itself is read of two lines, if words, numbers, side and times show that they are its parts."""
+    block, item = 'b6050c' + '8c03e7' * 12 + '00000003e8', '33020c0503830000'
+    time, later = '07:15:02.100 ', '07:15:02.120 '
+    for name, form, octets, cut, expected in (
+            ('one octet above', time + 'RX {0}\n' + later + 'RX {1}\n', block, 1, True), ('one octet below', time + 'RX {0}\n' + later + 'RX {1}\n', block, 43, True),
+            ('a row above fewer octets', time + 'RX {0}\n' + later + 'RX {1}\n', block, 30, True), ('a row above more', time + 'RX {0}\n' + later + 'RX {1}\n', block, 12, True),
+            ('a blank line between', time + '[RX] - {0}\n\n' + later + '[RX] - {1}\n', block, 30, True),
+            ('two blank lines', time + '[RX] - {0}\n\n\n' + later + '[RX] - {1}\n', block, 30, False),
+            ('a configuration', time + 'TX {0}\n' + later + 'TX {1}\n', item, 5, True), ('numbers of octets', time + 'RX ({2}): {0}\n' + later + 'RX ({3}): {1}\n', block, 5, True),
+            ('a port', time + 'SP5 RX {0}\n' + later + 'SP5 RX {1}\n', block, 5, True), ('two ports', time + 'SP5 RX {0}\n' + later + 'SP3 RX {1}\n', block, 5, False),
+            ('two sides', time + 'RX {0}\n' + later + 'TX {1}\n', block, 5, False), ('no side', time + 'link {0}\n' + later + 'link {1}\n', block, 5, False),
+            ('times far apart', time + 'RX {0}\n07:15:03.101 RX {1}\n', block, 5, False), ('times that are a second apart', time + 'RX {0}\n07:15:03.100 RX {1}\n', block, 5, True),
+            ('no times', 'RX {0}\nRX {1}\n', block, 5, False), ('an answer below', time + 'RX {0}\n' + later + 'RX {1}\n', 'b60500b30000000001'[:12] + 'b300', 6, False),
+            ('a poll', time + 'TX {0}\n' + later + 'TX {1}\n', '3605', 1, False)):
+        octets = bytes.fromhex(octets)
+        above, below = octets[:cut], octets[cut:]
+        read = Read(form.format(above.hex(' '), below.hex(' '), len(above), len(below)))
+        check.equal('two parts of a message: ' + name, [octets] * expected, read.octets)
+        kinds = [one.kind for one in read.verdicts]
+        check.equal('two parts of a message, kinds of lines: ' + name, (True, [kind == 'blank' for kind in kinds]),
+                    (read.is_whole, [not line.strip() for line in form.split('\n')[:-1]]))
+    pair = '{0}TX 36 {1}\n{0}RX b6 {1} 00 00 00 00 00 01\n'
+    read = Read(pair.format(time, '05') + time + 'RX b6 05 00\n\n' + pair.format(later, '06'))
+    check.equal('a first part without the other one', ['damaged', 'blank'], [one.kind for one in read.verdicts[2:4]])
+
+
 # What is written before the octets of a line, and the side that it says of them.
 SIDES = {
     'TX': '>', 'rx:': '<', 'Sent ': '>', 'recv(3, ': '<', 'TX then RX': '<', 'in 5 ms': '<', 'CPU -> FIO:': '<', 'CPU ->': '>', 'FIO <-': '<',
@@ -304,7 +331,7 @@ def check_model(check):
 def main():
     check = Check()
     use_library(check, 'all of fiolog')
-    for part in (check_forms, check_lines, check_long_lines, check_sides, check_reasons, check_strangers, check_other_text, check_model):
+    for part in (check_forms, check_lines, check_long_lines, check_parts, check_sides, check_reasons, check_strangers, check_other_text, check_model):
         part(check)
     seeds = 2 if check.whole('damage, seed 1') else 1
     for place, name in enumerate(LOGGERS):

@@ -257,7 +257,7 @@ def told(entry):
     lines = entry.lines if len(entry.lines) > 1 else entry.lines * len(entry.used)
     places = tuple(line.place(run) for line, run in zip(lines, entry.used))
     return [Verdict(first.number, kind, reason, entry.messages, places, entry.time)] + [
-        Verdict(line.number, 'part') for line in entry.lines[1:]]
+        Verdict(line.number, 'blank' if line.is_blank else 'part') for line in entry.lines[1:]]
 
 
 def decisions(octets):

@@ -163,7 +163,7 @@ class Entry:
     def __init__(self, line, said, join=None, heading=None):
         self.numbers, self.said, self.fits, self.join = [line.number], said, line.fits if said else [], join
         self.time, self.kind, self.reason, self.frames, self.until, self.places = line.time, None, '', [], None, []
-        self.text, self.whole = line.masked, line.text
+        self.text, self.whole, self.blanks = line.masked, line.text, set()
         self.time = heading if self.time is None else self.time
         self.chosen = None
 
@@ -248,6 +248,8 @@ class Reader:
             elif last and len(last.octets) == 1 and not any(len(one.octets) > 1 for one in line.fits) and (
                     last.before, last.run.mark) not in self.tallies:
                 self.open = Entry(line, line.said, Join('burst', last, line))
+            elif last and is_part(last, line) and not line.fits and not last.after:
+                self.open = Entry(line, line.said, Join('part', last, line), heading)
         if self.open:
             self.queue.append(self.open)
         else:
@@ -258,7 +260,16 @@ class Reader:
 
     def goes_on(self, line):
         entry, join = self.open, self.open.join
-        way = {'wrap': self.wraps, 'dump': self.dumps, 'burst': self.bursts, 'stream': self.streams}[join.way](join, line)
+        may_be_part = join.way != 'dump' and len(join.places) == 1 and is_part(join.first, join)
+        if not line.text.strip() and may_be_part and not entry.blanks and join.first.run.mark[0] not in ('literal', 'numbers'):
+            entry.numbers.append(line.number)
+            entry.blanks.add(line.number)
+            return True
+        way = '' if entry.blanks else {'wrap': self.wraps, 'dump': self.dumps, 'burst': self.bursts, 'stream': self.streams,
+                                       'part': lambda *_: ''}[join.way](join, line)
+        if not way and may_be_part and self.completes(join, line):
+            join.places[1:1] = [(number, 0, 0) for number in entry.blanks]
+            join.way, way = 'wrap', 'end'
         if way:
             entry.numbers.append(line.number)
             if way != 'more':
@@ -332,13 +343,29 @@ class Reader:
         join.add(row, line)
         return 'more'
 
+    def completes(self, join, line):
+        """Whether a line has the rest of the message that the first one begins: after the same words and numbers, at most a second
+        later. It is no message of that side by itself, and both together confirm themselves."""
+        first = join.first
+        if line.time is None or not 0 <= line.time - join.time <= 1:
+            return False
+        rests = [one for one in line.said if one.run.mark == first.run.mark and not one.after and one.before == first.before
+                 and one.side == first.side and one.numbers == first.numbers and not one.sure
+                 and (one.ways is None or first.ways is None or one.ways & first.ways)
+                 and not (one.frames and (one.octets[0] < 128) == (first.octets[0] < 128))]
+        rest = max(rests, key=lambda one: len(one.octets), default=None)
+        if not rest or not frames_of(join.octets + rest.octets, False)[1]:
+            return False
+        join.add(rest, line)
+        return True
+
     def close(self):
         """Ends what is open: its octets are judged, and its lines stand or fall together."""
         entry, self.open = self.open, None
         join = entry.join
         one = join.first
         is_alone = join.way == 'wrap' or join.way == 'stream' and not (len(join.octets) < MOST and frames_of(join.octets, True)[1])
-        if len(entry.numbers) == 1 and join.way != 'dump' and (is_alone or join.way == 'burst' and (masked(one.before, True), one.run.mark,
+        if len(entry.numbers) - len(entry.blanks) == 1 and join.way != 'dump' and (is_alone or join.way == 'part' or join.way == 'burst' and (masked(one.before, True), one.run.mark,
                                                                                      'burst') not in self.shapes):
             self.decide(entry)
             return
@@ -490,8 +517,14 @@ class Reader:
             said = said_in(entry.whole, entry.places[0][1]) if entry.places else ''
             done.append(Verdict(first, entry.kind, entry.reason, tuple(entry.frames), tuple(entry.places), time, said))
             kind = 'part' if entry.frames else entry.kind
-            done += [Verdict(number, kind, entry.reason, time=time) for number in others]
+            done += [Verdict(number, 'blank', '') if number in entry.blanks else Verdict(number, kind, entry.reason, time=time)
+                     for number in others]
         return done
+
+
+def is_part(one, line):
+    """Whether a run begins a message, in a line that says a side and has a time: the next line may have the rest of it."""
+    return lacks(one.octets) and one.side != '' and line.time is not None
 
 
 def last_run(line):

@@ -5,11 +5,13 @@ import itertools
 import re
 
 from support.log_lines import text_of
-from support.log_octets import ANY_LENGTH, Run, column_of, is_written_alike, needed, said
+from support.log_octets import ANY_LENGTH, Run, begins, column_of, is_written_alike, needed, said
 
 WIDTH = 8               # octets of a row, at least
 LONG = 780              # so many octets of a line, or more, are read by themselves
 MOST = 16_384           # octets that are read together, at most
+A_SECOND = 1_000_000
+EMPTY = Run(0, 0, b'', ('', '', ''), '')
 
 
 class Entry:
@@ -212,7 +214,7 @@ def entries_of(lines):
     place, above, widths, longer = 0, None, set(), set()
     while place < len(lines):
         line, rows, column = lines[place], dump_at(lines, place), column_at(lines, place, longer)
-        entries = [Entry([line], reason='too long' if line.is_long else '')]
+        entries, is_parted = [Entry([line], reason='too long' if line.is_long else '')], False
         if line.is_blank or line.is_long:
             pass
         elif stream_of(rows):
@@ -230,10 +232,13 @@ def entries_of(lines):
                 entries = [Entry(lines[place:place + len(rows)], rows)]
             elif rows:
                 entries = [Entry([one], reason='may be longer') for one in lines[place:place + len(rows)]]
+            elif parts_at(lines, place):
+                parts, is_parted = parts_at(lines, place), True
+                entries = [Entry(lines[place:place + len(parts)], parts)]
             else:
                 entries = [Entry([line], line.gives(), why(line))]
         for entry in entries:
-            if len(entry.used) > 1 and entry.is_sure and len(entry.lines) > 1:
+            if len(entry.used) > 1 and entry.is_sure and len(entry.lines) > 1 and not is_parted:
                 widths.add(len(entry.used[0].octets))
             # Octets without a time have that of the line above, if that line gives no frame.
             if entry.used and entry.time is None and above and not above.used and not above.lines[0].runs:
@@ -242,6 +247,34 @@ def entries_of(lines):
             above = above if line.is_blank else entry
             yield entry
             place += len(entry.lines)
+
+
+def numbers_of(line, run):
+    """The numbers before octets, the number of these aside."""
+    return [None if number == str(len(run.octets)) else number for number in line.numbers(run)]
+
+
+def parts_at(lines, place):
+    """The octets of a message that stands in two lines, between which one may be blank; empty if there is none. Both have the same
+    words and numbers before their octets, which say one side, and times that are at most a second apart. The first begins a
+    message, the second says none of this side, and both together confirm themselves."""
+    above = lines[place]
+    first = above.written[-1] if above.written else None
+    if first is None or above.saying or not begins(first.octets) or above.side(first) is None or above.time() is None:
+        return []
+    gap = lines[place + 1:place + 2] if [line.is_blank for line in lines[place + 1:place + 2]] == [True] else []
+    below = next(iter(lines[place + 1 + len(gap):place + 2 + len(gap)]), None)
+    rest = below.written[-1] if below and below.written else None
+    if rest is None or below.time() is None or not 0 <= below.time() - above.time() <= A_SECOND or any(
+            line.after(run).strip(' ,;\\') for line, run in ((above, first), (below, rest))):
+        return []
+    alike = [(line.before(run), line.side(run), numbers_of(line, run)) for line, run in ((above, first), (below, rest))]
+    told = said(rest.octets)
+    if alike[0] != alike[1] or not is_written_alike(first, rest) or told and (
+            told[1] or (rest.octets[0] < 128) == (first.octets[0] < 128)):
+        return []
+    whole = said(first.octets + rest.octets)
+    return [first, *[EMPTY for _ in gap], rest] if whole and whole[1] else []
 
 
 def why(line):

@@ -12,7 +12,7 @@ use Rattle.fio_log.specs.Runs.{AreLongWords}
 use Rattle.fio_log.specs.Verdicts.{AreOfLine, ArePast}
 use Rattle.fio_log.specs.declared.judge.joined.Row.{Row}
 use Rattle.fio_log.specs.declared.places.Notation.{Notation}
-use Rattle.fio_log.specs.declared.places.Notation.TheVariants.{Long}
+use Rattle.fio_log.specs.declared.places.Notation.TheVariants.{Long, Words}
 use Rattle.fio_log.specs.declared.places.Place.{Place}
 
 -- octets at some places, and others at more places
@@ -97,6 +97,10 @@ AreFramesAt-append log frames more places others are next = record {
 -- no frames at no places
 pub AreFramesAt-none : (log : Log) → AreFramesAt log [] []
 AreFramesAt-none log = record { octets = []; written = refl; parts = All-nil (IsWithin []) }
+
+-- no octets are written at the beginning of a line
+pub empty_row : (line : List ℕ) (notation : Notation) → notation ≡ Words → IsWrittenAt line notation 0 0 []
+empty_row line notation is = rw is (record { order = omega arith; within = omega arith; all = refl })
 
 -- joined lines with one row more
 pub AreJoined-push : (log : Log) (octets more : List ℕ) (from : ℕ) (notation : Notation) (rows : List Row) (row : Row)

@@ -3,7 +3,7 @@
 //! Each line becomes an entry in a slot of a ring (`entries`, `queue`, `slots`), unless it continues lines that are open
 //! (`open`, `join`, `close`). An entry is decided, or waits (`decide`, `pair`, `wait`), and then its verdict is told (`tell`,
 //! `damage`).
-ghost use Rattle.std.specs.Prelude.{◌≡◌, ℕ, List, IfSome};
+ghost use Rattle.std.specs.Prelude.{◌≡◌, ◌+◌, ℕ, List, IfSome, length};
 ghost use Rattle.std.specs.List.{All};
 ghost use Rattle.fio_log.specs.Frames.{IsJudgeOf, Log};
 ghost use Rattle.fio_log.specs.LineRuns.{IsLineRun};
@@ -19,6 +19,7 @@ pub(crate) mod joined;
 pub(crate) mod message_run;
 pub(crate) mod open;
 pub(crate) mod pair;
+mod parted;
 pub(crate) mod queue;
 pub(crate) mod remarks;
 pub(crate) mod shapes;
@@ -33,6 +34,7 @@ use crate::judge::entries::Entries;
 use crate::judge::join::{Going, Join, Joining};
 use crate::judge::message_run::MessageRun;
 use crate::judge::open::{first_of_stream, first_row, is_number, is_octet_row, last_run};
+use crate::judge::parted::is_first_part;
 use crate::judge::remarks::remark_on;
 use crate::judge::slots::Slot;
 use crate::line_run::{LineRun, LineRuns};
@@ -114,7 +116,9 @@ impl Judge {
             self.close();
             return false;
         }
-        self.decider.queue.get_mut(slot).until = line.number;
+        let decision = self.decider.queue.get_mut(slot);
+        decision.until = line.number;
+        decision.is_spaced |= going == Going::Blank;
         if going == Going::Over {
             self.close();
         }
@@ -129,6 +133,25 @@ impl Judge {
         if self.join.lines.next_line() != Some(line.number) {
             return Going::No;
         }
+        if line.is_blank() {
+            return self.join.pass_blank();
+        }
+        let going = self.join_row(line, runs);
+        if going == Going::No && self.join.lines.next_line() == Some(line.number) {
+            return self.join.complete(runs);
+        }
+        going
+    }
+
+    /// Reads the next line as a row of those that are open. A blank line ends the rows.
+    fn join_row(&mut self, line: Line, runs: &LineRuns) -> Going
+        requires { line.entry.number ≡ self.old.join.lines.from + length self.old.join.lines.rows.items }
+        ensures { (log : Log) → IsJudgeOf log self.old → line.entry.text.now ≡ log line.entry.number
+            → All (IsLineRun (log line.entry.number)) runs.now.all.items → IsJudgeOf log self.new }
+    {
+        if self.join.is_spaced {
+            return Going::No;
+        }
         match self.join.joining {
             Joining::Rows => self
                 .join
@@ -136,6 +159,7 @@ impl Judge {
             Joining::Stream => self.join.flow(runs),
             Joining::Octets => { self.join.follow(runs, &self.decider.shapes, &mut self.step) }
             Joining::Dump => self.join.dump_line(line.text),
+            Joining::Parts => Going::No,
         }
     }
 
@@ -253,6 +277,8 @@ impl Judge {
         let row = last_run(runs)?;
         if is_octet_row(row, runs, &self.decider.shapes) {
             Some((Joining::Octets, row))
+        } else if is_first_part(row, runs) {
+            Some((Joining::Parts, row))
         } else {
             None
         }

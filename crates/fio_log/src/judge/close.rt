@@ -33,9 +33,9 @@ impl Judge {
 
     /// Returns whether no line was joined to the one that is open, so that it is judged as any other.
     fn is_one_line(&self) -> bool {
-        let is_alone = self.join.lines.rows.len() <= 1;
+        let is_alone = self.join.is_one_row();
         match self.join.joining {
-            Joining::Rows => is_alone,
+            Joining::Rows | Joining::Parts => is_alone,
             Joining::Octets => {
                 let around = self.join.surroundings();
                 is_alone && self.decider.shapes.ways(&around).is_none()

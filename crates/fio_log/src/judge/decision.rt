@@ -28,6 +28,8 @@ pub(crate) struct Decision {
     pub state: State,
     /// Up to how many frames it waits.
     pub waits: u64,
+    /// Whether the line below its first one is blank.
+    pub is_spaced: bool,
     /// What surrounds its last run of two octets or more, or else, if it says no message, its last run.
     pub around: Option<Around>,
     /// Which of its runs are made sure by other lines.
@@ -58,6 +60,7 @@ impl Decision {
             until: line,
             state: State::Waiting,
             waits: 0,
+            is_spaced: false,
             around: None,
             sure: [false; ENTRY_RUNS],
         }
@@ -160,6 +163,9 @@ impl Decision {
 
     /// Returns what a line of the entry is, and why it gave no frame. `from` is the entry's first line.
     pub(crate) fn verdict(&self, from: u64, line: u64) -> (Kind, Reason) {
+        if self.is_spaced && line.checked_sub(from) == Some(1) {
+            return (Kind::Blank, Reason::None);
+        }
         match self.state {
             State::Passed(Kind::Possible, _) if line > from => (Kind::Part, Reason::None),
             State::Passed(kind, reason) => (kind, reason),

@@ -24,6 +24,8 @@ pub(crate) enum Joining {
     Dump,
     /// Each has one octet.
     Octets,
+    /// They are the two parts of one message.
+    Parts,
 }
 
 /// Whether a line continues those above it.
@@ -33,6 +35,8 @@ pub(crate) enum Going {
     No,
     /// It does, and more lines may.
     On,
+    /// It is blank, and the next line may.
+    Blank,
     /// It does, as the last one.
     Over,
 }
@@ -52,12 +56,14 @@ pub(crate) struct Join {
     pub is_bad: bool,
     /// Whether a later row has the same before it as the first one.
     pub is_same: bool,
+    /// Whether the line below the first one is blank; its row is empty.
+    pub is_spaced: bool,
     /// How many octets the last row has.
     last: usize,
     /// The time of the last row.
-    time: Option<u64>,
+    pub time: Option<u64>,
     /// Whether the octets begin a message.
-    is_begun: bool,
+    pub is_begun: bool,
 }
 
 impl Join {
@@ -72,6 +78,7 @@ impl Join {
             width: 0,
             is_bad: false,
             is_same: false,
+            is_spaced: false,
             last: 0,
             time: None,
             is_begun: false,
@@ -117,10 +124,13 @@ impl Join {
         self.width = width;
         self.is_bad = false;
         self.is_same = false;
+        self.is_spaced = false;
+        self.is_begun = false;
+        self.time = None;
     }
 
     /// Appends the row of the next line, and returns whether there was room for it.
-    fn add(&mut self, run: &LineRun, time: Option<u64>) -> bool
+    pub(crate) fn add(&mut self, run: &LineRun, time: Option<u64>) -> bool
         ensures { (log : Log) → AreJoined log self.old.lines
             → IsLineRun (log (self.old.lines.from + length self.old.lines.rows.items)) run.now
             → AreJoined log self.new.lines }
@@ -135,7 +145,7 @@ impl Join {
     /// the octets have no marks: they may be numbers.
     pub(crate) fn surroundings(&self) -> Around {
         match self.joining {
-            Joining::Rows | Joining::Stream | Joining::Dump => self.around,
+            Joining::Rows | Joining::Stream | Joining::Dump | Joining::Parts => self.around,
             Joining::Octets => {
                 let has_mark = self.around.mark > 0;
                 Around {

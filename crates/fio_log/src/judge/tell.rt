@@ -247,7 +247,11 @@ impl Judge {
         let reason = reason_of(kind, reason);
         let said = self.said(entry, kind, decision.state);
         Verdict {
-            time: entry.time,
+            time: if kind == Kind::Blank {
+                None
+            } else {
+                entry.time
+            },
             ..Verdict::of(line, kind, reason, said)
         }
     }
