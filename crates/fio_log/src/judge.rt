@@ -145,7 +145,7 @@ impl Judge {
 
     /// Reads the next line as a row of those that are open. A blank line ends the rows.
     fn join_row(&mut self, line: Line, runs: &LineRuns) -> Going
-        requires { line.entry.number ≡ self.old.join.lines.from + length self.old.join.lines.rows.items }
+        requires { line.number ≡ self.old.join.lines.from + length self.old.join.lines.rows.items }
         ensures { (log : Log) → IsJudgeOf log self.old → line.entry.text.now ≡ log line.entry.number
             → All (IsLineRun (log line.entry.number)) runs.now.all.items → IsJudgeOf log self.new }
     {
