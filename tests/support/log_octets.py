@@ -117,8 +117,10 @@ def sequences(text, marks):
 
 def is_number_before(digits):
     """Whether the first of these words is a number, and the octets of a message are after it."""
-    return (len(digits) > 1 and len(digits[0]) == 1 and digits[0].isdecimal() and is_hex_list(digits[1:])
-            and said(octets_of(digits[1:])) is not None and said(octets_of(digits)) is None)
+    if len(digits) < 2 or not digits[0].isdecimal():
+        return False
+    is_list = is_hex_list(digits[1:]) if len(digits[0]) == 1 else all(len(one) % 2 == 0 for one in digits)
+    return is_list and said(octets_of(digits[1:])) is not None and said(octets_of(digits)) is None
 
 
 def lists_of(words):

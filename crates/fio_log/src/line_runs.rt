@@ -6,11 +6,12 @@ ghost use Rattle.fio_log.specs.LineRuns.{IsLineRun, IsWrittenAt};
 
 use crate::around::{Around, LITERAL_MARK};
 use crate::clock::time_in;
+use crate::digits::is_decimal;
 use crate::directions::direction_of;
 use crate::found::{Found, bracketed_at, next_words};
 use crate::glance::Glance;
 use crate::line_run::{LINE_SINGLES, LineRun, LineRuns};
-use crate::marks::MARKS;
+use crate::marks::{MARKS, digits_end};
 use crate::octets::Octets;
 use crate::places::Notation;
 use crate::sayings::{Saying, read_saying};
@@ -90,9 +91,57 @@ fn find_marked(
 {
     let mut place = 0;
     'runs: while let Some(found) = next_words(line, place, finder.gap, mark, is_short, octets) {
-        keep(line, found, octets, finder, runs);
+        if !may_begin_with_number(line, found, octets.as_slice()) {
+            keep(line, found, octets, finder, runs);
+        } else if !keep_behind_number(line, found, octets, finder, runs)
+            && let Some(again) = next_words(line, place, finder.gap, mark, is_short, octets)
+        {
+            keep(line, again, octets, finder, runs);
+        }
         place = found.next;
     }
+}
+
+/// Returns whether a run may be octets behind a number: it has several words without marks, of which the first is decimal, and
+/// says no message.
+fn may_begin_with_number(line: &[u8], run: Found, octets: &[u8]) -> bool {
+    let Some(text) = line.get(run.start..run.end) else {
+        return false;
+    };
+    let end = digits_end(text, 0);
+    run.mark == 0
+        && !run.is_short
+        && end < text.len()
+        && text
+            .get(..end)
+            .is_some_and(|word| word.iter().all(|digit| is_decimal(*digit)))
+        && !says(octets)
+}
+
+/// Keeps a run without its first word if the other words say a message, and returns whether they do.
+fn keep_behind_number(
+    line: &[u8],
+    whole: Found,
+    octets: &mut Octets,
+    finder: &mut Finder,
+    runs: &mut LineRuns,
+) -> bool
+    requires { All (IsLineRun line.now) runs.old.all.items }
+    ensures { All (IsLineRun line.now) runs.new.all.items }
+{
+    let place = whole.start.saturating_add(1);
+    match next_words(line, place, finder.gap, whole.mark, whole.is_short, octets) {
+        Some(rest) if rest.start < whole.next && says(octets.as_slice()) => {
+            keep(line, rest, octets, finder, runs);
+            true
+        }
+        _ => false,
+    }
+}
+
+/// Returns whether octets say a message.
+fn says(octets: &[u8]) -> bool {
+    matches!(read_saying(octets), Saying::Says { .. })
 }
 
 /// Keeps the literals and the numbers in brackets.

@@ -117,7 +117,12 @@ fn is_column(text: &[u8], octets: &[u8]) -> bool {
     let is_apart = matches!(text, [b'\t' | b'|', ..] | [b' ', b' ' | b'|', ..]);
     is_apart
         && (shows(text, octets)
-            || column_length(text).abs_diff(octets.len()) <= 1 && !has_word(text))
+            || is_near(column_length(text), octets.len()) && !has_word(text))
+}
+
+/// Returns whether a column, which has a character at least, has about as many characters as there are octets.
+fn is_near(characters: usize, octets: usize) -> bool {
+    characters > 0 && characters.abs_diff(octets) <= 1
 }
 
 /// Returns how many characters a column has, without blanks and bars at its ends.
