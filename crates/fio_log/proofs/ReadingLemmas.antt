@@ -1,9 +1,10 @@
 -- Octets of which those above the most are not kept.
-use Rattle.std.proofs.Common.{◌≡◌, ℕ, zero, suc, ◌<◌, ◌++◌, List, [], ◌∷◌, Option, Some, None, length, take, refl, ap, sym, ◌∙◌, arith, append-nil, length-append}
-use Rattle.std.specs.Prelude.{MatchOption, option_to_list}
+use Rattle.std.proofs.Common.{◌≡◌, ℕ, zero, suc, ◌+◌, ◌*◌, ◌≤◌, ◌<◌, ◌++◌, List, [], ◌∷◌, Option, Some, None, length, take, refl, ap, sym, ◌∙◌, arith, append-nil, length-append}
+use Rattle.std.specs.Prelude.{MatchOption, option_to_list, slice_index}
 use Rattle.std.proofs.lemmas.List.{take_all, take-append-le}
 use Rattle.fio_log.specs.Digits.{digit_of}
-use Rattle.fio_log.specs.Readings.{Reading, made_whole, octets_of, reading_of, with_reading}
+use Rattle.std.proofs.lemmas.List.Sums.{fold_more}
+use Rattle.fio_log.specs.Readings.{Reading, made_whole, no_reading, octets_of, paired, reading_of, waits_then, with_reading}
 
 -- what was cut before is cut as if it was not
 pub take-cut : (most : ℕ) (xs ys : List ℕ) → take most (take most xs ++ ys) ≡ take most (xs ++ ys)
@@ -54,3 +55,69 @@ pub all-octets : (most : ℕ) (kept front text : List ℕ) (waiting : Option ℕ
 all-octets most kept front text waiting after whole is waits more =
     let ends = kept-more most kept (reading_of front).octets after waiting is more in
     rw whole at (rw waits at ends)
+
+-- what is kept of a text with two digits more, of which the first one finds none that waits
+pair-kept : (most : ℕ) (octets kept after : List ℕ) (waiting above below : Option ℕ) (high low octet : ℕ) → waiting ≡ None
+    → kept ≡ take most octets → Some octet ≡ paired above below → after ≡ take most (kept ++ octet ∷ [])
+    → after ≡ take most ((octets ++ option_to_list (made_whole waiting above high))
+    ++ option_to_list (made_whole (waits_then waiting above) below low))
+pair-kept most octets kept after (Some one) above below high low octet waits is both more = absurd (cc)
+pair-kept most octets kept after None None below high low octet waits is both more = absurd (cc)
+pair-kept most octets kept after None (Some h) None high low octet waits is both more = absurd (cc)
+pair-kept most octets kept after None (Some h) (Some l) high low octet waits is both more =
+    let same : octet ≡ 16 * h + l = cc in
+    more ∙ ap (λ l. take most (l ++ octet ∷ [])) is ∙ take-cut most octets (octet ∷ [])
+    ∙ ap (λ o. take most (octets ++ o ∷ [])) same
+    ∙ ap (λ xs. take most (xs ++ (16 * h + l) ∷ [])) (sym (append-nil octets))
+
+-- and none waits after them
+pair-waits : (waiting above below : Option ℕ) (octet : ℕ) → waiting ≡ None → Some octet ≡ paired above below
+    → waits_then (waits_then waiting above) below ≡ None
+pair-waits (Some one) above below octet waits both = absurd (cc)
+pair-waits None None below octet waits both = absurd (cc)
+pair-waits None (Some h) below octet waits both = refl
+
+-- a text that is read up to two characters more
+two-more : (text : List ℕ) (place : ℕ) → place + 2 ≤ length text
+    → reading_of (take (place + 2) text)
+    ≡ with_reading (with_reading (reading_of (take place text)) (slice_index text place)) (slice_index text (place + 1))
+two-more text place within =
+    let first = fold_more with_reading no_reading text place 0 (omega (arith, within)) in
+    let second = fold_more with_reading no_reading text (place + 1) 0 (omega (arith, within)) in
+    let same : place + 1 + 1 ≡ place + 2 = omega arith in
+    (rw same at second) ∙ ap (λ r. with_reading r (slice_index text (place + 1))) first
+
+-- what is kept of a text that is read up to two digits more
+pub pair-octets : (most : ℕ) (kept after text : List ℕ) (place octet : ℕ) → place + 2 ≤ length text
+    → kept ≡ take most (reading_of (take place text)).octets → (reading_of (take place text)).waiting ≡ None
+    → Some octet ≡ paired (digit_of (slice_index text place)) (digit_of (slice_index text (place + 1)))
+    → after ≡ take most (kept ++ octet ∷ []) → after ≡ take most (reading_of (take (place + 2) text)).octets
+pair-octets most kept after text place octet within is waits both more =
+    rw (two-more text place within) (pair-kept most (reading_of (take place text)).octets kept after
+    (reading_of (take place text)).waiting (digit_of (slice_index text place)) (digit_of (slice_index text (place + 1)))
+    (slice_index text place) (slice_index text (place + 1)) octet waits is both more)
+
+-- and none waits after them
+pub pair-none : (text : List ℕ) (place octet : ℕ) → place + 2 ≤ length text
+    → (reading_of (take place text)).waiting ≡ None
+    → Some octet ≡ paired (digit_of (slice_index text place)) (digit_of (slice_index text (place + 1)))
+    → (reading_of (take (place + 2) text)).waiting ≡ None
+pair-none text place octet within waits both =
+    rw (two-more text place within) (pair-waits (reading_of (take place text)).waiting (digit_of (slice_index text place))
+    (digit_of (slice_index text (place + 1))) octet waits both)
+
+-- a blank, 32, adds nothing where no digit waits
+blank-kept : (octets : List ℕ) (waiting : Option ℕ) (character : ℕ) → character ≡ 32 → waiting ≡ None
+    → (octets ++ option_to_list (made_whole waiting (digit_of character) character) ≡ octets)
+    × (waits_then waiting (digit_of character) ≡ None)
+blank-kept octets (Some one) character is waits = absurd (cc)
+blank-kept octets None character is waits = rw is (append-nil octets, refl)
+
+-- a text that is read up to a blank more
+pub blank-octets : (text : List ℕ) (place : ℕ) → place < length text → slice_index text place ≡ 32
+    → (reading_of (take place text)).waiting ≡ None
+    → ((reading_of (take (place + 1) text)).octets ≡ (reading_of (take place text)).octets)
+    × ((reading_of (take (place + 1) text)).waiting ≡ None)
+blank-octets text place within is waits =
+    rw (fold_more with_reading no_reading text place 0 within)
+    (blank-kept (reading_of (take place text)).octets (reading_of (take place text)).waiting (slice_index text place) is waits)

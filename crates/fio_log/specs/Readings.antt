@@ -18,6 +18,11 @@ made_whole None digit character = None
 made_whole (Some high) (Some low) character = Some (16 * high + low)
 made_whole (Some alone) None character = if character == 120 || character == 88 then None else Some alone
 
+-- the octet that two digits spell
+abbrev pub paired : Option ℕ → Option ℕ → Option ℕ
+paired (Some high) (Some low) = Some (16 * high + low)
+paired high low = None
+
 -- the digit that waits after a character
 abbrev pub waits_then : Option ℕ → Option ℕ → Option ℕ
 waits_then None digit = digit

@@ -252,7 +252,7 @@ impl Judge {
         ensures { (log : Log) → IsJudgeOf log self.old → line.entry.text.now ≡ log line.entry.number
             → All (IsLineRun (log line.entry.number)) runs.now.all.items → IsJudgeOf log self.new }
     {
-        if let Some(is_open) = self.join.begin_dump(line) {
+        if let Some(is_open) = self.begin_dump(line, runs) {
             self.decider.forget_chain();
             return is_open;
         }
@@ -261,6 +261,18 @@ impl Judge {
         };
         self.decider.forget_chain();
         self.join.begin(joining, line, row, runs.time)
+    }
+
+    /// Begins with the first row of a dump, unless it is known that the line is none. Returns whether it has octets; `None` if
+    /// the line is no such row.
+    fn begin_dump(&mut self, line: Line, runs: &LineRuns) -> Option<bool>
+        ensures { (log : Log) → IsJudgeOf log self.old → line.entry.text.now ≡ log line.entry.number
+            → IsJudgeOf log self.new }
+    {
+        if runs.is_no_dump {
+            return None;
+        }
+        self.join.begin_dump(line)
     }
 
     /// Returns the run of a line that the next line may continue, and why.

@@ -53,6 +53,7 @@ mod offsets;
 mod own_texts;
 mod own_verdicts;
 mod parts;
+mod patterns;
 mod places;
 mod reader;
 mod runs;

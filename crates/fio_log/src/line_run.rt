@@ -67,6 +67,8 @@ pub(crate) struct LineRuns {
     pub is_over: bool,
     /// The first time in the line, in microseconds; `None` if it is within octets.
     pub time: Option<u64>,
+    /// Whether it is known that the line is no first row of a dump.
+    pub is_no_dump: bool,
 }
 
 impl LineRuns {
@@ -76,6 +78,7 @@ impl LineRuns {
             all: ArrayVec::new(),
             is_over: false,
             time: None,
+            is_no_dump: false,
         }
     }
 
@@ -86,6 +89,7 @@ impl LineRuns {
         self.all.clear();
         self.is_over = false;
         self.time = None;
+        self.is_no_dump = false;
     }
 
     /// Returns whether a run has two octets or more.

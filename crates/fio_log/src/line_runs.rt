@@ -13,6 +13,7 @@ use crate::glance::Glance;
 use crate::line_run::{LINE_SINGLES, LineRun, LineRuns};
 use crate::marks::{MARKS, digits_end};
 use crate::octets::Octets;
+use crate::patterns::Patterns;
 use crate::places::Notation;
 use crate::sayings::{Saying, read_saying};
 use crate::sides::said_at;
@@ -31,19 +32,36 @@ struct Finder {
     lone: Option<Found>,
 }
 
-/// Finds the runs of a line. It is no longer than `LINE_OCTETS`.
-pub(crate) fn read_line(line: &[u8], runs: &mut LineRuns)
+/// Finds the runs of a line: at once if it is written like one of the last lines. It is no longer than `LINE_OCTETS`.
+pub(crate) fn read_line(line: &[u8], patterns: &mut Patterns, runs: &mut LineRuns)
     ensures { All (IsLineRun line.now) runs.new.all.items }
 {
-    let time = time_in(line);
     runs.clear();
+    if patterns.read(line, Gap::none(line), runs) {
+        return;
+    }
+    let time = time_in(line);
     runs.time = time.map(|time| time.microseconds);
-    let (start, end) = match time {
-        Some(time) => (time.start, time.end),
-        None => (line.len(), line.len()),
-    };
+    let gap = time.map_or(
+        Gap::none(line),
+        |time| Gap {
+            start: time.start,
+            end: time.end,
+        },
+    );
+    if !patterns.read(line, gap, runs) {
+        find_runs(line, gap, runs);
+        patterns.learn(line, gap, runs);
+    }
+}
+
+/// Finds the runs of a line, in all notations.
+fn find_runs(line: &[u8], gap: Gap, runs: &mut LineRuns)
+    requires { All (IsLineRun line.now) runs.old.all.items }
+    ensures { All (IsLineRun line.now) runs.new.all.items }
+{
     let mut finder = Finder {
-        gap: Gap { start, end },
+        gap,
         before: Before::new(),
         lone: None,
     };

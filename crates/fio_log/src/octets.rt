@@ -1,8 +1,8 @@
 //! The octets of a run, as they are read from its characters.
-ghost use Rattle.std.specs.Prelude.{◌≡◌, ◌<◌, [], ◌∷◌, ◌++◌, MatchOption, take};
+ghost use Rattle.std.specs.Prelude.{◌≡◌, ◌≤◌, ◌<◌, [], ◌∷◌, ◌++◌, true, IfSome, MatchOption, None, length, take};
 ghost use Rattle.std.specs.Option.{ForSome};
 ghost use Rattle.fio_log.specs.Digits.{digit_of};
-ghost use Rattle.fio_log.specs.Readings.{made_whole, octets_of, waits_then};
+ghost use Rattle.fio_log.specs.Readings.{made_whole, octets_of, paired, reading_of, waits_then};
 
 use crate::digits::digit;
 use arrayvec::ArrayVec;
@@ -26,6 +26,54 @@ pub(crate) fn read_words<const MOST: usize>(text: &[u8], octets: &mut ArrayVec<u
         waiting = waits_then(waiting, digit);
     }
     add_some(octets, waiting);
+}
+
+/// Reads the octets that a text spells, if it is words of two digits with a blank between or, without blanks, one word of an
+/// even number of digits; returns whether it is. Those above the most are not kept.
+pub(crate) fn read_pairs(text: &[u8], has_blanks: bool, octets: &mut Octets) -> bool
+    ensures { result ≡ true → octets.new.items ≡ take RUN_OCTETS (octets_of text.now) }
+{
+    octets.clear();
+    let mut place = 0;
+    'pairs: while text.len() - place >= 2 {
+        let Some(octet) = pair(text[place], text[place + 1]) else {
+            return false;
+        };
+        add_one(octets, octet);
+        let Some(next) = blank_end(text, place + 2, has_blanks) else {
+            return false;
+        };
+        place = next;
+    }
+    place == text.len()
+}
+
+/// Returns where the blank ends that is at a place of a text, if words have blanks between and the text does not end there; else
+/// the place. `None` if another character is there.
+fn blank_end(text: &[u8], place: usize, has_blanks: bool) -> Option<usize>
+    requires { place ≤ length text.now }
+    ensures order { IfSome result (λ end. (place ≤ end) × (end ≤ length text.now)) }
+    ensures same { IfSome result (λ end. (reading_of (take place text.now)).waiting ≡ None
+        → ((reading_of (take end text.now)).octets ≡ (reading_of (take place text.now)).octets)
+        × ((reading_of (take end text.now)).waiting ≡ None)) }
+{
+    if !has_blanks || place == text.len() {
+        Some(place)
+    } else if text[place] == b' ' {
+        Some(place + 1)
+    } else {
+        None
+    }
+}
+
+/// Returns the octet that two digits spell.
+fn pair(high: u8, low: u8) -> Option<u8>
+    ensures { result ≡ paired (digit_of high) (digit_of low) }
+{
+    match (digit(high), digit(low)) {
+        (Some(high), Some(low)) => Some(16 * high + low),
+        _ => None,
+    }
 }
 
 /// Returns the octet that a character completes, with its own digit and the one that waits.

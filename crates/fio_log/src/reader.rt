@@ -18,6 +18,7 @@ use crate::judge::{Judge, Line};
 use crate::line_run::LineRuns;
 use crate::line_runs::read_line;
 use crate::lines::LineMaker;
+use crate::patterns::Patterns;
 use crate::places::Place;
 use crate::verdict::{Form, Kind, Reason, Verdict};
 use std::marker::Model;
@@ -33,6 +34,8 @@ pub(crate) const WAITING_LINES: u64 = (ENTRIES * (CHAIN_OCTETS + 1)) as u64;
 pub struct Reader {
     maker: LineMaker,
     runs: LineRuns,
+    /// How the last lines with octets were written.
+    patterns: Patterns,
     judge: Judge,
     frames: Frames,
     form: Form,
@@ -93,6 +96,7 @@ impl Reader {
         Reader {
             maker: LineMaker::new(),
             runs: LineRuns::new(),
+            patterns: Patterns::new(),
             judge: Judge::new(),
             frames: Frames::new(),
             form,
@@ -117,6 +121,7 @@ impl Reader {
     {
         self.maker.restart();
         self.runs.clear();
+        self.patterns.clear();
         self.judge.clear();
         self.frames.clear();
         self.own = Verdict::of(0, Kind::Blank, Reason::None, None);
@@ -259,7 +264,7 @@ impl Reader {
         if self.is_unread {
             self.is_unread = false;
             let line = last_line(&self.maker, self.read);
-            read_runs(line, &mut self.runs);
+            read_runs(line, &mut self.patterns, &mut self.runs);
             self.is_held = !self.judge.goes_on(line, &self.runs);
         }
     }
@@ -464,12 +469,12 @@ fn last_line(maker: &LineMaker, number: u64) -> Line<'_>
 }
 
 /// Finds the runs of a line; none in a line that is too long.
-fn read_runs(line: Line, runs: &mut LineRuns)
+fn read_runs(line: Line, patterns: &mut Patterns, runs: &mut LineRuns)
     ensures { All (IsLineRun line.entry.text.now) runs.new.all.items }
 {
     if line.is_long {
         runs.clear();
     } else {
-        read_line(line.text, runs);
+        read_line(line.text, patterns, runs);
     }
 }

@@ -19,6 +19,13 @@ pub struct Separator {
     pub behind: bool,
 }
 
+/// One blank between words.
+pub(crate) const BLANK: Separator = Separator {
+    sign: b' ',
+    before: false,
+    behind: false,
+};
+
 /// A run of hexadecimal words.
 #[derive(Clone, Copy, Debug, PartialEq, Eq)]
 pub struct Run {

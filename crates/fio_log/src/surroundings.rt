@@ -13,6 +13,19 @@ pub(crate) struct Gap {
 }
 
 impl Gap {
+    /// Returns that of a line without a time.
+    pub(crate) fn none(line: &[u8]) -> Gap {
+        Gap {
+            start: line.len(),
+            end: line.len(),
+        }
+    }
+
+    /// Returns whether the line has a time.
+    pub(crate) fn is_time(self) -> bool {
+        self.start < self.end
+    }
+
     /// Returns whether a place is in it.
     pub(crate) fn has(self, place: usize) -> bool
         ensures { result ≡ true → place < self.end }

@@ -2,7 +2,7 @@
 ghost use Rattle.std.specs.Prelude.{◌<◌};
 
 use crate::literals::Literal;
-use crate::runs::{Run, Separator};
+use crate::runs::{BLANK, Run, Separator};
 
 /// A set of ways of writing, a bit each. Without any it is that of one word, which can be of all ways.
 ///
@@ -47,6 +47,21 @@ impl Ways {
         Ways {
             bits: bits << (4 * separator_index(separator)),
         }
+    }
+
+    /// Returns the ways that words of two digits with a blank between can be of, or one word without blanks, by how many
+    /// characters these are and whether no word begins with 0.
+    pub(crate) fn of_pairs(length: usize, has_blanks: bool, is_bare: bool) -> Ways {
+        Ways::of_run(Run {
+            start: 0,
+            end: length,
+            next: length,
+            width: if has_blanks { 2 } else { length },
+            words: if has_blanks { length / 3 + 1 } else { 1 },
+            separator: has_blanks.then_some(BLANK),
+            is_bare,
+            has_single: false,
+        })
     }
 
     /// Returns the ways that a string literal can be of.

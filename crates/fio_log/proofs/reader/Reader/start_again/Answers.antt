@@ -4,7 +4,7 @@ use Rattle.fio_log.proofs.reader.Reader.start_again.Goals as goal
 pub returns-clause-kept : goal.returns-clause-kept
 returns-clause-kept c = λ log. record {
   line = λ whole. let none : false ≡ true = rw c.restart.ensures at whole in absurd (cc);
-  judge = c.clear-2.ensures log;
+  judge = c.clear-3.ensures log;
   held = λ is. absurd (cc);
-  frames = λ auto. c.clear-3.ensures.written log;
+  frames = λ auto. c.clear-4.ensures.written log;
 }
