@@ -1,5 +1,5 @@
 //! Lines of a log, from octets as they come.
-ghost use Rattle.std.specs.Prelude.{◌≡◌, ℕ, ◌≤◌, ◌<◌, [], true, length, slice_index, take};
+ghost use Rattle.std.specs.Prelude.{◌≡◌, ℕ, ◌+◌, ◌≤◌, ◌<◌, [], true, length, slice_index, take};
 ghost use Rattle.fio_log.specs.Lines.{ended, finished, goes_on_held, held_first, held_next, held_octets, held_text, is_plain, is_whole, lines_after, no_line, no_text, only, open_line, pushed, with_all, with_character, with_line_octet, with_making, with_octet};
 
 use arrayvec::ArrayVec;
@@ -324,10 +324,39 @@ fn plain_count(text: &[u8]) -> usize
     ensures plain { (place : ℕ) → place < result → is_plain (slice_index text.now place) ≡ true }
 {
     let mut count = 0;
+    'eights: while text.len() - count >= 8 && are_eight_plain(text, count) {
+        count += 8;
+    }
     'octets: while count < text.len() && is_plain(text[count]) {
         count += 1;
     }
     count
+}
+
+/// Returns whether the eight octets from a place of a text on are printable: all are looked at, without a branch.
+fn are_eight_plain(text: &[u8], place: usize) -> bool
+    requires { place + 8 ≤ length text.now }
+    ensures { result ≡ true → (at : ℕ) → place ≤ at → at < place + 8 → is_plain (slice_index text.now at) ≡ true }
+{
+    others_of_four(text, place) + others_of_four(text, place + 4) == 0
+}
+
+/// Returns how many of the four octets from a place of a text on are not printable.
+fn others_of_four(text: &[u8], place: usize) -> u32
+    requires { place + 4 ≤ length text.now }
+    ensures count { result ≤ 4 }
+    ensures none { result ≡ 0 → (at : ℕ) → place ≤ at → at < place + 4 → is_plain (slice_index text.now at) ≡ true }
+{
+    others_of_two(text, place) + others_of_two(text, place + 2)
+}
+
+/// Returns how many of the two octets from a place of a text on are not printable.
+fn others_of_two(text: &[u8], place: usize) -> u32
+    requires { place + 2 ≤ length text.now }
+    ensures count { result ≤ 2 }
+    ensures none { result ≡ 0 → (at : ℕ) → place ≤ at → at < place + 2 → is_plain (slice_index text.now at) ≡ true }
+{
+    u32::from(!is_plain(text[place])) + u32::from(!is_plain(text[place + 1]))
 }
 
 /// Returns whether an octet is printable: it neither ends a line nor begins what may be taken out.
