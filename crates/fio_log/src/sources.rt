@@ -215,6 +215,9 @@ impl Sources {
 
     /// Returns whether a number tells that no sure message with this front was of this source.
     pub(crate) fn is_another(&self, front: u64, numbers: &Numbers) -> bool {
+        if self.count == 0 {
+            return false;
+        }
         for (position, number) in numbers.iter().enumerate() {
             if let Some(row) = self.telling(front, position, *number)
                 && !row.value(*number).is_some_and(|value| value.is_known)
@@ -227,6 +230,9 @@ impl Sources {
 
     /// Returns whether several lines of a source said a message, and at least half of them did.
     pub(crate) fn is_mostly_good(&self, front: u64, numbers: &Numbers) -> bool {
+        if self.count == 0 {
+            return false;
+        }
         for (position, number) in numbers.iter().enumerate() {
             if let Some(row) = self.telling(front, position, *number)
                 && row
@@ -241,6 +247,9 @@ impl Sources {
 
     /// Returns whether more than half of the lines of a source said no message.
     pub(crate) fn is_mostly_bad(&self, front: u64, numbers: &Numbers) -> bool {
+        if self.count == 0 {
+            return false;
+        }
         for (position, number) in numbers.iter().enumerate() {
             if let Some(row) = self.telling(front, position, *number)
                 && row
@@ -283,6 +292,9 @@ impl Sources {
 
     /// Learns the source of a sure message, and returns whether that is new.
     pub(crate) fn learn(&mut self, front: u64, numbers: &Numbers) -> bool {
+        if self.count == 0 {
+            return false;
+        }
         let mut is_new = false;
         for (position, number) in numbers.iter().enumerate() {
             if *number != 0

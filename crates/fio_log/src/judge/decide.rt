@@ -114,8 +114,8 @@ impl Decider {
     /// Decides on an entry by its own runs, those of the entry above and known shapes, as far as they suffice.
     pub(crate) fn decide(&mut self, entries: &Entries, slot: Slot) {
         let entry = entries.get(slot);
-        self.keep_around(slot, entry.runs.is_empty());
         if entry.runs.is_empty() {
+            self.keep_around(slot, true);
             self.has_others = true;
             self.tally_keys();
             self.pass_over(entry, slot);
@@ -123,14 +123,53 @@ impl Decider {
         }
         self.has_others |= !entry.is_bare();
         self.tally_runs(entry);
+        if self.is_usual(entry, slot) {
+            self.take_usual(entry, slot);
+            return;
+        }
+        self.keep_around(slot, false);
         self.pair_with_above(entries, slot);
         self.judge(entries, slot);
+        if self.queue.get(slot).is_waiting() {
+            self.set_wait(slot);
+        }
+    }
+
+    /// Sets up to how many frames an entry waits.
+    fn set_wait(&mut self, slot: Slot) {
         let later = self.count.saturating_add(LATER).max(YOUNG);
         let decision = self.queue.get_mut(slot);
         decision.waits = match &decision.around {
             Some(around) if self.shapes.are_of_others(around) => u64::MAX,
             _ => later,
         };
+    }
+
+    /// Returns whether an entry is decided at once: its only run is right by itself, the entry above does not wait for it, and
+    /// nothing is to be learnt of it. Then whether it pairs with the entry above makes no difference.
+    fn is_usual(&self, entry: &Entry, slot: Slot) -> bool {
+        let [run] = entry.runs.as_slice() else {
+            return false;
+        };
+        !self.is_news
+            && self.queue.get(slot).is_waiting()
+            && !self.above.waits(&self.queue)
+            && self.shapes.have_nothing_new(&run.around)
+            && run.is_right(false, &self.shapes)
+    }
+
+    /// Takes the only run of an entry, of which nothing is to be learnt.
+    fn take_usual(&mut self, entry: &Entry, slot: Slot) {
+        self.settle(slot, State::Taken(0));
+        self.count = self.count.saturating_add(1);
+        for run in entry.runs.as_slice() {
+            self.shapes
+                .agreement
+                .add(run.around.said, run.message.direction());
+            if run.may_pair() {
+                self.above.set(slot);
+            }
+        }
     }
 
     /// Keeps what surrounds the last run of two octets or more of the line that is decided; of a line without such a run and

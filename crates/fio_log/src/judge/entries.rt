@@ -187,7 +187,7 @@ impl Entry {
 /// Returns whether two of some runs say one message.
 pub(crate) fn say_same(runs: &[MessageRun], one: usize, other: usize) -> bool {
     match (runs.get(one), runs.get(other)) {
-        (Some(one), Some(other)) => one.message.is_same(&other.message),
+        (Some(run), Some(also)) => one == other || run.message.is_same(&also.message),
         _ => false,
     }
 }

@@ -4,6 +4,7 @@ ghost use Rattle.fio_log.specs.Frames.{AreEntriesOf, Log};
 use crate::judge::decide::Decider;
 use crate::judge::entries::{ENTRY_RUNS, Entries, say_same};
 use crate::judge::message_run::MessageRun;
+use crate::judge::queue::Queue;
 use crate::judge::slots::Slot;
 use arrayvec::ArrayVec;
 
@@ -34,8 +35,13 @@ impl Above {
         self.runs.clear();
     }
 
+    /// Returns whether the entry is kept and waits.
+    pub(crate) fn waits(&self, queue: &Queue) -> bool {
+        self.slot.is_some_and(|slot| queue.get(slot).is_waiting())
+    }
+
     /// Sets the entry.
-    fn set(&mut self, slot: Slot) {
+    pub(crate) fn set(&mut self, slot: Slot) {
         self.slot = Some(slot);
         self.runs.clear();
     }

@@ -130,6 +130,18 @@ impl Shapes {
         self.learn_ways(around.whole, around.ways) || is_new
     }
 
+    /// Returns whether nothing would be learnt of a sure message: sure messages of its whole shape were written in all its ways,
+    /// and no numbers are before it.
+    pub(crate) fn have_nothing_new(&self, around: &Around) -> bool {
+        let mark = usize::from(around.mark);
+        let row = self.row(around.whole);
+        row.is_known
+            && row.ways.with(around.ways) == row.ways
+            && mark < MARKS
+            && self.styles[mark].with(around.ways) == self.styles[mark]
+            && around.numbers.iter().all(|number| *number == 0)
+    }
+
     /// Learns in which ways a sure message was written in a whole shape, and returns whether that is new.
     fn learn_ways(&mut self, whole: u64, ways: Ways) -> bool {
         let row = self.row(whole);
@@ -174,15 +186,16 @@ impl Shapes {
 
     /// Counts a line that says a message, or says none.
     fn count(&mut self, front: u64, is_good: bool) {
-        let row = self.row(front);
-        self.keep(
-            front,
-            ShapeRow {
+        if let Some(index) = self.index_of(front) {
+            let row = self.rows[index];
+            self.rows[index] = ShapeRow {
+                key: front,
+                is_used: true,
                 good: row.good.saturating_add(u32::from(is_good)),
                 bad: row.bad.saturating_add(u32::from(!is_good)),
                 ..row
-            },
-        );
+            };
+        }
     }
 
     /// Returns whether a sure message had a run's whole shape and was written so, the run lacks no digit, and at least half of
