@@ -294,19 +294,27 @@ fn fraction_end(line: &[u8], place: usize, parts: &mut Parts) -> usize
     if place == line.len() || !matches!(line[place], b'.' | b',') {
         return place;
     }
-    let (_number, end) = number_at(line, place + 1, 9);
+    let (number, end) = number_at(line, place + 1, 9);
     if end == place + 1 {
         return place;
     }
-    let mut microseconds = 0_u64;
-    let mut scale = 100_000_u64;
-    for character in &line[place + 1..end] {
-        let digit = u64::from(character.wrapping_sub(b'0'));
-        microseconds = microseconds.wrapping_add(digit.wrapping_mul(scale));
-        scale /= 10;
-    }
-    parts.microseconds = microseconds;
+    parts.microseconds = microseconds_of(number, end - place - 1);
     end
+}
+
+/// Returns the microseconds of a fraction of a second that has so many digits, at most nine. Those after the sixth do not count.
+fn microseconds_of(fraction: u64, digits: usize) -> u64 {
+    match digits {
+        1 => fraction.wrapping_mul(100_000),
+        2 => fraction.wrapping_mul(10_000),
+        3 => fraction.wrapping_mul(1000),
+        4 => fraction.wrapping_mul(100),
+        5 => fraction.wrapping_mul(10),
+        7 => fraction / 10,
+        8 => fraction / 100,
+        9 => fraction / 1000,
+        _ => fraction,
+    }
 }
 
 /// Returns whether the characters at `place` continue a word, a number with colons or one with points, or are a unit other
