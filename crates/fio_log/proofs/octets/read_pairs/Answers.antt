@@ -1,4 +1,4 @@
-use Rattle.std.proofs.Common.{◌≡◌, ◌+◌, ◌≤◌, length, arith}
+use Rattle.std.proofs.Common.{◌+◌, ◌≤◌, length, arith}
 use Rattle.fio_log.specs.declared.octets.TheConstants.{RUN_OCTETS}
 use Rattle.fio_log.proofs.ReadingLemmas.{pair-none, pair-octets}
 use Rattle.fio_log.proofs.octets.read_pairs.Goals as goal
