@@ -16,7 +16,7 @@ use crate::line_run::{LineRun, LineRuns};
 use crate::marks::end_of;
 use crate::octets::{Octets, read_pairs};
 use crate::places::Notation;
-use crate::sayings::read_saying;
+use crate::sayings::{Saying, read_saying};
 use crate::surroundings::Gap;
 use crate::ways::Ways;
 use arrayvec::ArrayVec;
@@ -79,7 +79,7 @@ impl Pattern {
         end_of(line, gap.end, self.second.as_slice())
     }
 
-    /// Keeps the run of a line that is written like this, and returns whether it is.
+    /// Keeps the run of a line that is written like this and says a message, and returns whether it does.
     fn read(&self, line: &[u8], gap: Gap, runs: &mut LineRuns) -> bool
         requires { runs.old.all.items ≡ [] }
         ensures some { All (IsLineRun line.now) runs.new.all.items }
@@ -93,6 +93,9 @@ impl Pattern {
             return false;
         };
         let saying = read_saying(octets.as_slice());
+        if !matches!(saying, Saying::Says { .. }) {
+            return false;
+        }
         runs.is_no_dump = self.around.has_before;
         runs.all.push(LineRun {
             start,
