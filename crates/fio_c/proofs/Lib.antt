@@ -8,5 +8,6 @@ pub mod Decoded
 mod Rings
 mod Replies
 pub mod Batches
+pub mod Returned
 pub mod Lent
 pub mod TakenOctets

@@ -16,7 +16,7 @@ whole_before whole more text true = append_assoc whole more (text ∷ [])
 whole_before whole more text false = refl
 
 -- lines that are whole stay before what octets make
-lines_after-before : (whole : List Text) (lines : Lines) (octets : List ℕ) → lines_after (before whole lines) octets ≡ before whole (lines_after lines octets)
+pub lines_after-before : (whole : List Text) (lines : Lines) (octets : List ℕ) → lines_after (before whole lines) octets ≡ before whole (lines_after lines octets)
 lines_after-before whole lines [] = refl
 lines_after-before whole lines (octet ∷ octets) =
     let making = with_octet lines.making octet in
@@ -24,16 +24,16 @@ lines_after-before whole lines (octet ∷ octets) =
     ∙ lines_after-before whole (with_octet_of lines octet) octets
 
 -- no octets
-pub none_taken : (reader : Telling) → HasTakenAll reader [] reader
+abbrev pub none_taken : (reader : Telling) → HasTakenAll reader [] reader
 none_taken reader = record { whole = []; lines = refl; read = sym (add-zero reader.read); is_ended = refl }
 
-counted : (read : ℕ) (text : Text) (is_whole : Bool) (whole : List Text)
+pub counted : (read : ℕ) (text : Text) (is_whole : Bool) (whole : List Text)
     → (if is_whole then read + length whole + 1 else read + length whole) ≡ read + length (whole ++ (if is_whole then text ∷ [] else []))
 counted read text true whole = sym (ap (λ n. read + n) (length-append whole (text ∷ [])) ∙ sym (add_assoc read (length whole) 1))
 counted read text false whole = ap (λ all. read + length all) (sym (append-nil whole))
 
 -- a piece more
-pub piece_taken : (first between last : Telling) (octets piece : List ℕ) → HasTakenAll first octets between → HasTaken between piece last
+abbrev pub piece_taken : (first between last : Telling) (octets piece : List ℕ) → HasTakenAll first octets between → HasTaken between piece last
     → HasTakenAll first (octets ++ piece) last
 piece_taken first between last octets piece taken more = record {
   whole = taken.whole ++ (if is_whole last.making.ending then last.making.text ∷ [] else []);
@@ -46,11 +46,20 @@ piece_taken first between last octets piece taken more = record {
 }
 
 -- a reader that differs in nothing that counts here
-pub same_taken : (first between last : Telling) (octets : List ℕ) → last.making ≡ between.making → last.read ≡ between.read
+abbrev pub same_taken : (first between last : Telling) (octets : List ℕ) → last.making ≡ between.making → last.read ≡ between.read
     → last.is_ended ≡ between.is_ended → HasTakenAll first octets between → HasTakenAll first octets last
 same_taken first between last octets making read is_ended taken = record {
   whole = taken.whole;
   lines = taken.lines ∙ ap (λ one. record { whole = taken.whole; making = one }) (sym making);
   read = read ∙ taken.read;
   is_ended = is_ended ∙ taken.is_ended;
+}
+
+-- the same octets in another form
+abbrev pub taken_as : (first last : Telling) (octets others : List ℕ) → others ≡ octets → HasTakenAll first octets last → HasTakenAll first others last
+taken_as first last octets others same taken = record {
+  whole = taken.whole;
+  lines = ap (lines_after (only first.making)) same ∙ taken.lines;
+  read = taken.read;
+  is_ended = taken.is_ended;
 }

@@ -1,12 +1,12 @@
 -- What the reader of logs says of lines, as C sees it.
-use Rattle.std.specs.Prelude.{◌≡◌, ℕ, ◌+◌, ◌≤◌, ◌<◌, ◌-◌, ◌^◌, ◌==◌, ◌&&◌, Bool, true, false, nat_le, nat_lt, if◌then◌else◌, List, [], ◌∷◌, ◌++◌, length, map, take, Option, Some, None, unwrap_or, is_some}
-use Rattle.std.specs.List.{All, concat, sum_by}
+use Rattle.std.specs.Prelude.{◌≡◌, ℕ, ◌+◌, ◌≤◌, ◌<◌, ◌-◌, ◌^◌, ◌==◌, ◌&&◌, Bool, true, false, nat_le, nat_lt, if◌then◌else◌, List, [], ◌∷◌, ◌++◌, length, map, take, Option, Some, None, unwrap_or, is_some, min}
+use Rattle.std.specs.List.{All, concat, flat_map}
 use Rattle.fio_message.specs.Bits.{bit_of}
-use Rattle.fio_log.specs.Sayings.{spells}
 use Rattle.fio_log.specs.Lines.{Text, finished, lines_after, no_line, only}
 use Rattle.fio_log.specs.Telling.{KeepsVerdict, Telling, has_told_all, read_at_end}
 use Rattle.fio_log.specs.declared.directions.Direction.{Direction}
 use Rattle.fio_log.specs.declared.directions.Direction.TheVariants as directions
+use Rattle.fio_log.specs.declared.places.Place.{Place}
 use Rattle.fio_log.specs.declared.verdict.Form.{Form}
 use Rattle.fio_log.specs.declared.verdict.Form.TheVariants as forms
 use Rattle.fio_log.specs.declared.verdict.Kind.{Kind}
@@ -14,6 +14,7 @@ use Rattle.fio_log.specs.declared.verdict.Kind.TheVariants as kinds
 use Rattle.fio_log.specs.declared.verdict.Reason.{Reason}
 use Rattle.fio_log.specs.declared.verdict.Reason.TheVariants as reasons
 use Rattle.fio_log.specs.declared.verdict.Verdict.{Verdict}
+use Rattle.fio_c.specs.Told.{AreLinesAfter, HasReadOf, IsTextOf, IsVerdictOf, ReturnsAll, Texts, Told}
 use Rattle.fio_c.specs.declared.log_batch.TheConstants.{LOG_OCTETS, LOG_VERDICTS, VERDICT_OCTETS}
 use Rattle.fio_c.specs.declared.log_batch.LogBatch.{LogBatch}
 use Rattle.fio_c.specs.declared.log_batch.LogPlace.{LogPlace}
@@ -61,11 +62,28 @@ flat_verdict verdict frames places = record {
   reserved = 0 ∷ 0 ∷ 0 ∷ 0 ∷ [];
 }
 
+-- a place as C sees it: an index of 2^32 or more is 2^32 - 1
+abbrev pub flat_place : Place → LogPlace
+flat_place place =
+    record { line = place.line; start = min place.start (2 ^ 32 - 1); end = min place.end (2 ^ 32 - 1) }
+
+-- a verdict as C sees it, with the numbers of its frames and places
+abbrev pub flat_told : Told → LogVerdict
+flat_told one = flat_verdict one.verdict (length one.frames) (length one.places)
+
 -- what a batch says: verdicts, and the frames and places of all of them, in order
 pub record Content : Type 0 where
   pub verdicts : List LogVerdict
   pub frames : List (List ℕ)
   pub places : List LogPlace
+
+-- what a batch says of verdicts: each of them, all frames of each, and all places of each, in their order
+abbrev pub content_of : List Told → Content
+content_of told = record {
+  verdicts = map flat_told told;
+  frames = flat_map (λ one. one.frames) told;
+  places = map flat_place (flat_map (λ one. one.places) told);
+}
 
 -- a batch says this, at the front of its arrays
 pub record Holds (batch : LogBatch) (content : Content) : Type 0 where
@@ -89,33 +107,22 @@ pub record HasNoneDue (telling : Telling) : Type 0 where
   pub ready : telling.is_ready ≡ false
   pub left : telling.is_ended ≡ true → telling.told ≡ telling.read
 
--- A batch has these frames more than a content says, and each of them spells a message.
-pub record HasFramesMore (content : Content) (count : ℕ) (batch : LogBatch) : Type 0 where
-  pub frames : List (List ℕ)
-  pub counted : length frames ≡ count
-  pub spelled : All (λ frame. spells frame ≡ true) frames
-  pub holds : Holds batch (record content { frames = content.frames ++ frames })
-
--- A batch has these places more than a content says.
-pub record HasPlacesMore (content : Content) (count : ℕ) (batch : LogBatch) : Type 0 where
-  pub places : List LogPlace
-  pub counted : length places ≡ count
-  pub holds : Holds batch (record content { places = content.places ++ places })
-
 -- the verdicts are those of the lines after this one, each once and in order, up to the other
 abbrev pub AreNext : ℕ → List LogVerdict → ℕ → Type 0
 AreNext told [] last = last ≡ told
 AreNext told (verdict ∷ verdicts) last = (verdict.line ≡ told + 1) × AreNext verdict.line verdicts last
 
--- A batch has the verdicts of the lines after one up to another, each once and in order. These have all its frames and
--- places, and each frame spells a message.
-pub record HasVerdicts (told : ℕ) (batch : LogBatch) (last : ℕ) : Type 0 where
-  pub content : Content
-  pub holds : Holds batch content
-  pub next : AreNext told content.verdicts last
-  pub frames : sum_by (λ verdict. verdict.frames) content.verdicts ≡ length content.frames
-  pub places : sum_by (λ verdict. verdict.places) content.verdicts ≡ length content.places
-  pub spelled : All (λ frame. spells frame ≡ true) content.frames
+-- A batch has the verdicts that a reader has returned since another time, with all their frames and places, and nothing else.
+-- They are of the next lines, each once and in order. If the reader had read a log, and the lines that it has read since are
+-- the next ones of that log, they are verdicts of it.
+pub record HasVerdicts (first : Telling) (whole : List Text) (batch : LogBatch) (last : Telling) : Type 0 where
+  pub told : List Told
+  pub holds : Holds batch (content_of told)
+  pub returned : ReturnsAll first told last
+  pub next : AreNext first.told (map flat_told told) last.told
+  pub form : last.form ≡ first.form
+  pub log : (texts : Texts) → HasReadOf texts first → AreLinesAfter first.read texts whole
+      → HasReadOf texts last × All (IsVerdictOf texts first.form) told
 
 -- the form that a number names: 1 and 2 the texts that are read by order, any other number what octets in a line are
 abbrev pub form_of : ℕ → Form
@@ -128,15 +135,18 @@ pub record HasBegun (form : Form) (telling : Telling) : Type 0 where
   pub read : telling.read ≡ 0
   pub told : telling.told ≡ 0
   pub is_ended : telling.is_ended ≡ false
+  pub log : (texts : Texts) → HasReadOf texts telling
 
 -- A log has ended. The line that was made is its last one, if it has octets. A verdict that can be given stays as it was.
 pub record HasEnded (before after : Telling) : Type 0 where
   pub is_ended : after.is_ended ≡ true
+  pub form : after.form ≡ before.form
   pub told : after.told ≡ before.told
   pub line :
       before.is_ended ≡ false → before.read < 2 ^ 64 - 1
       → (after.making ≡ finished before.making) × (after.read ≡ read_at_end before.read before.making)
   pub ready : before.is_ready ≡ true → KeepsVerdict before after
+  pub log : (texts : Texts) → HasReadOf texts before → IsTextOf texts after → HasReadOf texts after
 
 -- A reader has taken octets: they made these lines whole, which are read, and the line that is made.
 pub record HasTakenAll (before : Telling) (octets : List ℕ) (after : Telling) : Type 0 where
@@ -153,7 +163,7 @@ pub record HasReadOn (before : Telling) (text : List ℕ) (taken : ℕ) (after :
   pub all : batch.verdict_count ≡ 0 → after.is_ended ≡ false → after.read < 2 ^ 64 - 1 → taken ≡ length text
   pub told : batch.verdict_count ≡ 0 → after.is_ended ≡ true → after.told ≡ after.read
   pub octets : HasTakenAll before (take taken text) after
-  pub verdicts : HasVerdicts before.told batch after.told
+  pub verdicts : HasVerdicts before octets.whole batch after
 
 -- The reader that a text is read from: if the log has ended and all verdicts are told, octets begin another one.
 pub record IsReadFrom (before : Telling) (text : List ℕ) (from : Telling) : Type 0 where

@@ -1,5 +1,5 @@
 //! What the reader of logs says of lines, in memory of the caller.
-ghost use Rattle.std.specs.Prelude.{◌≡◌, ◌<◌, ◌+◌, true, false};
+ghost use Rattle.std.specs.Prelude.{◌≡◌, ◌<◌, ◌≤◌, ◌+◌, true, length};
 
 use crate::written::write_at;
 use fio_message::FRAME_OCTETS;
@@ -115,42 +115,36 @@ impl LogBatch {
         self.verdict_count += 1;
     }
 
-    /// Adds a frame if there is room, and returns whether there was.
-    pub(crate) fn push_frame(&mut self, octets: &[u8]) -> bool
-        ensures added { result ≡ true → (content : Content) → Holds self.old content
+    /// Adds a frame.
+    pub(crate) fn push_frame(&mut self, octets: &[u8])
+        requires frames { self.old.frame_count < LOG_FRAMES }
+        requires octets { self.old.octet_count + length octets.now ≤ LOG_OCTETS }
+        requires short { length octets.now ≤ FRAME_OCTETS }
+        ensures added { (content : Content) → Holds self.old content
             → Holds self.new (record content { frames = content.frames ++ octets.now ∷ [] }) }
-        ensures refused { result ≡ false → self.new ≡ self.old }
+        ensures frames { self.new.frame_count ≡ self.old.frame_count + 1 }
+        ensures octets { self.new.octet_count ≡ self.old.octet_count + length octets.now }
         ensures verdicts { self.new.verdict_count ≡ self.old.verdict_count }
+        ensures places { self.new.place_count ≡ self.old.place_count }
     {
         let at = self.frame_count as usize;
         let start = self.octet_count as usize;
-        if at >= LOG_FRAMES || start > LOG_OCTETS || octets.len() > FRAME_OCTETS {
-            return false;
-        }
-        let end = start + octets.len();
-        if end > LOG_OCTETS {
-            return false;
-        }
         self.lengths[at] = octets.len() as u16;
         write_at(start, octets, &mut self.octets);
         self.frame_count += 1;
-        self.octet_count = end as u32;
-        true
+        self.octet_count = (start + octets.len()) as u32;
     }
 
-    /// Adds a place if there is room, and returns whether there was.
-    pub(crate) fn push_place(&mut self, place: LogPlace) -> bool
-        ensures added { result ≡ true → (content : Content) → Holds self.old content
+    /// Adds a place.
+    pub(crate) fn push_place(&mut self, place: LogPlace)
+        requires { self.old.place_count < LOG_PLACES }
+        ensures added { (content : Content) → Holds self.old content
             → Holds self.new (record content { places = content.places ++ place ∷ [] }) }
-        ensures refused { result ≡ false → self.new ≡ self.old }
+        ensures count { self.new.place_count ≡ self.old.place_count + 1 }
         ensures verdicts { self.new.verdict_count ≡ self.old.verdict_count }
     {
         let at = self.place_count as usize;
-        if at >= LOG_PLACES {
-            return false;
-        }
         self.places[at] = place;
         self.place_count += 1;
-        true
     }
 }

@@ -1,19 +1,23 @@
 //! Verdicts of the reader of logs, put into a batch.
-ghost use Rattle.std.specs.Prelude.{◌≡◌, ◌+◌, ◌<◌, ℕ, true};
-ghost use Rattle.fio_c.specs.declared.log_batch.TheConstants.{LOG_VERDICTS};
-ghost use Rattle.fio_c.specs.Logs.{Content, HasFramesMore, HasNoneDue, HasPlacesMore, HasRoomFirst, HasVerdicts, Holds, flat_verdict, has_room, kind_number, reason_number, side_number};
+ghost use Rattle.std.specs.Prelude.{◌≡◌, ◌+◌, ◌-◌, ◌++◌, ◌≤◌, ◌∷◌, [], List, length, map, true};
+ghost use Rattle.std.specs.List.{All};
+ghost use Rattle.fio_log.specs.Lines.{Text};
+ghost use Rattle.fio_log.specs.Sayings.{spells};
+ghost use Rattle.fio_log.specs.Telling.{AreFew, Telling, frames_of, places_of};
+ghost use Rattle.fio_c.specs.declared.log_batch.TheConstants.{LOG_OCTETS, LOG_VERDICTS, VERDICT_OCTETS};
+ghost use Rattle.fio_c.specs.Logs.{Content, HasNoneDue, HasRoomFirst, HasVerdicts, Holds, flat_place, flat_told, flat_verdict, has_room, kind_number, reason_number, side_number};
+ghost use Rattle.fio_c.specs.Told.{told_by};
 
 use crate::log_batch::{LOG_FRAMES, LOG_PLACES, LogBatch, LogPlace, LogVerdict};
 use fio_log::{Direction, Kind, Place, Reader, Reason, Verdict};
 
 /// Puts the verdicts that are due into a batch, until it has no room for another one.
 pub(crate) fn fill(reader: &mut Reader, batch: &mut LogBatch)
-    ensures verdicts { (first : ℕ) → HasVerdicts first batch.old reader.old.told
-        → HasVerdicts first batch.new reader.new.told }
+    ensures verdicts { (first : Telling) (whole : List Text) → HasVerdicts first whole batch.old reader.old
+        → HasVerdicts first whole batch.new reader.new }
     ensures making { reader.new.making ≡ reader.old.making }
     ensures read { reader.new.read ≡ reader.old.read }
     ensures is_ended { reader.new.is_ended ≡ reader.old.is_ended }
-    ensures form { reader.new.form ≡ reader.old.form }
     ensures room { HasRoomFirst batch.old → HasRoomFirst batch.new }
     ensures due { has_room batch.new ≡ true → HasNoneDue reader.new }
 {
@@ -27,47 +31,56 @@ pub(crate) fn fill(reader: &mut Reader, batch: &mut LogBatch)
 
 /// Adds the verdict that a reader has told last, with its frames and places.
 fn add(verdict: &Verdict, reader: &Reader, batch: &mut LogBatch)
-    requires { batch.old.verdict_count < LOG_VERDICTS }
-    ensures told { (first told : ℕ) → HasVerdicts first batch.old told → verdict.now.line ≡ told + 1
-        → HasVerdicts first batch.new verdict.now.line }
+    requires room { has_room batch.old ≡ true }
+    requires few { AreFew (frames_of reader.now) (places_of reader.now) }
+    ensures told { (content : Content) → Holds batch.old content → Holds batch.new (record {
+      verdicts = content.verdicts ++ flat_told (told_by verdict.now reader.now) ∷ [];
+      frames = content.frames ++ frames_of reader.now;
+      places = content.places ++ map flat_place (places_of reader.now);
+    }) }
+    ensures spelled { All (λ frame. spells frame ≡ true) (frames_of reader.now) }
     ensures count { batch.new.verdict_count ≡ batch.old.verdict_count + 1 }
 {
     let frames = add_frames(reader, batch);
-    let places = add_places(reader, verdict.places, batch);
+    let places = add_places(reader, batch);
     batch.push_verdict(told_from(verdict, frames, places));
 }
 
 /// Adds the frames of the last verdict, and returns how many they are.
 fn add_frames(reader: &Reader, batch: &mut LogBatch) -> u32
-    ensures more { (content : Content) → Holds batch.old content → HasFramesMore content result batch.new }
+    requires frames { batch.old.frame_count ≤ LOG_VERDICTS }
+    requires octets { batch.old.octet_count ≤ LOG_OCTETS - VERDICT_OCTETS }
+    requires few { AreFew (frames_of reader.now) (places_of reader.now) }
+    ensures all { result ≡ length (frames_of reader.now) }
+    ensures added { (content : Content) → Holds batch.old content
+        → Holds batch.new (record content { frames = content.frames ++ frames_of reader.now }) }
+    ensures spelled { All (λ frame. spells frame ≡ true) (frames_of reader.now) }
     ensures verdicts { batch.new.verdict_count ≡ batch.old.verdict_count }
+    ensures places { batch.new.place_count ≡ batch.old.place_count }
 {
     'frames: for index in 0..LOG_FRAMES {
         let Some(octets) = reader.frame(index) else {
             return index as u32;
         };
-        if !batch.push_frame(octets) {
-            return index as u32;
-        }
+        batch.push_frame(octets);
     }
     LOG_FRAMES as u32
 }
 
-/// Adds `count` places of the last verdict, and returns how many were added.
-fn add_places(reader: &Reader, count: usize, batch: &mut LogBatch) -> u32
-    ensures more { (content : Content) → Holds batch.old content → HasPlacesMore content result batch.new }
+/// Adds the places of the last verdict, and returns how many they are.
+fn add_places(reader: &Reader, batch: &mut LogBatch) -> u32
+    requires room { batch.old.place_count ≤ LOG_VERDICTS }
+    requires few { AreFew (frames_of reader.now) (places_of reader.now) }
+    ensures all { result ≡ length (places_of reader.now) }
+    ensures added { (content : Content) → Holds batch.old content
+        → Holds batch.new (record content { places = content.places ++ map flat_place (places_of reader.now) }) }
     ensures verdicts { batch.new.verdict_count ≡ batch.old.verdict_count }
 {
     'places: for index in 0..LOG_PLACES {
-        if index == count {
-            return index as u32;
-        }
         let Some(place) = reader.place(index) else {
             return index as u32;
         };
-        if !batch.push_place(flat_place(place)) {
-            return index as u32;
-        }
+        batch.push_place(flat_place(place));
     }
     LOG_PLACES as u32
 }
@@ -133,7 +146,9 @@ fn side_number(said: Option<Direction>) -> u8
 }
 
 /// Returns a place as C sees it.
-fn flat_place(place: Place) -> LogPlace {
+fn flat_place(place: Place) -> LogPlace
+    ensures { result ≡ flat_place place }
+{
     LogPlace {
         line: place.line,
         start: place.start.min(u32::MAX as usize) as u32,

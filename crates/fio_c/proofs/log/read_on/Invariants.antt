@@ -6,8 +6,7 @@ abbrev pub invariant-pieces : goal.invariant-pieces
 invariant-pieces l = record {
   within : l.taken ≤ length l.octets;
   octets : HasTakenAll l.fn.reader (take l.taken l.octets) l.reader;
-  verdicts : HasVerdicts l.fn.reader.told l.batch l.reader.told;
-  form : l.reader.form ≡ l.fn.reader.form;
+  verdicts : HasVerdicts l.fn.reader octets.whole l.batch l.reader;
   room : HasRoomFirst l.batch;
   due : has_room l.batch ≡ true → HasNoneDue l.reader;
 }

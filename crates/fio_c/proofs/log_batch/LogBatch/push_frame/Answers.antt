@@ -3,7 +3,7 @@ use Rattle.fio_c.proofs.Batches.{lengths_more, octets_more}
 use Rattle.fio_c.proofs.log_batch.LogBatch.push_frame.Goals as goal
 
 pub returns-clause-added : goal.returns-clause-added
-returns-clause-added c = λ _ content holds.
+returns-clause-added c = λ content holds.
     let octets = c.args.octets.now in
     let batch = c.args.self.now in
     record {

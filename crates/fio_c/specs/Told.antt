@@ -1,0 +1,65 @@
+-- The verdicts that a reader of logs returns, one after another, and the log that they are of.
+use Rattle.std.specs.Prelude.{◌≡◌, ℕ, ◌+◌, true, List, [], ◌∷◌, Option, Some}
+use Rattle.std.specs.List.{All}
+use Rattle.fio_log.specs.Frames.{AreFramesAt, Log}
+use Rattle.fio_log.specs.Lines.{Text, is_whole}
+use Rattle.fio_log.specs.OwnVerdicts.{IsOwnVerdict, own_form_of}
+use Rattle.fio_log.specs.Sayings.{spells}
+use Rattle.fio_log.specs.Telling.{HasTold, IsReaderOf, Telling, frames_of, places_of}
+use Rattle.fio_log.specs.declared.own_texts.OwnForm.{OwnForm}
+use Rattle.fio_log.specs.declared.places.Place.{Place}
+use Rattle.fio_log.specs.declared.verdict.Form.{Form}
+use Rattle.fio_log.specs.declared.verdict.Form.TheVariants.{Auto}
+use Rattle.fio_log.specs.declared.verdict.Verdict.{Verdict}
+
+-- what a reader returns of a line: its verdict, with its frames and their places
+pub record Told : Type 0 where
+  pub verdict : Verdict
+  pub frames : List (List ℕ)
+  pub places : List Place
+
+-- a verdict with the frames and places that a reader then has
+abbrev pub told_by : Verdict → Telling → Told
+told_by verdict telling =
+    record { verdict = verdict; frames = frames_of telling; places = places_of telling }
+
+-- A reader returns the verdict of its next line, and these are its frames and places: each frame spells a message.
+pub record Returns (before : Telling) (one : Told) (after : Telling) : Type 0 where
+  pub told : HasTold before one.verdict after
+  pub same : one ≡ told_by one.verdict after
+  pub spelled : All (λ frame. spells frame ≡ true) one.frames
+
+-- A reader returns these verdicts and no other, each of them before the next one. It may take octets between two of them.
+abbrev pub ReturnsAll : Telling → List Told → Telling → Type 0
+ReturnsAll first [] last = last.told ≡ first.told
+ReturnsAll first (one ∷ more) last =
+    (before : Telling) × (after : Telling) × (before.told ≡ first.told) × Returns before one after × ReturnsAll after more last
+
+-- the lines of a log, by their numbers from 1
+abbrev pub Texts : Type 0
+Texts = ℕ → Text
+
+-- a log by its lines
+abbrev pub log_of : Texts → Log
+log_of texts = λ line. (texts line).octets
+
+-- the line that is made, if it is whole, is the last one that is read of a log with these lines
+abbrev pub IsTextOf : Texts → Telling → Type 0
+IsTextOf texts telling = is_whole telling.making.ending ≡ true → telling.making.text ≡ texts telling.read
+
+-- A reader has read a log with these lines: what it keeps is written there.
+pub record HasReadOf (texts : Texts) (telling : Telling) : Type 0 where
+  pub text : IsTextOf texts telling
+  pub kept : IsReaderOf (log_of texts) telling
+
+-- some of the lines of a log: the next ones after a number of them
+abbrev pub AreLinesAfter : ℕ → Texts → List Text → Type 0
+AreLinesAfter above texts [] = Unit {0}
+AreLinesAfter above texts (text ∷ more) = (text ≡ texts (above + 1)) × AreLinesAfter (above + 1) texts more
+
+-- A verdict is of a log with these lines: its frames are written at its places or, if lines are read by order, it is what
+-- `read_own_line` says of its line.
+pub record IsVerdictOf (texts : Texts) (form : Form) (one : Told) : Type 0 where
+  pub written : form ≡ Auto → AreFramesAt (log_of texts) one.frames one.places
+  pub own : (own : OwnForm) → own_form_of form ≡ Some own
+      → IsOwnVerdict own (texts one.verdict.line) one.verdict.kind one.verdict.reason one.frames
