@@ -1050,8 +1050,8 @@ void fio2070_log_start(struct fio2070_log_reader *reader, uint8_t form);
  * whose lines are counted from 1.
  *
  * Proved are: which lines the octets make that it takes; that the verdicts in a batch are those of the next lines, each once
- * and in order, with as many frames and places as they say; that each frame is a message; and that a new log begins as
- * said. How many octets it takes, when a verdict is due and what it says are tested. */
+ * and in order, with all their frames and places; that each frame spells a message and is written at its places; and that a
+ * new log begins as said. How many octets it takes, when a verdict is due and what it says are tested. */
 FIO2070_MUST_USE
 size_t fio2070_log_read(struct fio2070_log_reader *reader, const uint8_t *octets, size_t length,
                         struct fio2070_log_batch *batch);
