@@ -1,9 +1,8 @@
 -- Two checkers, side by side.
 use Rattle.fio_check.proofs.Names.{◌≡◌, ◌∙◌, ℕ, zero, suc, List, [], ◌∷◌, Option, Some, None, refl, sym, ap, ap₂, length, option_or, option_map, option_and_then, slice_get, TranscriptLine, ContentChecking, checking_with, found_in_frame, found_first, found_on, is_sent_at, observation_at, observation_on, earliest_above}
-use Rattle.fio_check.specs.Checkers.{checker_from, checker_with, found_by, found_from}
+use Rattle.fio_check.specs.Checkers.{checker_from, checker_with, found_by}
 use Rattle.fio_check.specs.ContentCheckers.{FoundFault}
 use Rattle.fio_check.specs.LinkLaws.{Accused, FindFirst, both_find_first, broken_at, broken_first, broken_on, content_on, fault_accused}
-use Rattle.fio_check.specs.declared.checker.Breach.{Breach}
 use Rattle.fio_check.specs.declared.checker.Checker.{Checker}
 use Rattle.fio_check.specs.declared.content.ContentBreach.{ContentBreach}
 use Rattle.fio_check.proofs.KeptContent.{option_or-none, option_or_assoc}

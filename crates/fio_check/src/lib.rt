@@ -34,6 +34,7 @@ mod content_judging;
 mod content_rules;
 mod content_times;
 mod facts;
+mod frame_stamps;
 mod input_sets;
 pub mod laws;
 mod limits;

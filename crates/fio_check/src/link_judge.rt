@@ -10,10 +10,10 @@ ghost use Rattle.fio_check.specs.Observations.{observation_in};
 
 use crate::checker::{Checker, Skips};
 use crate::content::{ContentBreach, ContentChecker};
-use crate::content_above::stamp_of;
 use crate::content_rules::ContentRule;
 use crate::content_times::is_before;
 use crate::facts::Facts;
+use crate::frame_stamps::{any_stamp_in, any_stamp_of, stamp_in};
 use crate::limits::Limits;
 use crate::observation::Observation;
 use crate::outcome::{Excuse, LogPlace, Outcome, Unjudged};
@@ -24,6 +24,19 @@ use fio_message::{AnswerView, BlockStatus, read_answer};
 ///
 /// Below a lost line, a restart, a load that took effect, and a breach of a rule of transcripts nothing is judged till the next
 /// poll, and from there on all rules are applied anew.
+///
+/// # Examples
+///
+/// ```rust
+/// use fio_check::{Limits, LinkJudge, LogPlace, Outcome, Unjudged};
+///
+/// let mut judge = LinkJudge::anywhere(Limits::standard());
+/// assert_eq!(rt; judge.frame(LogPlace::Cpu, true, &[0x36, 5]), Outcome::Kept);
+/// judge.lose();
+/// let answer = judge.frame(LogPlace::Cpu, false, &[0xb3, 0]);
+/// assert_eq!(rt; answer, Outcome::NotJudged(Unjudged::PlaceLost));
+/// assert_eq!(rt; judge.frame(LogPlace::Cpu, true, &[0x36, 9]), Outcome::Kept);
+/// ```
 #[derive(Clone, Copy, Debug)]
 pub struct LinkJudge {
     /// The checker of the rules of transcripts.
@@ -337,41 +350,5 @@ fn unjudged_by(skips: Skips) -> Unjudged
     match skips {
         Skips::ToCommand => Unjudged::AboveCommand,
         _ => Unjudged::PlaceLost,
-    }
-}
-
-/// Returns the stamp of an answer, also of a block that is sent again.
-fn any_stamp_of(answer: &AnswerView<'_>) -> Option<u32>
-    ensures { result ≡ any_stamp_of (answer_of answer.now) }
-{
-    match *answer {
-        AnswerView::Block { stamp, .. } => Some(stamp),
-        _ => stamp_of(answer),
-    }
-}
-
-/// Returns the stamp of a frame that is heard, also of a block that is sent again.
-fn any_stamp_in(from_cpu: bool, octets: &[u8]) -> Option<u32>
-    ensures { result ≡ any_stamp_in from_cpu octets.now }
-{
-    if from_cpu {
-        return None;
-    }
-    match read_answer(octets) {
-        Ok(answer) => any_stamp_of(&answer),
-        Err(_) => None,
-    }
-}
-
-/// Returns the stamp of a frame that is heard, but of a block that is sent again.
-fn stamp_in(from_cpu: bool, octets: &[u8]) -> Option<u32>
-    ensures { result ≡ stamp_in from_cpu octets.now }
-{
-    if from_cpu {
-        return None;
-    }
-    match read_answer(octets) {
-        Ok(answer) => stamp_of(&answer),
-        Err(_) => None,
     }
 }
