@@ -4,7 +4,7 @@ ghost use Rattle.fio_message.specs.Views.{answer_of};
 ghost use Rattle.fio_check.specs.ContentCheckers.{checking_with, found_in_frame};
 ghost use Rattle.fio_check.specs.Checkers.{checker_with};
 ghost use Rattle.fio_check.specs.ContentKept.{content_checking};
-ghost use Rattle.fio_check.specs.LinkJudges.{any_stamp_in, any_stamp_of, asked_below, content_here, is_answer_set_back, is_asked_again, is_at_cpu, is_set_back, is_unheard, judging_anywhere, judging_at, judging_begun, judging_below_outcome, judging_lost, judging_passed, judging_with, loads_below, loads_left, outcome_found, outcome_in, outcome_judged, outcome_of_content, outcome_set_back, place_lost, stamp_above, stamp_in, unjudged_by};
+ghost use Rattle.fio_check.specs.LinkJudges.{any_stamp_in, asked_below, content_here, is_answer_set_back, is_asked_again, is_at_cpu, is_set_back, is_unheard, judging_anywhere, judging_at, judging_begun, judging_below_outcome, judging_lost, judging_passed, judging_with, loads_below, loads_left, outcome_found, outcome_in, outcome_judged, outcome_set_back, place_lost, stamp_above, unjudged_by};
 ghost use Rattle.fio_check.specs.LinkKept.{judging};
 ghost use Rattle.fio_check.specs.Observations.{observation_in};
 
