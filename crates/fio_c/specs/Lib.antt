@@ -1,5 +1,6 @@
 pub mod AnswerNumbers
 pub mod Checkers
+pub mod Judges
 pub mod Flat
 pub mod Logs
 pub mod Told

@@ -102,7 +102,7 @@ pub extern "C" fn fio2070_checker_start_anywhere(checker: &mut Checker, limits: 
 }
 
 /// Returns the limits that a struct of C says, `None` where one is out of its range.
-fn limits_from(limits: Limits) -> Option<LimitsOf>
+pub(crate) fn limits_from(limits: Limits) -> Option<LimitsOf>
     ensures none { IfNone result (are_limits limits ≡ false) }
     ensures some { IfSome result (λ found. (are_limits limits ≡ true) × (found ≡ limits_of limits)) }
 {
@@ -150,7 +150,7 @@ pub extern "C" fn fio2070_checker_heard(
 }
 
 /// Returns the checker that a struct of C stands for, whatever its octets are.
-fn checker_from(flat: &Checker) -> CheckerOf
+pub(crate) fn checker_from(flat: &Checker) -> CheckerOf
     ensures { result ≡ checker_in flat.now }
 {
     CheckerOf {
@@ -189,7 +189,7 @@ fn keep(
 }
 
 /// Returns the struct of C that stands for a checker.
-fn flat_from(checker: &CheckerOf) -> Checker
+pub(crate) fn flat_from(checker: &CheckerOf) -> Checker
     ensures { result ≡ flat_checker checker.now }
 {
     let facts = &checker.facts;
@@ -257,7 +257,7 @@ fn flat_skips(skips: Skips) -> u8
 }
 
 /// Returns a breach as C sees it.
-fn breach_from(found: Option<BreachFound>) -> Breach
+pub(crate) fn breach_from(found: Option<BreachFound>) -> Breach
     ensures { result ≡ flat_breach found }
 {
     match found {

@@ -38,6 +38,7 @@ mod content;
 mod counter;
 mod faults;
 mod filters;
+mod judge;
 mod log;
 mod log_batch;
 mod log_verdicts;

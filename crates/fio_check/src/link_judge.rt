@@ -40,15 +40,15 @@ use fio_message::{AnswerView, BlockStatus, read_answer};
 #[derive(Clone, Copy, Debug)]
 pub struct LinkJudge {
     /// The checker of the rules of transcripts.
-    checker: Checker,
+    pub checker: Checker,
     /// The checker of the rules on content.
-    content: ContentChecker,
+    pub content: ContentChecker,
     /// The latest stamp that was judged, but of a block that is sent again.
-    latest: Option<u32>,
+    pub latest: Option<u32>,
     /// What was the latest stamp at the first poll for the block that is due.
-    asked: Option<u32>,
+    pub asked: Option<u32>,
     /// Whether lines are lost below the latest stamp.
-    lost: bool,
+    pub lost: bool,
 }
 
 impl LinkJudge {

@@ -1,0 +1,260 @@
+//! The judge of a link, in memory of the caller.
+ghost use Rattle.std.specs.Prelude.{◌≡◌, Bool, false, true};
+ghost use Rattle.fio_check.specs.LinkJudges.{judging_anywhere, judging_begun, judging_lost, judging_with, outcome_in};
+ghost use Rattle.fio_check.specs.LinkKept.{judging};
+ghost use Rattle.fio_flat.specs.Module.{are_limits};
+ghost use Rattle.fio_c.specs.Checkers.{limits_of, octet_in};
+ghost use Rattle.fio_c.specs.Judges.{excuse_number, flat_outcome, judge_in, place_in, unjudged_number, without_breach};
+
+use crate::checker::{Checker, breach_from, checker_from, flat_from, limits_from};
+use fio_check::{ContentChecker, Excuse, LinkJudge, LogPlace, Outcome, Unjudged};
+use fio_flat::Limits;
+
+/// What `input` of an outcome says that has no input.
+const NO_INPUT: u8 = 255;
+
+/// A judge of a link. Its fields are the library's own: what it keeps of the frames that it took.
+#[derive(Clone, Copy)]
+#[repr(C)]
+pub struct Judge {
+    /// The checker of the rules on content.
+    pub content: ContentChecker,
+    /// The checker of the rules of transcripts.
+    pub checker: Checker,
+    /// The latest stamp that was judged, but of a block that is sent again.
+    pub latest: u32,
+    /// What was the latest stamp at the first poll for the block that is due.
+    pub asked: u32,
+    /// 1 where there is a latest stamp.
+    pub has_latest: u8,
+    /// 1 where there was one at that poll.
+    pub has_asked: u8,
+    /// 1 where lines are lost below the latest stamp.
+    pub lost: u8,
+    /// 0 in each octet that the library writes.
+    pub reserved: [u8; 5],
+}
+
+/// What a frame is.
+#[derive(Clone, Copy)]
+#[repr(C)]
+pub struct JudgeOutcome {
+    /// One of `FIO2070_OUTCOME_KEPT` and those after it.
+    pub kind: u8,
+    /// Why it is excused: 1 a load of the counter may have set its stamp back, 2 the CPU's end may not have heard the answer to the
+    /// poll above. Why it is not judged: 1 it is an answer above the first command, 2 it is above the next poll below a place that
+    /// is lost. Else 0.
+    pub why: u8,
+    /// The number of the rule that it breaks, one of `FIO2070_RULE_READABLE` or of `FIO2070_CONTENT_ORDER` and those after it by
+    /// its kind; else 0.
+    pub rule: u8,
+    /// 1 where `due` and `got` are set: of rules of transcripts for advance and number, and for pair below a command.
+    pub has_due: u8,
+    /// The number of the poll or the block answer, or the type of the answer, that was due.
+    pub due: u8,
+    /// The one that the frame has.
+    pub got: u8,
+    /// The input of the entry that breaks a rule on content, or that whose state is another; else 255.
+    pub input: u8,
+    /// 0.
+    pub reserved: u8,
+    /// How many items of the frame's block are recorded above a breach of a rule on content, a gap mark with them: for an answer
+    /// none, at the end of a block all.
+    pub items: u16,
+}
+
+/// A judge above the first frame of a log that begins anywhere, of a module with these limits. What the CPU's end heard above the
+/// first frame that it sent is not judged. Returns 0. Where a limit is out of its range it returns 1, and nothing changes.
+#[unsafe(no_mangle)]
+pub extern "C" fn fio2070_judge_start_anywhere(judge: &mut Judge, limits: Limits) -> u8
+    ensures made { are_limits limits ≡ true → (result ≡ 0) × (judge_in judge.new ≡ judging_anywhere (limits_of limits)) }
+    ensures refused { are_limits limits ≡ false → (result ≡ 1) × (judge.new ≡ judge.old) }
+{
+    let Some(limits) = limits_from(limits) else {
+        return 1;
+    };
+    *judge = flat_of(&LinkJudge::anywhere(limits));
+    0
+}
+
+/// The same above the first frame of a log that begins with both ends: more is found then. Returns as
+/// `fio2070_judge_start_anywhere` does.
+#[unsafe(no_mangle)]
+pub extern "C" fn fio2070_judge_start_begun(judge: &mut Judge, limits: Limits) -> u8
+    ensures made { are_limits limits ≡ true → (result ≡ 0) × (judge_in judge.new ≡ judging_begun (limits_of limits)) }
+    ensures refused { are_limits limits ≡ false → (result ≡ 1) × (judge.new ≡ judge.old) }
+{
+    let Some(limits) = limits_from(limits) else {
+        return 1;
+    };
+    *judge = flat_of(&LinkJudge::begun(limits));
+    0
+}
+
+/// Takes a place where lines of the log are lost, or where a part of it ends and another begins: nothing is judged till the next
+/// poll, and nobody is accused by what may stand there.
+#[unsafe(no_mangle)]
+pub extern "C" fn fio2070_judge_lose(judge: &mut Judge)
+    ensures { judge_in judge.new ≡ judging_lost (judge_in judge.old) }
+{
+    let mut kept = judge_from(judge);
+    kept.lose();
+    *judge = flat_of(&kept);
+}
+
+/// Takes a frame that the CPU's end sent, by where it was logged: 0 at the CPU's end, 1 at the module, any other on the bus. Writes
+/// what it is, each octet of it, and returns its kind.
+#[unsafe(no_mangle)]
+pub extern "C" fn fio2070_judge_sent(
+    judge: &mut Judge,
+    at: u8,
+    octets: &[u8],
+    outcome: &mut JudgeOutcome,
+) -> u8
+    ensures next { judge_in judge.new ≡ judging_with (judge_in judge.old) (place_in at) true octets.now }
+    ensures outcome { outcome.new ≡ flat_outcome (outcome_in (judge_in judge.old) (place_in at) true octets.now) }
+    ensures kind { result ≡ outcome.new.kind }
+{
+    *outcome = take(judge, at, true, octets);
+    outcome.kind
+}
+
+/// As `fio2070_judge_sent`, for a frame that the CPU's end heard, or was sent.
+#[unsafe(no_mangle)]
+pub extern "C" fn fio2070_judge_heard(
+    judge: &mut Judge,
+    at: u8,
+    octets: &[u8],
+    outcome: &mut JudgeOutcome,
+) -> u8
+    ensures next { judge_in judge.new ≡ judging_with (judge_in judge.old) (place_in at) false octets.now }
+    ensures outcome { outcome.new ≡ flat_outcome (outcome_in (judge_in judge.old) (place_in at) false octets.now) }
+    ensures kind { result ≡ outcome.new.kind }
+{
+    *outcome = take(judge, at, false, octets);
+    outcome.kind
+}
+
+/// Takes a frame, and returns what it is as C sees it.
+fn take(judge: &mut Judge, at: u8, from_cpu: bool, octets: &[u8]) -> JudgeOutcome
+    ensures next { judge_in judge.new ≡ judging_with (judge_in judge.old) (place_in at) from_cpu octets.now }
+    ensures outcome { result ≡ flat_outcome (outcome_in (judge_in judge.old) (place_in at) from_cpu octets.now) }
+{
+    let mut kept = judge_from(judge);
+    let outcome = kept.frame(place_from(at), from_cpu, octets);
+    *judge = flat_of(&kept);
+    outcome_from(outcome)
+}
+
+/// Returns the judge that a struct of C stands for, whatever its octets are.
+fn judge_from(flat: &Judge) -> LinkJudge
+    ensures { judging result ≡ judge_in flat.now }
+{
+    LinkJudge {
+        checker: checker_from(&flat.checker),
+        content: flat.content,
+        latest: stamp_in(flat.has_latest, flat.latest),
+        asked: stamp_in(flat.has_asked, flat.asked),
+        lost: flat.lost != 0,
+    }
+}
+
+/// Returns a stamp that there may be.
+fn stamp_in(has: u8, stamp: u32) -> Option<u32>
+    ensures { result ≡ octet_in has stamp }
+{
+    if has == 0 { None } else { Some(stamp) }
+}
+
+/// Returns the struct of C that stands for a judge.
+#[tactic(auto, using(crate::proofs::Checkers::checker_kept))]
+fn flat_of(judge: &LinkJudge) -> Judge
+    ensures { judge_in result ≡ judging judge.now }
+{
+    Judge {
+        content: judge.content,
+        checker: flat_from(&judge.checker),
+        latest: judge.latest.unwrap_or(0),
+        asked: judge.asked.unwrap_or(0),
+        has_latest: u8::from(judge.latest.is_some()),
+        has_asked: u8::from(judge.asked.is_some()),
+        lost: u8::from(judge.lost),
+        reserved: [0; 5],
+    }
+}
+
+/// Returns where a frame was logged.
+fn place_from(at: u8) -> LogPlace
+    ensures { result ≡ place_in at }
+{
+    match at {
+        0 => LogPlace::Cpu,
+        1 => LogPlace::Module,
+        _ => LogPlace::Bus,
+    }
+}
+
+/// Returns what a frame is as C sees it.
+fn outcome_from(outcome: Outcome) -> JudgeOutcome
+    ensures { result ≡ flat_outcome outcome }
+{
+    match outcome {
+        Outcome::Kept => without_breach(0, 0),
+        Outcome::Broken(breach) => {
+            let flat = breach_from(Some(breach));
+            JudgeOutcome {
+                rule: flat.rule,
+                has_due: flat.has_due,
+                due: flat.due,
+                got: flat.got,
+                ..without_breach(1, 0)
+            }
+        }
+        Outcome::BrokenContent(breach) => JudgeOutcome {
+            rule: breach.rule.number(),
+            input: breach.input.unwrap_or(NO_INPUT),
+            items: breach.items,
+            ..without_breach(2, 0)
+        },
+        Outcome::Excused(excuse) => without_breach(3, excuse_number(excuse)),
+        Outcome::Restarted => without_breach(4, 0),
+        Outcome::NotJudged(reason) => without_breach(5, unjudged_number(reason)),
+    }
+}
+
+/// Returns an outcome of this kind, for this reason, without a breach.
+fn without_breach(kind: u8, why: u8) -> JudgeOutcome
+    ensures { result ≡ without_breach kind why }
+{
+    JudgeOutcome {
+        kind,
+        why,
+        rule: 0,
+        has_due: 0,
+        due: 0,
+        got: 0,
+        input: NO_INPUT,
+        reserved: 0,
+        items: 0,
+    }
+}
+
+/// Returns the number of a reason why a frame is excused.
+fn excuse_number(excuse: Excuse) -> u8
+    ensures { result ≡ excuse_number excuse }
+{
+    match excuse {
+        Excuse::Load => 1,
+        Excuse::Unheard => 2,
+    }
+}
+
+/// Returns the number of a reason why a frame is not judged.
+fn unjudged_number(reason: Unjudged) -> u8
+    ensures { result ≡ unjudged_number reason }
+{
+    match reason {
+        Unjudged::AboveCommand => 1,
+        Unjudged::PlaceLost => 2,
+    }
+}
