@@ -36,7 +36,8 @@
  * A text ends in a zero octet, which its count leaves out, as that of snprintf does: it was written if its count is less
  * than `room`. No message has more than FIO2070_LONGEST_FRAME octets.
  *
- * The calls are in groups, each with an example: numbers, decode, encode, wire, poller, checker, content, log, parts, module.
+ * The calls are in groups, each with an example: numbers, decode, encode, wire, poller, checker, content, judge, log, parts,
+ * module.
  */
 #ifndef FIO2070_H
 #define FIO2070_H
@@ -915,6 +916,106 @@ uint8_t fio2070_content_heard(struct fio2070_content_checker *content, const uin
 
 /** @} */
 
+/** @defgroup judge The judge of a link
+ * A struct fio2070_judge judges a log in which lines may be lost, of a module that may be restarted and whose counter may be
+ * loaded. It is both checkers, of the rules of the groups checker and content, and says of each frame what it is. Where lines
+ * are lost, below a restart, below a load that took effect, and below a breach of a rule of transcripts the place is lost: to
+ * the next poll nothing is judged, and from there on all rules are applied anew.
+ * @code
+ * const uint8_t poll[] = {54, 0}, block[] = {182, 0, 0, 0, 0, 0, 0, 11}, again[] = {182, 1, 0, 0, 0, 0, 0, 10}; // 11 ms, 10 ms
+ * const uint8_t next[] = {54, 1};
+ * struct fio2070_judge judge;
+ * struct fio2070_judge_outcome outcome;
+ * const struct fio2070_limits limits = {255, 0, 1024};
+ * if (fio2070_judge_start_anywhere(&judge, limits) != 0) return 1;
+ * if (fio2070_judge_sent(&judge, FIO2070_AT_CPU, poll, sizeof poll, &outcome) != FIO2070_OUTCOME_KEPT) return 1;
+ * if (fio2070_judge_heard(&judge, FIO2070_AT_CPU, block, sizeof block, &outcome) != FIO2070_OUTCOME_KEPT) return 1;
+ * if (fio2070_judge_sent(&judge, FIO2070_AT_CPU, next, sizeof next, &outcome) != FIO2070_OUTCOME_KEPT) return 1;
+ * if (fio2070_judge_heard(&judge, FIO2070_AT_CPU, again, sizeof again, &outcome) == FIO2070_OUTCOME_RESTARTED) puts("the module restarted");
+ * @endcode
+ * @{ */
+
+/** What a frame is. */
+enum fio2070_outcome {
+    FIO2070_OUTCOME_KEPT = 0,           /**< it keeps all rules */
+    FIO2070_OUTCOME_BROKEN = 1,         /**< it breaks a rule of transcripts */
+    FIO2070_OUTCOME_BROKEN_CONTENT = 2, /**< it breaks a rule on content */
+    FIO2070_OUTCOME_EXCUSED = 3,        /**< it would break a rule, but may be right */
+    FIO2070_OUTCOME_RESTARTED = 4,      /**< the module was restarted above it, or its stamp is wrong */
+    FIO2070_OUTCOME_NOT_JUDGED = 5      /**< no rule is applied to it */
+};
+
+/** Where a frame was logged: at the CPU's end, at the module, or on the bus between them. */
+enum fio2070_place { FIO2070_AT_CPU = 0, FIO2070_AT_MODULE = 1, FIO2070_AT_BUS = 2 };
+
+/** Why a frame is excused, or not judged. */
+enum fio2070_why {
+    FIO2070_WHY_NONE = 0,
+    FIO2070_WHY_LOAD = 1,          /**< excused: a load of the counter may have set its stamp back */
+    FIO2070_WHY_UNHEARD = 2,       /**< excused: the CPU's end may not have heard the answer to the poll above */
+    FIO2070_WHY_ABOVE_COMMAND = 3, /**< not judged: it is an answer above the first command */
+    FIO2070_WHY_PLACE_LOST = 4     /**< not judged: it is above the next poll below a place that is lost */
+};
+
+/** A judge of a link. Its fields are the library's own. */
+struct fio2070_judge {
+    struct fio2070_content_checker content;
+    struct fio2070_checker checker;
+    uint32_t latest;
+    uint32_t asked;
+    uint8_t has_latest;
+    uint8_t has_asked;
+    uint8_t lost;
+    uint8_t reserved[5];
+};
+
+/** What a frame is, and why. */
+struct fio2070_judge_outcome {
+    /** One of `FIO2070_OUTCOME_KEPT` and those after it. */
+    uint8_t kind;
+    /** Why it is excused or not judged, one of `FIO2070_WHY_LOAD` and those after it; else 0. */
+    uint8_t why;
+    /** The number of the rule that it breaks, one of `FIO2070_RULE_READABLE` or of `FIO2070_CONTENT_ORDER`
+     *  and those after it by its kind; else 0. */
+    uint8_t rule;
+    /** 1 where `due` and `got` are set: of rules of transcripts for advance and number, and for pair below
+     *  a command. */
+    uint8_t has_due;
+    /** The number of the poll or the block answer, or the type of the answer, that was due. */
+    uint8_t due;
+    /** The one that the frame has. */
+    uint8_t got;
+    /** The input of the entry that breaks a rule on content, or that whose state is another; else 255. */
+    uint8_t input;
+    /** 0. */
+    uint8_t reserved;
+    /** How many items of the frame's block are recorded above a breach of a rule on content, a gap mark
+     *  with them: for an answer none, at the end of a block all. */
+    uint16_t items;
+};
+
+/** Starts above the first frame of a log that begins anywhere, of a module with these limits: what the CPU's end heard above the
+ * first frame that it sent is not judged. Returns 0; where a limit is out of its range 1, and nothing changes. */
+FIO2070_MUST_USE
+uint8_t fio2070_judge_start_anywhere(struct fio2070_judge *judge, struct fio2070_limits limits);
+/** The same above the first frame of a log that begins with the start of both ends: it knows how the module begins, and finds
+ * more. In any other log it can accuse a right link. */
+FIO2070_MUST_USE
+uint8_t fio2070_judge_start_begun(struct fio2070_judge *judge, struct fio2070_limits limits);
+/** Takes a place where lines of the log are lost, such as a damaged frame, or where a part of it ends and another begins. */
+void fio2070_judge_lose(struct fio2070_judge *judge);
+/** Takes a frame that the CPU's end sent, by where it was logged, one of enum fio2070_place. Writes what it is, and returns its
+ * kind, one of enum fio2070_outcome. */
+FIO2070_MUST_USE
+uint8_t fio2070_judge_sent(struct fio2070_judge *judge, uint8_t at, const uint8_t *octets, size_t length,
+                           struct fio2070_judge_outcome *outcome);
+/** As `fio2070_judge_sent`, for a frame that the module sent, and the CPU's end heard if the log is its own. */
+FIO2070_MUST_USE
+uint8_t fio2070_judge_heard(struct fio2070_judge *judge, uint8_t at, const uint8_t *octets, size_t length,
+                            struct fio2070_judge_outcome *outcome);
+
+/** @} */
+
 /** @defgroup log Logs
  * A struct fio2070_log_reader finds the messages in a log of a serial monitor, an analyser or a driver (docs/CAPTURES.md). It
  * says of each line what it is, and returns the frames in it and where they are written. Give it all octets, in pieces of any
@@ -1428,6 +1529,18 @@ FIO2070_SAME(fault, sizeof(struct fio2070_fault) == 16 &&
 FIO2070_SAME(configured, sizeof(struct fio2070_configured) == 16 &&
              offsetof(struct fio2070_configured, reserved) == 1 &&
              offsetof(struct fio2070_configured, place) == 8);
+
+FIO2070_SAME(judge, sizeof(struct fio2070_judge) == 728);
+
+FIO2070_SAME(judge_outcome, sizeof(struct fio2070_judge_outcome) == 10 &&
+             offsetof(struct fio2070_judge_outcome, why) == 1 &&
+             offsetof(struct fio2070_judge_outcome, rule) == 2 &&
+             offsetof(struct fio2070_judge_outcome, has_due) == 3 &&
+             offsetof(struct fio2070_judge_outcome, due) == 4 &&
+             offsetof(struct fio2070_judge_outcome, got) == 5 &&
+             offsetof(struct fio2070_judge_outcome, input) == 6 &&
+             offsetof(struct fio2070_judge_outcome, reserved) == 7 &&
+             offsetof(struct fio2070_judge_outcome, items) == 8);
 
 #ifndef FIO2070_NO_LOG
 FIO2070_SAME(log_reader, sizeof(struct fio2070_log_reader) == 524288);

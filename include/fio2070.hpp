@@ -420,6 +420,46 @@ private:
     ::fio2070_content_checker content_{};
 };
 
+/// The judge of a link: both checkers of a log in which lines may be lost, of a module that may be restarted and whose counter may
+/// be loaded. `at` is where a frame was logged, one of `fio2070_place`.
+class LinkJudge {
+public:
+    /// A judge of a log that begins anywhere, of a module with these limits. None where one is out of its range.
+    static std::optional<LinkJudge> anywhere(std::uint8_t per_block = FIO2070_MOST_ENTRIES,
+                                             std::uint16_t waiting = FIO2070_STANDARD_WAITING) {
+        return started_by(::fio2070_judge_start_anywhere, per_block, waiting);
+    }
+    /// The same of a log that begins with the start of both ends, of which it finds more.
+    static std::optional<LinkJudge> begun(std::uint8_t per_block = FIO2070_MOST_ENTRIES,
+                                          std::uint16_t waiting = FIO2070_STANDARD_WAITING) {
+        return started_by(::fio2070_judge_start_begun, per_block, waiting);
+    }
+    /// Lines of the log are lost here, such as a damaged frame, or a part of it ends and another begins.
+    void lose() { ::fio2070_judge_lose(&judge_); }
+    /// What a frame is that the CPU sent.
+    ::fio2070_judge_outcome sent(Octets octets, std::uint8_t at = FIO2070_AT_CPU) {
+        ::fio2070_judge_outcome outcome;
+        outcome.kind = ::fio2070_judge_sent(&judge_, at, octets.data(), octets.size(), &outcome);
+        return outcome;
+    }
+    /// What a frame is that the module sent.
+    ::fio2070_judge_outcome heard(Octets octets, std::uint8_t at = FIO2070_AT_CPU) {
+        ::fio2070_judge_outcome outcome;
+        outcome.kind = ::fio2070_judge_heard(&judge_, at, octets.data(), octets.size(), &outcome);
+        return outcome;
+    }
+
+private:
+    static std::optional<LinkJudge> started_by(std::uint8_t (*start)(::fio2070_judge *, ::fio2070_limits), std::uint8_t per_block,
+                                               std::uint16_t waiting) {
+        std::optional<LinkJudge> judge{LinkJudge()};
+        if (start(&judge->judge_, {waiting, per_block, 0}) != FIO2070_STARTED) judge.reset();
+        return judge;
+    }
+    LinkJudge() = default;
+    ::fio2070_judge judge_{};
+};
+
 #ifndef FIO2070_NO_LOG
 /// A reader of a log, which takes its octets in pieces of any length. It has half a megabyte: make it static or on the heap.
 class LogReader {

@@ -105,6 +105,25 @@ def heard_line(call, numbers, text):
     return said[0] if said[0] == said[1] else ' or '.join(said)
 
 
+def outcomes(judge, at, text):
+    """What a judge says of frames; `*` is a place where lines are lost."""
+    said = []
+    for line in text.split(', '):
+        if line == '*':
+            judge.lose()
+            continue
+        side, _, octets = line.partition(' ')
+        found = (judge.sent if side == '>' else judge.heard)(bytes.fromhex(octets), at)
+        words = [str(found.kind)] + ['why %d' % found.why] * (found.why != 0)
+        if found.breach:
+            words += ['rule %d' % found.breach.rule] + ['due %d got %d' % (found.breach.due, found.breach.got)] * found.breach.has_due
+        if found.content:
+            words += ['rule %d' % found.content.rule] + ['input %s' % found.content.input] * (found.content.input is not None)
+            words += ['items %d' % found.content.items] * (found.content.items != 0)
+        said.append(' '.join(words))
+    return ', '.join(said)
+
+
 def said_by(call, numbers, text):
     """The result of a row, or its error."""
     if call.startswith('encode_'):
@@ -117,8 +136,10 @@ def said_by(call, numbers, text):
         return verdicts(*numbers, text)
     if call.startswith('content'):
         return breaches(fio2070.ContentChecker(begun=call == 'content_begun'), text)
-    octets = b'' if call.startswith('checker') else bytes.fromhex(text)
+    octets = b'' if call.startswith(('checker', 'judge')) else bytes.fromhex(text)
     try:
+        if call.startswith('judge'):
+            return outcomes(fio2070.LinkJudge(*numbers[:2], begun=call == 'judge_begun'), numbers[2], text)
         if call.startswith('checker'):
             return breaches(fio2070.Checker(*numbers, anywhere=call == 'checker_anywhere'), text)
         if call == 'wire_frame':

@@ -71,6 +71,7 @@ static void put64(uint8_t *p, uint64_t v) { put32(p, (uint32_t)v); put32(p + 4, 
 /* What the library alone writes is the same octets everywhere; see fio2070.h. */
 #define SAME(name, is, expected) typedef char name[(is) == (expected) ? 1 : -1]
 SAME(size_of_content_checker, sizeof(struct fio2070_content_checker), 696);
+SAME(size_of_judge, sizeof(struct fio2070_judge), 728);
 SAME(size_of_counter, sizeof(struct fio2070_counter), 12);
 SAME(size_of_filters, sizeof(struct fio2070_filters), 216);
 SAME(size_of_sized_module, sizeof(struct fio2070_sized_module), 1056);
@@ -427,6 +428,56 @@ uint8_t fio2070_content_heard(struct fio2070_content_checker *content, const uin
     }
     breach->items = get16((const uint8_t *)&breach->items);
     return rule;
+}
+
+/* ---- The judge of a link ---- */
+
+uint8_t fio2070_judge_start_anywhere(struct fio2070_judge *judge, struct fio2070_limits limits) {
+    uint8_t octets[4] = {0};
+    MACHINE(fio2070_judge_start_anywhere);
+    put16(octets, limits.waiting);
+    octets[2] = limits.per_block;
+    {
+        uint64_t a = WRITES(judge, sizeof *judge), b = READS(octets, 4);
+        return (uint8_t)call_fio2070_judge_start_anywhere(&machine, a, b);
+    }
+}
+
+uint8_t fio2070_judge_start_begun(struct fio2070_judge *judge, struct fio2070_limits limits) {
+    uint8_t octets[4] = {0};
+    MACHINE(fio2070_judge_start_begun);
+    put16(octets, limits.waiting);
+    octets[2] = limits.per_block;
+    {
+        uint64_t a = WRITES(judge, sizeof *judge), b = READS(octets, 4);
+        return (uint8_t)call_fio2070_judge_start_begun(&machine, a, b);
+    }
+}
+
+OVER(judge, lose, 1, void, , (struct fio2070_judge * judge), it)
+
+uint8_t fio2070_judge_sent(struct fio2070_judge *judge, uint8_t at, const uint8_t *octets, size_t length,
+                           struct fio2070_judge_outcome *outcome) {
+    uint8_t kind;
+    MACHINE(fio2070_judge_sent);
+    {
+        uint64_t a = WRITES(judge, sizeof *judge), b = READS(octets, length), c = WRITES(outcome, sizeof *outcome);
+        kind = (uint8_t)call_fio2070_judge_sent(&machine, a, at, b, length, c);
+    }
+    outcome->items = get16((const uint8_t *)&outcome->items);
+    return kind;
+}
+
+uint8_t fio2070_judge_heard(struct fio2070_judge *judge, uint8_t at, const uint8_t *octets, size_t length,
+                           struct fio2070_judge_outcome *outcome) {
+    uint8_t kind;
+    MACHINE(fio2070_judge_heard);
+    {
+        uint64_t a = WRITES(judge, sizeof *judge), b = READS(octets, length), c = WRITES(outcome, sizeof *outcome);
+        kind = (uint8_t)call_fio2070_judge_heard(&machine, a, at, b, length, c);
+    }
+    outcome->items = get16((const uint8_t *)&outcome->items);
+    return kind;
 }
 
 /* ---- Frames on a line ---- */

@@ -99,6 +99,16 @@ class CContentChecker(ctypes.Structure):
     _fields_ = [('words', c_uint64 * 87)]
 
 
+class CJudge(ctypes.Structure):
+    """The octets of struct fio2070_judge."""
+    _fields_ = [('words', c_uint64 * 91)]
+
+
+class CJudgeOutcome(ctypes.Structure):
+    _fields_ = [('kind', c_uint8), ('why', c_uint8), ('rule', c_uint8), ('has_due', c_uint8), ('due', c_uint8),
+                ('got', c_uint8), ('input', c_uint8), ('reserved', c_uint8), ('items', c_uint16)]
+
+
 class CLogVerdict(ctypes.Structure):
     _fields_ = [('line', c_uint64), ('time', c_uint64), ('frames', c_uint32), ('places', c_uint32), ('kind', c_uint8),
                 ('reason', c_uint8), ('has_time', c_uint8), ('said', c_uint8), ('reserved', c_uint8 * 4)]
@@ -210,6 +220,11 @@ _declare('fio2070_filters_scan', c_uint64, POINTER(CFilters), c_uint64)
 _declare('fio2070_filters_filtered', c_uint64, POINTER(CFilters))
 _declare('fio2070_filters_raw', c_uint64, POINTER(CFilters))
 _declare('fio2070_filters_configure', CConfigured, POINTER(CFilters), POINTER(CItem), c_size_t)
+_declare('fio2070_judge_start_anywhere', c_uint8, POINTER(CJudge), CLimits)
+_declare('fio2070_judge_start_begun', c_uint8, POINTER(CJudge), CLimits)
+_declare('fio2070_judge_lose', None, POINTER(CJudge))
+_declare('fio2070_judge_sent', c_uint8, POINTER(CJudge), c_uint8, c_char_p, c_size_t, POINTER(CJudgeOutcome))
+_declare('fio2070_judge_heard', c_uint8, POINTER(CJudge), c_uint8, c_char_p, c_size_t, POINTER(CJudgeOutcome))
 _declare('fio2070_log_start', None, POINTER(CLogReader), c_uint8)
 _declare('fio2070_log_read', c_size_t, POINTER(CLogReader), c_char_p, c_size_t, POINTER(CLogBatch))
 _declare('fio2070_log_end', None, POINTER(CLogReader))

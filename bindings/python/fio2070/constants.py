@@ -86,6 +86,26 @@ CONTENT_ACCEPTED = 9
 CONTENT_CLEARED = 10
 CONTENT_WATCHDOG = 11
 
+# What a frame is.
+OUTCOME_KEPT = 0
+OUTCOME_BROKEN = 1
+OUTCOME_BROKEN_CONTENT = 2
+OUTCOME_EXCUSED = 3
+OUTCOME_RESTARTED = 4
+OUTCOME_NOT_JUDGED = 5
+
+# Where a frame was logged.
+AT_CPU = 0
+AT_MODULE = 1
+AT_BUS = 2
+
+# Why a frame is excused or not judged.
+WHY_NONE = 0
+WHY_LOAD = 1
+WHY_UNHEARD = 2
+WHY_ABOVE_COMMAND = 3
+WHY_PLACE_LOST = 4
+
 # How the lines of a log are read.
 LOG_AUTO = 0
 LOG_FRAMES = 1

@@ -56,6 +56,15 @@ class ContentBreach(NamedTuple):
     items: int
 
 
+class Outcome(NamedTuple):
+    """What a frame is: its kind, one of `constants.OUTCOME_KEPT` and those after it; why it is excused or not judged, one of
+    `constants.WHY_NONE` and those after it; and its breach of a rule of transcripts, or of a rule on content."""
+    kind: int
+    why: int
+    breach: Optional[Breach]
+    content: Optional[ContentBreach]
+
+
 class Command(NamedTuple):
     """A command, 49 to 60."""
     code: int

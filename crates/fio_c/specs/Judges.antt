@@ -38,8 +38,8 @@ excuse_number Unheard = 2
 
 -- the reason of one that is not judged
 abbrev pub unjudged_number : Unjudged → ℕ
-unjudged_number AboveCommand = 1
-unjudged_number PlaceLost = 2
+unjudged_number AboveCommand = 3
+unjudged_number PlaceLost = 4
 
 -- an outcome of this kind, for this reason, without a breach
 abbrev pub without_breach : ℕ → ℕ → JudgeOutcome

@@ -41,9 +41,7 @@ pub struct Judge {
 pub struct JudgeOutcome {
     /// One of `FIO2070_OUTCOME_KEPT` and those after it.
     pub kind: u8,
-    /// Why it is excused: 1 a load of the counter may have set its stamp back, 2 the CPU's end may not have heard the answer to the
-    /// poll above. Why it is not judged: 1 it is an answer above the first command, 2 it is above the next poll below a place that
-    /// is lost. Else 0.
+    /// Why it is excused or not judged, one of `FIO2070_WHY_LOAD` and those after it; else 0.
     pub why: u8,
     /// The number of the rule that it breaks, one of `FIO2070_RULE_READABLE` or of `FIO2070_CONTENT_ORDER` and those after it by
     /// its kind; else 0.
@@ -254,7 +252,7 @@ fn unjudged_number(reason: Unjudged) -> u8
     ensures { result ≡ unjudged_number reason }
 {
     match reason {
-        Unjudged::AboveCommand => 1,
-        Unjudged::PlaceLost => 2,
+        Unjudged::AboveCommand => 3,
+        Unjudged::PlaceLost => 4,
     }
 }

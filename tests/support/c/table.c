@@ -145,6 +145,30 @@ static void say_content_breaches(const struct row *row) {
     }
 }
 
+/* A line `*` is a place where lines are lost. */
+static void say_outcomes(const struct row *row) {
+    struct fio2070_limits limits = {(uint16_t)row->numbers[1], (uint8_t)row->numbers[0], 0};
+    uint8_t started, kind, at = (uint8_t)row->numbers[2];
+    struct fio2070_judge_outcome it;
+    struct fio2070_judge judge;
+    const char *frame = row->text;
+    memset(&judge, 0xa5, sizeof judge);
+    started = is_call(row, "judge") ? fio2070_judge_start_anywhere(&judge, limits) : fio2070_judge_start_begun(&judge, limits);
+    if (started != FIO2070_STARTED) say("refused");
+    for (; started == FIO2070_STARTED && frame != NULL; frame = next_frame(frame)) {
+        size_t length = *frame == '*' ? 0 : octets_in(frame + 2, octets);
+        memset(&it, 0xa5, sizeof it);
+        if (*frame == '*') {
+            fio2070_judge_lose(&judge);
+            continue;
+        }
+        kind = *frame == '>' ? fio2070_judge_sent(&judge, at, octets, length, &it)
+                             : fio2070_judge_heard(&judge, at, octets, length, &it);
+        say_outcome(&it);
+        if (it.kind != kind || it.reserved != 0) say(" not in the struct");
+    }
+}
+
 static void say_line(const struct row *row, size_t length) {
     size_t count;
     if (is_call(row, "wire_check")) {
@@ -234,6 +258,7 @@ static void run(const struct row *row) {
     else if (is_call(row, "heard_text")) say_heard(row, length);
     else if (strncmp(row->call, "checker", 7) == 0) say_breaches(row);
     else if (strncmp(row->call, "content", 7) == 0) say_content_breaches(row);
+    else if (strncmp(row->call, "judge", 5) == 0) say_outcomes(row);
     else if (is_call(row, "wire") || is_call(row, "wire_bits")) say_heard_line(row);
     else if (strncmp(row->call, "wire_", 5) == 0) say_line(row, length);
     else if (is_call(row, "log")) say_log(row);

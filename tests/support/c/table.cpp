@@ -99,6 +99,26 @@ static std::string content_judged(const row &it) {
     return said;
 }
 
+static std::string outcomes(const row &it) {
+    const auto per_block = static_cast<std::uint8_t>(it.numbers[0]);
+    const auto waiting = static_cast<std::uint16_t>(it.numbers[1]);
+    const auto at = static_cast<std::uint8_t>(it.numbers[2]);
+    auto judge = is_call(&it, "judge") ? fio2070::LinkJudge::anywhere(per_block, waiting) : fio2070::LinkJudge::begun(per_block, waiting);
+    if (!judge) return "refused";
+    *said = 0;
+    for (const char *frame = it.text; frame; frame = next_frame(frame)) {
+        List octets(1024);
+        if (*frame == '*') {
+            judge->lose();
+            continue;
+        }
+        octets.resize(octets_in(frame + 2, octets.data()));
+        const fio2070_judge_outcome outcome = *frame == '>' ? judge->sent(octets, at) : judge->heard(octets, at);
+        say_outcome(&outcome);
+    }
+    return said;
+}
+
 static std::string framed(const row &it, const List &octets) {
     const auto frame = fio2070::wire_frame(octets, static_cast<std::uint8_t>(it.numbers[0]), static_cast<std::uint8_t>(it.numbers[1]));
     *said = 0;
@@ -176,6 +196,7 @@ static std::string run(const row &it) {
     if (call == "heard_text") return fio2070::Poller(static_cast<std::uint8_t>(it.numbers[0])).hear(octets).text();
     if (call.rfind("checker", 0) == 0) return judged(it);
     if (call.rfind("content", 0) == 0) return content_judged(it);
+    if (call.rfind("judge", 0) == 0) return outcomes(it);
     if (call == "log") return logged(it);
     if (call == "wire") return heard_line<fio2070::Wire>(it);
     if (call == "wire_bits") return heard_line<fio2070::WireBits>(it);

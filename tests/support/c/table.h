@@ -126,6 +126,15 @@ static void say_content_breach(const struct fio2070_content_breach *it) {
     if (it->items) say(" items %u", it->items);
 }
 
+static void say_outcome(const struct fio2070_judge_outcome *it) {
+    say("%s%u", *said ? ", " : "", it->kind);
+    if (it->why) say(" why %u", it->why);
+    if (it->rule) say(" rule %u", it->rule);
+    if (it->has_due) say(" due %u got %u", it->due, it->got);
+    if (it->input != FIO2070_NO_INPUT) say(" input %u", it->input);
+    if (it->items) say(" items %u", it->items);
+}
+
 /* Says each verdict of a batch. */
 static void say_verdicts(const struct fio2070_log_batch *batch) {
     size_t verdict, frame = 0, octet = 0, place = 0;

@@ -84,6 +84,26 @@ pub const CONTENT_ACCEPTED: u8 = 9;
 pub const CONTENT_CLEARED: u8 = 10;
 pub const CONTENT_WATCHDOG: u8 = 11;
 
+// What a frame is.
+pub const OUTCOME_KEPT: u8 = 0;
+pub const OUTCOME_BROKEN: u8 = 1;
+pub const OUTCOME_BROKEN_CONTENT: u8 = 2;
+pub const OUTCOME_EXCUSED: u8 = 3;
+pub const OUTCOME_RESTARTED: u8 = 4;
+pub const OUTCOME_NOT_JUDGED: u8 = 5;
+
+// Where a frame was logged.
+pub const AT_CPU: u8 = 0;
+pub const AT_MODULE: u8 = 1;
+pub const AT_BUS: u8 = 2;
+
+// Why a frame is excused or not judged.
+pub const WHY_NONE: u8 = 0;
+pub const WHY_LOAD: u8 = 1;
+pub const WHY_UNHEARD: u8 = 2;
+pub const WHY_ABOVE_COMMAND: u8 = 3;
+pub const WHY_PLACE_LOST: u8 = 4;
+
 // How the lines of a log are read.
 pub const LOG_AUTO: u8 = 0;
 pub const LOG_FRAMES: u8 = 1;

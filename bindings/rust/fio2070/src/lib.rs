@@ -36,12 +36,12 @@ pub use encode::{
     other_command, poll, raw_inputs, raw_inputs_answer, set_outputs, status, status_answer,
     watchdog, watchdog_answer,
 };
-pub use ends::{Checker, ContentChecker, Counter, Filters, Heard, Module, Poller};
+pub use ends::{Checker, ContentChecker, Counter, Filters, Heard, LinkJudge, Module, Poller};
 pub use errors::ConfigurationError;
 pub use logs::{Frames, LogBatch, LogReader, Verdict};
 pub use raw::{
-    Answer, Breach, Command, ConfigurationItem, ContentBreach, Entry, ErrorCounts, Fault, LogPlace,
-    Outputs, RecordItem,
+    Answer, Breach, Command, ConfigurationItem, ContentBreach, Entry, ErrorCounts, Fault, JudgeOutcome,
+    LogPlace, Outputs, RecordItem,
 };
 pub use wire::{wire_check, wire_frame, Wire, WireBits, WireHeard};
 pub use written::Unwritten;

@@ -163,6 +163,23 @@ pub struct ContentBreach {
     pub items: u16,
 }
 
+/// What a frame is by its kind, one of `OUTCOME_KEPT` and those after it, and why: the reason of one that is excused or not judged;
+/// the rule that it breaks, with what was due and what came, the input, `NO_INPUT` for none, and how many items of its block are
+/// recorded above the breach.
+#[derive(Clone, Copy, Debug, Default, PartialEq, Eq)]
+#[repr(C)]
+pub struct JudgeOutcome {
+    pub kind: u8,
+    pub why: u8,
+    pub rule: u8,
+    pub has_due: bool,
+    pub due: u8,
+    pub got: u8,
+    pub input: u8,
+    pub reserved: u8,
+    pub items: u16,
+}
+
 /// The limits of a module: the most entries that wait, 1 to 8,192, and the most of a block, 1 to 255.
 #[derive(Clone, Copy, Debug, PartialEq, Eq)]
 #[repr(C)]
@@ -255,6 +272,7 @@ macro_rules! opaque {
 opaque! {
     RawContentChecker: 87,
     RawFilters: 27,
+    RawJudge: 91,
     RawLogReader: 65536,
     RawSizedModule: 132,
 }
@@ -414,6 +432,23 @@ extern "C" {
         items: *const ConfigurationItem,
         items_count: usize,
     ) -> RawConfigured;
+    pub(crate) fn fio2070_judge_start_anywhere(judge: &mut RawJudge, limits: RawLimits) -> u8;
+    pub(crate) fn fio2070_judge_start_begun(judge: &mut RawJudge, limits: RawLimits) -> u8;
+    pub(crate) fn fio2070_judge_lose(judge: &mut RawJudge);
+    pub(crate) fn fio2070_judge_sent(
+        judge: &mut RawJudge,
+        at: u8,
+        octets: *const u8,
+        octets_count: usize,
+        outcome: &mut JudgeOutcome,
+    ) -> u8;
+    pub(crate) fn fio2070_judge_heard(
+        judge: &mut RawJudge,
+        at: u8,
+        octets: *const u8,
+        octets_count: usize,
+        outcome: &mut JudgeOutcome,
+    ) -> u8;
     pub(crate) fn fio2070_log_start(reader: &mut RawLogReader, form: u8);
     pub(crate) fn fio2070_log_read(
         reader: &mut RawLogReader,

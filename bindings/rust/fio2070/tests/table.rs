@@ -248,6 +248,50 @@ fn by_content_checker(row: &Row) -> String {
     })
 }
 
+/// What a judge says of frames; `*` is a place where lines are lost.
+fn by_judge(row: &Row) -> String {
+    let start = if row.call == "judge" {
+        LinkJudge::anywhere
+    } else {
+        LinkJudge::begun
+    };
+    let Some(mut judge) = start(row.numbers[0] as u8, row.numbers[1] as u16) else {
+        return "refused".to_string();
+    };
+    let at = row.numbers[2] as u8;
+    let mut said = Vec::new();
+    for line in row.text.split(", ") {
+        let Some((side, octets)) = line.split_once(' ') else {
+            judge.lose();
+            continue;
+        };
+        let octets = octets_of(octets);
+        said.push(outcome_words(if side == ">" {
+            judge.sent(at, &octets)
+        } else {
+            judge.heard(at, &octets)
+        }));
+    }
+    said.join(", ")
+}
+
+fn outcome_words(outcome: JudgeOutcome) -> String {
+    let mut words = outcome.kind.to_string();
+    let mut add = |is_there: bool, name: &str, number: u16| {
+        if is_there {
+            words += &format!(" {name} {number}");
+        }
+    };
+    add(outcome.why != 0, "why", outcome.why.into());
+    add(outcome.rule != 0, "rule", outcome.rule.into());
+    add(outcome.has_due, "due", outcome.due.into());
+    add(outcome.has_due, "got", outcome.got.into());
+    let is_named = outcome.input != constants::NO_INPUT;
+    add(is_named, "input", outcome.input.into());
+    add(outcome.items != 0, "items", outcome.items);
+    words
+}
+
 fn heard_words(heard: WireHeard<'_>) -> String {
     let (kind, address, control, message) = match heard {
         WireHeard::Damaged => return "damaged".to_string(),
@@ -362,6 +406,7 @@ fn run(row: &Row) -> Result<String, Fault> {
         }
         "checker" | "checker_anywhere" => by_checker(row),
         "content" | "content_begun" => by_content_checker(row),
+        "judge" | "judge_begun" => by_judge(row),
         "log" => by_log_reader(row),
         "wire" => heard_line!(row, Wire, octets_of, Wire::lose),
         "wire_bits" => heard_line!(row, WireBits, str::as_bytes, |_: &mut WireBits| ()),
