@@ -106,10 +106,10 @@ def heard_line(call, numbers, text):
 
 
 def outcomes(judge, at, text):
-    """What a judge says of frames; `*` is a place where lines are lost."""
+    """What a judge says of frames; `-` is a place where lines are lost."""
     said = []
     for line in text.split(', '):
-        if line == '*':
+        if line == '-':
             judge.lose()
             continue
         side, _, octets = line.partition(' ')

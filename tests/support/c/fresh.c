@@ -82,6 +82,8 @@ static void ends(void) {
     struct fio2070_breach *breach = (struct fio2070_breach *)fresh(sizeof *breach);
     struct fio2070_content_checker *content = (struct fio2070_content_checker *)fresh(sizeof *content);
     struct fio2070_content_breach *entry = (struct fio2070_content_breach *)fresh(sizeof *entry);
+    struct fio2070_judge *judge = (struct fio2070_judge *)fresh(sizeof *judge);
+    struct fio2070_judge_outcome *outcome = (struct fio2070_judge_outcome *)fresh(sizeof *outcome);
     struct fio2070_record_item *items = (struct fio2070_record_item *)fresh(FIO2070_MOST_RECORD_ITEMS * sizeof *items);
     struct fio2070_limits limits = FIO2070_STANDARD_LIMITS;
     struct fio2070_poller *poller = (struct fio2070_poller *)fresh(sizeof *poller);
@@ -100,6 +102,9 @@ static void ends(void) {
     fio2070_content_start(content);
     fio2070_content_sent(content, (const uint8_t *)"\x36\5", 2);
     CHECK(fio2070_content_heard(content, out, count, entry) == 0 && entry->rule == 0 && entry->items == 0 && entry->input == 0);
+    CHECK(fio2070_judge_start_anywhere(judge, limits) == FIO2070_STARTED);
+    CHECK(fio2070_judge_sent(judge, FIO2070_AT_CPU, (const uint8_t *)"\x36\5", 2, outcome) == FIO2070_OUTCOME_KEPT && outcome->input == FIO2070_NO_INPUT);
+    CHECK(fio2070_judge_heard(judge, FIO2070_AT_CPU, out, count, outcome) == FIO2070_OUTCOME_KEPT && outcome->items == 0 && outcome->reserved == 0);
     fio2070_poller_start(poller, 5);
     heard = fio2070_poller_hear(poller, out, count, items, FIO2070_MOST_RECORD_ITEMS);
     CHECK(heard.kind == FIO2070_HEARD_TAKEN && heard.items == 1 && heard.stamp == 1 && poller->number == 6);

@@ -52,6 +52,19 @@ static void wires(void) {
     check(same(&bits, &others, sizeof bits), "bits of the wire", __LINE__);
 }
 
+static void judges(void) {
+    static struct fio2070_judge one, other;
+    struct fio2070_limits limits = FIO2070_STANDARD_LIMITS, refused = {0, FIO2070_MOST_ENTRIES, 0};
+    fill(&one, &other, sizeof one);
+    check(fio2070_judge_start_anywhere(&one, refused) == FIO2070_REFUSED && memchr(&one, 0, sizeof one) == NULL, "judge that is not started", __LINE__);
+    check(fio2070_judge_start_anywhere(&one, limits) + fio2070_judge_start_anywhere(&other, limits) == FIO2070_STARTED, "judge", __LINE__);
+    check(same(&one, &other, sizeof one), "octets of the judge", __LINE__);
+    fill(&one, &other, sizeof one);
+    check(fio2070_judge_start_begun(&one, refused) == FIO2070_REFUSED && memchr(&one, 0, sizeof one) == NULL, "judge of both ends that is not started", __LINE__);
+    check(fio2070_judge_start_begun(&one, limits) + fio2070_judge_start_begun(&other, limits) == FIO2070_STARTED, "judge of both ends", __LINE__);
+    check(same(&one, &other, sizeof one), "octets of the judge of both ends", __LINE__);
+}
+
 int main(void) {
     STARTS(counter_start, fio2070_counter);
     STARTS(checker_start, fio2070_checker);
@@ -59,6 +72,7 @@ int main(void) {
     STARTS(content_start_begun, fio2070_content_checker);
     STARTS(filters_start, fio2070_filters);
     modules();
+    judges();
     wires();
     return end_of_checks();
 }

@@ -145,7 +145,7 @@ static void say_content_breaches(const struct row *row) {
     }
 }
 
-/* A line `*` is a place where lines are lost. */
+/* A line `-` is a place where lines are lost. */
 static void say_outcomes(const struct row *row) {
     struct fio2070_limits limits = {(uint16_t)row->numbers[1], (uint8_t)row->numbers[0], 0};
     uint8_t started, kind, at = (uint8_t)row->numbers[2];
@@ -156,9 +156,9 @@ static void say_outcomes(const struct row *row) {
     started = is_call(row, "judge") ? fio2070_judge_start_anywhere(&judge, limits) : fio2070_judge_start_begun(&judge, limits);
     if (started != FIO2070_STARTED) say("refused");
     for (; started == FIO2070_STARTED && frame != NULL; frame = next_frame(frame)) {
-        size_t length = *frame == '*' ? 0 : octets_in(frame + 2, octets);
+        size_t length = *frame == '-' ? 0 : octets_in(frame + 2, octets);
         memset(&it, 0xa5, sizeof it);
-        if (*frame == '*') {
+        if (*frame == '-') {
             fio2070_judge_lose(&judge);
             continue;
         }

@@ -108,7 +108,7 @@ static std::string outcomes(const row &it) {
     *said = 0;
     for (const char *frame = it.text; frame; frame = next_frame(frame)) {
         List octets(1024);
-        if (*frame == '*') {
+        if (*frame == '-') {
             judge->lose();
             continue;
         }

@@ -248,7 +248,7 @@ fn by_content_checker(row: &Row) -> String {
     })
 }
 
-/// What a judge says of frames; `*` is a place where lines are lost.
+/// What a judge says of frames; `-` is a place where lines are lost.
 fn by_judge(row: &Row) -> String {
     let start = if row.call == "judge" {
         LinkJudge::anywhere

@@ -152,7 +152,21 @@ void call_poller(struct input *input) {
 
 /* ---- Checkers ---- */
 
-static void check(struct fio2070_checker *checker, struct fio2070_content_checker *content, struct input *input, uint8_t polled) {
+static void judge(struct fio2070_judge *judge, struct input *input, const uint8_t *frame, size_t length, int is_sent) {
+    uint8_t how = take8(input), kind;
+    struct fio2070_judge_outcome *found = (struct fio2070_judge_outcome *)untouched(sizeof *found);
+    if (how % 8 == 0) fio2070_judge_lose(judge);
+    kind = is_sent ? fio2070_judge_sent(judge, (uint8_t)(how >> 3), frame, length, found)
+                   : fio2070_judge_heard(judge, (uint8_t)(how >> 3), frame, length, found);
+    require(kind == found->kind && kind <= FIO2070_OUTCOME_NOT_JUDGED && found->reserved == 0, "the kind that is returned is that of the outcome");
+    require(found->items <= FIO2070_MOST_RECORD_ITEMS && found->why <= FIO2070_WHY_PLACE_LOST, "the outcome is in its ranges");
+    mix(kind), mix(found->why), mix(found->rule), mix(found->has_due), mix(found->due), mix(found->got), mix(found->input);
+    mix(found->items);
+    free(found);
+}
+
+static void check(struct fio2070_checker *checker, struct fio2070_content_checker *content, struct fio2070_judge *link, struct input *input,
+                  uint8_t polled) {
     size_t length;
     int is_sent = take8(input) % 2;
     uint8_t *frame = take_frame(input, &length), rule;
@@ -172,12 +186,14 @@ static void check(struct fio2070_checker *checker, struct fio2070_content_checke
         mix_octets(text, fio2070_content_rule_text(rule, text, sizeof text));
     }
     mix(found.rule), mix(found.input), mix(found.items);
+    judge(link, input, frame, length, is_sent);
     free(frame);
 }
 
 void call_checkers(struct input *input) {
     struct fio2070_checker checker;
     struct fio2070_content_checker *content = (struct fio2070_content_checker *)untouched(sizeof *content);
+    struct fio2070_judge *link = (struct fio2070_judge *)untouched(sizeof *link);
     struct fio2070_limits limits = {0, 0, 0};
     uint8_t how = take8(input), polled = 0;
     memset(&checker, UNTOUCHED, sizeof checker);
@@ -186,8 +202,11 @@ void call_checkers(struct input *input) {
     fio2070_checker_start(&checker);
     mix(how & 16 ? fio2070_checker_start_anywhere(&checker, limits) : fio2070_checker_start_within(&checker, limits));
     if (how & 2) fio2070_content_start(content); else fio2070_content_start_begun(content);
+    mix(how & 2 ? fio2070_judge_start_anywhere(link, limits) : fio2070_judge_start_begun(link, limits));
     if (has_garbage && how & 4) take_into(input, content, sizeof *content);
+    if (has_garbage && how & 32) take_into(input, link, sizeof *link);
     if (has_garbage && how & 8) take_into(input, &checker, sizeof checker);
-    while (input->left > 0) check(&checker, content, input, polled), polled = (uint8_t)(polled + (take8(input) % 3 == 0));
+    while (input->left > 0) check(&checker, content, link, input, polled), polled = (uint8_t)(polled + (take8(input) % 3 == 0));
     free(content);
+    free(link);
 }
