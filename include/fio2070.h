@@ -931,7 +931,8 @@ uint8_t fio2070_content_heard(struct fio2070_content_checker *content, const uin
  * if (fio2070_judge_sent(&judge, FIO2070_AT_CPU, poll, sizeof poll, &outcome) != FIO2070_OUTCOME_KEPT) return 1;
  * if (fio2070_judge_heard(&judge, FIO2070_AT_CPU, block, sizeof block, &outcome) != FIO2070_OUTCOME_KEPT) return 1;
  * if (fio2070_judge_sent(&judge, FIO2070_AT_CPU, next, sizeof next, &outcome) != FIO2070_OUTCOME_KEPT) return 1;
- * if (fio2070_judge_heard(&judge, FIO2070_AT_CPU, again, sizeof again, &outcome) == FIO2070_OUTCOME_RESTARTED) puts("the module restarted");
+ * if (fio2070_judge_heard(&judge, FIO2070_AT_CPU, again, sizeof again, &outcome) == FIO2070_OUTCOME_RESTARTED)
+ *     printf("the module restarted\n"); // the module restarted
  * @endcode
  * @{ */
 

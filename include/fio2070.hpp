@@ -683,6 +683,11 @@ inline bool operator==(const fio2070_content_breach &one, const fio2070_content_
     return one.rule == other.rule && one.input == other.input && one.items == other.items;
 }
 inline bool operator!=(const fio2070_content_breach &one, const fio2070_content_breach &other) { return !(one == other); }
+inline bool operator==(const fio2070_judge_outcome &one, const fio2070_judge_outcome &other) {
+    return one.kind == other.kind && one.why == other.why && one.rule == other.rule && one.has_due == other.has_due &&
+           one.due == other.due && one.got == other.got && one.input == other.input && one.items == other.items;
+}
+inline bool operator!=(const fio2070_judge_outcome &one, const fio2070_judge_outcome &other) { return !(one == other); }
 // Of commands and answers without what follows their fields: items, entries and bodies.
 inline bool operator==(const fio2070_command &one, const fio2070_command &other) {
     return one.code == other.code && one.clear == other.clear && one.block == other.block &&

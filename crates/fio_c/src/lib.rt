@@ -14,6 +14,7 @@
 //! | write what `show` writes of a message | `fio2070_show` |
 //! | write a code in words | `fio2070_fault_text`, `fio2070_rule_text`, `fio2070_content_rule_text`, `fio2070_heard_text` |
 //! | judge what the CPU's end sends and hears | `fio2070_checker_..`, `fio2070_content_..` |
+//! | judge a log in which lines may be lost | `fio2070_judge_..` |
 //! | read a log of any logger | `fio2070_log_..` |
 //! | be the CPU's end | `fio2070_poller_..` |
 //! | be the module | `fio2070_sized_module_..`; `fio2070_module_..` are these, in the header alone |
@@ -22,7 +23,7 @@
 //! | use its parts | `fio2070_counter_..`, `fio2070_filters_..`, `fio2070_widen` |
 //!
 //! The definitions are in `specs/`: flat forms of commands, answers and blocks (`Flat`), checkers
-//! (`Checkers`), logs (`Logs`), words (`Texts`), versions (`Version`), lines (`Wires`). `fio_flat` has the other structs, and what calls do to them
+//! (`Checkers`), the judge of a link (`Judges`), logs (`Logs`), words (`Texts`), versions (`Version`), lines (`Wires`). `fio_flat` has the other structs, and what calls do to them
 //! and to the caller's arrays.
 #![tactic(auto)]
 

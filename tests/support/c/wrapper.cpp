@@ -118,6 +118,8 @@ static void tells_values() {
     TELLS(error_counts::receive), TELLS(error_counts::transmit);
     TELLS(breach::rule), TELLS(breach::has_due), TELLS(breach::due), TELLS(breach::got);
     TELLS(content_breach::rule), TELLS(content_breach::input), TELLS(content_breach::items);
+    TELLS(judge_outcome::kind), TELLS(judge_outcome::why), TELLS(judge_outcome::rule), TELLS(judge_outcome::has_due);
+    TELLS(judge_outcome::due), TELLS(judge_outcome::got), TELLS(judge_outcome::input), TELLS(judge_outcome::items);
     TELLS(command::code), TELLS(command::clear), TELLS(command::block), TELLS(command::timeout), TELLS(command::count);
     TELLS(command::body), TELLS(command::load), TELLS(command::levels), TELLS(command::controls);
     TELLS(answer::code), TELLS(answer::flags), TELLS(answer::receive_errors), TELLS(answer::transmit_errors);
@@ -232,6 +234,8 @@ static void has_checkers() {
     fio2070::ContentChecker begun = fio2070::ContentChecker::begun();
     const fio2070_content_breach refused = begun.heard(List({0xb3, 1}));
     CHECK(refused == refused && refused != fio2070_content_breach());
+    CHECK(fio2070::LinkJudge::begun()->heard(empty) == fio2070_judge_outcome({FIO2070_OUTCOME_BROKEN, 0, FIO2070_RULE_PAIR, 0, 0, 0, FIO2070_NO_INPUT, 0, 0}));
+    CHECK(fio2070::LinkJudge::anywhere()->heard(empty).why == FIO2070_WHY_ABOVE_COMMAND && !fio2070::LinkJudge::anywhere(0));
 }
 
 static void writes_a_line() {
