@@ -926,7 +926,7 @@ uint8_t fio2070_content_heard(struct fio2070_content_checker *content, const uin
  * const uint8_t next[] = {54, 1};
  * struct fio2070_judge judge;
  * struct fio2070_judge_outcome outcome;
- * const struct fio2070_limits limits = {255, 0, 1024};
+ * const struct fio2070_limits limits = FIO2070_STANDARD_LIMITS;
  * if (fio2070_judge_start_anywhere(&judge, limits) != 0) return 1;
  * if (fio2070_judge_sent(&judge, FIO2070_AT_CPU, poll, sizeof poll, &outcome) != FIO2070_OUTCOME_KEPT) return 1;
  * if (fio2070_judge_heard(&judge, FIO2070_AT_CPU, block, sizeof block, &outcome) != FIO2070_OUTCOME_KEPT) return 1;
@@ -947,7 +947,11 @@ enum fio2070_outcome {
 };
 
 /** Where a frame was logged: at the CPU's end, at the module, or on the bus between them. */
-enum fio2070_place { FIO2070_AT_CPU = 0, FIO2070_AT_MODULE = 1, FIO2070_AT_BUS = 2 };
+enum fio2070_place {
+    FIO2070_AT_CPU = 0,
+    FIO2070_AT_MODULE = 1,
+    FIO2070_AT_BUS = 2
+};
 
 /** Why a frame is excused, or not judged. */
 enum fio2070_why {

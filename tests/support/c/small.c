@@ -20,7 +20,6 @@ static struct fio2070_sized_module device;
 static struct fio2070_poller poller;
 static struct fio2070_checker checker;
 static struct fio2070_content_checker content;
-static struct fio2070_judge link_judge;
 
 #ifdef __AVR__
 #include <avr/io.h>
@@ -95,16 +94,11 @@ static void read_frame(size_t length) {
 static void judge(int is_sent, const uint8_t *octets, size_t length) {
     struct fio2070_breach breach;
     struct fio2070_content_breach content_breach;
-    struct fio2070_judge_outcome outcome;
     number(is_sent ? fio2070_checker_sent(&checker, octets, length, &breach)
                    : fio2070_checker_heard(&checker, octets, length, &breach));
     mix(text, amount(fio2070_rule_text(breach.rule, text, sizeof text), sizeof text));
     if (is_sent) fio2070_content_sent(&content, octets, length);
     else number(fio2070_content_heard(&content, octets, length, &content_breach));
-    if (below(9) == 0) fio2070_judge_lose(&link_judge);
-    number(is_sent ? fio2070_judge_sent(&link_judge, FIO2070_AT_MODULE, octets, length, &outcome)
-                   : fio2070_judge_heard(&link_judge, FIO2070_AT_MODULE, octets, length, &outcome));
-    number(outcome.why); number(outcome.rule); number(outcome.input); number(outcome.items);
 }
 
 static size_t answered(const uint8_t *octets, size_t length) {
@@ -135,7 +129,6 @@ static void begin(void) {
     fio2070_poller_start(&poller, 7);
     fio2070_checker_start(&checker);
     fio2070_content_start(&content);
-    number(fio2070_judge_start_anywhere(&link_judge, limits));
     memset(items, 0, sizeof items);
     for (place = 0; place < MOST; place++) {
         items[place].input = (uint8_t)place;

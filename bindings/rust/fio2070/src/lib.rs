@@ -40,8 +40,8 @@ pub use ends::{Checker, ContentChecker, Counter, Filters, Heard, LinkJudge, Modu
 pub use errors::ConfigurationError;
 pub use logs::{Frames, LogBatch, LogReader, Verdict};
 pub use raw::{
-    Answer, Breach, Command, ConfigurationItem, ContentBreach, Entry, ErrorCounts, Fault, JudgeOutcome,
-    LogPlace, Outputs, RecordItem,
+    Answer, Breach, Command, ConfigurationItem, ContentBreach, Entry, ErrorCounts, Fault,
+    JudgeOutcome, LogPlace, Outputs, RecordItem,
 };
 pub use wire::{wire_check, wire_frame, Wire, WireBits, WireHeard};
 pub use written::Unwritten;
