@@ -129,8 +129,7 @@ fn within<'a>(text: &'a [u8], edges: &[u8]) -> &'a [u8] {
 fn is_column(text: &[u8], octets: &[u8]) -> bool {
     let is_apart = matches!(text, [b'\t' | b'|', ..] | [b' ', b' ' | b'|', ..]);
     is_apart
-        && (shows(text, octets)
-            || is_near(column_length(text), octets.len()) && !has_word(text))
+        && (shows(text, octets) || is_near(column_length(text), octets.len()) && !has_word(text))
 }
 
 /// Returns whether a column, which has a character at least, has about as many characters as there are octets.
