@@ -3,9 +3,9 @@
  *
  * The field I/O transition link of the Model 2070: the header of fio2070.c.
  *
- * Sources: 499100f80aa16f7c255bfc45560b795c9a75c6a5e6b6303a8216a64195adef2f (SHA-256; packaging/release-files --sources)
+ * Sources: 66a8a5634bbe48f7d147aaeec65e97626a732423a3e1907c7d279d65b2ae24b4 (SHA-256; packaging/release-files --sources)
  * Kit: rattle-kit-13f logic dac8208d650f15bf
- * Proof: logic=proved functions=163 target=wasm64-unknown-unknown sum=dac8208d650f15bf native=nat,char,string
+ * Proof: logic=proved functions=177 target=wasm64-unknown-unknown sum=dac8208d650f15bf native=nat,char,string
  * Made by `make release-files`: do not edit.
  *
  * Proved is the module of which fio2070.c was made, for wasm64: each call does what fio2070.h says for all octets,
@@ -25,7 +25,7 @@
  * alone.
  *
  * What the caller owes, and nothing checks:
- *  - A pointer points to as many objects as its length says, aligned as C asks of their type. Where that
+ *  - A pointer points to as many objects as its length says, aligned as C asks of their type. If that
  *    length is 0 it may be null (tested, not proved); any other pointer is not null.
  *  - Initialise what a const argument points to. What a call only writes may be uninitialised.
  *  - During a call no one else writes what an argument points to, and no one else reads what an
@@ -37,19 +37,22 @@
  *    hold any octets; _start sets each of those of a struct but a log_reader. They may be copied and moved by memcpy. A
  *    log_reader that other code wrote, or that was not started, is no reader: what a call then does is not promised at all.
  *
- * Sources: TEES 2009 is Caltrans TEES 2009. "Own profile" is a choice of this project where TEES
+ * Sources: TEES 2009 is Caltrans TEES 2009. "Own profile" is a choice of this project if TEES
  * leaves one: 64 inputs, 64 outputs, and what docs/PROTOCOL.md marks so.
  *
  * Results are of two kinds:
- *  - A code: 0 is success or "none". Its constants are those of an enum with a name, so that a compiler tells of a
+ *  - A code: 0 is success or "none". Its constants are those of an enum with a name, so that a compiler warns of a
  *    `switch ((enum fio2070_rule)breach.rule)` which forgets one.
- *  - A count, of a call that writes octets, entries, items or text into an array of `room`: how many there are to
- *    write. Where that is more than `room`, nothing was written and nothing changed; a call with room 0 only tells the
- *    count. FIO2070_NO_MESSAGE, more than any room, says that there is nothing such: an encoder whose fields no message
- *    has, or octets that do not carry what is asked for. So `count > room` is the one test for failure, and 0 is a
- *    success with nothing to write.
- * A text ends in a zero octet, which its count leaves out, as snprintf does: it was written if its count is less than
- * `room`. No message has more than FIO2070_LONGEST_FRAME octets.
+ *  - A count: how many octets, entries, items or characters there are to write into an array of `room`. If that is more
+ *    than `room`, nothing was written and nothing changed, so `count > room` is the one test for failure, and 0 is a
+ *    success with nothing to write (but fio2070_wire_write returns 0 for a failure). A call with room 0 only returns the
+ *    count. FIO2070_NO_MESSAGE, more than any room, says that no message has the fields that are given, or that the octets
+ *    do not have what is asked for.
+ * A text ends in a zero octet, which its count leaves out, as that of snprintf does: it was written if its count is less
+ * than `room`. No message has more than FIO2070_LONGEST_FRAME octets.
+ *
+ * The calls are in groups, each with an example: numbers, decode, encode, wire, poller, checker, content, judge, log, parts,
+ * module.
  */
 #ifndef FIO2070_H
 #define FIO2070_H
@@ -82,6 +85,14 @@
 #ifdef __cplusplus
 extern "C" {
 #endif
+
+/** @defgroup numbers Version, limits and numbers
+ * The version, how large what there is can get, and the numbers by which messages are named.
+ * @code
+ * if (fio2070_version() / 10000 != FIO2070_VERSION / 10000) return 1; // another major version is linked
+ * printf("%d octets at most\n", FIO2070_LONGEST_FRAME);               // 773 octets at most
+ * @endcode
+ * @{ */
 
 /** The version of this header: 10,000 for each major version, 100 for each minor one, 1 for each patch. */
 #define FIO2070_VERSION 10000
@@ -136,7 +147,22 @@ enum {
     FIO2070_BIT_WAS_RESET = 128      /**< P of the flags: the module was reset (own profile) */
 };
 
-/* ---- Faults ---- */
+/** @} */
+
+/** @defgroup decode Reading messages
+ * fio2070_decode_command and fio2070_decode_answer read any message of their direction into a struct; the calls that are named
+ * `read` read one type in place. The octets are those of one message, without address, control octet and frame check (see
+ * the group wire). Each call returns a fault, whose `kind` is FIO2070_FAULT_NONE if the octets are such a message. The entries
+ * of a block and the items of a configuration are copied by a call of their own.
+ * @code
+ * const uint8_t octets[] = {182, 5, 1, 0x8c, 3, 0xe7, 0, 0, 0, 3, 0xe8};
+ * struct fio2070_answer answer;
+ * struct fio2070_entry entries[FIO2070_MOST_ENTRIES];
+ * if (fio2070_decode_answer(octets, sizeof octets, &answer).kind != FIO2070_FAULT_NONE) return 1;
+ * if (fio2070_block_entries(octets, sizeof octets, entries, FIO2070_MOST_ENTRIES) != 1) return 1;
+ * printf("block %d: input %d is %d\n", answer.block, entries[0].input, entries[0].state); // block 5: input 12 is 1
+ * @endcode
+ * @{ */
 
 /** Why octets are no message: the first of these that applies (own profile). */
 enum fio2070_fault_kind {
@@ -163,13 +189,13 @@ struct fio2070_fault {
     uint64_t got;
 };
 
-/** Writes the words of a fault as `fio2070 show` does, such as "wrong length needed 14 got 11", with no line end.
- * They are those of its kind, with the numbers that the kind has; FIO2070_FAULT_NONE and what is no kind have the empty
+/** Writes the text of a fault as `fio2070 show` does, such as "wrong length needed 14 got 11", with no line end.
+ * It is that of its kind, with the numbers that the kind has; FIO2070_FAULT_NONE and what is no kind have the empty
  * text. FIO2070_LONGEST_TEXT octets of room are enough. */
 FIO2070_MUST_USE
 size_t fio2070_fault_text(const struct fio2070_fault *fault, char *text, size_t room);
 
-/* ---- Reading block answers in place (TEES 2009, answer 182) ---- */
+/* Block answers in place (TEES 2009, answer 182): */
 
 /** A block answer without its entries. */
 struct fio2070_block_header {
@@ -202,7 +228,7 @@ FIO2070_MUST_USE
 struct fio2070_fault fio2070_read_block(const uint8_t *octets, size_t length, struct fio2070_block_header *header);
 
 /** Copies the entries of a block answer to the front of `entries`, and returns how many they are, 0 to 255:
- * FIO2070_NO_MESSAGE where the octets are no block answer. The rest of `entries` is unchanged. */
+ * FIO2070_NO_MESSAGE if the octets are no block answer. The rest of `entries` is unchanged. */
 FIO2070_MUST_USE
 size_t fio2070_block_entries(const uint8_t *octets, size_t length, struct fio2070_entry *entries, size_t room);
 
@@ -211,7 +237,7 @@ size_t fio2070_block_entries(const uint8_t *octets, size_t length, struct fio207
  * steps back (own profile). */
 uint32_t fio2070_widen(uint32_t answer_stamp, uint16_t stamp);
 
-/* ---- Reading any message ---- */
+/* Any message: */
 
 /** A command: the fields of its type; the others are 0. */
 struct fio2070_command {
@@ -281,7 +307,7 @@ FIO2070_MUST_USE
 struct fio2070_fault fio2070_decode_command(const uint8_t *octets, size_t length, struct fio2070_command *command);
 
 /** Copies the items of a configuration (command 51) to the front of `items`, and returns how many they are, 0 to
- * 255: FIO2070_NO_MESSAGE where the octets are no configuration. The rest of `items` is unchanged. */
+ * 255: FIO2070_NO_MESSAGE if the octets are no configuration. The rest of `items` is unchanged. */
 FIO2070_MUST_USE
 size_t fio2070_command_items(const uint8_t *octets, size_t length, struct fio2070_configuration_item *items,
                              size_t room);
@@ -306,7 +332,20 @@ struct fio2070_fault fio2070_read_identification(const uint8_t *octets, size_t l
 FIO2070_MUST_USE
 size_t fio2070_show(const uint8_t *octets, size_t length, char *text, size_t room);
 
-/* ---- Writing commands (TEES 2009) ---- */
+/** @} */
+
+/** @defgroup encode Writing messages
+ * Each call writes one message to the front of `out`, and returns how many octets it has. If that is more than `room`, nothing
+ * was written. Each description begins with the type of the message (TEES 2009).
+ * @code
+ * uint8_t frame[FIO2070_LONGEST_FRAME];
+ * size_t count = fio2070_encode_poll(5, frame, sizeof frame);
+ * if (count > sizeof frame) return 1;
+ * printf("%d octets: %d %d\n", (int)count, frame[0], frame[1]); // 2 octets: 54 5
+ * @endcode
+ * @{ */
+
+/* Commands: */
 
 /** 49, request module status: clears the flags whose bits are one. 2 octets. */
 FIO2070_MUST_USE
@@ -314,7 +353,7 @@ size_t fio2070_encode_status(uint8_t clear, uint8_t *out, size_t room);
 /** 50, millisecond counter management: the number that the next line sync loads. 5 octets. */
 FIO2070_MUST_USE
 size_t fio2070_encode_load_counter(uint32_t load, uint8_t *out, size_t room);
-/** 51, configure inputs. 2 + 3 * count octets. FIO2070_NO_MESSAGE where there are more than 255 items, and where one
+/** 51, configure inputs. 2 + 3 * count octets. FIO2070_NO_MESSAGE if there are more than 255 items, or one
  * names an input above 127. */
 FIO2070_MUST_USE
 size_t fio2070_encode_configure_inputs(const struct fio2070_configuration_item *items, size_t count, uint8_t *out,
@@ -343,7 +382,7 @@ size_t fio2070_encode_identify(uint8_t *out, size_t room);
 FIO2070_MUST_USE
 size_t fio2070_encode_other_command(uint8_t code, const uint8_t *body, size_t length, uint8_t *out, size_t room);
 
-/* ---- Writing answers (TEES 2009) ---- */
+/* Answers: */
 
 /** 177: the flags that are left, the error counts and the millisecond counter. 8 octets. */
 FIO2070_MUST_USE
@@ -361,7 +400,7 @@ size_t fio2070_encode_raw_inputs_answer(uint64_t inputs, uint32_t stamp, uint8_t
 /** 181: the filtered states; bit i is input i. 13 octets. */
 FIO2070_MUST_USE
 size_t fio2070_encode_filtered_inputs_answer(uint64_t inputs, uint32_t stamp, uint8_t *out, size_t room);
-/** 182, a block. 8 + 3 * count octets. FIO2070_NO_MESSAGE where there are more than 255 entries, and where one names
+/** 182, a block. 8 + 3 * count octets. FIO2070_NO_MESSAGE if there are more than 255 entries, or one names
  * an input above 127. */
 FIO2070_MUST_USE
 size_t fio2070_encode_block_answer(uint8_t block, const struct fio2070_entry *entries, size_t count, uint8_t status,
@@ -374,12 +413,29 @@ size_t fio2070_encode_watchdog_answer(uint8_t status, uint8_t *out, size_t room)
 FIO2070_MUST_USE
 size_t fio2070_encode_other_answer(uint8_t code, const uint8_t *body, size_t length, uint8_t *out, size_t room);
 
-/* ---- Frames on a line (own profile) ---- */
+/** @} */
 
-/** On a line a frame is a flag, the address, the control octet, a message of 1 to FIO2070_LONGEST_FRAME octets, their frame
+/** @defgroup wire Frames on a line (own profile)
+ * On a line a frame is a flag, the address, the control octet, a message of 1 to FIO2070_LONGEST_FRAME octets, their frame
  * check (CRC-16/X-25, low octet first), and a flag. A part is what is between two flags next to each other. An empty part
  * says nothing; a part that is no frame is damage. On a line of octets the flag is 7E, and 7D stuffs 7E and 7D (RFC 1662);
- * on a line of bits the flag is 01111110, and a 0 follows each five ones (SDLC). */
+ * on a line of bits the flag is 01111110, and a 0 follows each five ones (SDLC). The calls that are named `wire_bits` read a
+ * line of bits, the others one of octets.
+ * @code
+ * const uint8_t poll[] = {54, 5};
+ * uint8_t line[FIO2070_WIRE_LONGEST], heard;
+ * size_t count = fio2070_wire_write(FIO2070_WIRE_ADDRESS, FIO2070_WIRE_CONTROL, poll, sizeof poll, line, sizeof line);
+ * size_t at = 0;
+ * struct fio2070_wire wire;
+ * fio2070_wire_start(&wire, FIO2070_WIRE_ADDRESS, FIO2070_WIRE_CONTROL);
+ * while (at < count) {
+ *     at += fio2070_wire_read_many(&wire, line + at, count - at, &heard);
+ *     if (heard == FIO2070_WIRE_MESSAGE) printf("a message of type %d\n", wire.octets[2]); // a message of type 54
+ * }
+ * @endcode
+ * @{ */
+
+/** Numbers of such frames. */
 enum fio2070_wire_limit {
     FIO2070_WIRE_ADDRESS = 0x14, /**< the address of a field I/O module */
     FIO2070_WIRE_CONTROL = 0x83, /**< the control octet of its frames */
@@ -462,7 +518,23 @@ size_t fio2070_wire_bits_read_many(struct fio2070_wire_bits *bits, const uint8_t
 FIO2070_MUST_USE
 size_t fio2070_wire_bits_message_length(const struct fio2070_wire_bits *bits);
 
-/* ---- The CPU's end (own profile) ---- */
+/** @} */
+
+/** @defgroup poller The CPU's end (own profile)
+ * A struct fio2070_poller says for which block to poll, and takes each block once. The caller sends the poll, waits for the
+ * answer, and keeps the record: the list of the items that were taken.
+ * @code
+ * const uint8_t answer[] = {182, 0, 1, 0x8c, 3, 0xe7, 0, 0, 0, 3, 0xe8};
+ * struct fio2070_poller poller;
+ * struct fio2070_record_item items[FIO2070_MOST_RECORD_ITEMS];
+ * uint8_t poll[2];
+ * fio2070_poller_start(&poller, 0);
+ * if (fio2070_poller_poll(&poller, poll, sizeof poll) != 2) return 1;
+ * // Send `poll` and wait for the answer, then:
+ * if (fio2070_poller_hear(&poller, answer, sizeof answer, items, FIO2070_MOST_RECORD_ITEMS).kind == FIO2070_HEARD_TAKEN)
+ *     printf("%lu ms: input %d is %d\n", (unsigned long)items[0].wide, items[0].input, items[0].state); // 999 ms: input 12 is 1
+ * @endcode
+ * @{ */
 
 /** The CPU's end. The caller keeps the record. */
 struct fio2070_poller {
@@ -541,13 +613,29 @@ FIO2070_MUST_USE
 struct fio2070_heard fio2070_poller_hear(struct fio2070_poller *poller, const uint8_t *octets, size_t length,
                                          struct fio2070_record_item *items, size_t room);
 
-/** Writes what was heard in the words of `fio2070 simulate`, with no line end: "block entries 3 status 00", "stale 4",
- * "other 177", or "unreadable " and the words of the fault; "no room needed 3" for FIO2070_HEARD_NO_ROOM. What is no kind
+/** Writes what was heard as `fio2070 simulate` does, with no line end: "block entries 3 status 00", "stale 4",
+ * "other 177", or "unreadable " and the text of the fault; "no room needed 3" for FIO2070_HEARD_NO_ROOM. What is no kind
  * has the empty text. FIO2070_LONGEST_TEXT octets of room are enough. */
 FIO2070_MUST_USE
 size_t fio2070_heard_text(const struct fio2070_heard *heard, char *text, size_t room);
 
-/* ---- The rules of a transcript ---- */
+/** @} */
+
+/** @defgroup checker The rules of a transcript
+ * A transcript is what a CPU's end sent and heard, in order. A struct fio2070_checker judges the messages and their order; what
+ * the entries say is judged by the group content.
+ * @code
+ * const uint8_t polls[2][2] = {{54, 1}, {54, 2}}; // with no answer between them
+ * struct fio2070_checker checker;
+ * struct fio2070_breach breach;
+ * char name[FIO2070_LONGEST_TEXT];
+ * fio2070_checker_start(&checker);
+ * for (int n = 0; n < 2; n++)
+ *     if (fio2070_checker_sent(&checker, polls[n], 2, &breach) != FIO2070_RULE_NONE &&
+ *         fio2070_rule_text(breach.rule, name, sizeof name) < sizeof name)
+ *         printf("%s: %d was due, %d came\n", name, breach.due, breach.got); // advance: 1 was due, 2 came
+ * @endcode
+ * @{ */
 
 /** The rules, in the order in which they are tried (own profile; docs/FORMATS.md). */
 enum fio2070_rule {
@@ -646,11 +734,11 @@ size_t fio2070_rule_text(uint8_t rule, char *text, size_t room);
  * room for it. Then no frame breaks one. */
 void fio2070_checker_start(struct fio2070_checker *checker);
 /** As `fio2070_checker_start`, for a module with these limits: those that `fio2070_sized_module_start` was given. Returns
- * FIO2070_STARTED; where a limit is out of its range, as there, it returns FIO2070_REFUSED, and nothing changes. */
+ * FIO2070_STARTED; if a limit is out of its range, as there, it returns FIO2070_REFUSED, and nothing changes. */
 FIO2070_MUST_USE
 uint8_t fio2070_checker_start_within(struct fio2070_checker *checker, struct fio2070_limits limits);
 /** As `fio2070_checker_start_within`, above the first frame of a log that begins anywhere: what the CPU's end heard above the
- * first frame that it sent is passed over. Start so again after a gap in the log, a damaged frame or a restart. */
+ * first frame that it sent is skipped. Start so again after a gap in the log, a damaged frame or a restart. */
 FIO2070_MUST_USE
 uint8_t fio2070_checker_start_anywhere(struct fio2070_checker *checker, struct fio2070_limits limits);
 /** Takes a frame that the CPU's end sent: writes its breach, and returns the breach's rule. Below a breach the checker goes
@@ -664,15 +752,34 @@ FIO2070_MUST_USE
 uint8_t fio2070_checker_heard(struct fio2070_checker *checker, const uint8_t *octets, size_t length,
                               struct fio2070_breach *breach);
 
-/* ---- The rules on content ---- */
+/** @} */
 
-/** What the record of a CPU's end, or an answer that it heard, may break (own profile; docs/FORMATS.md). The rules judge a
- * transcript that keeps the rules above. A clear block is a block answer with neither C nor E. It settles each input; below
- * one, a block with E and without C settles each input of which no item was sent since the first poll for that block. An
- * input is watched from an entry on if a clear block is above that entry, and of what was sent since the latest block that
- * settles it nothing opens the input below what ignores it; it is steady if nothing ignores it; a gap mark ends both. Below
- * a clear block a block is late if its stamp is 65,536 or more after that of the latest block without C: its entries may be
- * older than their 16 bits say. */
+/** @defgroup content The rules on content
+ * A struct fio2070_content_checker judges what the entries and other answers of a transcript say, if the transcript keeps the
+ * rules of the group checker. The rules have words of their own:
+ *
+ * A clear block is a block answer with neither C nor E. It settles each input; below one, a block with E and without C settles
+ * each input of which no item was sent since the first poll for that block. An input is watched from an entry on if a clear
+ * block is above that entry, and of what was sent since the latest block that settles it nothing opens the input below what
+ * ignores it; it is steady if nothing ignores it; a gap mark ends both. Below a clear block a block is late if its stamp is
+ * 65,536 or more after that of the latest block without C: its entries may be older than their 16 bits say.
+ * @code
+ * const uint8_t poll[] = {54, 0}, empty[] = {182, 0, 0, 0, 0, 0, 0, 11};             // no entry until 11 ms
+ * const uint8_t next[] = {54, 1}, late[] = {182, 1, 1, 12, 0, 10, 0, 0, 0, 0, 21}; // one of 10 ms all the same
+ * struct fio2070_content_checker content;
+ * struct fio2070_content_breach breach;
+ * char name[FIO2070_LONGEST_TEXT];
+ * fio2070_content_start(&content);
+ * fio2070_content_sent(&content, poll, sizeof poll);
+ * if (fio2070_content_heard(&content, empty, sizeof empty, &breach) != FIO2070_CONTENT_NONE) return 1;
+ * fio2070_content_sent(&content, next, sizeof next);
+ * if (fio2070_content_heard(&content, late, sizeof late, &breach) != FIO2070_CONTENT_NONE &&
+ *     fio2070_content_rule_text(breach.rule, name, sizeof name) < sizeof name)
+ *     printf("%s: input %d\n", name, breach.input); // fresh: input 12
+ * @endcode
+ * @{ */
+
+/** What the record of a CPU's end, or an answer that it heard, may break (own profile; docs/FORMATS.md). */
 enum fio2070_content_rule {
     FIO2070_CONTENT_NONE = 0, /**< no rule is broken */
     /** An entry is later than the entry above it, or has its time and a higher input. Judged if a clear
@@ -785,7 +892,7 @@ FIO2070_MUST_USE
 size_t fio2070_content_rule_text(uint8_t rule, char *text, size_t room);
 
 /** Starts above the first frame of a log, which may begin anywhere, whatever both ends did above: what the CPU's end heard
- * above the first frame that it sent is passed over. Start again after a gap in the log, a damaged frame or a restart. The
+ * above the first frame that it sent is skipped. Start again after a gap in the log, a damaged frame or a restart. The
  * rules assume what `fio2070_checker_start` does, and of the link, from that frame on:
  *  - no more loads of the counter take effect than are sent: each excuses one breach (order, fresh, apart, state, clock);
  *  - there are fewer than 2^31 scans between a block without C and each block up to the next one without C (order, fresh,
@@ -807,7 +914,136 @@ FIO2070_MUST_USE
 uint8_t fio2070_content_heard(struct fio2070_content_checker *content, const uint8_t *octets, size_t length,
                               struct fio2070_content_breach *breach);
 
-/* ---- Logs: left out if FIO2070_NO_LOG is defined ---- */
+/** @} */
+
+/** @defgroup judge The judge of a link
+ * A struct fio2070_judge judges a log in which lines may be lost, of a module that may be restarted and whose counter may be
+ * loaded. It is both checkers, of the rules of the groups checker and content, and says of each frame what it is. Where lines
+ * are lost, below a restart, below a load that took effect, and below a breach of a rule of transcripts the place is lost: to
+ * the next poll nothing is judged, and from there on all rules are applied anew.
+ * @code
+ * const uint8_t poll[] = {54, 0}, block[] = {182, 0, 0, 0, 0, 0, 0, 11}, again[] = {182, 1, 0, 0, 0, 0, 0, 10}; // 11 ms, 10 ms
+ * const uint8_t next[] = {54, 1};
+ * struct fio2070_judge judge;
+ * struct fio2070_judge_outcome outcome;
+ * const struct fio2070_limits limits = FIO2070_STANDARD_LIMITS;
+ * if (fio2070_judge_start_anywhere(&judge, limits) != 0) return 1;
+ * if (fio2070_judge_sent(&judge, FIO2070_AT_CPU, poll, sizeof poll, &outcome) != FIO2070_OUTCOME_KEPT) return 1;
+ * if (fio2070_judge_heard(&judge, FIO2070_AT_CPU, block, sizeof block, &outcome) != FIO2070_OUTCOME_KEPT) return 1;
+ * if (fio2070_judge_sent(&judge, FIO2070_AT_CPU, next, sizeof next, &outcome) != FIO2070_OUTCOME_KEPT) return 1;
+ * if (fio2070_judge_heard(&judge, FIO2070_AT_CPU, again, sizeof again, &outcome) == FIO2070_OUTCOME_RESTARTED)
+ *     printf("the module restarted\n"); // the module restarted
+ * @endcode
+ * @{ */
+
+/** What a frame is. */
+enum fio2070_outcome {
+    FIO2070_OUTCOME_KEPT = 0,           /**< it keeps all rules */
+    FIO2070_OUTCOME_BROKEN = 1,         /**< it breaks a rule of transcripts */
+    FIO2070_OUTCOME_BROKEN_CONTENT = 2, /**< it breaks a rule on content */
+    FIO2070_OUTCOME_EXCUSED = 3,        /**< it would break a rule, but may be right */
+    FIO2070_OUTCOME_RESTARTED = 4,      /**< the module was restarted above it, or its stamp is wrong */
+    FIO2070_OUTCOME_NOT_JUDGED = 5      /**< no rule is applied to it */
+};
+
+/** Where a frame was logged: at the CPU's end, at the module, or on the bus between them. */
+enum fio2070_place {
+    FIO2070_AT_CPU = 0,
+    FIO2070_AT_MODULE = 1,
+    FIO2070_AT_BUS = 2
+};
+
+/** Why a frame is excused, or not judged. */
+enum fio2070_why {
+    FIO2070_WHY_NONE = 0,
+    FIO2070_WHY_LOAD = 1,          /**< excused: a load of the counter may have set its stamp back */
+    FIO2070_WHY_UNHEARD = 2,       /**< excused: the CPU's end may not have heard the answer to the poll above */
+    FIO2070_WHY_ABOVE_COMMAND = 3, /**< not judged: it is an answer above the first command */
+    FIO2070_WHY_PLACE_LOST = 4     /**< not judged: it is above the next poll below a place that is lost */
+};
+
+/** A judge of a link. Its fields are the library's own. */
+struct fio2070_judge {
+    struct fio2070_content_checker content;
+    struct fio2070_checker checker;
+    uint32_t latest;
+    uint32_t asked;
+    uint8_t has_latest;
+    uint8_t has_asked;
+    uint8_t lost;
+    uint8_t reserved[5];
+};
+
+/** What a frame is, and why. */
+struct fio2070_judge_outcome {
+    /** One of `FIO2070_OUTCOME_KEPT` and those after it. */
+    uint8_t kind;
+    /** Why it is excused or not judged, one of `FIO2070_WHY_LOAD` and those after it; else 0. */
+    uint8_t why;
+    /** The number of the rule that it breaks, one of `FIO2070_RULE_READABLE` or of `FIO2070_CONTENT_ORDER`
+     *  and those after it by its kind; else 0. */
+    uint8_t rule;
+    /** 1 where `due` and `got` are set: of rules of transcripts for advance and number, and for pair below
+     *  a command. */
+    uint8_t has_due;
+    /** The number of the poll or the block answer, or the type of the answer, that was due. */
+    uint8_t due;
+    /** The one that the frame has. */
+    uint8_t got;
+    /** The input of the entry that breaks a rule on content, or that whose state is another; else 255. */
+    uint8_t input;
+    /** 0. */
+    uint8_t reserved;
+    /** How many items of the frame's block are recorded above a breach of a rule on content, a gap mark
+     *  with them: for an answer none, at the end of a block all. */
+    uint16_t items;
+};
+
+/** Starts above the first frame of a log that begins anywhere, of a module with these limits: what the CPU's end heard above the
+ * first frame that it sent is not judged. Returns 0; where a limit is out of its range 1, and nothing changes. */
+FIO2070_MUST_USE
+uint8_t fio2070_judge_start_anywhere(struct fio2070_judge *judge, struct fio2070_limits limits);
+/** The same above the first frame of a log that begins with the start of both ends: it knows how the module begins, and finds
+ * more. In any other log it can accuse a right link. */
+FIO2070_MUST_USE
+uint8_t fio2070_judge_start_begun(struct fio2070_judge *judge, struct fio2070_limits limits);
+/** Takes a place where lines of the log are lost, such as a damaged frame, or where a part of it ends and another begins. */
+void fio2070_judge_lose(struct fio2070_judge *judge);
+/** Takes a frame that the CPU's end sent, by where it was logged, one of enum fio2070_place. Writes what it is, and returns its
+ * kind, one of enum fio2070_outcome. */
+FIO2070_MUST_USE
+uint8_t fio2070_judge_sent(struct fio2070_judge *judge, uint8_t at, const uint8_t *octets, size_t length,
+                           struct fio2070_judge_outcome *outcome);
+/** As `fio2070_judge_sent`, for a frame that the module sent, and the CPU's end heard if the log is its own. */
+FIO2070_MUST_USE
+uint8_t fio2070_judge_heard(struct fio2070_judge *judge, uint8_t at, const uint8_t *octets, size_t length,
+                            struct fio2070_judge_outcome *outcome);
+
+/** @} */
+
+/** @defgroup log Logs
+ * A struct fio2070_log_reader finds the messages in a log of a serial monitor, an analyser or a driver (docs/CAPTURES.md). It
+ * says of each line what it is, and returns the frames in it and where they are written. Give it all octets, in pieces of any
+ * length; then end the log, and call it with none until a batch has no verdict. If FIO2070_NO_LOG is defined, there are no
+ * such calls.
+ * @code
+ * static struct fio2070_log_reader reader; // both take about half a megabyte
+ * static struct fio2070_log_batch batch;
+ * const char text[] = "10:00:00.123 RX b6 05 01 8c 03 e7 00 00 00 03 e8\n";
+ * size_t count = sizeof text - 1, taken = 0;
+ * int is_ended = 0;
+ * fio2070_log_start(&reader, FIO2070_LOG_AUTO);
+ * do {
+ *     if (taken == count && !is_ended) {
+ *         fio2070_log_end(&reader);
+ *         is_ended = 1;
+ *     }
+ *     taken += fio2070_log_read(&reader, (const uint8_t *)text + taken, count - taken, &batch);
+ *     for (uint32_t n = 0; n < batch.verdict_count; n++)
+ *         printf("line %d: frames: %d\n", (int)batch.verdicts[n].line, (int)batch.verdicts[n].frames); // line 1: frames: 1
+ * } while (!is_ended || batch.verdict_count > 0);
+ * @endcode
+ * @{ */
 
 #ifndef FIO2070_NO_LOG
 /** How the lines of a log are read. By order a line is read without what is no character of it, and also ends at CR. */
@@ -913,15 +1149,15 @@ struct fio2070_log_reader {
 void fio2070_log_start(struct fio2070_log_reader *reader, uint8_t form);
 /** Takes octets of the log until all are taken or `batch` has no room for another verdict, and returns how many it took. The
  * log is cut into pieces anywhere. The batch then has the verdicts that were due, each line's once and in order: a line gets
- * its verdict as soon as it is decided, which can be lines later. Each of its frames spells a message. Call it again with the
+ * its verdict as soon as it is decided, which can be lines later. Each of its frames is a message. Call it again with the
  * octets that were not taken. What the batch held before is overwritten.
  *
  * After fio2070_log_end it takes no octets until it has given each verdict. Octets then begin a new log of the same form,
  * whose lines are counted from 1.
  *
  * Proved are: which lines the octets make that it takes; that the verdicts in a batch are those of the next lines, each once
- * and in order, with as many frames and places as they say; that each frame spells a message; and that a new log begins as
- * said. How many octets it takes, when a verdict is due and what it says are tested. */
+ * and in order, with all their frames and places; that each frame spells a message and is written at its places; and that a
+ * new log begins as said. How many octets it takes, when a verdict is due and what it says are tested. */
 FIO2070_MUST_USE
 size_t fio2070_log_read(struct fio2070_log_reader *reader, const uint8_t *octets, size_t length,
                         struct fio2070_log_batch *batch);
@@ -930,7 +1166,18 @@ size_t fio2070_log_read(struct fio2070_log_reader *reader, const uint8_t *octets
 void fio2070_log_end(struct fio2070_log_reader *reader);
 #endif
 
-/* ---- Parts of a module ---- */
+/** @} */
+
+/** @defgroup parts Parts of a module
+ * The counter and the filters of a module by themselves, for a firmware that has the rest.
+ * @code
+ * const struct fio2070_configuration_item item = {12, 0, 1, 1}; // input 12 is reported, after one sample
+ * struct fio2070_filters filters;
+ * fio2070_filters_start(&filters);
+ * if (fio2070_filters_configure(&filters, &item, 1).kind != FIO2070_CONFIGURED_APPLIED) return 1;
+ * printf("changed: %lx\n", (unsigned long)fio2070_filters_scan(&filters, ~(UINT64_C(1) << 12))); // changed: 1000
+ * @endcode
+ * @{ */
 
 /** The millisecond counter. Its fields are the library's own. */
 struct fio2070_counter {
@@ -981,7 +1228,7 @@ struct fio2070_configured {
 /** Each input is ignored, both its filters are 5, and its raw level and filtered state are 1 (own
  * profile). */
 void fio2070_filters_start(struct fio2070_filters *filters);
-/** Applies the items in their order; where one names an input above 63, or there are more than 255,
+/** Applies the items in their order; if one names an input above 63, or there are more than 255,
  * none, and nothing changes (own profile). An applied item starts the samples of its input anew from
  * the present filtered state. */
 FIO2070_MUST_USE
@@ -995,7 +1242,23 @@ uint64_t fio2070_filters_filtered(const struct fio2070_filters *filters);
 /** The levels of the last scan, all 1 before any (own profile). */
 uint64_t fio2070_filters_raw(const struct fio2070_filters *filters);
 
-/* ---- The module (TEES 2009, in the own profile of 64 inputs and 64 outputs) ---- */
+/** @} */
+
+/** @defgroup module The module
+ * A struct fio2070_module is a whole module, in the own profile of 64 inputs and 64 outputs: the filters, the counter, the
+ * entries that wait for a poll, and the answer to each command. A struct fio2070_sized_module is one with more or fewer waiting
+ * entries, in slots of the caller.
+ * @code
+ * static struct fio2070_module module;
+ * const struct fio2070_limits limits = FIO2070_STANDARD_LIMITS;
+ * const uint8_t identify[] = {60};
+ * uint8_t answer[FIO2070_LONGEST_FRAME];
+ * if (fio2070_module_start(&module, 2, limits) != FIO2070_STARTED) return 1;
+ * fio2070_module_scan(&module, ~UINT64_C(0)); // each millisecond, with the levels of the inputs
+ * size_t count = fio2070_module_receive(&module, identify, sizeof identify, answer, sizeof answer);
+ * if (count > 0 && count <= sizeof answer) printf("%d octets: %d %d\n", (int)count, answer[0], answer[1]); // 2 octets: 188 2
+ * @endcode
+ * @{ */
 
 /** The data and control octets of command 55. */
 struct fio2070_outputs {
@@ -1020,7 +1283,7 @@ struct fio2070_slot {
 
 /** An array of such room. FIO2070_RING makes it of an array, and of nothing else. */
 struct fio2070_ring {
-    struct fio2070_slot *slots; /**< may be null where there are none */
+    struct fio2070_slot *slots; /**< may be null if there are none */
     size_t capacity;            /**< how many there are */
 };
 
@@ -1076,7 +1339,7 @@ struct fio2070_sized_module {
     uint8_t reserved[16];
 };
 
-/** Starts a module that answers `id` to command 60, with these limits. Returns FIO2070_STARTED; where `waiting` is not 1 to
+/** Starts a module that answers `id` to command 60, with these limits. Returns FIO2070_STARTED; if `waiting` is not 1 to
  * 8,192, or `per_block` is 0, FIO2070_REFUSED, and then nothing changes: the struct is not started. */
 FIO2070_MUST_USE
 uint8_t fio2070_sized_module_start(struct fio2070_sized_module *module, uint8_t id, struct fio2070_limits limits);
@@ -1084,7 +1347,7 @@ uint8_t fio2070_sized_module_start(struct fio2070_sized_module *module, uint8_t 
  * waiting entries and the block that was sent last are lost (own profile). */
 void fio2070_sized_module_restart(struct fio2070_sized_module *module);
 /** Steps the counter by one millisecond, then samples each input; bit i of `raw` is the level of input i (own profile: one
- * scan a step). Each reported transition becomes a waiting entry; where as many wait as the limit says it pushes out the
+ * scan a step). Each reported transition becomes a waiting entry; if as many wait as the limit says it pushes out the
  * oldest. */
 void fio2070_sized_module_scan(struct fio2070_sized_module *module, struct fio2070_ring ring, uint64_t raw);
 /** LINESYNC goes from 0 to 1: a load of the counter that was asked for happens now (TEES 2009). */
@@ -1098,11 +1361,11 @@ void fio2070_sized_module_set_errors(struct fio2070_sized_module *module, uint8_
 void fio2070_sized_module_count_receive_error(struct fio2070_sized_module *module);
 /** Counts one more error in transmitting; 255 stays 255 (own profile). */
 void fio2070_sized_module_count_transmit_error(struct fio2070_sized_module *module);
-/** Carries out the command that the octets spell, writes the answer to the front of `out`, and returns how many octets it
+/** Carries out the command in the octets, writes the answer to the front of `out`, and returns how many octets it
  * has, 2 to 773. 0 for a command without an answer: 56, 57 and 59, which change nothing (own profile). FIO2070_NO_MESSAGE
- * if the octets spell no command, and then nothing changes.
+ * if the octets are no command, and then nothing changes.
  *
- * `room` is to be enough for the longest answer of this module, the larger of 13 and 8 + 3 * per_block octets: where it is
+ * `room` is to be enough for the longest answer of this module, the larger of 13 and 8 + 3 * per_block octets: if it is
  * less nothing changes, and that number is returned. */
 FIO2070_MUST_USE
 size_t fio2070_sized_module_receive(struct fio2070_sized_module *module, struct fio2070_ring ring, const uint8_t *octets,
@@ -1132,14 +1395,14 @@ struct fio2070_module {
 };
 
 /** Starts a module that answers `id` to command 60, with these limits: FIO2070_STANDARD_LIMITS are those of TEES 2009, 1,024
- * entries that wait and 255 of a block. Returns FIO2070_STARTED; where `waiting` is not 1 to 1,024, or `per_block` is 0,
+ * entries that wait and 255 of a block. Returns FIO2070_STARTED; if `waiting` is not 1 to 1,024, or `per_block` is 0,
  * FIO2070_REFUSED, and then nothing changes: the struct is not started. */
 FIO2070_MUST_USE
 static inline uint8_t fio2070_module_start(struct fio2070_module *module, uint8_t id, struct fio2070_limits limits) {
     if (limits.waiting > FIO2070_STANDARD_WAITING) return FIO2070_REFUSED;
     return fio2070_sized_module_start(&module->sized, id, limits);
 }
-/** As fio2070_sized_module_restart, and so each call below. */
+/** As fio2070_sized_module_restart. Each further call of a fio2070_module is as that of the same name of a sized one. */
 static inline void fio2070_module_restart(struct fio2070_module *module) {
     fio2070_sized_module_restart(&module->sized);
 }
@@ -1190,6 +1453,8 @@ static inline struct fio2070_error_counts fio2070_module_errors(const struct fio
 static inline size_t fio2070_module_waiting(const struct fio2070_module *module) {
     return fio2070_sized_module_waiting(&module->sized);
 }
+
+/** @} */
 
 /* ---- Layout: written by tools/generate-layouts ---- */
 /* Each struct has this size and these offsets with every compiler. */
@@ -1269,6 +1534,18 @@ FIO2070_SAME(fault, sizeof(struct fio2070_fault) == 16 &&
 FIO2070_SAME(configured, sizeof(struct fio2070_configured) == 16 &&
              offsetof(struct fio2070_configured, reserved) == 1 &&
              offsetof(struct fio2070_configured, place) == 8);
+
+FIO2070_SAME(judge, sizeof(struct fio2070_judge) == 728);
+
+FIO2070_SAME(judge_outcome, sizeof(struct fio2070_judge_outcome) == 10 &&
+             offsetof(struct fio2070_judge_outcome, why) == 1 &&
+             offsetof(struct fio2070_judge_outcome, rule) == 2 &&
+             offsetof(struct fio2070_judge_outcome, has_due) == 3 &&
+             offsetof(struct fio2070_judge_outcome, due) == 4 &&
+             offsetof(struct fio2070_judge_outcome, got) == 5 &&
+             offsetof(struct fio2070_judge_outcome, input) == 6 &&
+             offsetof(struct fio2070_judge_outcome, reserved) == 7 &&
+             offsetof(struct fio2070_judge_outcome, items) == 8);
 
 #ifndef FIO2070_NO_LOG
 FIO2070_SAME(log_reader, sizeof(struct fio2070_log_reader) == 524288);

@@ -3,9 +3,9 @@
  *
  * The field I/O transition link of the Model 2070: the header for C++17, above fio2070.h.
  *
- * Sources: 499100f80aa16f7c255bfc45560b795c9a75c6a5e6b6303a8216a64195adef2f (SHA-256; packaging/release-files --sources)
+ * Sources: 66a8a5634bbe48f7d147aaeec65e97626a732423a3e1907c7d279d65b2ae24b4 (SHA-256; packaging/release-files --sources)
  * Kit: rattle-kit-13f logic dac8208d650f15bf
- * Proof: logic=proved functions=163 target=wasm64-unknown-unknown sum=dac8208d650f15bf native=nat,char,string
+ * Proof: logic=proved functions=177 target=wasm64-unknown-unknown sum=dac8208d650f15bf native=nat,char,string
  * Made by `make release-files`: do not edit.
  *
  * Proved is the module of which fio2070.c was made, for wasm64: each call does what fio2070.h says for all octets,
@@ -435,6 +435,46 @@ private:
     ::fio2070_content_checker content_{};
 };
 
+/// The judge of a link: both checkers of a log in which lines may be lost, of a module that may be restarted and whose counter may
+/// be loaded. `at` is where a frame was logged, one of `fio2070_place`.
+class LinkJudge {
+public:
+    /// A judge of a log that begins anywhere, of a module with these limits. None where one is out of its range.
+    static std::optional<LinkJudge> anywhere(std::uint8_t per_block = FIO2070_MOST_ENTRIES,
+                                             std::uint16_t waiting = FIO2070_STANDARD_WAITING) {
+        return started_by(::fio2070_judge_start_anywhere, per_block, waiting);
+    }
+    /// The same of a log that begins with the start of both ends, of which it finds more.
+    static std::optional<LinkJudge> begun(std::uint8_t per_block = FIO2070_MOST_ENTRIES,
+                                          std::uint16_t waiting = FIO2070_STANDARD_WAITING) {
+        return started_by(::fio2070_judge_start_begun, per_block, waiting);
+    }
+    /// Lines of the log are lost here, such as a damaged frame, or a part of it ends and another begins.
+    void lose() { ::fio2070_judge_lose(&judge_); }
+    /// What a frame is that the CPU sent.
+    ::fio2070_judge_outcome sent(Octets octets, std::uint8_t at = FIO2070_AT_CPU) {
+        ::fio2070_judge_outcome outcome;
+        outcome.kind = ::fio2070_judge_sent(&judge_, at, octets.data(), octets.size(), &outcome);
+        return outcome;
+    }
+    /// What a frame is that the module sent.
+    ::fio2070_judge_outcome heard(Octets octets, std::uint8_t at = FIO2070_AT_CPU) {
+        ::fio2070_judge_outcome outcome;
+        outcome.kind = ::fio2070_judge_heard(&judge_, at, octets.data(), octets.size(), &outcome);
+        return outcome;
+    }
+
+private:
+    static std::optional<LinkJudge> started_by(std::uint8_t (*start)(::fio2070_judge *, ::fio2070_limits), std::uint8_t per_block,
+                                               std::uint16_t waiting) {
+        std::optional<LinkJudge> judge{LinkJudge()};
+        if (start(&judge->judge_, {waiting, per_block, 0}) != FIO2070_STARTED) judge.reset();
+        return judge;
+    }
+    LinkJudge() = default;
+    ::fio2070_judge judge_{};
+};
+
 #ifndef FIO2070_NO_LOG
 /// A reader of a log, which takes its octets in pieces of any length. It has half a megabyte: make it static or on the heap.
 class LogReader {
@@ -658,6 +698,11 @@ inline bool operator==(const fio2070_content_breach &one, const fio2070_content_
     return one.rule == other.rule && one.input == other.input && one.items == other.items;
 }
 inline bool operator!=(const fio2070_content_breach &one, const fio2070_content_breach &other) { return !(one == other); }
+inline bool operator==(const fio2070_judge_outcome &one, const fio2070_judge_outcome &other) {
+    return one.kind == other.kind && one.why == other.why && one.rule == other.rule && one.has_due == other.has_due &&
+           one.due == other.due && one.got == other.got && one.input == other.input && one.items == other.items;
+}
+inline bool operator!=(const fio2070_judge_outcome &one, const fio2070_judge_outcome &other) { return !(one == other); }
 // Of commands and answers without what follows their fields: items, entries and bodies.
 inline bool operator==(const fio2070_command &one, const fio2070_command &other) {
     return one.code == other.code && one.clear == other.clear && one.block == other.block &&
