@@ -124,10 +124,14 @@ def is_number_before(digits):
 
 
 def lists_of(words):
-    """The parts of a sequence of words that are octets: all, or those between words of other lengths."""
+    """The parts of a sequence of words that are octets: all, or those between words of other lengths. A number before octets is
+    none of them; one of several digits may be."""
     digits = [one[1] for one in words]
     if is_number_before(digits):
-        words, digits = words[1:], digits[1:]
+        if len(digits[0]) > 1:
+            yield words[1:]
+        else:
+            words, digits = words[1:], digits[1:]
     if is_hex_list(digits):
         yield words
         if len(words) == 1 or all(len(one) != 1 for one in digits):

@@ -109,12 +109,10 @@ fn find_marked(
 {
     let mut place = 0;
     'runs: while let Some(found) = next_words(line, place, finder.gap, mark, is_short, octets) {
-        if !may_begin_with_number(line, found, octets.as_slice()) {
-            keep(line, found, octets, finder, runs);
-        } else if !keep_behind_number(line, found, octets, finder, runs)
-            && let Some(again) = next_words(line, place, finder.gap, mark, is_short, octets)
-        {
-            keep(line, again, octets, finder, runs);
+        let may_begin_with_number = may_begin_with_number(line, found, octets.as_slice());
+        keep(line, found, octets, finder, runs);
+        if may_begin_with_number {
+            keep_behind_number(line, found, octets, finder, runs);
         }
         place = found.next;
     }
@@ -136,24 +134,24 @@ fn may_begin_with_number(line: &[u8], run: Found, octets: &[u8]) -> bool {
         && !says(octets)
 }
 
-/// Keeps a run without its first word if the other words say a message, and returns whether they do.
+/// Keeps a run without its first word too, if the other words say a message.
 fn keep_behind_number(
     line: &[u8],
     whole: Found,
     octets: &mut Octets,
     finder: &mut Finder,
     runs: &mut LineRuns,
-) -> bool
+)
     requires { All (IsLineRun line.now) runs.old.all.items }
     ensures { All (IsLineRun line.now) runs.new.all.items }
 {
     let place = whole.start.saturating_add(1);
-    match next_words(line, place, finder.gap, whole.mark, whole.is_short, octets) {
-        Some(rest) if rest.start < whole.next && says(octets.as_slice()) => {
-            keep(line, rest, octets, finder, runs);
-            true
-        }
-        _ => false,
+    let second = next_words(line, place, finder.gap, whole.mark, whole.is_short, octets);
+    if let Some(rest) = second
+        && rest.start < whole.next
+        && says(octets.as_slice())
+    {
+        keep(line, rest, octets, finder, runs);
     }
 }
 
