@@ -149,12 +149,12 @@ def check_said(check):
     """Why lines are passed over, the text of each, and octets without a zero first."""
     frames = 'TX 36 05\nRX B6 05 00 00 00 00 00 01\n'
     text = 'hello\n' * 3 + '01 02 03 04\n' * 2 + 'RX B6 05 01 8C 03 E7 00 00 00 03 E8 A4 7C\n' + frames
-    reasons = re.findall(r'(\d) lines? passed over \((\d) [^,]*, (\d) [^,]*, (\d) [^,)]*\)', fiolog('check', text=text).out)
+    reasons = re.findall(r'(\d) skipped lines? \([^,]* (\d), [^,]* (\d), [^,)]* (\d)\)', fiolog('check', text=text).out)
     check.equal('three reasons', [('6', '3', '2', '1')], reasons)
     named = re.findall(r'line (\d): no octets: (\w+)', fiolog('check', '-v', text=frames + 'one\ntwo\nthree\n').err)
     check.equal('the text of each line', [('3', 'one'), ('4', 'two'), ('5', 'three')], named)
     done = fiolog('check', text='TX 0x36 0x5\nRX 0xb6 0x5 0x0 0x0 0x0 0x0 0x0 0x1\n')
-    check.holds('octets without zeros', '2 frames have octets as numbers without zeros before them' in done.err, done.err)
+    check.holds('octets without zeros', 'frames with octets as numbers without zeros before them: 2;' in done.err, done.err)
 
 
 def check_hints(check):

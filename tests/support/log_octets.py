@@ -119,7 +119,10 @@ def is_number_before(digits):
     """Whether the first of these words is a number, and the octets of a message are after it."""
     if len(digits) < 2 or not digits[0].isdecimal():
         return False
-    is_list = is_hex_list(digits[1:]) if len(digits[0]) == 1 else all(len(one) % 2 == 0 for one in digits)
+    if len(digits[0]) == 1:
+        is_list = is_hex_list(digits[1:])
+    else:
+        is_list = all(len(one) % 2 == 0 for one in digits) and len(octets_of(digits[1:])) > 1
     return is_list and said(octets_of(digits[1:])) is not None and said(octets_of(digits)) is None
 
 

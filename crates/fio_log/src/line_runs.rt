@@ -134,7 +134,7 @@ fn may_begin_with_number(line: &[u8], run: Found, octets: &[u8]) -> bool {
         && !says(octets)
 }
 
-/// Keeps a run without its first word too, if the other words say a message.
+/// Keeps a run without its first word too, if the other words say a message of two octets or more.
 fn keep_behind_number(
     line: &[u8],
     whole: Found,
@@ -149,6 +149,7 @@ fn keep_behind_number(
     let second = next_words(line, place, finder.gap, whole.mark, whole.is_short, octets);
     if let Some(rest) = second
         && rest.start < whole.next
+        && octets.len() > 1
         && says(octets.as_slice())
     {
         keep(line, rest, octets, finder, runs);
