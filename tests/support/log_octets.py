@@ -115,22 +115,24 @@ def sequences(text, marks):
         yield found, separator
 
 
-def is_number_before(digits):
+def is_number_before(digits, is_behind_words):
     """Whether the first of these words is a number, and the octets of a message are after it."""
     if len(digits) < 2 or not digits[0].isdecimal():
         return False
     if len(digits[0]) == 1:
         is_list = is_hex_list(digits[1:])
     else:
-        is_list = all(len(one) % 2 == 0 for one in digits) and len(octets_of(digits[1:])) > 1
+        width, last = len(digits[0]), len(digits[-1])
+        is_list = (is_behind_words and width in (2, 4, 8) and all(len(one) == width for one in digits[:-1])
+                   and last % 2 == 0 and last <= width and len(octets_of(digits[1:])) > 1)
     return is_list and said(octets_of(digits[1:])) is not None and said(octets_of(digits)) is None
 
 
-def lists_of(words):
+def lists_of(words, text, has_marks):
     """The parts of a sequence of words that are octets: all, or those between words of other lengths. A number before octets is
-    none of them; one of several digits may be."""
+    none of them; one of several digits, behind other words and without marks, may be."""
     digits = [one[1] for one in words]
-    if is_number_before(digits):
+    if is_number_before(digits, not has_marks and any(one.isalnum() or one == '_' for one in text[:words[0].start()])):
         if len(digits[0]) > 1:
             yield words[1:]
         else:
@@ -152,7 +154,7 @@ def hex_runs(text):
     for marks in MARKS:
         for words, separator in sequences(text, marks):
             is_digit = any(marks) and len(words) == len(words[0][1]) == 1
-            for part in [words] if is_digit else lists_of(words):
+            for part in [words] if is_digit else lists_of(words, text, any(marks)):
                 if len(part) == 1 and marks[0] and not marks[1]:
                     continue        # One word in quotes or brackets is bare.
                 digits = [one[1] for one in part]

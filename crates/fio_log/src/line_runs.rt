@@ -6,7 +6,7 @@ ghost use Rattle.fio_log.specs.LineRuns.{IsLineRun, IsWrittenAt};
 
 use crate::around::{Around, LITERAL_MARK};
 use crate::clock::time_in;
-use crate::digits::is_decimal;
+use crate::digits::{is_decimal, is_letter};
 use crate::directions::direction_of;
 use crate::found::{Found, bracketed_at, next_words};
 use crate::glance::Glance;
@@ -118,16 +118,17 @@ fn find_marked(
     }
 }
 
-/// Returns whether a run may be octets behind a number: it has several words without marks, of which the first is decimal, and
-/// says no message.
+/// Returns whether a run may be octets behind a number: it is behind other words, has several words without marks, of which the
+/// first is decimal, and says no message.
 fn may_begin_with_number(line: &[u8], run: Found, octets: &[u8]) -> bool {
-    let Some(text) = line.get(run.start..run.end) else {
+    let (Some(before), Some(text)) = (line.get(..run.start), line.get(run.start..run.end)) else {
         return false;
     };
     let end = digits_end(text, 0);
     run.mark == 0
         && !run.is_short
         && end < text.len()
+        && before.iter().any(|character| is_letter(*character))
         && text
             .get(..end)
             .is_some_and(|word| word.iter().all(|digit| is_decimal(*digit)))
