@@ -130,9 +130,10 @@ def is_number_before(digits, is_behind_words):
 
 def lists_of(words, text, has_marks):
     """The parts of a sequence of words that are octets: all, or those between words of other lengths. A number before octets is
-    none of them; one of several digits, behind other words and without marks, may be."""
+    none of them; one of several digits, behind other words, without marks and at the end of the line, may be."""
     digits = [one[1] for one in words]
-    if is_number_before(digits, not has_marks and any(one.isalnum() or one == '_' for one in text[:words[0].start()])):
+    is_behind_words = any(one.isalnum() or one == '_' for one in text[:words[0].start()]) and not text[words[-1].end():].strip(' \t,;')
+    if is_number_before(digits, is_behind_words and not has_marks):
         if len(digits[0]) > 1:
             yield words[1:]
         else:

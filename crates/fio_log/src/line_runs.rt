@@ -18,7 +18,7 @@ use crate::places::Notation;
 use crate::sayings::{Saying, read_saying};
 use crate::sides::said_at;
 use crate::sources::numbers_in;
-use crate::surroundings::{Before, Gap, read_after};
+use crate::surroundings::{Before, Gap, has_tail, read_after};
 use std::mem;
 
 /// What is known during the search for the runs of a line.
@@ -118,10 +118,14 @@ fn find_marked(
     }
 }
 
-/// Returns whether a run may be octets behind a number: it is behind other words, has several words without marks, of which the
-/// first is decimal, and says no message.
+/// Returns whether a run may be octets behind a number: it is behind other words and ends its line, has several words without
+/// marks, of which the first is decimal, and says no message.
 fn may_begin_with_number(line: &[u8], run: Found, octets: &[u8]) -> bool {
-    let (Some(before), Some(text)) = (line.get(..run.start), line.get(run.start..run.end)) else {
+    let (Some(before), Some(text), Some(after)) = (
+        line.get(..run.start),
+        line.get(run.start..run.end),
+        line.get(run.end..),
+    ) else {
         return false;
     };
     let end = digits_end(text, 0);
@@ -129,6 +133,7 @@ fn may_begin_with_number(line: &[u8], run: Found, octets: &[u8]) -> bool {
         && !run.is_short
         && end < text.len()
         && before.iter().any(|character| is_letter(*character))
+        && !has_tail(after)
         && text
             .get(..end)
             .is_some_and(|word| word.iter().all(|digit| is_decimal(*digit)))

@@ -99,7 +99,7 @@ pub(crate) fn read_after(text: &[u8], octets: &[u8]) -> After {
 }
 
 /// Returns whether a text has more than separators.
-fn has_tail(text: &[u8]) -> bool {
+pub(crate) fn has_tail(text: &[u8]) -> bool {
     for character in text {
         if !matches!(*character, b' ' | b'\t' | b',' | b';') {
             return true;
