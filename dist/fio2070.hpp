@@ -3,7 +3,7 @@
  *
  * The field I/O transition link of the Model 2070: the header for C++17, above fio2070.h.
  *
- * Sources: 66a8a5634bbe48f7d147aaeec65e97626a732423a3e1907c7d279d65b2ae24b4 (SHA-256; packaging/release-files --sources)
+ * Sources: 9cfc9ca7d8350edb7918f96e9674da4291c8e7b5e6dd94778665a3cb07cef953 (SHA-256; packaging/release-files --sources)
  * Kit: rattle-kit-13f logic dac8208d650f15bf
  * Proof: logic=proved functions=177 target=wasm64-unknown-unknown sum=dac8208d650f15bf native=nat,char,string
  * Made by `make release-files`: do not edit.
