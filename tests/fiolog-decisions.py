@@ -44,8 +44,8 @@ WRONG = [
 
 # In a log with lines of neighbours: in a few of three hundred random ones.
 OPEN_BESIDE_NEIGHBOURS = [
-    Cause('when a number before octets is known to be of no frame, below frames that come with it later', neighbours(152),
-          lambda model, library, text: (model.kind, library.kind) == ('passed over', 'damaged')
+    Cause('when a number before octets is known to be of no frame, if frames come with it later', neighbours(152),
+          lambda model, library, text: {model.kind, library.kind} == {'passed over', 'damaged'}
           and model.reason == library.reason != 'no octets' and re.search(r'\d.*\W[0-9A-Fa-f]{2}', text)),
     Cause('whether a line that waits is a frame, if a ninth value below it shows that its number is a count', neighbours(163),
           lambda model, library, text: (model.kind, library.kind) == ('damaged', 'frames') and len(library.frames[0]) < 8
