@@ -49,7 +49,7 @@ static size_t octets_in(const char *text, uint8_t *octets) {
     static const char digits[] = "0123456789abcdef";
     size_t count = 0;
     const char *high, *low;
-    while (*text && (high = strchr(digits, text[0])) != NULL && (low = strchr(digits, text[1])) != NULL) {
+    while (text[0] && text[1] && (high = strchr(digits, text[0])) != NULL && (low = strchr(digits, text[1])) != NULL) {
         octets[count++] = (uint8_t)(16 * (high - digits) + (low - digits));
         text += 2;
     }
