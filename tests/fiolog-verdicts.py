@@ -142,7 +142,8 @@ def check_places(check):
             with open(path, 'w', encoding='ascii') as file:
                 file.write('> 34\n< b301\n' + good)
         for words, count in ((['--start-at-poll'], 0), ([], 2)):
-            check.equal('record %s of two files' % ' '.join(words), count, fiolog('record', *words, *paths).out.count('breaks pair'))
+            for title, files in (('two files', paths), ('a file twice', paths[:1] * 2)):
+                check.equal('record %s of %s' % (' '.join(words), title), count, fiolog('record', *words, *files).out.count('breaks pair'))
 
 
 def check_said(check):

@@ -107,13 +107,13 @@ def frames_judged(read, option, late=None):
     """Each frame and each damaged line of a log, with the breaches that are certain now and what judges it, anew for each file; at
     the end of a file None with the other breaches. With --start-at-poll from the first poll on. If late answers are left out, they
     are counted in `late`."""
-    judgement, name = None, None
+    judgement, reader = None, None
     for event in read.events():
         if event.kind not in JUDGED:
             continue
-        if name != read.name or judgement is None:
+        if reader is not read.reader or judgement is None:
             yield from _ended(read, judgement)
-            judgement, name, is_open = sides.Judgement(rules_for(option, late)), read.name, not option.start_at_poll
+            judgement, reader, is_open = sides.Judgement(rules_for(option, late)), read.reader, not option.start_at_poll
         is_open = is_open or event.octets[:1] == bytes([POLL])
         if is_open or event.kind in LOSSES:
             yield event, judgement.add(event), judgement
