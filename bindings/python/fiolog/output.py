@@ -124,9 +124,8 @@ def made(name, is_binary=False):
         return
     place = os.path.realpath(name)
     beside = os.path.join(os.path.dirname(place), '.fiolog-' + secrets.token_hex(4))
-    file = _file_of(_opened_beside(name, beside, state), name, is_binary)
-    try:
-        with file:
+    try:    # a signal may come as soon as the file is there
+        with _file_of(_opened_beside(name, beside, state), name, is_binary) as file:
             yield file
             file.flush()
             os.fsync(file.fileno())     # what takes the place of a file is on the disk
