@@ -22,4 +22,6 @@ pub mod ContentLaws
 pub mod LinkJudges
 pub mod LinkKept
 pub mod LinkLaws
+pub mod LateAnswers
+pub mod LogJudges
 pub mod Finding

@@ -6,6 +6,7 @@ ghost use Rattle.fio_check.specs.Checkers.{checker_with};
 ghost use Rattle.fio_check.specs.ContentKept.{content_checking};
 ghost use Rattle.fio_check.specs.LinkJudges.{any_stamp_in, asked_below, content_here, is_answer_set_back, is_asked_again, is_at_cpu, is_set_back, is_unheard, judging_anywhere, judging_at, judging_begun, judging_below_outcome, judging_lost, judging_passed, judging_with, loads_below, loads_left, outcome_found, outcome_in, outcome_judged, outcome_set_back, place_lost, stamp_above, unjudged_by};
 ghost use Rattle.fio_check.specs.LinkKept.{judging};
+ghost use Rattle.fio_check.specs.LogJudges.{outcome_without_content, without_content};
 ghost use Rattle.fio_check.specs.Observations.{observation_in};
 
 use crate::checker::{Checker, Skips};
@@ -180,7 +181,31 @@ impl LinkJudge {
         self.lost = false;
     }
 
+    /// Forgets what is above of content and of stamps, but for the loads of the counter.
+    pub(crate) fn forget_content(&mut self)
+        ensures { judging self.new ≡ without_content (judging self.old) }
+    {
+        self.content.begin_again();
+        self.latest = None;
+        self.asked = None;
+    }
+
     // ---- Frames that are judged
+
+    /// Takes an answer that says this, of which the rules on content are told nothing, and returns what it is.
+    pub(crate) fn answer_without_content(&mut self, observation: Observation) -> Outcome
+        ensures outcome { result ≡ outcome_without_content (judging self.old) observation }
+        ensures next { judging self.new ≡ (record (judging self.old) {
+          checker = checker_with self.old.checker false observation }) }
+    {
+        if self.checker.passes_over(false, observation) {
+            return Outcome::NotJudged(unjudged_by(self.checker.skips));
+        }
+        match self.checker.take(false, observation) {
+            Some(breach) => Outcome::Broken(breach),
+            None => Outcome::Kept,
+        }
+    }
 
     /// Judges a frame that says this, but for its stamp.
     fn judge(

@@ -1,0 +1,272 @@
+-- The judge of a log: what it says of each frame, by the frames and by what is known of the lines between them.
+--
+-- It is the judge of a link, which finds by itself where the log was taken, loses the place at lines that may have held a frame,
+-- and may leave out late answers.
+use Rattle.std.specs.Prelude.{ℕ, ◌==◌, ◌+◌, ◌&&◌, ◌||◌, Bool, List, true, false, not, nat_lt, Option, Some, None, option_map, is_some, if◌then◌else◌}
+use Rattle.fio_check.specs.Checkers.{checker_with, found_by, passes_over}
+use Rattle.fio_check.specs.LateAnswers.{late_above, late_with, lateness_of}
+use Rattle.fio_check.specs.LinkJudges.{Judging, checking_again, judging_anywhere, judging_begun, judging_lost, judging_with, loads_left, outcome_found, outcome_in, unjudged_by}
+use Rattle.fio_check.specs.LinkKept.{judging}
+use Rattle.fio_check.specs.Observations.{observation_in}
+use Rattle.fio_check.specs.Places.{is_some_and}
+use Rattle.fio_check.specs.declared.late_answers.LateAnswers.{LateAnswers}
+use Rattle.fio_check.specs.declared.late_answers.Lateness.{Lateness}
+use Rattle.fio_check.specs.declared.late_answers.Lateness.TheVariants.{InTime, LateButTaken} 
+use Rattle.fio_check.specs.declared.late_answers.Lateness.TheVariants.{Late as LateOne}
+use Rattle.fio_check.specs.declared.limits.Limits.{Limits}
+use Rattle.fio_check.specs.declared.log_judge.LogJudge.{LogJudge}
+use Rattle.fio_check.specs.declared.log_judge.LogOutcome.{LogOutcome}
+use Rattle.fio_check.specs.declared.log_judge.LogOutcome.TheVariants.{Late, Link}
+use Rattle.fio_check.specs.declared.log_judge.LogStart.{LogStart}
+use Rattle.fio_check.specs.declared.log_judge.LogStart.TheVariants.{Anywhere, Begun, LateAnswers as StartLate}
+use Rattle.fio_check.specs.declared.observation.Observation.{Observation}
+use Rattle.fio_check.specs.declared.observation.Observation.TheVariants.{Block, Poll}
+use Rattle.fio_check.specs.declared.outcome.Excuse.TheVariants.{Load, Unheard}
+use Rattle.fio_check.specs.declared.outcome.LogPlace.{LogPlace}
+use Rattle.fio_check.specs.declared.outcome.LogPlace.TheVariants.{Bus, Cpu, Module}
+use Rattle.fio_check.specs.declared.outcome.Outcome.{Outcome}
+use Rattle.fio_check.specs.declared.outcome.Outcome.TheVariants.{Kept, Broken, BrokenContent, Excused, Restarted, NotJudged}
+use Rattle.fio_check.specs.declared.rules.Rule.{Rule}
+use Rattle.fio_check.specs.declared.rules.Rule.TheVariants.{Pair, Number, Advance, Same, Refusal}
+
+-- what a judge of a log keeps
+pub record LogJudging : Type 0 where
+  pub link : Judging
+  -- what tells which answers are late, if these are left out
+  pub late : Option LateAnswers
+  -- where the log was taken, if that is known
+  pub place : Option LogPlace
+  -- how many frames were sent by the end that the log says, and how many by the other one
+  pub agreeing : ℕ
+  pub contrary : ℕ
+  -- there is a frame above
+  pub has_frames : Bool
+  -- a line below the latest poll and the latest block answer speaks of loss
+  pub missing : Bool
+
+-- a judge, by its fields
+abbrev pub log_judging : LogJudge → LogJudging
+log_judging judge = record {
+  link = judging judge.link;
+  late = judge.late;
+  place = judge.place;
+  agreeing = judge.agreeing;
+  contrary = judge.contrary;
+  has_frames = judge.has_frames;
+  missing = judge.missing;
+}
+
+-- ---- where it begins
+
+abbrev pub link_starting : Limits → LogStart → Judging
+link_starting limits Begun = judging_begun limits
+link_starting limits start = judging_anywhere limits
+
+abbrev pub late_starting : LogStart → Option LateAnswers
+late_starting StartLate = Some late_above
+late_starting start = None
+
+-- above the first line of a log of a module with these limits
+abbrev pub log_starting : Limits → Option LogPlace → LogStart → LogJudging
+log_starting limits place start = record {
+  link = link_starting limits start;
+  late = late_starting start;
+  place = place;
+  agreeing = 0;
+  contrary = 0;
+  has_frames = false;
+  missing = false;
+}
+
+-- ---- lines between frames
+
+-- an answer to a command above can still come
+abbrev pub unsettled : LateAnswers → LateAnswers
+unsettled late = record late { settled = false }
+
+-- a line may have held a frame, or is the heading of another part of the log
+abbrev pub log_lost : LogJudging → LogJudging
+log_lost log = record log { link = judging_lost log.link; late = option_map unsettled log.late }
+
+-- a line says a message which nothing makes sure: below a frame it may have been one
+abbrev pub log_possible : LogJudging → LogJudging
+log_possible log = if log.has_frames then log_lost log else log
+
+-- a line without octets speaks of loss
+abbrev pub log_missing : LogJudging → LogJudging
+log_missing log = record log { missing = true }
+
+-- ---- above a frame
+
+-- one more, up to the greatest number of 32 bits
+abbrev pub one_more : ℕ → ℕ
+one_more count = if nat_lt count 4294967295 then count + 1 else 4294967295
+
+-- this end is that end, each by whether it is the CPU's
+abbrev pub is_same_end : Bool → Bool → Bool
+is_same_end true by_cpu = by_cpu
+is_same_end false by_cpu = not by_cpu
+
+-- the log says, or does not say, that this end sent a frame
+abbrev pub log_counting : LogJudging → Bool → Option Bool → LogJudging
+log_counting log from_cpu None = log
+log_counting log from_cpu (Some by_cpu) = if is_same_end by_cpu from_cpu
+    then record log { agreeing = one_more log.agreeing }
+    else record log { contrary = one_more log.contrary }
+
+-- a rule that a frame may break since one above it is not in the log
+abbrev pub is_of_lost : Rule → Bool
+is_of_lost Pair = true
+is_of_lost Number = true
+is_of_lost Advance = true
+is_of_lost rule = false
+
+-- a frame that says this breaks such a rule
+abbrev pub is_explained : LogJudging → Bool → Observation → Bool
+is_explained log from_cpu observation =
+    is_some_and (found_by log.link.checker from_cpu observation) (λ breach. is_of_lost breach.rule)
+
+-- a poll or a block answer: what a line above it says of loss is of no frame below it
+abbrev pub ends_missing : Observation → Bool
+ends_missing (Poll number) = true
+ends_missing (Block number status entries absent) = true
+ends_missing observation = false
+
+-- the judge directly above a frame that says this: if a frame that is lost explains what it breaks, the place is lost
+abbrev pub log_above : LogJudging → Bool → Observation → LogJudging
+log_above log from_cpu observation =
+    if log.missing && is_explained log from_cpu observation then log_lost log else log
+
+abbrev pub log_reaching : LogJudging → Bool → Option Bool → Observation → LogJudging
+log_reaching log from_cpu said observation = record (log_above (log_counting log from_cpu said) from_cpu observation) {
+  has_frames = true;
+  missing = log.missing && not (ends_missing observation);
+}
+
+-- where a frame was logged that has a direction: at the module, if more directions contradict the types of the messages than agree
+abbrev pub end_of : LogJudging → LogPlace
+end_of log = if nat_lt log.agreeing log.contrary then Module else Cpu
+
+-- where one was logged of which this is said
+abbrev pub place_found : LogJudging → Option Bool → LogPlace
+place_found log None = Bus
+place_found log (Some by_cpu) = end_of log
+
+abbrev pub place_by : LogJudging → Option LogPlace → Option Bool → LogPlace
+place_by log (Some place) said = place
+place_by log None said = place_found log said
+
+abbrev pub place_of : LogJudging → Option Bool → LogPlace
+place_of log said = place_by log log.place said
+
+-- ---- late answers
+
+-- a judge of a link that knows nothing of content and of stamps above, but for the loads of the counter
+abbrev pub without_content : Judging → Judging
+without_content judging =
+    record judging { content = checking_again (loads_left judging); latest = None; asked = None }
+
+-- what an answer is of which the rules on content are told nothing
+abbrev pub outcome_without_content : Judging → Observation → Outcome
+outcome_without_content judging observation = if passes_over judging.checker false observation
+    then NotJudged (unjudged_by judging.checker.skips)
+    else outcome_found false (found_by judging.checker false observation) None
+
+-- the rules on content are told of commands and block answers alone
+abbrev pub is_told : Bool → Observation → Bool
+is_told true observation = true
+is_told false (Block number status entries absent) = true
+is_told false observation = false
+
+-- what a frame is that is no late answer
+abbrev pub outcome_in_time : Judging → LogPlace → Bool → List ℕ → Outcome
+outcome_in_time judging at from_cpu octets = if is_told from_cpu (observation_in from_cpu octets)
+    then outcome_in judging at from_cpu octets
+    else outcome_without_content judging (observation_in from_cpu octets)
+
+abbrev pub judging_in_time : Judging → LogPlace → Bool → List ℕ → Judging
+judging_in_time judging at from_cpu octets = if is_told from_cpu (observation_in from_cpu octets)
+    then judging_with judging at from_cpu octets
+    else record judging { checker = checker_with judging.checker false (observation_in from_cpu octets) }
+
+-- late answers may break these rules between right ends
+abbrev pub is_rule_of_late : Rule → Bool
+is_rule_of_late Same = true
+is_rule_of_late Refusal = true
+is_rule_of_late rule = false
+
+abbrev pub is_of_late : Outcome → Bool
+is_of_late (Broken breach) = is_rule_of_late breach.rule
+is_of_late outcome = false
+
+-- a frame is excused that is this to the judge of the link: by content it is judged where no answer to a command above can still come
+abbrev pub is_excused_late : Bool → Outcome → Bool
+is_excused_late settled (BrokenContent breach) = not settled
+is_excused_late settled Restarted = not settled
+is_excused_late settled (Excused Load) = not settled
+is_excused_late settled outcome = is_of_late outcome
+
+-- no answer to a command above can still come below a frame that is this
+abbrev pub late_settled : LateAnswers → Outcome → Bool
+late_settled late outcome = late.settled && not (is_of_late outcome)
+
+abbrev pub outcome_kept_late : LateAnswers → Outcome → LogOutcome
+outcome_kept_late late outcome = if is_excused_late (late_settled late outcome) outcome then Late else Link outcome
+
+-- below a late answer, or where one can still come
+abbrev pub log_forgetting : LogJudging → LateAnswers → LogJudging
+log_forgetting log late = record log { link = without_content log.link; late = Some late }
+
+abbrev pub log_kept_late : LogJudging → LateAnswers → Outcome → LogJudging
+log_kept_late log late outcome = if late_settled late outcome
+    then record log { late = Some (record late { settled = true }) }
+    else log_forgetting log (unsettled late)
+
+-- what a frame is, by whether it is late
+abbrev pub outcome_by_lateness : Lateness → LateAnswers → Outcome → LogOutcome
+outcome_by_lateness InTime late outcome = outcome_kept_late late outcome
+outcome_by_lateness lateness late outcome = Late
+
+abbrev pub outcome_late : LogJudging → LateAnswers → LogPlace → Bool → List ℕ → LogOutcome
+outcome_late log late at from_cpu octets = outcome_by_lateness (lateness_of late (observation_in from_cpu octets))
+    (late_with late (observation_in from_cpu octets)) (outcome_in_time log.link at from_cpu octets)
+
+-- with a frame more, by whether it is late: where the CPU's end may take a late answer, the place is lost
+abbrev pub log_by_lateness : Lateness → LogJudging → LateAnswers → LogPlace → Bool → List ℕ → LogJudging
+log_by_lateness InTime log late at from_cpu octets =
+    log_kept_late (record log { link = judging_in_time log.link at from_cpu octets }) late
+    (outcome_in_time log.link at from_cpu octets)
+log_by_lateness LateOne log late at from_cpu octets = log_forgetting log late
+log_by_lateness LateButTaken log late at from_cpu octets =
+    log_forgetting (record log { link = judging_lost log.link }) late
+
+abbrev pub log_with_late : LogJudging → LateAnswers → LogPlace → Bool → List ℕ → LogJudging
+log_with_late log late at from_cpu octets = log_by_lateness (lateness_of late (observation_in from_cpu octets)) log
+    (late_with late (observation_in from_cpu octets)) at from_cpu octets
+
+-- ---- a frame
+
+-- what a frame is below what is known above it, by what tells which answers are late
+abbrev pub outcome_here : LogJudging → Option LateAnswers → LogPlace → Bool → List ℕ → LogOutcome
+outcome_here log None at from_cpu octets = Link (outcome_in log.link at from_cpu octets)
+outcome_here log (Some late) at from_cpu octets = outcome_late log late at from_cpu octets
+
+abbrev pub outcome_reached : LogJudging → Bool → Option Bool → List ℕ → LogOutcome
+outcome_reached log from_cpu said octets = outcome_here log log.late (place_of log said) from_cpu octets
+
+-- what a frame is, by whether the CPU sent it, and by whether its line says so, if it says who sent it
+abbrev pub outcome_in_log : LogJudging → Bool → Option Bool → List ℕ → LogOutcome
+outcome_in_log log from_cpu said octets =
+    outcome_reached (log_reaching log from_cpu said (observation_in from_cpu octets)) from_cpu said octets
+
+abbrev pub log_below : LogJudging → Option LateAnswers → LogPlace → Bool → List ℕ → LogJudging
+log_below log None at from_cpu octets = record log { link = judging_with log.link at from_cpu octets }
+log_below log (Some late) at from_cpu octets = log_with_late log late at from_cpu octets
+
+abbrev pub log_reached : LogJudging → Bool → Option Bool → List ℕ → LogJudging
+log_reached log from_cpu said octets = log_below log log.late (place_of log said) from_cpu octets
+
+-- the judge with a frame more
+abbrev pub log_with : LogJudging → Bool → Option Bool → List ℕ → LogJudging
+log_with log from_cpu said octets =
+    log_reached (log_reaching log from_cpu said (observation_in from_cpu octets)) from_cpu said octets

@@ -1,0 +1,293 @@
+//! The judge of a log: whom to accuse by the frames that a reader finds in it, and by what it says of the lines between them.
+ghost use Rattle.std.specs.Prelude.{◌≡◌};
+ghost use Rattle.fio_check.specs.LinkKept.{judging};
+ghost use Rattle.fio_check.specs.LogJudges.{ends_missing, is_excused_late, is_explained, is_of_late, is_of_lost, judging_in_time, log_counting, log_forgetting, log_judging, log_kept_late, log_lost, log_missing, log_possible, log_reaching, log_starting, log_with, log_with_late, outcome_in_log, outcome_in_time, outcome_kept_late, outcome_late, place_of};
+ghost use Rattle.fio_check.specs.Observations.{observation_in};
+ghost use Rattle.fio_check.specs.declared.log_judge.LogOutcome.TheVariants.{Late};
+
+use crate::late_answers::{LateAnswers, Lateness};
+use crate::limits::Limits;
+use crate::link_judge::LinkJudge;
+use crate::observation::Observation;
+use crate::outcome::{Excuse, LogPlace, Outcome};
+use crate::rules::Rule;
+
+/// How a log begins, and what is in it.
+#[derive(Clone, Copy, Debug, PartialEq, Eq, Hash)]
+pub enum LogStart {
+    /// It begins anywhere.
+    Anywhere,
+    /// It begins with both ends: more is found then.
+    Begun,
+    /// It begins anywhere, and was taken at a CPU's end that waits for each answer only until a deadline: late answers are left
+    /// out.
+    LateAnswers,
+}
+
+/// What a frame of a log is.
+#[derive(Clone, Copy, Debug, PartialEq, Eq, Hash)]
+pub enum LogOutcome {
+    /// What the judge of a link says of it.
+    Link(Outcome),
+    /// It is a late answer, or would break a rule that late answers may break.
+    Late,
+}
+
+/// The judge of a log: it takes frames, and what is known of the lines between them, in order.
+///
+/// Where a log was taken it finds by the directions that the log says, if it is not told: on the bus between the ends if a frame
+/// has none; at the module, if more of them down to here contradict the types of their messages than agree; else at the CPU's end.
+///
+/// # Examples
+///
+/// ```rust
+/// use fio_check::{Limits, LogJudge, LogOutcome, LogStart, Outcome};
+///
+/// let mut judge = LogJudge::new(Limits::standard(), None, LogStart::Anywhere);
+/// assert_eq!(rt; judge.frame(true, Some(true), &[0x36, 5]), LogOutcome::Link(Outcome::Kept));
+/// judge.miss();
+/// assert_eq!(rt; judge.frame(true, Some(true), &[0x36, 6]), LogOutcome::Link(Outcome::Kept));
+/// ```
+#[derive(Clone, Copy, Debug)]
+pub struct LogJudge {
+    /// The judge of the link.
+    pub link: LinkJudge,
+    /// What tells which answers are late, if these are left out.
+    pub late: Option<LateAnswers>,
+    /// Where the log was taken, if that is known.
+    pub place: Option<LogPlace>,
+    /// How many frames were sent by the end that the log says, up to 2^32 - 1.
+    pub agreeing: u32,
+    /// How many were sent by the other one, up to 2^32 - 1.
+    pub contrary: u32,
+    /// Whether there is a frame above.
+    pub has_frames: bool,
+    /// Whether a line below the latest poll and the latest block answer speaks of loss.
+    pub missing: bool,
+}
+
+impl LogJudge {
+    /// Returns a judge above the first line of a log of a module with these limits, by where it was taken, if that is known.
+    pub fn new(limits: Limits, place: Option<LogPlace>, start: LogStart) -> LogJudge
+        ensures { log_judging result ≡ log_starting limits place start }
+    {
+        let (link, late) = match start {
+            LogStart::Anywhere => (LinkJudge::anywhere(limits), None),
+            LogStart::Begun => (LinkJudge::begun(limits), None),
+            LogStart::LateAnswers => (LinkJudge::anywhere(limits), Some(LateAnswers::new())),
+        };
+        LogJudge {
+            link,
+            late,
+            place,
+            agreeing: 0,
+            contrary: 0,
+            has_frames: false,
+            missing: false,
+        }
+    }
+
+    /// Takes a line that may have held a frame, or the heading of another part of the log: the place is lost there.
+    pub fn lose(&mut self)
+        ensures { log_judging self.new ≡ log_lost (log_judging self.old) }
+    {
+        self.link.lose();
+        if let Some(late) = &mut self.late {
+            late.settled = false;
+        }
+    }
+
+    /// Takes a line that says a message which nothing makes sure: below a frame it may have been one.
+    pub fn possible(&mut self)
+        ensures { log_judging self.new ≡ log_possible (log_judging self.old) }
+    {
+        if self.has_frames {
+            self.lose();
+        }
+    }
+
+    /// Takes a line that speaks of loss, and has no octets: a breach that a lost frame explains is none, up to the next poll or
+    /// block answer that breaks no rule.
+    pub fn miss(&mut self)
+        ensures { log_judging self.new ≡ log_missing (log_judging self.old) }
+    {
+        self.missing = true;
+    }
+
+    /// Takes a frame, by whether the CPU's end sent it, and by whether its line says so, if it says who sent it. Returns what it
+    /// is.
+    pub fn frame(&mut self, from_cpu: bool, said: Option<bool>, octets: &[u8]) -> LogOutcome
+        ensures outcome { result ≡ outcome_in_log (log_judging self.old) from_cpu said octets.now }
+        ensures next { log_judging self.new ≡ log_with (log_judging self.old) from_cpu said octets.now }
+    {
+        let observation = Observation::of(from_cpu, octets);
+        self.reach(from_cpu, said, observation);
+        let at = self.place_of(said);
+        match self.late {
+            None => LogOutcome::Link(self.link.frame(at, from_cpu, octets)),
+            Some(late) => self.judge_late(late, at, from_cpu, octets, observation),
+        }
+    }
+
+    // ---- Above a frame
+
+    /// Notes who sent a frame that says this, and loses the place if a frame that is lost above explains what it breaks.
+    fn reach(&mut self, from_cpu: bool, said: Option<bool>, observation: Observation)
+        ensures { log_judging self.new ≡ log_reaching (log_judging self.old) from_cpu said observation }
+    {
+        self.count_side(from_cpu, said);
+        if self.missing && self.is_explained(from_cpu, observation) {
+            self.lose();
+        }
+        self.missing = self.missing && !ends_missing(observation);
+        self.has_frames = true;
+    }
+
+    /// Counts whether the log says of a frame that this end sent it.
+    fn count_side(&mut self, from_cpu: bool, said: Option<bool>)
+        ensures { log_judging self.new ≡ log_counting (log_judging self.old) from_cpu said }
+    {
+        match said {
+            Some(by_cpu) if by_cpu == from_cpu => self.agreeing = self.agreeing.saturating_add(1),
+            Some(_) => self.contrary = self.contrary.saturating_add(1),
+            None => {}
+        }
+    }
+
+    /// Returns whether a frame that says this breaks a rule that it may break since a frame above it is not in the log.
+    fn is_explained(&self, from_cpu: bool, observation: Observation) -> bool
+        ensures { result ≡ is_explained (log_judging self.now) from_cpu observation }
+    {
+        let mut checker = self.link.checker;
+        match checker.take(from_cpu, observation) {
+            Some(breach) => is_of_lost(breach.rule),
+            None => false,
+        }
+    }
+
+    /// Returns where a frame was logged of which this is said.
+    fn place_of(&self, said: Option<bool>) -> LogPlace
+        ensures { result ≡ place_of (log_judging self.now) said }
+    {
+        match (self.place, said) {
+            (Some(place), _) => place,
+            (None, None) => LogPlace::Bus,
+            (None, Some(_)) if self.contrary > self.agreeing => LogPlace::Module,
+            (None, Some(_)) => LogPlace::Cpu,
+        }
+    }
+
+    // ---- Late answers
+
+    /// Judges a frame of a log from which late answers are left out.
+    fn judge_late(
+        &mut self,
+        late: LateAnswers,
+        at: LogPlace,
+        from_cpu: bool,
+        octets: &[u8],
+        observation: Observation,
+    ) -> LogOutcome
+        requires { observation ≡ observation_in from_cpu octets.now }
+        ensures outcome { result ≡ outcome_late (log_judging self.old) late at from_cpu octets.now }
+        ensures next { log_judging self.new ≡ log_with_late (log_judging self.old) late at from_cpu octets.now }
+    {
+        let lateness = late.lateness(observation);
+        let mut below = late;
+        below.add(observation);
+        match lateness {
+            Lateness::InTime => {
+                let outcome = self.judge_in_time(at, from_cpu, octets, observation);
+                self.keep_late(below, outcome)
+            }
+            Lateness::Late => self.leave_out(below),
+            Lateness::LateButTaken => {
+                self.link.lose();
+                self.leave_out(below)
+            }
+        }
+    }
+
+    /// Leaves out a late answer: what is kept of the answers below it is this.
+    fn leave_out(&mut self, below: LateAnswers) -> LogOutcome
+        ensures outcome { result ≡ Late }
+        ensures next { log_judging self.new ≡ log_forgetting (log_judging self.old) below }
+    {
+        self.link.forget_content();
+        self.late = Some(below);
+        LogOutcome::Late
+    }
+
+    /// Judges a frame that is no late answer: by the rules on content commands and block answers alone.
+    fn judge_in_time(
+        &mut self,
+        at: LogPlace,
+        from_cpu: bool,
+        octets: &[u8],
+        observation: Observation,
+    ) -> Outcome
+        requires { observation ≡ observation_in from_cpu octets.now }
+        ensures outcome { result ≡ outcome_in_time (judging self.old.link) at from_cpu octets.now }
+        ensures next { log_judging self.new ≡ (record (log_judging self.old) {
+          link = judging_in_time (judging self.old.link) at from_cpu octets.now }) }
+    {
+        if from_cpu || matches!(observation, Observation::Block { .. }) {
+            self.link.frame(at, from_cpu, octets)
+        } else {
+            self.link.answer_without_content(observation)
+        }
+    }
+
+    /// Goes on below a frame that is this to the judge of the link, where this is kept of the answers, and returns what it is.
+    fn keep_late(&mut self, below: LateAnswers, outcome: Outcome) -> LogOutcome
+        ensures outcome { result ≡ outcome_kept_late below outcome }
+        ensures next { log_judging self.new ≡ log_kept_late (log_judging self.old) below outcome }
+    {
+        let mut below = below;
+        below.settled = below.settled && !is_of_late(outcome);
+        if !below.settled {
+            self.link.forget_content();
+        }
+        self.late = Some(below);
+        if is_excused_late(below.settled, outcome) {
+            LogOutcome::Late
+        } else {
+            LogOutcome::Link(outcome)
+        }
+    }
+}
+
+/// Returns whether a frame that says this ends what a line above it says of loss: a poll or a block answer.
+fn ends_missing(observation: Observation) -> bool
+    ensures { result ≡ ends_missing observation }
+{
+    matches!(observation, Observation::Poll { .. } | Observation::Block { .. })
+}
+
+/// Returns whether a frame that is lost can be the reason why one below it breaks this rule.
+fn is_of_lost(rule: Rule) -> bool
+    ensures { result ≡ is_of_lost rule }
+{
+    matches!(rule, Rule::Pair | Rule::Number | Rule::Advance)
+}
+
+/// Returns whether a frame breaks a rule that late answers may break.
+fn is_of_late(outcome: Outcome) -> bool
+    ensures { result ≡ is_of_late outcome }
+{
+    match outcome {
+        Outcome::Broken(breach) => matches!(breach.rule, Rule::Same | Rule::Refusal),
+        _ => false,
+    }
+}
+
+/// Returns whether a frame is excused that is this to the judge of the link, by whether no answer to a command above can still
+/// come.
+fn is_excused_late(settled: bool, outcome: Outcome) -> bool
+    ensures { result ≡ is_excused_late settled outcome }
+{
+    match outcome {
+        Outcome::BrokenContent(_) | Outcome::Restarted | Outcome::Excused(Excuse::Load) => !settled,
+        _ => is_of_late(outcome),
+    }
+}
