@@ -4,6 +4,7 @@ pub mod Needs
 pub mod Overwriting
 pub mod TextLengths
 pub mod Checkers
+pub mod LogJudges
 pub mod Decoded
 mod Rings
 mod Replies

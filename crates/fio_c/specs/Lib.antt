@@ -4,6 +4,7 @@ pub mod Judges
 pub mod Flat
 pub mod Logs
 pub mod Told
+pub mod LogJudges
 pub mod Texts
 pub mod Version
 pub mod Wires

@@ -145,7 +145,7 @@ fn take(judge: &mut Judge, at: u8, from_cpu: bool, octets: &[u8]) -> JudgeOutcom
 }
 
 /// Returns the judge that a struct of C stands for, whatever its octets are.
-fn judge_from(flat: &Judge) -> LinkJudge
+pub(crate) fn judge_from(flat: &Judge) -> LinkJudge
     ensures { judging result ≡ judge_in flat.now }
 {
     LinkJudge {
@@ -166,7 +166,7 @@ fn stamp_in(has: u8, stamp: u32) -> Option<u32>
 
 /// Returns the struct of C that stands for a judge.
 #[tactic(auto, using(crate::proofs::Checkers::checker_kept))]
-fn flat_of(judge: &LinkJudge) -> Judge
+pub(crate) fn flat_of(judge: &LinkJudge) -> Judge
     ensures { judge_in result ≡ judging judge.now }
 {
     Judge {
@@ -193,7 +193,7 @@ fn place_from(at: u8) -> LogPlace
 }
 
 /// Returns what a frame is as C sees it.
-fn outcome_from(outcome: Outcome) -> JudgeOutcome
+pub(crate) fn outcome_from(outcome: Outcome) -> JudgeOutcome
     ensures { result ≡ flat_outcome outcome }
 {
     match outcome {
@@ -221,7 +221,7 @@ fn outcome_from(outcome: Outcome) -> JudgeOutcome
 }
 
 /// Returns an outcome of this kind, for this reason, without a breach.
-fn without_breach(kind: u8, why: u8) -> JudgeOutcome
+pub(crate) fn without_breach(kind: u8, why: u8) -> JudgeOutcome
     ensures { result ≡ without_breach kind why }
 {
     JudgeOutcome {

@@ -42,6 +42,7 @@ mod filters;
 mod judge;
 mod log;
 mod log_batch;
+mod log_judge;
 mod log_verdicts;
 mod parts;
 mod poller;

@@ -2,7 +2,7 @@
 --
 -- It is the judge of a link, which finds by itself where the log was taken, loses the place at lines that may have held a frame,
 -- and may leave out late answers.
-use Rattle.std.specs.Prelude.{ℕ, ◌==◌, ◌+◌, ◌&&◌, ◌||◌, Bool, List, true, false, not, nat_lt, Option, Some, None, option_map, is_some, if◌then◌else◌}
+use Rattle.std.specs.Prelude.{ℕ, ◌==◌, ◌+◌, ◌&&◌, ◌||◌, Bool, List, [], ◌∷◌, ◌++◌, true, false, not, nat_lt, Option, Some, None, option_map, is_some, if◌then◌else◌}
 use Rattle.fio_check.specs.Checkers.{checker_with, found_by, passes_over}
 use Rattle.fio_check.specs.LateAnswers.{late_above, late_with, lateness_of}
 use Rattle.fio_check.specs.LinkJudges.{Judging, checking_again, judging_anywhere, judging_begun, judging_lost, judging_with, loads_left, outcome_found, outcome_in, unjudged_by}
@@ -270,3 +270,35 @@ log_reached log from_cpu said octets = log_below log log.late (place_of log said
 abbrev pub log_with : LogJudging → Bool → Option Bool → List ℕ → LogJudging
 log_with log from_cpu said octets =
     log_reached (log_reaching log from_cpu said (observation_in from_cpu octets)) from_cpu said octets
+
+-- ---- all lines
+
+-- what a reader finds in a log, in order: a frame, by whether the CPU sent it, and by whether its line says so, if it says who sent
+-- it; a line that may have held a frame, or a heading; one that says a message which nothing makes sure; one that speaks of loss
+pub data LogEvent : Type 0 where
+  Found : (from_cpu : Bool) → (said : Option Bool) → (octets : List ℕ) → LogEvent
+  Lost : LogEvent
+  Possible : LogEvent
+  Missing : LogEvent
+
+-- the judge with an event more
+abbrev pub log_with_event : LogJudging → LogEvent → LogJudging
+log_with_event log (Found from_cpu said octets) = log_with log from_cpu said octets
+log_with_event log Lost = log_lost log
+log_with_event log Possible = log_possible log
+log_with_event log Missing = log_missing log
+
+-- the judge below events
+abbrev pub log_below_events : LogJudging → List LogEvent → LogJudging
+log_below_events log [] = log
+log_below_events log (event ∷ events) = log_below_events (log_with_event log event) events
+
+-- what an event is, if it is a frame
+abbrev pub outcome_of_event : LogJudging → LogEvent → List LogOutcome
+outcome_of_event log (Found from_cpu said octets) = outcome_in_log log from_cpu said octets ∷ []
+outcome_of_event log event = []
+
+-- what the frames of events are, in order
+abbrev pub outcomes_in_log : LogJudging → List LogEvent → List LogOutcome
+outcomes_in_log log [] = []
+outcomes_in_log log (event ∷ events) = outcome_of_event log event ++ outcomes_in_log (log_with_event log event) events

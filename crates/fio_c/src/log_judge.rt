@@ -1,0 +1,278 @@
+//! The judge of a log, in memory of the caller.
+ghost use Rattle.std.specs.Prelude.{◌≡◌, ◌==◌, None, Some, false, not, true};
+ghost use Rattle.fio_check.specs.LogJudges.{log_judging, log_lost, log_missing, log_possible, log_starting, log_with, outcome_in_log};
+ghost use Rattle.fio_flat.specs.Module.{are_limits};
+ghost use Rattle.fio_c.specs.Checkers.{limits_of, octet_in};
+ghost use Rattle.fio_c.specs.LogJudges.{end_in, flat_log_outcome, late_in, log_judge_in, place_number, place_taken, start_in};
+
+use crate::checker::limits_from;
+use crate::judge::{Judge, JudgeOutcome, flat_of, judge_from, outcome_from, without_breach};
+use fio_check::{LateAnswers, LogJudge as JudgeOfLog, LogOutcome, LogPlace, LogStart};
+use fio_flat::Limits;
+
+/// A judge of a log. Its fields are the library's own: what it keeps of the lines that it took.
+#[derive(Clone, Copy)]
+#[repr(C)]
+pub struct LogJudge {
+    /// The judge of the link.
+    pub link: Judge,
+    /// How many frames were sent by the end that the log says.
+    pub agreeing: u32,
+    /// How many were sent by the other one.
+    pub contrary: u32,
+    /// Where the log was taken: 0 it is found, 1 at the CPU's end, 2 at the module, any other on the bus.
+    pub place: u8,
+    /// 1 where there is a frame above.
+    pub has_frames: u8,
+    /// 1 where a line below the latest poll and the latest block answer speaks of loss.
+    pub missing: u8,
+    /// 1 where late answers are left out.
+    pub has_late: u8,
+    /// 1 where no answer to a command above can still come.
+    pub settled: u8,
+    /// 1 where the latest command waits for an answer.
+    pub has_awaited: u8,
+    /// The type of that answer.
+    pub awaited: u8,
+    /// 1 where there is a poll above.
+    pub has_polled: u8,
+    /// The number of the latest poll.
+    pub polled: u8,
+    /// 1 where that poll is the first with its number.
+    pub first: u8,
+    /// 1 where a block with that number is below that poll.
+    pub answered: u8,
+    /// 0 in each octet that the library writes.
+    pub reserved: [u8; 5],
+}
+
+/// A judge above the first line of a log of a module with these limits. `place` says where the log was taken: 0 it is found by the
+/// directions that the log says, 1 at the CPU's end, 2 at the module, any other on the bus. `start` says how it begins: 1 with both
+/// ends, any other number anywhere, where 2 leaves out late answers. Returns 0. Where a limit is out of its range it returns 1,
+/// and nothing changes.
+#[unsafe(no_mangle)]
+pub extern "C" fn fio2070_log_judge_start(
+    judge: &mut LogJudge,
+    limits: Limits,
+    place: u8,
+    start: u8,
+) -> u8
+    ensures made { are_limits limits ≡ true → (result ≡ 0)
+        × (log_judge_in judge.new ≡ log_starting (limits_of limits) (place_taken place) (start_in start)) }
+    ensures refused { are_limits limits ≡ false → (result ≡ 1) × (judge.new ≡ judge.old) }
+{
+    let Some(limits) = limits_from(limits) else {
+        return 1;
+    };
+    *judge = log_flat_of(&JudgeOfLog::new(
+        limits,
+        place_taken(place),
+        start_from(start),
+    ));
+    0
+}
+
+/// Takes a line that may have held a frame, or the heading of another part of the log: nothing is judged till the next poll.
+#[unsafe(no_mangle)]
+pub extern "C" fn fio2070_log_judge_lose(judge: &mut LogJudge)
+    ensures { log_judge_in judge.new ≡ log_lost (log_judge_in judge.old) }
+{
+    let mut kept = log_judge_from(judge);
+    kept.lose();
+    *judge = log_flat_of(&kept);
+}
+
+/// Takes a line that says a message which nothing makes sure: below a frame it may have been one, and is as for
+/// `fio2070_log_judge_lose`.
+#[unsafe(no_mangle)]
+pub extern "C" fn fio2070_log_judge_possible(judge: &mut LogJudge)
+    ensures { log_judge_in judge.new ≡ log_possible (log_judge_in judge.old) }
+{
+    let mut kept = log_judge_from(judge);
+    kept.possible();
+    *judge = log_flat_of(&kept);
+}
+
+/// Takes a line without octets that speaks of loss: up to the next poll or block answer nobody is accused of what a lost frame
+/// explains.
+#[unsafe(no_mangle)]
+pub extern "C" fn fio2070_log_judge_miss(judge: &mut LogJudge)
+    ensures { log_judge_in judge.new ≡ log_missing (log_judge_in judge.old) }
+{
+    let mut kept = log_judge_from(judge);
+    kept.miss();
+    *judge = log_flat_of(&kept);
+}
+
+/// Takes a frame that the CPU's end sent, if `from_cpu` is not 0, or the module. `said` is who sent it by its line: 1 the CPU's end,
+/// 2 the module, any other number if the line does not say it. Writes what the frame is, each octet of it, and returns its kind.
+#[unsafe(no_mangle)]
+pub extern "C" fn fio2070_log_judge_frame(
+    judge: &mut LogJudge,
+    from_cpu: u8,
+    said: u8,
+    octets: &[u8],
+    outcome: &mut JudgeOutcome,
+) -> u8
+    ensures next { log_judge_in judge.new ≡ log_with (log_judge_in judge.old) (not (from_cpu == 0)) (end_in said) octets.now }
+    ensures outcome { outcome.new ≡ flat_log_outcome (outcome_in_log (log_judge_in judge.old) (not (from_cpu == 0)) (end_in said) octets.now) }
+    ensures kind { result ≡ outcome.new.kind }
+{
+    *outcome = take(judge, from_cpu != 0, end_from(said), octets);
+    outcome.kind
+}
+
+/// Takes a frame, and returns what it is as C sees it.
+pub(crate) fn take(
+    judge: &mut LogJudge,
+    from_cpu: bool,
+    said: Option<bool>,
+    octets: &[u8],
+) -> JudgeOutcome
+    ensures next { log_judge_in judge.new ≡ log_with (log_judge_in judge.old) from_cpu said octets.now }
+    ensures outcome { result ≡ flat_log_outcome (outcome_in_log (log_judge_in judge.old) from_cpu said octets.now) }
+{
+    let mut kept = log_judge_from(judge);
+    let outcome = kept.frame(from_cpu, said, octets);
+    *judge = log_flat_of(&kept);
+    match outcome {
+        LogOutcome::Link(outcome) => outcome_from(outcome),
+        LogOutcome::Late => without_breach(3, 5),
+    }
+}
+
+/// Returns the judge that a struct of C stands for, whatever its octets are.
+fn log_judge_from(flat: &LogJudge) -> JudgeOfLog
+    ensures { log_judging result ≡ log_judge_in flat.now }
+{
+    JudgeOfLog {
+        link: judge_from(&flat.link),
+        late: late_from(flat),
+        place: place_taken(flat.place),
+        agreeing: flat.agreeing,
+        contrary: flat.contrary,
+        has_frames: flat.has_frames != 0,
+        missing: flat.missing != 0,
+    }
+}
+
+/// Returns what tells which answers are late, if these are left out.
+fn late_from(flat: &LogJudge) -> Option<LateAnswers>
+    ensures { result ≡ late_in flat.now }
+{
+    if flat.has_late == 0 {
+        return None;
+    }
+    Some(LateAnswers {
+        settled: flat.settled != 0,
+        awaited: octet_from(flat.has_awaited, flat.awaited),
+        polled: octet_from(flat.has_polled, flat.polled),
+        first: flat.first != 0,
+        answered: flat.answered != 0,
+    })
+}
+
+/// Returns an octet that there may be.
+fn octet_from(has: u8, octet: u8) -> Option<u8>
+    ensures { result ≡ octet_in has octet }
+{
+    if has == 0 { None } else { Some(octet) }
+}
+
+/// Returns the struct of C that stands for a judge.
+fn log_flat_of(judge: &JudgeOfLog) -> LogJudge
+    ensures { log_judge_in result ≡ log_judging judge.now }
+{
+    let flat = flat_without_late(judge);
+    match judge.late {
+        None => flat,
+        Some(late) => flat_with_late(flat, late),
+    }
+}
+
+/// Returns the struct of a judge that leaves out no late answer.
+#[tactic(auto, using(crate::proofs::LogJudges::place_kept))]
+fn flat_without_late(judge: &JudgeOfLog) -> LogJudge
+    ensures { log_judge_in result ≡ (record (log_judging judge.now) { late = None }) }
+{
+    LogJudge {
+        link: flat_of(&judge.link),
+        agreeing: judge.agreeing,
+        contrary: judge.contrary,
+        place: place_number(judge.place),
+        has_frames: u8::from(judge.has_frames),
+        missing: u8::from(judge.missing),
+        has_late: 0,
+        settled: 0,
+        has_awaited: 0,
+        awaited: 0,
+        has_polled: 0,
+        polled: 0,
+        first: 0,
+        answered: 0,
+        reserved: [0; 5],
+    }
+}
+
+/// Returns the struct with what tells which answers are late.
+fn flat_with_late(flat: LogJudge, late: LateAnswers) -> LogJudge
+    ensures { log_judge_in result ≡ (record (log_judge_in flat) { late = Some late }) }
+{
+    LogJudge {
+        has_late: 1,
+        settled: u8::from(late.settled),
+        has_awaited: u8::from(late.awaited.is_some()),
+        awaited: late.awaited.unwrap_or(0),
+        has_polled: u8::from(late.polled.is_some()),
+        polled: late.polled.unwrap_or(0),
+        first: u8::from(late.first),
+        answered: u8::from(late.answered),
+        ..flat
+    }
+}
+
+/// Returns where a log was taken, if that is known.
+fn place_taken(place: u8) -> Option<LogPlace>
+    ensures { result ≡ place_taken place }
+{
+    match place {
+        0 => None,
+        1 => Some(LogPlace::Cpu),
+        2 => Some(LogPlace::Module),
+        _ => Some(LogPlace::Bus),
+    }
+}
+
+/// Returns the number of where a log was taken.
+fn place_number(place: Option<LogPlace>) -> u8
+    ensures { result ≡ place_number place }
+{
+    match place {
+        None => 0,
+        Some(LogPlace::Cpu) => 1,
+        Some(LogPlace::Module) => 2,
+        Some(LogPlace::Bus) => 3,
+    }
+}
+
+/// Returns how a log begins.
+fn start_from(start: u8) -> LogStart
+    ensures { result ≡ start_in start }
+{
+    match start {
+        1 => LogStart::Begun,
+        2 => LogStart::LateAnswers,
+        _ => LogStart::Anywhere,
+    }
+}
+
+/// Returns whether the CPU's end sent a frame, if its line says who did.
+fn end_from(said: u8) -> Option<bool>
+    ensures { result ≡ end_in said }
+{
+    match said {
+        1 => Some(true),
+        2 => Some(false),
+        _ => None,
+    }
+}
