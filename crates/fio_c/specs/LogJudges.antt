@@ -1,6 +1,6 @@
 -- The judge of a log as C sees it.
-use Rattle.std.specs.Prelude.{ℕ, ◌==◌, Bool, true, false, not, Option, Some, None, if◌then◌else◌}
-use Rattle.fio_check.specs.LogJudges.{LogJudging}
+use Rattle.std.specs.Prelude.{ℕ, ◌==◌, ◌&&◌, ◌||◌, Bool, true, false, not, nat_lt, List, [], ◌∷◌, ◌++◌, map, take, drop, slice_get, unwrap_or, Option, Some, None, if◌then◌else◌}
+use Rattle.fio_check.specs.LogJudges.{Found, LogEvent, LogJudging, Lost, Missing, Possible, log_below_events, outcomes_in_log}
 use Rattle.fio_check.specs.declared.late_answers.LateAnswers.{LateAnswers}
 use Rattle.fio_check.specs.declared.log_judge.LogOutcome.{LogOutcome}
 use Rattle.fio_check.specs.declared.log_judge.LogOutcome.TheVariants.{Late, Link}
@@ -11,7 +11,9 @@ use Rattle.fio_check.specs.declared.outcome.LogPlace.TheVariants.{Bus, Cpu, Modu
 use Rattle.fio_c.specs.Checkers.{octet_in}
 use Rattle.fio_c.specs.Judges.{flat_outcome, judge_in, without_breach}
 use Rattle.fio_c.specs.declared.judge.JudgeOutcome.{JudgeOutcome}
+use Rattle.fio_c.specs.declared.log_batch.LogVerdict.{LogVerdict}
 use Rattle.fio_c.specs.declared.log_judge.LogJudge.{LogJudge}
+use Rattle.fio_message.specs.declared.types.TheConstants.{ANSWER}
 
 -- where a log was taken: 0 it is not known, 1 at the CPU's end, 2 at the module, else on the bus
 abbrev pub place_taken : ℕ → Option LogPlace
@@ -58,3 +60,49 @@ log_judge_in flat = record {
 abbrev pub flat_log_outcome : LogOutcome → JudgeOutcome
 flat_log_outcome (Link outcome) = flat_outcome outcome
 flat_log_outcome Late = without_breach 3 5
+
+-- ---- a batch of verdicts
+
+-- whether the CPU's end sent a frame: by its line if the log is read so and it says who did, else by its type
+abbrev pub is_sent_frame : Bool → Option Bool → List ℕ → Bool
+is_sent_frame true (Some by_cpu) octets = by_cpu
+is_sent_frame as_said said octets = nat_lt (unwrap_or (slice_get octets 0) 0) ANSWER
+
+-- what a frame says to the judge
+abbrev pub event_of_frame : Bool → Option Bool → List ℕ → LogEvent
+event_of_frame as_said said octets = Found (is_sent_frame as_said said octets) said octets
+
+-- what a line says to the judge that gives no frame, by its kind and its reason: a message that nothing makes sure, damage, a
+-- remark that speaks of loss, or a heading
+abbrev pub event_of_line : ℕ → ℕ → List LogEvent
+event_of_line kind reason = if kind == 3 then Possible ∷ []
+    else if kind == 4 || kind == 5 && reason == 11 then Lost ∷ []
+    else if kind == 5 && reason == 10 then Missing ∷ []
+    else []
+
+-- what a verdict says to the judge, with its frames
+abbrev pub events_of_verdict : Bool → LogVerdict → List (List ℕ) → List LogEvent
+events_of_verdict as_said verdict frames = if verdict.kind == 1
+    then map (event_of_frame as_said (end_in verdict.said)) frames
+    else event_of_line verdict.kind verdict.reason
+
+-- what its frames are: those of a line that is none of frames are not judged, for no reason of the judge's
+abbrev pub outcomes_of_verdict : LogJudging → Bool → LogVerdict → List (List ℕ) → List JudgeOutcome
+outcomes_of_verdict judge as_said verdict frames = if verdict.kind == 1
+    then map flat_log_outcome (outcomes_in_log judge (map (event_of_frame as_said (end_in verdict.said)) frames))
+    else map (λ octets. without_breach 5 0) frames
+
+-- what verdicts say to the judge, with the frames of all of them
+abbrev pub events_of_verdicts : Bool → List LogVerdict → List (List ℕ) → List LogEvent
+events_of_verdicts as_said [] frames = []
+events_of_verdicts as_said (verdict ∷ verdicts) frames =
+    events_of_verdict as_said verdict (take verdict.frames frames)
+    ++ events_of_verdicts as_said verdicts (drop verdict.frames frames)
+
+-- what all frames are, in order
+abbrev pub outcomes_of_verdicts : LogJudging → Bool → List LogVerdict → List (List ℕ) → List JudgeOutcome
+outcomes_of_verdicts judge as_said [] frames = []
+outcomes_of_verdicts judge as_said (verdict ∷ verdicts) frames =
+    outcomes_of_verdict judge as_said verdict (take verdict.frames frames)
+    ++ outcomes_of_verdicts (log_below_events judge (events_of_verdict as_said verdict (take verdict.frames frames)))
+       as_said verdicts (drop verdict.frames frames)
