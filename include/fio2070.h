@@ -959,7 +959,8 @@ enum fio2070_why {
     FIO2070_WHY_LOAD = 1,          /**< excused: a load of the counter may have set its stamp back */
     FIO2070_WHY_UNHEARD = 2,       /**< excused: the CPU's end may not have heard the answer to the poll above */
     FIO2070_WHY_ABOVE_COMMAND = 3, /**< not judged: it is an answer above the first command */
-    FIO2070_WHY_PLACE_LOST = 4     /**< not judged: it is above the next poll below a place that is lost */
+    FIO2070_WHY_PLACE_LOST = 4,    /**< not judged: it is above the next poll below a place that is lost */
+    FIO2070_WHY_LATE = 5           /**< excused, by a judge of a log alone: it is a late answer, or late answers explain it */
 };
 
 /** A judge of a link. Its fields are the library's own. */
@@ -1164,6 +1165,91 @@ size_t fio2070_log_read(struct fio2070_log_reader *reader, const uint8_t *octets
 /** Ends the log: octets after the last line end are its last line. `fio2070_log_read` with no octets then gives the verdicts
  * that are left; call it until it gives none. A verdict that was due before stays as it was. */
 void fio2070_log_end(struct fio2070_log_reader *reader);
+#endif
+
+/** @} */
+
+/** @defgroup log_judge The judge of a log
+ * A struct fio2070_log_judge judges the frames that a reader of a log finds, by what it says of the lines between them too. It
+ * is a judge of a link (group judge), which finds by the directions of the log where it was taken. A line that may have held a
+ * frame loses the place; a remark of loss, which has no octets, excuses what a lost frame explains. Of a log that was taken at
+ * a CPU which waits for each answer only until a deadline, late answers can be left out (docs/CAPTURES.md, Late answers). If
+ * FIO2070_NO_LOG is defined, there are no such calls.
+ * @code
+ * const uint8_t poll[] = {54, 0}, block[] = {182, 0, 0, 0, 0, 0, 0, 11}, next[] = {54, 1}, third[] = {54, 2};
+ * struct fio2070_log_judge judge;
+ * struct fio2070_judge_outcome outcome;
+ * const struct fio2070_limits limits = FIO2070_STANDARD_LIMITS;
+ * if (fio2070_log_judge_start(&judge, limits, FIO2070_LOG_TAKEN_AUTO, FIO2070_LOG_BEGINS_ANYWHERE) != 0) return 1;
+ * if (fio2070_log_judge_frame(&judge, 1, FIO2070_LOG_FROM_CPU, poll, sizeof poll, &outcome) != 0) return 1; // kept
+ * if (fio2070_log_judge_frame(&judge, 0, FIO2070_LOG_FROM_MODULE, block, sizeof block, &outcome) != 0) return 1; // kept
+ * if (fio2070_log_judge_frame(&judge, 1, FIO2070_LOG_FROM_CPU, next, sizeof next, &outcome) != 0) return 1; // kept
+ * fio2070_log_judge_miss(&judge); // a line such as "1 message lost"
+ * if (fio2070_log_judge_frame(&judge, 1, FIO2070_LOG_FROM_CPU, third, sizeof third, &outcome) == FIO2070_OUTCOME_KEPT)
+ *     printf("the block of poll 1 may be lost\n"); // the block of poll 1 may be lost
+ * @endcode
+ * @{ */
+
+#ifndef FIO2070_NO_LOG
+/** Where a log was taken. */
+enum fio2070_log_taken {
+    FIO2070_LOG_TAKEN_AUTO = 0,      /**< it is found by the directions of the frames */
+    FIO2070_LOG_TAKEN_AT_CPU = 1,    /**< at the CPU's end */
+    FIO2070_LOG_TAKEN_AT_MODULE = 2, /**< at the module */
+    FIO2070_LOG_TAKEN_ON_BUS = 3     /**< on the bus between them */
+};
+
+/** How a log begins, or that late answers are left out of it. */
+enum fio2070_log_begins {
+    FIO2070_LOG_BEGINS_ANYWHERE = 0,  /**< anywhere: what was heard above the first frame that was sent is not judged */
+    FIO2070_LOG_BEGINS_WITH_ENDS = 1, /**< with the start of both ends: more is found then */
+    FIO2070_LOG_LEAVES_OUT_LATE = 2   /**< anywhere, and late answers are left out */
+};
+
+/** A judge of a log. Its fields are the library's own. */
+struct fio2070_log_judge {
+    struct fio2070_judge link;
+    uint32_t agreeing;
+    uint32_t contrary;
+    uint8_t place;
+    uint8_t has_frames;
+    uint8_t missing;
+    uint8_t has_late;
+    uint8_t settled;
+    uint8_t has_awaited;
+    uint8_t awaited;
+    uint8_t has_polled;
+    uint8_t polled;
+    uint8_t first;
+    uint8_t answered;
+    uint8_t reserved[5];
+};
+
+/** Starts above the first line of a log of a module with these limits. `place` is one of enum fio2070_log_taken, where a greater
+ * number is FIO2070_LOG_TAKEN_ON_BUS; `start` is one of enum fio2070_log_begins, where a greater number is
+ * FIO2070_LOG_BEGINS_ANYWHERE. Returns 0; where a limit is out of its range 1, and nothing changes.
+ *
+ * FIO2070_LOG_TAKEN_AUTO finds the place of each frame: a frame whose line says no direction was logged on the bus; another one
+ * at the module, if down to it more directions contradict the types of their messages than agree, as they do where the module's
+ * driver writes `TX` for an answer; else at the CPU's end. FIO2070_LOG_BEGINS_WITH_ENDS can accuse a right link in a log that
+ * begins elsewhere. FIO2070_LOG_LEAVES_OUT_LATE is for a log that was taken at the CPU's end. */
+FIO2070_MUST_USE
+uint8_t fio2070_log_judge_start(struct fio2070_log_judge *judge, struct fio2070_limits limits, uint8_t place, uint8_t start);
+/** Takes a line that may have held a frame, such as a damaged one, or the heading of another part of the log: up to the next poll
+ * nothing is judged. */
+void fio2070_log_judge_lose(struct fio2070_log_judge *judge);
+/** Takes a line that says a message which nothing makes sure (FIO2070_LOG_POSSIBLE): below a frame it does what
+ * `fio2070_log_judge_lose` does; above the first frame nothing. */
+void fio2070_log_judge_possible(struct fio2070_log_judge *judge);
+/** Takes a line without octets that speaks of loss. If a frame down to and with the next poll or block answer breaks `pair`,
+ * `number` or `advance`, the place is lost above it instead. No other breach is excused, on content none. */
+void fio2070_log_judge_miss(struct fio2070_log_judge *judge);
+/** Takes a frame that the CPU's end sent if `from_cpu` is not 0, else the module. `said` is who sent it as its line says, one of
+ * enum fio2070_log_side. Writes what it is, as `fio2070_judge_sent` does, and returns its kind, one of enum fio2070_outcome: of
+ * FIO2070_OUTCOME_EXCUSED with FIO2070_WHY_LATE are late answers, and breaches that late answers explain. */
+FIO2070_MUST_USE
+uint8_t fio2070_log_judge_frame(struct fio2070_log_judge *judge, uint8_t from_cpu, uint8_t said, const uint8_t *octets,
+                                size_t length, struct fio2070_judge_outcome *outcome);
 #endif
 
 /** @} */
@@ -1572,6 +1658,8 @@ FIO2070_SAME(log_batch, sizeof(struct fio2070_log_batch) == 565264 &&
              offsetof(struct fio2070_log_batch, places) == 131088 &&
              offsetof(struct fio2070_log_batch, lengths) == 458768 &&
              offsetof(struct fio2070_log_batch, octets) == 499728);
+
+FIO2070_SAME(log_judge, sizeof(struct fio2070_log_judge) == 752);
 #endif
 
 FIO2070_SAME(limits, sizeof(struct fio2070_limits) == 4 &&

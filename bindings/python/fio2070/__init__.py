@@ -18,14 +18,15 @@ from typing import Any, List, NamedTuple, Optional, Sequence, Tuple
 from . import _library as c
 from . import constants, encode
 from .encode import Octets
+from .judges import LinkJudge, LogJudge
 from .logs import LogReader, Verdict
 from .records import Answer, Breach, Command, ConfigurationItem, ContentBreach, Entry, Fault, Outcome, RecordItem
 from .wire import Wire, WireBits, WireHeard, wire_check, wire_frame
 
 __all__ = ['Answer', 'Breach', 'Checker', 'Command', 'ConfigurationItem', 'ContentBreach', 'ContentChecker', 'Counter', 'Entry',
-           'Fault', 'Filters', 'Heard', 'LinkJudge', 'LogReader', 'Module', 'Octets', 'Outcome', 'Poller', 'RecordItem', 'Verdict', 'Wire',
-           'WireBits', 'WireHeard', 'constants', 'content_rule_text', 'decode_answer', 'decode_command', 'encode', 'read_identification',
-           'read_outputs_answer', 'rule_text', 'show', 'tester', 'version', 'widen', 'wire_check', 'wire_frame']
+           'Fault', 'Filters', 'Heard', 'LinkJudge', 'LogJudge', 'LogReader', 'Module', 'Octets', 'Outcome', 'Poller', 'RecordItem',
+           'Verdict', 'Wire', 'WireBits', 'WireHeard', 'constants', 'content_rule_text', 'decode_answer', 'decode_command', 'encode',
+           'read_identification', 'read_outputs_answer', 'rule_text', 'show', 'tester', 'version', 'widen', 'wire_check', 'wire_frame']
 
 __version__ = '%d.%d.%d' % (constants.VERSION // 10000, constants.VERSION // 100 % 100, constants.VERSION % 100)
 
@@ -249,42 +250,6 @@ class ContentChecker:
         rule = c.library.fio2070_content_heard(self._content, octets, len(octets), found)
         named = None if found.input == constants.NO_INPUT else found.input
         return ContentBreach(rule, named, found.items) if rule else None
-
-
-class LinkJudge:
-    """The judge of a link: both checkers of a log that begins anywhere, in which lines may be lost, of a module with these limits,
-    which may be restarted and whose counter may be loaded. With `begun` the log begins with the start of both ends."""
-
-    def __init__(self, per_block: int = c.MOST_ENTRIES, waiting: int = c.STANDARD_WAITING, begun: bool = False) -> None:
-        """The module's blocks have at most `per_block` entries, 1 to 255; `waiting` is 1 to 8,192."""
-        self._judge, self._outcome = c.CJudge(), c.CJudgeOutcome()
-        start = c.library.fio2070_judge_start_begun if begun else c.library.fio2070_judge_start_anywhere
-        if not (1 <= per_block <= 255 and 1 <= waiting <= c.MOST_WAITING) or start(self._judge, c.CLimits(waiting, per_block, 0)):
-            raise ValueError('per_block is 1 to 255, waiting 1 to 8,192')
-
-    def __repr__(self) -> str:
-        return _shown(self)
-
-    def lose(self) -> None:
-        """Lines of the log are lost here, such as a damaged frame, or a part of it ends and another begins."""
-        c.library.fio2070_judge_lose(self._judge)
-
-    def sent(self, octets: Octets, at: int = constants.AT_CPU) -> Outcome:
-        """What a frame is that the CPU sent, logged there."""
-        return self._outcome_by(c.library.fio2070_judge_sent, octets, at)
-
-    def heard(self, octets: Octets, at: int = constants.AT_CPU) -> Outcome:
-        """What a frame is that the module sent, logged there."""
-        return self._outcome_by(c.library.fio2070_judge_heard, octets, at)
-
-    def _outcome_by(self, take: Any, octets: Octets, at: int) -> Outcome:
-        octets, found = encode.octets_of(octets), self._outcome
-        encode.check_range(3, at)
-        kind = take(self._judge, at, octets, len(octets), found)
-        named = None if found.input == constants.NO_INPUT else found.input
-        breach = Breach(found.rule, bool(found.has_due), found.due, found.got) if kind == constants.OUTCOME_BROKEN else None
-        content = ContentBreach(found.rule, named, found.items) if kind == constants.OUTCOME_BROKEN_CONTENT else None
-        return Outcome(kind, found.why, breach, content)
 
 
 class Counter:

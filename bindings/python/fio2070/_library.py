@@ -129,6 +129,11 @@ class CLogReader(ctypes.Structure):
     _fields_ = [('words', c_uint64 * 65536)]
 
 
+class CLogJudge(ctypes.Structure):
+    """The octets of struct fio2070_log_judge."""
+    _fields_ = [('words', c_uint64 * 94)]
+
+
 class CFilters(ctypes.Structure):
     _fields_ = [('words', c_uint64 * 27)]
 
@@ -228,6 +233,12 @@ _declare('fio2070_judge_heard', c_uint8, POINTER(CJudge), c_uint8, c_char_p, c_s
 _declare('fio2070_log_start', None, POINTER(CLogReader), c_uint8)
 _declare('fio2070_log_read', c_size_t, POINTER(CLogReader), c_char_p, c_size_t, POINTER(CLogBatch))
 _declare('fio2070_log_end', None, POINTER(CLogReader))
+_declare('fio2070_log_judge_start', c_uint8, POINTER(CLogJudge), CLimits, c_uint8, c_uint8)
+_declare('fio2070_log_judge_lose', None, POINTER(CLogJudge))
+_declare('fio2070_log_judge_possible', None, POINTER(CLogJudge))
+_declare('fio2070_log_judge_miss', None, POINTER(CLogJudge))
+_declare('fio2070_log_judge_frame', c_uint8, POINTER(CLogJudge), c_uint8, c_uint8, c_char_p, c_size_t,
+         POINTER(CJudgeOutcome))
 _declare('fio2070_poller_start', None, POINTER(CPoller), c_uint8)
 _declare('fio2070_poller_poll', c_size_t, POINTER(CPoller), POINTER(c_uint8), c_size_t)
 _declare('fio2070_poller_hear', CHeard, POINTER(CPoller), c_char_p, c_size_t, POINTER(CRecordItem), c_size_t)

@@ -105,6 +105,7 @@ WHY_LOAD = 1
 WHY_UNHEARD = 2
 WHY_ABOVE_COMMAND = 3
 WHY_PLACE_LOST = 4
+WHY_LATE = 5
 
 # How the lines of a log are read.
 LOG_AUTO = 0
@@ -135,6 +136,17 @@ LOG_TWO_MORE = 9
 LOG_NO_SIDE = 0
 LOG_FROM_CPU = 1
 LOG_FROM_MODULE = 2
+
+# Where a log was taken.
+LOG_TAKEN_AUTO = 0
+LOG_TAKEN_AT_CPU = 1
+LOG_TAKEN_AT_MODULE = 2
+LOG_TAKEN_ON_BUS = 3
+
+# How a log begins, or that late answers are left out of it.
+LOG_BEGINS_ANYWHERE = 0
+LOG_BEGINS_WITH_ENDS = 1
+LOG_LEAVES_OUT_LATE = 2
 
 # One's own frames on a line, and the most octets of one.
 WIRE_ADDRESS = 0x14

@@ -18,6 +18,7 @@ export const SIZE = {
   logVerdict: 32,
   logPlace: 16,
   logBatch: 565264,
+  logJudge: 752,
   limits: 4,
   sizedModule: 1056,
   errorCounts: 2,

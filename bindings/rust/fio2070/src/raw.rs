@@ -273,6 +273,7 @@ opaque! {
     RawContentChecker: 87,
     RawFilters: 27,
     RawJudge: 91,
+    RawLogJudge: 94,
     RawLogReader: 65536,
     RawSizedModule: 132,
 }
@@ -457,6 +458,23 @@ extern "C" {
         batch: &mut RawLogBatch,
     ) -> usize;
     pub(crate) fn fio2070_log_end(reader: &mut RawLogReader);
+    pub(crate) fn fio2070_log_judge_start(
+        judge: &mut RawLogJudge,
+        limits: RawLimits,
+        place: u8,
+        start: u8,
+    ) -> u8;
+    pub(crate) fn fio2070_log_judge_lose(judge: &mut RawLogJudge);
+    pub(crate) fn fio2070_log_judge_possible(judge: &mut RawLogJudge);
+    pub(crate) fn fio2070_log_judge_miss(judge: &mut RawLogJudge);
+    pub(crate) fn fio2070_log_judge_frame(
+        judge: &mut RawLogJudge,
+        from_cpu: u8,
+        said: u8,
+        octets: *const u8,
+        octets_count: usize,
+        outcome: &mut JudgeOutcome,
+    ) -> u8;
     pub(crate) fn fio2070_poller_start(poller: &mut RawPoller, number: u8);
     pub(crate) fn fio2070_poller_poll(poller: &RawPoller, out: *mut u8, out_count: usize) -> usize;
     pub(crate) fn fio2070_poller_hear(

@@ -1,0 +1,105 @@
+"""The judges: of a link, by its frames and where they were logged; and of a log, by what a reader finds in it."""
+
+from typing import Any
+
+from . import _library as c
+from . import constants
+from .encode import Octets, check_range, octets_of
+from .records import Breach, ContentBreach, Outcome
+
+_PLACES = {'auto': constants.LOG_TAKEN_AUTO, 'cpu': constants.LOG_TAKEN_AT_CPU, 'module': constants.LOG_TAKEN_AT_MODULE,
+           'bus': constants.LOG_TAKEN_ON_BUS}
+# Who sent a frame, as its line says: as in `Verdict.said`.
+_SIDES = {'': constants.LOG_NO_SIDE, '>': constants.LOG_FROM_CPU, '<': constants.LOG_FROM_MODULE}
+
+
+def _check_limits(per_block: int, waiting: int) -> None:
+    if not (1 <= per_block <= 255 and 1 <= waiting <= c.MOST_WAITING):
+        raise ValueError('per_block is 1 to 255, waiting 1 to 8,192')
+
+
+def _outcome(found: Any) -> Outcome:
+    """What a struct of the library says of a frame."""
+    named = None if found.input == constants.NO_INPUT else found.input
+    breach = Breach(found.rule, bool(found.has_due), found.due, found.got) if found.kind == constants.OUTCOME_BROKEN else None
+    content = ContentBreach(found.rule, named, found.items) if found.kind == constants.OUTCOME_BROKEN_CONTENT else None
+    return Outcome(found.kind, found.why, breach, content)
+
+
+class LinkJudge:
+    """The judge of a link: both checkers of a log that begins anywhere, in which lines may be lost, of a module with these limits,
+    which may be restarted and whose counter may be loaded. With `begun` the log begins with the start of both ends."""
+
+    def __init__(self, per_block: int = c.MOST_ENTRIES, waiting: int = c.STANDARD_WAITING, begun: bool = False) -> None:
+        """The module's blocks have at most `per_block` entries, 1 to 255; `waiting` is 1 to 8,192."""
+        _check_limits(per_block, waiting)
+        self._judge, self._found = c.CJudge(), c.CJudgeOutcome()
+        start = c.library.fio2070_judge_start_begun if begun else c.library.fio2070_judge_start_anywhere
+        start(self._judge, c.CLimits(waiting, per_block, 0))
+
+    def __repr__(self) -> str:
+        return '<LinkJudge>'
+
+    def lose(self) -> None:
+        """Lines of the log are lost here, such as a damaged frame, or a part of it ends and another begins."""
+        c.library.fio2070_judge_lose(self._judge)
+
+    def sent(self, octets: Octets, at: int = constants.AT_CPU) -> Outcome:
+        """What a frame is that the CPU sent, logged there."""
+        return self._outcome_by(c.library.fio2070_judge_sent, octets, at)
+
+    def heard(self, octets: Octets, at: int = constants.AT_CPU) -> Outcome:
+        """What a frame is that the module sent, logged there."""
+        return self._outcome_by(c.library.fio2070_judge_heard, octets, at)
+
+    def _outcome_by(self, take: Any, octets: Octets, at: int) -> Outcome:
+        octets = octets_of(octets)
+        check_range(3, at)
+        take(self._judge, at, octets, len(octets), self._found)
+        return _outcome(self._found)
+
+
+class LogJudge:
+    """The judge of a log: it says what each frame is that a reader finds in it, of a module with these limits, by what the log says
+    of the lines between the frames too. Give it the frames and the lines in the order of the log."""
+
+    def __init__(self, per_block: int = c.MOST_ENTRIES, waiting: int = c.STANDARD_WAITING, place: str = 'auto', begun: bool = False,
+                 late_answers: bool = False) -> None:
+        """`per_block` and `waiting` are as for `LinkJudge`. `place` says where the log was taken: 'cpu', 'module' or 'bus'; 'auto'
+        finds it by the directions that the lines say. With `begun` the log begins with the start of both ends: more is found then.
+        With `late_answers` it was taken at a CPU's end that waits for each answer only until a deadline, and late answers are left
+        out; a log can't be both."""
+        _check_limits(per_block, waiting)
+        if place not in _PLACES:
+            raise ValueError('the place is auto, cpu, module or bus')
+        if begun and late_answers:
+            raise ValueError('of a log that begins with both ends late answers are not left out')
+        begins = constants.LOG_BEGINS_WITH_ENDS if begun else \
+            constants.LOG_LEAVES_OUT_LATE if late_answers else constants.LOG_BEGINS_ANYWHERE
+        self._judge, self._found = c.CLogJudge(), c.CJudgeOutcome()
+        c.library.fio2070_log_judge_start(self._judge, c.CLimits(waiting, per_block, 0), _PLACES[place], begins)
+
+    def __repr__(self) -> str:
+        return '<LogJudge>'
+
+    def lose(self) -> None:
+        """A line may have held a frame, such as a damaged one, or is the heading of another part of the log."""
+        c.library.fio2070_log_judge_lose(self._judge)
+
+    def possible(self) -> None:
+        """A line says a message which nothing makes sure: below a frame it is as for `lose`."""
+        c.library.fio2070_log_judge_possible(self._judge)
+
+    def miss(self) -> None:
+        """A line without octets speaks of loss: down to the next poll or block answer nobody is accused of what a lost frame
+        explains."""
+        c.library.fio2070_log_judge_miss(self._judge)
+
+    def frame(self, octets: Octets, from_cpu: bool, said: str = '') -> Outcome:
+        """What a frame is that the CPU sent, or the module. `said` is who sent it as its line says, as in `Verdict.said`: '>' the
+        CPU, '<' the module, else empty."""
+        octets = octets_of(octets)
+        if said not in _SIDES:
+            raise ValueError("who sent a frame is '>', '<' or empty")
+        c.library.fio2070_log_judge_frame(self._judge, bool(from_cpu), _SIDES[said], octets, len(octets), self._found)
+        return _outcome(self._found)
