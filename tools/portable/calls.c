@@ -374,6 +374,19 @@ struct fio2070_heard fio2070_poller_hear(struct fio2070_poller *poller, const ui
         }                                                                                          \
     }
 
+/* Starts of such a struct, with the limits of a module. */
+#define BEGINS(part, name, takes, ...)                                                             \
+    uint8_t fio2070_##part##_##name takes {                                                        \
+        uint8_t octets[4] = {0};                                                                   \
+        MACHINE(fio2070_##part##_##name);                                                          \
+        put16(octets, limits.waiting);                                                             \
+        octets[2] = limits.per_block;                                                              \
+        {                                                                                          \
+            uint64_t it = WRITES(part, sizeof *part), given = READS(octets, 4);                    \
+            return (uint8_t)call_fio2070_##part##_##name(&machine, __VA_ARGS__);                   \
+        }                                                                                          \
+    }
+
 OVER(counter, start, 1, void, , (struct fio2070_counter * counter), it)
 OVER(counter, tick, 1, void, , (struct fio2070_counter * counter), it)
 OVER(counter, ask_load, 1, void, , (struct fio2070_counter * counter, uint32_t number), it, number)
@@ -383,28 +396,8 @@ OVER(counter, now, 0, uint32_t, return, (const struct fio2070_counter *counter),
 /* Where fio2070_checker_start is declared: */
 OVER(checker, start, 1, void, , (struct fio2070_checker * checker), it)
 
-uint8_t fio2070_checker_start_within(struct fio2070_checker *checker, struct fio2070_limits limits) {
-    uint8_t octets[4] = {0};
-    MACHINE(fio2070_checker_start_within);
-    put16(octets, limits.waiting);
-    octets[2] = limits.per_block;
-    {
-        uint64_t a = WRITES(checker, sizeof *checker), b = READS(octets, 4);
-        return (uint8_t)call_fio2070_checker_start_within(&machine, a, b);
-    }
-}
-
-uint8_t fio2070_checker_start_anywhere(struct fio2070_checker *checker, struct fio2070_limits limits) {
-    uint8_t octets[4] = {0};
-    MACHINE(fio2070_checker_start_anywhere);
-    put16(octets, limits.waiting);
-    octets[2] = limits.per_block;
-    {
-        uint64_t a = WRITES(checker, sizeof *checker), b = READS(octets, 4);
-        return (uint8_t)call_fio2070_checker_start_anywhere(&machine, a, b);
-    }
-}
-
+BEGINS(checker, start_within, (struct fio2070_checker * checker, struct fio2070_limits limits), it, given)
+BEGINS(checker, start_anywhere, (struct fio2070_checker * checker, struct fio2070_limits limits), it, given)
 OVER(checker, sent, 1, uint8_t, return (uint8_t),
      (struct fio2070_checker * checker, const uint8_t *octets, size_t length, struct fio2070_breach *breach), it,
      READS(octets, length), length, WRITES(breach, sizeof *breach))
@@ -432,53 +425,30 @@ uint8_t fio2070_content_heard(struct fio2070_content_checker *content, const uin
 
 /* ---- The judge of a link ---- */
 
-uint8_t fio2070_judge_start_anywhere(struct fio2070_judge *judge, struct fio2070_limits limits) {
-    uint8_t octets[4] = {0};
-    MACHINE(fio2070_judge_start_anywhere);
-    put16(octets, limits.waiting);
-    octets[2] = limits.per_block;
-    {
-        uint64_t a = WRITES(judge, sizeof *judge), b = READS(octets, 4);
-        return (uint8_t)call_fio2070_judge_start_anywhere(&machine, a, b);
-    }
-}
-
-uint8_t fio2070_judge_start_begun(struct fio2070_judge *judge, struct fio2070_limits limits) {
-    uint8_t octets[4] = {0};
-    MACHINE(fio2070_judge_start_begun);
-    put16(octets, limits.waiting);
-    octets[2] = limits.per_block;
-    {
-        uint64_t a = WRITES(judge, sizeof *judge), b = READS(octets, 4);
-        return (uint8_t)call_fio2070_judge_start_begun(&machine, a, b);
-    }
-}
-
+BEGINS(judge, start_anywhere, (struct fio2070_judge * judge, struct fio2070_limits limits), it, given)
+BEGINS(judge, start_begun, (struct fio2070_judge * judge, struct fio2070_limits limits), it, given)
 OVER(judge, lose, 1, void, , (struct fio2070_judge * judge), it)
 
-uint8_t fio2070_judge_sent(struct fio2070_judge *judge, uint8_t at, const uint8_t *octets, size_t length,
-                           struct fio2070_judge_outcome *outcome) {
-    uint8_t kind;
-    MACHINE(fio2070_judge_sent);
-    {
-        uint64_t a = WRITES(judge, sizeof *judge), b = READS(octets, length), c = WRITES(outcome, sizeof *outcome);
-        kind = (uint8_t)call_fio2070_judge_sent(&machine, a, at, b, length, c);
+/* What a judge says of a frame. */
+#define JUDGES(part, name, takes, ...)                                                             \
+    uint8_t fio2070_##part##_##name takes {                                                        \
+        uint8_t kind;                                                                              \
+        MACHINE(fio2070_##part##_##name);                                                          \
+        {                                                                                          \
+            uint64_t it = WRITES(part, sizeof *part), frame = READS(octets, length),               \
+                     to = WRITES(outcome, sizeof *outcome);                                        \
+            kind = (uint8_t)call_fio2070_##part##_##name(&machine, __VA_ARGS__);                   \
+        }                                                                                          \
+        outcome->items = get16((const uint8_t *)&outcome->items);                                  \
+        return kind;                                                                               \
     }
-    outcome->items = get16((const uint8_t *)&outcome->items);
-    return kind;
-}
 
-uint8_t fio2070_judge_heard(struct fio2070_judge *judge, uint8_t at, const uint8_t *octets, size_t length,
-                           struct fio2070_judge_outcome *outcome) {
-    uint8_t kind;
-    MACHINE(fio2070_judge_heard);
-    {
-        uint64_t a = WRITES(judge, sizeof *judge), b = READS(octets, length), c = WRITES(outcome, sizeof *outcome);
-        kind = (uint8_t)call_fio2070_judge_heard(&machine, a, at, b, length, c);
-    }
-    outcome->items = get16((const uint8_t *)&outcome->items);
-    return kind;
-}
+JUDGES(judge, sent,
+       (struct fio2070_judge * judge, uint8_t at, const uint8_t *octets, size_t length, struct fio2070_judge_outcome *outcome),
+       it, at, frame, length, to)
+JUDGES(judge, heard,
+       (struct fio2070_judge * judge, uint8_t at, const uint8_t *octets, size_t length, struct fio2070_judge_outcome *outcome),
+       it, at, frame, length, to)
 
 /* ---- Frames on a line ---- */
 
@@ -548,6 +518,18 @@ size_t fio2070_log_read(struct fio2070_log_reader *reader, const uint8_t *octets
     if (!IS_LITTLE) settle_batch(batch);
     return taken;
 }
+
+SAME(size_of_log_judge, sizeof(struct fio2070_log_judge), 752);
+
+BEGINS(log_judge, start, (struct fio2070_log_judge * log_judge, struct fio2070_limits limits, uint8_t place, uint8_t start), it,
+       given, place, start)
+OVER(log_judge, lose, 1, void, , (struct fio2070_log_judge * log_judge), it)
+OVER(log_judge, possible, 1, void, , (struct fio2070_log_judge * log_judge), it)
+OVER(log_judge, miss, 1, void, , (struct fio2070_log_judge * log_judge), it)
+JUDGES(log_judge, frame,
+       (struct fio2070_log_judge * log_judge, uint8_t from_cpu, uint8_t said, const uint8_t *octets, size_t length,
+        struct fio2070_judge_outcome *outcome),
+       it, from_cpu, said, frame, length, to)
 #endif
 
 OVER(filters, start, 1, void, , (struct fio2070_filters * filters), it)
@@ -570,17 +552,7 @@ struct fio2070_configured fio2070_filters_configure(struct fio2070_filters *filt
     return configured;
 }
 
-uint8_t fio2070_sized_module_start(struct fio2070_sized_module *module, uint8_t id, struct fio2070_limits limits) {
-    uint8_t octets[4] = {0};
-    MACHINE(fio2070_sized_module_start);
-    put16(octets, limits.waiting);
-    octets[2] = limits.per_block;
-    {
-        uint64_t a = WRITES(module, sizeof *module), b = READS(octets, 4);
-        return (uint8_t)call_fio2070_sized_module_start(&machine, a, id, b);
-    }
-}
-
+BEGINS(sized_module, start, (struct fio2070_sized_module * sized_module, uint8_t id, struct fio2070_limits limits), it, id, given)
 OVER(sized_module, restart, 1, void, , (struct fio2070_sized_module * sized_module), it)
 OVER(sized_module, scan, 1, void, , (struct fio2070_sized_module * sized_module, struct fio2070_ring ring, uint64_t raw), it,
      WRITES(ring.slots, ring.capacity * 3), ring.capacity, raw)
