@@ -479,6 +479,38 @@ public:
 private:
     ::fio2070_log_reader reader_;
 };
+
+/// The judge of a log: it says what each frame is that a reader finds, by what the log says of the lines between them too.
+class LogJudge {
+public:
+    /// A judge above the first line of a log of a module with these limits. None where one is out of its range.
+    static std::optional<LogJudge> start(::fio2070_log_taken place = FIO2070_LOG_TAKEN_AUTO,
+                                         ::fio2070_log_begins begins = FIO2070_LOG_BEGINS_ANYWHERE,
+                                         std::uint8_t per_block = FIO2070_MOST_ENTRIES,
+                                         std::uint16_t waiting = FIO2070_STANDARD_WAITING) {
+        std::optional<LogJudge> judge{LogJudge()};
+        if (::fio2070_log_judge_start(&judge->judge_, {waiting, per_block, 0}, static_cast<std::uint8_t>(place),
+                                      static_cast<std::uint8_t>(begins)) != FIO2070_STARTED) judge.reset();
+        return judge;
+    }
+    /// A line may have held a frame, such as a damaged one, or is the heading of another part of the log.
+    void lose() { ::fio2070_log_judge_lose(&judge_); }
+    /// A line says a message which nothing makes sure: below a frame it is as for `lose`.
+    void possible() { ::fio2070_log_judge_possible(&judge_); }
+    /// A line without octets speaks of loss: down to the next poll or block answer nobody is accused of what a lost frame explains.
+    void miss() { ::fio2070_log_judge_miss(&judge_); }
+    /// What a frame is that the CPU sent, or the module. `said` is who sent it as its line says.
+    ::fio2070_judge_outcome frame(Octets octets, bool from_cpu, ::fio2070_log_side said = FIO2070_LOG_NO_SIDE) {
+        ::fio2070_judge_outcome outcome;
+        outcome.kind = ::fio2070_log_judge_frame(&judge_, from_cpu, static_cast<std::uint8_t>(said), octets.data(), octets.size(),
+                                                 &outcome);
+        return outcome;
+    }
+
+private:
+    LogJudge() = default;
+    ::fio2070_log_judge judge_{};
+};
 #endif
 
 /// A frame as it goes over a line of octets, with both flags; none if the message does not have 1 to 773 octets.

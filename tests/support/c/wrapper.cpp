@@ -236,6 +236,8 @@ static void has_checkers() {
     CHECK(refused == refused && refused != fio2070_content_breach());
     CHECK(fio2070::LinkJudge::begun()->heard(empty) == fio2070_judge_outcome({FIO2070_OUTCOME_BROKEN, 0, FIO2070_RULE_PAIR, 0, 0, 0, FIO2070_NO_INPUT, 0, 0}));
     CHECK(fio2070::LinkJudge::anywhere()->heard(empty).why == FIO2070_WHY_ABOVE_COMMAND && !fio2070::LinkJudge::anywhere(0));
+    CHECK(fio2070::LogJudge::start()->frame(empty, false).why == FIO2070_WHY_ABOVE_COMMAND);
+    CHECK(fio2070::LogJudge::start(FIO2070_LOG_TAKEN_AT_CPU, FIO2070_LOG_LEAVES_OUT_LATE)->frame(empty, false).why == FIO2070_WHY_LATE);
 }
 
 static void writes_a_line() {

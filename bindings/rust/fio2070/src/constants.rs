@@ -103,6 +103,7 @@ pub const WHY_LOAD: u8 = 1;
 pub const WHY_UNHEARD: u8 = 2;
 pub const WHY_ABOVE_COMMAND: u8 = 3;
 pub const WHY_PLACE_LOST: u8 = 4;
+pub const WHY_LATE: u8 = 5;
 
 // How the lines of a log are read.
 pub const LOG_AUTO: u8 = 0;
@@ -133,6 +134,17 @@ pub const LOG_TWO_MORE: u8 = 9;
 pub const LOG_NO_SIDE: u8 = 0;
 pub const LOG_FROM_CPU: u8 = 1;
 pub const LOG_FROM_MODULE: u8 = 2;
+
+/// Where a log was taken.
+pub const LOG_TAKEN_AUTO: u8 = 0;
+pub const LOG_TAKEN_AT_CPU: u8 = 1;
+pub const LOG_TAKEN_AT_MODULE: u8 = 2;
+pub const LOG_TAKEN_ON_BUS: u8 = 3;
+
+/// How a log begins, or that late answers are left out of it.
+pub const LOG_BEGINS_ANYWHERE: u8 = 0;
+pub const LOG_BEGINS_WITH_ENDS: u8 = 1;
+pub const LOG_LEAVES_OUT_LATE: u8 = 2;
 
 // One's own frames on a line, and the most octets of one.
 pub const WIRE_ADDRESS: u8 = 0x14;

@@ -4,9 +4,9 @@ use crate::constants::LONGEST_TEXT;
 use crate::errors::ConfigurationError;
 use crate::constants::STANDARD_WAITING;
 use crate::raw::{
-    self, Breach, ConfigurationItem, ContentBreach, ErrorCounts, Fault, JudgeOutcome, Outputs,
-    RawChecker, RawContentChecker, RawCounter, RawFilters, RawHeard, RawJudge, RawLimits,
-    RawPoller, RawSizedModule, RecordItem,
+    self, Breach, ConfigurationItem, ContentBreach, ErrorCounts, Fault, Outputs, RawChecker,
+    RawContentChecker, RawCounter, RawFilters, RawHeard, RawLimits, RawPoller, RawSizedModule,
+    RecordItem,
 };
 use crate::written::{text, Unwritten};
 use crate::LONGEST_FRAME;
@@ -222,62 +222,6 @@ impl ContentChecker {
             raw::fio2070_content_heard(&mut self.0, octets.as_ptr(), octets.len(), &mut breach)
         };
         (rule != 0).then_some(breach)
-    }
-}
-
-/// The judge of a link: both checkers of a log in which lines may be lost, of a module that may be restarted and whose counter
-/// may be loaded. A frame was logged at the CPU's end (`AT_CPU`), at the module (`AT_MODULE`) or on the bus (`AT_BUS`).
-#[derive(Clone)]
-pub struct LinkJudge(RawJudge);
-
-impl LinkJudge {
-    /// Above the first frame of a log that begins anywhere, of a module whose blocks have at most `per_block` entries, 1 to 255,
-    /// and of which `waiting` may wait, 1 to 8,192. `None` where one is out of its range.
-    pub fn anywhere(per_block: u8, waiting: u16) -> Option<LinkJudge> {
-        LinkJudge::started_by(raw::fio2070_judge_start_anywhere, per_block, waiting)
-    }
-
-    /// As `anywhere`, above the first frame of a log that begins with the start of both ends: it finds more.
-    pub fn begun(per_block: u8, waiting: u16) -> Option<LinkJudge> {
-        LinkJudge::started_by(raw::fio2070_judge_start_begun, per_block, waiting)
-    }
-
-    fn started_by(
-        start: unsafe extern "C" fn(&mut RawJudge, RawLimits) -> u8,
-        per_block: u8,
-        waiting: u16,
-    ) -> Option<LinkJudge> {
-        let limits = RawLimits {
-            waiting,
-            per_block,
-            reserved: 0,
-        };
-        let mut judge = RawJudge::default();
-        match unsafe { start(&mut judge, limits) } {
-            0 => Some(LinkJudge(judge)),
-            _ => None,
-        }
-    }
-
-    /// Lines of the log are lost here, such as a damaged frame, or a part of it ends and another begins.
-    pub fn lose(&mut self) {
-        unsafe { raw::fio2070_judge_lose(&mut self.0) }
-    }
-
-    /// What a frame is that the CPU sent, logged there.
-    pub fn sent(&mut self, at: u8, octets: &[u8]) -> JudgeOutcome {
-        let mut outcome = JudgeOutcome::default();
-        let (start, count) = (octets.as_ptr(), octets.len());
-        unsafe { raw::fio2070_judge_sent(&mut self.0, at, start, count, &mut outcome) };
-        outcome
-    }
-
-    /// What a frame is that the module sent, logged there.
-    pub fn heard(&mut self, at: u8, octets: &[u8]) -> JudgeOutcome {
-        let mut outcome = JudgeOutcome::default();
-        let (start, count) = (octets.as_ptr(), octets.len());
-        unsafe { raw::fio2070_judge_heard(&mut self.0, at, start, count, &mut outcome) };
-        outcome
     }
 }
 

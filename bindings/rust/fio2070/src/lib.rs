@@ -25,6 +25,7 @@ pub mod constants;
 mod encode;
 mod ends;
 mod errors;
+mod judges;
 mod logs;
 mod raw;
 mod wire;
@@ -36,8 +37,9 @@ pub use encode::{
     other_command, poll, raw_inputs, raw_inputs_answer, set_outputs, status, status_answer,
     watchdog, watchdog_answer,
 };
-pub use ends::{Checker, ContentChecker, Counter, Filters, Heard, LinkJudge, Module, Poller};
+pub use ends::{Checker, ContentChecker, Counter, Filters, Heard, Module, Poller};
 pub use errors::ConfigurationError;
+pub use judges::{LinkJudge, LogJudge};
 pub use logs::{Frames, LogBatch, LogReader, Verdict};
 pub use raw::{
     Answer, Breach, Command, ConfigurationItem, ContentBreach, Entry, ErrorCounts, Fault,

@@ -1,0 +1,128 @@
+//! The judges: of a link, by its frames and where they were logged; and of a log, by what a reader finds in it.
+
+use crate::raw::{self, JudgeOutcome, RawJudge, RawLimits, RawLogJudge};
+
+// SAFETY of the calls below: slices are given with their lengths, all memory is initialised and,
+// where it is written, borrowed by the call alone; the structs are begun by `_start`.
+
+/// The judge of a link: both checkers of a log in which lines may be lost, of a module that may be restarted and whose counter
+/// may be loaded. A frame was logged at the CPU's end (`AT_CPU`), at the module (`AT_MODULE`) or on the bus (`AT_BUS`).
+#[derive(Clone)]
+pub struct LinkJudge(RawJudge);
+
+impl LinkJudge {
+    /// Above the first frame of a log that begins anywhere, of a module whose blocks have at most `per_block` entries, 1 to 255,
+    /// and of which `waiting` may wait, 1 to 8,192. `None` where one is out of its range.
+    pub fn anywhere(per_block: u8, waiting: u16) -> Option<LinkJudge> {
+        LinkJudge::started_by(raw::fio2070_judge_start_anywhere, per_block, waiting)
+    }
+
+    /// As `anywhere`, above the first frame of a log that begins with the start of both ends: it finds more.
+    pub fn begun(per_block: u8, waiting: u16) -> Option<LinkJudge> {
+        LinkJudge::started_by(raw::fio2070_judge_start_begun, per_block, waiting)
+    }
+
+    fn started_by(
+        start: unsafe extern "C" fn(&mut RawJudge, RawLimits) -> u8,
+        per_block: u8,
+        waiting: u16,
+    ) -> Option<LinkJudge> {
+        let limits = RawLimits {
+            waiting,
+            per_block,
+            reserved: 0,
+        };
+        let mut judge = RawJudge::default();
+        match unsafe { start(&mut judge, limits) } {
+            0 => Some(LinkJudge(judge)),
+            _ => None,
+        }
+    }
+
+    /// Lines of the log are lost here, such as a damaged frame, or a part of it ends and another begins.
+    pub fn lose(&mut self) {
+        unsafe { raw::fio2070_judge_lose(&mut self.0) }
+    }
+
+    /// What a frame is that the CPU sent, logged there.
+    pub fn sent(&mut self, at: u8, octets: &[u8]) -> JudgeOutcome {
+        let mut outcome = JudgeOutcome::default();
+        let (start, count) = (octets.as_ptr(), octets.len());
+        unsafe { raw::fio2070_judge_sent(&mut self.0, at, start, count, &mut outcome) };
+        outcome
+    }
+
+    /// What a frame is that the module sent, logged there.
+    pub fn heard(&mut self, at: u8, octets: &[u8]) -> JudgeOutcome {
+        let mut outcome = JudgeOutcome::default();
+        let (start, count) = (octets.as_ptr(), octets.len());
+        unsafe { raw::fio2070_judge_heard(&mut self.0, at, start, count, &mut outcome) };
+        outcome
+    }
+}
+
+/// The judge of a log: it says what each frame is that a reader finds, by what the log says of the lines between them too.
+///
+/// ```
+/// use fio2070::{constants::*, LogJudge};
+///
+/// let mut judge = LogJudge::new(LOG_TAKEN_AUTO, LOG_BEGINS_ANYWHERE, 255, 1024).unwrap();
+/// assert_eq!(judge.frame(true, LOG_FROM_CPU, &[0x36, 5]).kind, OUTCOME_KEPT);
+/// judge.miss();
+/// assert_eq!(judge.frame(true, LOG_FROM_CPU, &[0x36, 6]).kind, OUTCOME_KEPT);
+/// assert_eq!(judge.frame(true, LOG_FROM_CPU, &[0x36, 7]).kind, OUTCOME_BROKEN);
+/// ```
+#[derive(Clone)]
+pub struct LogJudge(RawLogJudge);
+
+impl LogJudge {
+    /// Above the first line of a log, taken at `place`, one of `constants::LOG_TAKEN_AUTO` and those after it, that begins as
+    /// `start` says, one of `constants::LOG_BEGINS_ANYWHERE` and those after it, of a module whose blocks have at most `per_block`
+    /// entries, 1 to 255, and of which `waiting` may wait, 1 to 8,192. `None` where one of these two is out of its range.
+    pub fn new(place: u8, start: u8, per_block: u8, waiting: u16) -> Option<LogJudge> {
+        let limits = RawLimits {
+            waiting,
+            per_block,
+            reserved: 0,
+        };
+        let mut judge = RawLogJudge::default();
+        match unsafe { raw::fio2070_log_judge_start(&mut judge, limits, place, start) } {
+            0 => Some(LogJudge(judge)),
+            _ => None,
+        }
+    }
+
+    /// A line may have held a frame, such as a damaged one, or is the heading of another part of the log.
+    pub fn lose(&mut self) {
+        unsafe { raw::fio2070_log_judge_lose(&mut self.0) }
+    }
+
+    /// A line says a message which nothing makes sure: below a frame it is as for `lose`.
+    pub fn possible(&mut self) {
+        unsafe { raw::fio2070_log_judge_possible(&mut self.0) }
+    }
+
+    /// A line without octets speaks of loss: down to the next poll or block answer nobody is accused of what a lost frame
+    /// explains.
+    pub fn miss(&mut self) {
+        unsafe { raw::fio2070_log_judge_miss(&mut self.0) }
+    }
+
+    /// What a frame is that the CPU sent, or the module. `said` is who sent it as its line says: one of
+    /// `constants::LOG_NO_SIDE` and those after it, as in `Verdict::said`.
+    pub fn frame(&mut self, from_cpu: bool, said: u8, octets: &[u8]) -> JudgeOutcome {
+        let mut outcome = JudgeOutcome::default();
+        let (start, count) = (octets.as_ptr(), octets.len());
+        unsafe {
+            raw::fio2070_log_judge_frame(
+                &mut self.0,
+                from_cpu.into(),
+                said,
+                start,
+                count,
+                &mut outcome,
+            )
+        };
+        outcome
+    }
+}
