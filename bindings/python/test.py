@@ -105,6 +105,17 @@ def heard_line(call, numbers, text):
     return said[0] if said[0] == said[1] else ' or '.join(said)
 
 
+def outcome_words(found):
+    """The words of what a judge says of a frame."""
+    words = [str(found.kind)] + ['why %d' % found.why] * (found.why != 0)
+    if found.breach:
+        words += ['rule %d' % found.breach.rule] + ['due %d got %d' % (found.breach.due, found.breach.got)] * found.breach.has_due
+    if found.content:
+        words += ['rule %d' % found.content.rule] + ['input %s' % found.content.input] * (found.content.input is not None)
+        words += ['items %d' % found.content.items] * (found.content.items != 0)
+    return ' '.join(words)
+
+
 def outcomes(judge, at, text):
     """What a judge says of frames; `-` is a place where lines are lost."""
     said = []
@@ -113,14 +124,20 @@ def outcomes(judge, at, text):
             judge.lose()
             continue
         side, _, octets = line.partition(' ')
-        found = (judge.sent if side == '>' else judge.heard)(bytes.fromhex(octets), at)
-        words = [str(found.kind)] + ['why %d' % found.why] * (found.why != 0)
-        if found.breach:
-            words += ['rule %d' % found.breach.rule] + ['due %d got %d' % (found.breach.due, found.breach.got)] * found.breach.has_due
-        if found.content:
-            words += ['rule %d' % found.content.rule] + ['input %s' % found.content.input] * (found.content.input is not None)
-            words += ['items %d' % found.content.items] * (found.content.items != 0)
-        said.append(' '.join(words))
+        said.append(outcome_words((judge.sent if side == '>' else judge.heard)(bytes.fromhex(octets), at)))
+    return ', '.join(said)
+
+
+def log_outcomes(per_block, waiting, place, start, text):
+    """What a judge of a log says of frames; `-` is a line that may have held a frame, `?` a possible message, `!` speaks of loss."""
+    judge = fio2070.LogJudge(per_block, waiting, ('auto', 'cpu', 'module', 'bus')[place], start == 1, start == 2)
+    takes, said = {'-': judge.lose, '?': judge.possible, '!': judge.miss}, []
+    for line in text.split(', '):
+        if line in takes:
+            takes[line]()
+            continue
+        sides, _, octets = line.partition(' ')
+        said.append(outcome_words(judge.frame(bytes.fromhex(octets), sides[0] == '>', sides[1:])))
     return ', '.join(said)
 
 
@@ -136,10 +153,12 @@ def said_by(call, numbers, text):
         return verdicts(*numbers, text)
     if call.startswith('content'):
         return breaches(fio2070.ContentChecker(begun=call == 'content_begun'), text)
-    octets = b'' if call.startswith(('checker', 'judge')) else bytes.fromhex(text)
+    octets = b'' if call.startswith(('checker', 'judge', 'log_judge')) else bytes.fromhex(text)
     try:
         if call.startswith('judge'):
             return outcomes(fio2070.LinkJudge(*numbers[:2], begun=call == 'judge_begun'), numbers[2], text)
+        if call == 'log_judge':
+            return log_outcomes(*numbers, text)
         if call.startswith('checker'):
             return breaches(fio2070.Checker(*numbers, anywhere=call == 'checker_anywhere'), text)
         if call == 'wire_frame':

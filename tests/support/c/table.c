@@ -169,6 +169,35 @@ static void say_outcomes(const struct row *row) {
     }
 }
 
+/* A line `-` may have held a frame, `?` is a possible message, `!` speaks of loss. */
+static void take_line(struct fio2070_log_judge *judge, char line) {
+    if (line == '-') fio2070_log_judge_lose(judge);
+    else if (line == '?') fio2070_log_judge_possible(judge);
+    else fio2070_log_judge_miss(judge);
+}
+
+/* Below who sent a frame a row has who sent it as its line says: `><` is of the CPU, and the line says of the module. */
+static void say_log_outcomes(const struct row *row) {
+    struct fio2070_limits limits = {(uint16_t)row->numbers[1], (uint8_t)row->numbers[0], 0};
+    struct fio2070_judge_outcome it;
+    struct fio2070_log_judge judge;
+    const char *frame = row->text;
+    uint8_t started, kind;
+    memset(&judge, 0xa5, sizeof judge);
+    started = fio2070_log_judge_start(&judge, limits, (uint8_t)row->numbers[2], (uint8_t)row->numbers[3]);
+    if (started != FIO2070_STARTED) say("refused");
+    for (; started == FIO2070_STARTED && frame != NULL; frame = next_frame(frame)) {
+        if (strchr("-?!", *frame) != NULL) {
+            take_line(&judge, *frame);
+            continue;
+        }
+        memset(&it, 0xa5, sizeof it);
+        kind = fio2070_log_judge_frame(&judge, *frame == '>', side_said(frame), octets, octets_in(strchr(frame, ' ') + 1, octets), &it);
+        say_outcome(&it);
+        if (it.kind != kind || it.reserved != 0) say(" not in the struct");
+    }
+}
+
 static void say_line(const struct row *row, size_t length) {
     size_t count;
     if (is_call(row, "wire_check")) {
@@ -259,6 +288,7 @@ static void run(const struct row *row) {
     else if (strncmp(row->call, "checker", 7) == 0) say_breaches(row);
     else if (strncmp(row->call, "content", 7) == 0) say_content_breaches(row);
     else if (strncmp(row->call, "judge", 5) == 0) say_outcomes(row);
+    else if (is_call(row, "log_judge")) say_log_outcomes(row);
     else if (is_call(row, "wire") || is_call(row, "wire_bits")) say_heard_line(row);
     else if (strncmp(row->call, "wire_", 5) == 0) say_line(row, length);
     else if (is_call(row, "log")) say_log(row);

@@ -119,6 +119,30 @@ static std::string outcomes(const row &it) {
     return said;
 }
 
+static void take_line(fio2070::LogJudge &judge, char line) {
+    if (line == '-') judge.lose();
+    else if (line == '?') judge.possible();
+    else judge.miss();
+}
+
+static std::string log_outcomes(const row &it) {
+    auto judge = fio2070::LogJudge::start(static_cast<fio2070_log_taken>(it.numbers[2]), static_cast<fio2070_log_begins>(it.numbers[3]),
+                                          static_cast<std::uint8_t>(it.numbers[0]), static_cast<std::uint16_t>(it.numbers[1]));
+    if (!judge) return "refused";
+    *said = 0;
+    for (const char *frame = it.text; frame; frame = next_frame(frame)) {
+        List octets(1024);
+        if (strchr("-?!", *frame)) {
+            take_line(*judge, *frame);
+            continue;
+        }
+        octets.resize(octets_in(strchr(frame, ' ') + 1, octets.data()));
+        const fio2070_judge_outcome outcome = judge->frame(octets, *frame == '>', static_cast<fio2070_log_side>(side_said(frame)));
+        say_outcome(&outcome);
+    }
+    return said;
+}
+
 static std::string framed(const row &it, const List &octets) {
     const auto frame = fio2070::wire_frame(octets, static_cast<std::uint8_t>(it.numbers[0]), static_cast<std::uint8_t>(it.numbers[1]));
     *said = 0;
@@ -197,6 +221,7 @@ static std::string run(const row &it) {
     if (call.rfind("checker", 0) == 0) return judged(it);
     if (call.rfind("content", 0) == 0) return content_judged(it);
     if (call.rfind("judge", 0) == 0) return outcomes(it);
+    if (call == "log_judge") return log_outcomes(it);
     if (call == "log") return logged(it);
     if (call == "wire") return heard_line<fio2070::Wire>(it);
     if (call == "wire_bits") return heard_line<fio2070::WireBits>(it);

@@ -165,3 +165,8 @@ static const char *next_frame(const char *frame) {
     const char *comma = strchr(frame, ',');
     return comma ? comma + 2 : NULL;
 }
+
+/* Who sent a frame of a log as its line says, below who sent it. */
+static uint8_t side_said(const char *frame) {
+    return frame[1] == '>' ? FIO2070_LOG_FROM_CPU : frame[1] == '<' ? FIO2070_LOG_FROM_MODULE : FIO2070_LOG_NO_SIDE;
+}

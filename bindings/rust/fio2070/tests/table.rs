@@ -275,6 +275,35 @@ fn by_judge(row: &Row) -> String {
     said.join(", ")
 }
 
+/// What a judge of a log says of frames; `-` is a line that may have held a frame, `?` a possible message, `!` speaks of loss.
+fn by_log_judge(row: &Row) -> String {
+    let number = |place: usize| row.numbers[place];
+    let judge = LogJudge::new(
+        number(2) as u8,
+        number(3) as u8,
+        number(0) as u8,
+        number(1) as u16,
+    );
+    let Some(mut judge) = judge else {
+        return "refused".to_string();
+    };
+    let mut said = Vec::new();
+    for line in row.text.split(", ") {
+        match line.split_once(' ') {
+            Some((sides, octets)) => {
+                let side = ["", ">", "<"].iter().position(|side| *side == &sides[1..]);
+                let from_cpu = sides.starts_with('>');
+                let outcome = judge.frame(from_cpu, side.unwrap() as u8, &octets_of(octets));
+                said.push(outcome_words(outcome));
+            }
+            None if line == "-" => judge.lose(),
+            None if line == "?" => judge.possible(),
+            None => judge.miss(),
+        }
+    }
+    said.join(", ")
+}
+
 fn outcome_words(outcome: JudgeOutcome) -> String {
     let mut words = outcome.kind.to_string();
     let mut add = |is_there: bool, name: &str, number: u16| {
@@ -407,6 +436,7 @@ fn run(row: &Row) -> Result<String, Fault> {
         "checker" | "checker_anywhere" => by_checker(row),
         "content" | "content_begun" => by_content_checker(row),
         "judge" | "judge_begun" => by_judge(row),
+        "log_judge" => by_log_judge(row),
         "log" => by_log_reader(row),
         "wire" => heard_line!(row, Wire, octets_of, Wire::lose),
         "wire_bits" => heard_line!(row, WireBits, str::as_bytes, |_: &mut WireBits| ()),
