@@ -83,6 +83,7 @@ static void ends(void) {
     struct fio2070_content_checker *content = (struct fio2070_content_checker *)fresh(sizeof *content);
     struct fio2070_content_breach *entry = (struct fio2070_content_breach *)fresh(sizeof *entry);
     struct fio2070_judge *judge = (struct fio2070_judge *)fresh(sizeof *judge);
+    struct fio2070_log_judge *log = (struct fio2070_log_judge *)fresh(sizeof *log);
     struct fio2070_judge_outcome *outcome = (struct fio2070_judge_outcome *)fresh(sizeof *outcome);
     struct fio2070_record_item *items = (struct fio2070_record_item *)fresh(FIO2070_MOST_RECORD_ITEMS * sizeof *items);
     struct fio2070_limits limits = FIO2070_STANDARD_LIMITS;
@@ -105,6 +106,11 @@ static void ends(void) {
     CHECK(fio2070_judge_start_anywhere(judge, limits) == FIO2070_STARTED);
     CHECK(fio2070_judge_sent(judge, FIO2070_AT_CPU, (const uint8_t *)"\x36\5", 2, outcome) == FIO2070_OUTCOME_KEPT && outcome->input == FIO2070_NO_INPUT);
     CHECK(fio2070_judge_heard(judge, FIO2070_AT_CPU, out, count, outcome) == FIO2070_OUTCOME_KEPT && outcome->items == 0 && outcome->reserved == 0);
+    CHECK(fio2070_log_judge_start(log, limits, FIO2070_LOG_TAKEN_AUTO, FIO2070_LOG_BEGINS_ANYWHERE) == FIO2070_STARTED);
+    fio2070_log_judge_possible(log);
+    CHECK(fio2070_log_judge_frame(log, 1, FIO2070_LOG_FROM_CPU, (const uint8_t *)"\x36\5", 2, outcome) == FIO2070_OUTCOME_KEPT && outcome->why == 0);
+    fio2070_log_judge_miss(log);
+    CHECK(fio2070_log_judge_frame(log, 0, FIO2070_LOG_FROM_MODULE, out, count, outcome) == FIO2070_OUTCOME_KEPT && outcome->items == 0);
     fio2070_poller_start(poller, 5);
     heard = fio2070_poller_hear(poller, out, count, items, FIO2070_MOST_RECORD_ITEMS);
     CHECK(heard.kind == FIO2070_HEARD_TAKEN && heard.items == 1 && heard.stamp == 1 && poller->number == 6);

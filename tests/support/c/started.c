@@ -65,6 +65,18 @@ static void judges(void) {
     check(same(&one, &other, sizeof one), "octets of the judge of both ends", __LINE__);
 }
 
+static void log_judges(void) {
+    static struct fio2070_log_judge one, other;
+    struct fio2070_limits limits = FIO2070_STANDARD_LIMITS, refused = {FIO2070_MOST_WAITING + 1, FIO2070_MOST_ENTRIES, 0};
+    uint8_t start;
+    for (start = FIO2070_LOG_BEGINS_ANYWHERE; start <= FIO2070_LOG_LEAVES_OUT_LATE; start++) {
+        fill(&one, &other, sizeof one);
+        check(fio2070_log_judge_start(&one, refused, 0, start) == FIO2070_REFUSED && memchr(&one, 0, sizeof one) == NULL, "judge of a log that is not started", __LINE__);
+        check(fio2070_log_judge_start(&one, limits, 0, start) + fio2070_log_judge_start(&other, limits, 0, start) == FIO2070_STARTED, "judge of a log", __LINE__);
+        check(same(&one, &other, sizeof one), "octets of the judge of a log", __LINE__);
+    }
+}
+
 int main(void) {
     STARTS(counter_start, fio2070_counter);
     STARTS(checker_start, fio2070_checker);
@@ -73,6 +85,7 @@ int main(void) {
     STARTS(filters_start, fio2070_filters);
     modules();
     judges();
+    log_judges();
     wires();
     return end_of_checks();
 }

@@ -152,21 +152,37 @@ void call_poller(struct input *input) {
 
 /* ---- Checkers ---- */
 
+static void mix_outcome(const struct fio2070_judge_outcome *found, uint8_t kind) {
+    require(kind == found->kind && kind <= FIO2070_OUTCOME_NOT_JUDGED && found->reserved == 0, "the kind that is returned is that of the outcome");
+    require(found->items <= FIO2070_MOST_RECORD_ITEMS && found->why <= FIO2070_WHY_LATE, "the outcome is in its ranges");
+    mix(kind), mix(found->why), mix(found->rule), mix(found->has_due), mix(found->due), mix(found->got), mix(found->input);
+    mix(found->items);
+}
+
 static void judge(struct fio2070_judge *judge, struct input *input, const uint8_t *frame, size_t length, int is_sent) {
     uint8_t how = take8(input), kind;
     struct fio2070_judge_outcome *found = (struct fio2070_judge_outcome *)untouched(sizeof *found);
     if (how % 8 == 0) fio2070_judge_lose(judge);
     kind = is_sent ? fio2070_judge_sent(judge, (uint8_t)(how >> 3), frame, length, found)
                    : fio2070_judge_heard(judge, (uint8_t)(how >> 3), frame, length, found);
-    require(kind == found->kind && kind <= FIO2070_OUTCOME_NOT_JUDGED && found->reserved == 0, "the kind that is returned is that of the outcome");
-    require(found->items <= FIO2070_MOST_RECORD_ITEMS && found->why <= FIO2070_WHY_PLACE_LOST, "the outcome is in its ranges");
-    mix(kind), mix(found->why), mix(found->rule), mix(found->has_due), mix(found->due), mix(found->got), mix(found->input);
-    mix(found->items);
+    require(found->why <= FIO2070_WHY_PLACE_LOST, "the judge of a link knows no late answers");
+    mix_outcome(found, kind);
     free(found);
 }
 
-static void check(struct fio2070_checker *checker, struct fio2070_content_checker *content, struct fio2070_judge *link, struct input *input,
-                  uint8_t polled) {
+static void judge_in_log(struct fio2070_log_judge *judge, struct input *input, const uint8_t *frame, size_t length, int is_sent) {
+    uint8_t how = take8(input), kind;
+    struct fio2070_judge_outcome *found = (struct fio2070_judge_outcome *)untouched(sizeof *found);
+    if (how % 8 == 0) fio2070_log_judge_lose(judge);
+    if (how % 8 == 1) fio2070_log_judge_possible(judge);
+    if (how % 8 == 2) fio2070_log_judge_miss(judge);
+    kind = fio2070_log_judge_frame(judge, (uint8_t)(is_sent ? 1 + how / 8 : 0), (uint8_t)(how >> 4), frame, length, found);
+    mix_outcome(found, kind);
+    free(found);
+}
+
+static void check(struct fio2070_checker *checker, struct fio2070_content_checker *content, struct fio2070_judge *link,
+                  struct fio2070_log_judge *log, struct input *input, uint8_t polled) {
     size_t length;
     int is_sent = take8(input) % 2;
     uint8_t *frame = take_frame(input, &length), rule;
@@ -187,6 +203,7 @@ static void check(struct fio2070_checker *checker, struct fio2070_content_checke
     }
     mix(found.rule), mix(found.input), mix(found.items);
     judge(link, input, frame, length, is_sent);
+    judge_in_log(log, input, frame, length, is_sent);
     free(frame);
 }
 
@@ -194,6 +211,7 @@ void call_checkers(struct input *input) {
     struct fio2070_checker checker;
     struct fio2070_content_checker *content = (struct fio2070_content_checker *)untouched(sizeof *content);
     struct fio2070_judge *link = (struct fio2070_judge *)untouched(sizeof *link);
+    struct fio2070_log_judge *log = (struct fio2070_log_judge *)untouched(sizeof *log);
     struct fio2070_limits limits = {0, 0, 0};
     uint8_t how = take8(input), polled = 0;
     memset(&checker, UNTOUCHED, sizeof checker);
@@ -203,10 +221,13 @@ void call_checkers(struct input *input) {
     mix(how & 16 ? fio2070_checker_start_anywhere(&checker, limits) : fio2070_checker_start_within(&checker, limits));
     if (how & 2) fio2070_content_start(content); else fio2070_content_start_begun(content);
     mix(how & 2 ? fio2070_judge_start_anywhere(link, limits) : fio2070_judge_start_begun(link, limits));
+    mix(fio2070_log_judge_start(log, limits, (uint8_t)(how >> 6), (uint8_t)(how >> 4)));
     if (has_garbage && how & 4) take_into(input, content, sizeof *content);
     if (has_garbage && how & 32) take_into(input, link, sizeof *link);
+    if (has_garbage && how & 64) take_into(input, log, sizeof *log);
     if (has_garbage && how & 8) take_into(input, &checker, sizeof checker);
-    while (input->left > 0) check(&checker, content, link, input, polled), polled = (uint8_t)(polled + (take8(input) % 3 == 0));
+    while (input->left > 0) check(&checker, content, link, log, input, polled), polled = (uint8_t)(polled + (take8(input) % 3 == 0));
     free(content);
     free(link);
+    free(log);
 }
