@@ -33,6 +33,7 @@ abbrev pub lateness_of_polled : LateAnswers → Option ℕ → ℕ → Lateness
 lateness_of_polled late None number = Late
 lateness_of_polled late (Some polled) number = lateness_below late polled number
 
+-- the same by what is kept of the frames above
 abbrev pub lateness_of_block : LateAnswers → ℕ → Lateness
 lateness_of_block late number = lateness_of_polled late late.polled number
 

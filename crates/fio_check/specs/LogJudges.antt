@@ -58,10 +58,12 @@ log_judging judge = record {
 
 -- ---- where it begins
 
+-- the judge of its link
 abbrev pub link_starting : Limits → LogStart → Judging
 link_starting limits Begun = judging_begun limits
 link_starting limits start = judging_anywhere limits
 
+-- what tells which answers are late, if these are left out
 abbrev pub late_starting : LogStart → Option LateAnswers
 late_starting StartLate = Some late_above
 late_starting start = None
@@ -137,6 +139,7 @@ abbrev pub log_above : LogJudging → Bool → Observation → LogJudging
 log_above log from_cpu observation =
     if log.missing && is_explained log from_cpu observation then log_lost log else log
 
+-- that judge, where the directions of this frame are counted, and it may end what a line above says of loss
 abbrev pub log_reaching : LogJudging → Bool → Option Bool → Observation → LogJudging
 log_reaching log from_cpu said observation = record (log_above (log_counting log from_cpu said) from_cpu observation) {
   has_frames = true;
@@ -152,10 +155,12 @@ abbrev pub place_found : LogJudging → Option Bool → LogPlace
 place_found log None = Bus
 place_found log (Some by_cpu) = end_of log
 
+-- the same if it is known where the log was taken
 abbrev pub place_by : LogJudging → Option LogPlace → Option Bool → LogPlace
 place_by log (Some place) said = place
 place_by log None said = place_found log said
 
+-- where a frame was logged, of which this is said
 abbrev pub place_of : LogJudging → Option Bool → LogPlace
 place_of log said = place_by log log.place said
 
@@ -184,6 +189,7 @@ outcome_in_time judging at from_cpu octets = if is_told from_cpu (observation_in
     then outcome_in judging at from_cpu octets
     else outcome_without_content judging (observation_in from_cpu octets)
 
+-- with such a frame more
 abbrev pub judging_in_time : Judging → LogPlace → Bool → List ℕ → Judging
 judging_in_time judging at from_cpu octets = if is_told from_cpu (observation_in from_cpu octets)
     then judging_with judging at from_cpu octets
@@ -195,6 +201,7 @@ is_rule_of_late Same = true
 is_rule_of_late Refusal = true
 is_rule_of_late rule = false
 
+-- a frame breaks such a rule
 abbrev pub is_of_late : Outcome → Bool
 is_of_late (Broken breach) = is_rule_of_late breach.rule
 is_of_late outcome = false
@@ -210,6 +217,7 @@ is_excused_late settled outcome = is_of_late outcome
 abbrev pub late_settled : LateAnswers → Outcome → Bool
 late_settled late outcome = late.settled && not (is_of_late outcome)
 
+-- what a frame is that is no late answer, below which this is kept of the answers
 abbrev pub outcome_kept_late : LateAnswers → Outcome → LogOutcome
 outcome_kept_late late outcome = if is_excused_late (late_settled late outcome) outcome then Late else Link outcome
 
@@ -217,6 +225,7 @@ outcome_kept_late late outcome = if is_excused_late (late_settled late outcome) 
 abbrev pub log_forgetting : LogJudging → LateAnswers → LogJudging
 log_forgetting log late = record log { link = without_content log.link; late = Some late }
 
+-- with such a frame more
 abbrev pub log_kept_late : LogJudging → LateAnswers → Outcome → LogJudging
 log_kept_late log late outcome = if late_settled late outcome
     then record log { late = Some (record late { settled = true }) }
@@ -227,6 +236,7 @@ abbrev pub outcome_by_lateness : Lateness → LateAnswers → Outcome → LogOut
 outcome_by_lateness InTime late outcome = outcome_kept_late late outcome
 outcome_by_lateness lateness late outcome = Late
 
+-- what a frame is of a log from which late answers are left out
 abbrev pub outcome_late : LogJudging → LateAnswers → LogPlace → Bool → List ℕ → LogOutcome
 outcome_late log late at from_cpu octets = outcome_by_lateness (lateness_of late (observation_in from_cpu octets))
     (late_with late (observation_in from_cpu octets)) (outcome_in_time log.link at from_cpu octets)
@@ -240,6 +250,7 @@ log_by_lateness LateOne log late at from_cpu octets = log_forgetting log late
 log_by_lateness LateButTaken log late at from_cpu octets =
     log_forgetting (record log { link = judging_lost log.link }) late
 
+-- with such a frame more
 abbrev pub log_with_late : LogJudging → LateAnswers → LogPlace → Bool → List ℕ → LogJudging
 log_with_late log late at from_cpu octets = log_by_lateness (lateness_of late (observation_in from_cpu octets)) log
     (late_with late (observation_in from_cpu octets)) at from_cpu octets
@@ -251,6 +262,7 @@ abbrev pub outcome_here : LogJudging → Option LateAnswers → LogPlace → Boo
 outcome_here log None at from_cpu octets = Link (outcome_in log.link at from_cpu octets)
 outcome_here log (Some late) at from_cpu octets = outcome_late log late at from_cpu octets
 
+-- the same by where it was logged
 abbrev pub outcome_reached : LogJudging → Bool → Option Bool → List ℕ → LogOutcome
 outcome_reached log from_cpu said octets = outcome_here log log.late (place_of log said) from_cpu octets
 
@@ -259,10 +271,12 @@ abbrev pub outcome_in_log : LogJudging → Bool → Option Bool → List ℕ →
 outcome_in_log log from_cpu said octets =
     outcome_reached (log_reaching log from_cpu said (observation_in from_cpu octets)) from_cpu said octets
 
+-- with that frame more
 abbrev pub log_below : LogJudging → Option LateAnswers → LogPlace → Bool → List ℕ → LogJudging
 log_below log None at from_cpu octets = record log { link = judging_with log.link at from_cpu octets }
 log_below log (Some late) at from_cpu octets = log_with_late log late at from_cpu octets
 
+-- the same by where it was logged
 abbrev pub log_reached : LogJudging → Bool → Option Bool → List ℕ → LogJudging
 log_reached log from_cpu said octets = log_below log log.late (place_of log said) from_cpu octets
 
