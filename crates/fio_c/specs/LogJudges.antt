@@ -105,4 +105,11 @@ outcomes_of_verdicts judge as_said [] frames = []
 outcomes_of_verdicts judge as_said (verdict ∷ verdicts) frames =
     outcomes_of_verdict judge as_said verdict (take verdict.frames frames)
     ++ outcomes_of_verdicts (log_below_events judge (events_of_verdict as_said verdict (take verdict.frames frames)))
-       as_said verdicts (drop verdict.frames frames)
+    as_said verdicts (drop verdict.frames frames)
+
+-- ---- the frames of a batch
+
+-- octets, one frame after the other, by how many octets each has; the last ones have what is left
+abbrev pub frames_in : List ℕ → List ℕ → List (List ℕ)
+frames_in [] octets = []
+frames_in (count ∷ counts) octets = take count octets ∷ frames_in counts (drop count octets)

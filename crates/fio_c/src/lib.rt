@@ -43,6 +43,7 @@ mod judge;
 mod log;
 mod log_batch;
 mod log_judge;
+mod log_judge_batch;
 mod log_verdicts;
 mod parts;
 mod poller;

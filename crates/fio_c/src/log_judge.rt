@@ -64,11 +64,7 @@ pub extern "C" fn fio2070_log_judge_start(
     let Some(limits) = limits_from(limits) else {
         return 1;
     };
-    *judge = log_flat_of(&JudgeOfLog::new(
-        limits,
-        place_taken(place),
-        start_from(start),
-    ));
+    *judge = log_flat_of(&JudgeOfLog::new(limits, place_taken(place), start_from(start)));
     0
 }
 
@@ -123,18 +119,20 @@ pub extern "C" fn fio2070_log_judge_frame(
 }
 
 /// Takes a frame, and returns what it is as C sees it.
-pub(crate) fn take(
-    judge: &mut LogJudge,
-    from_cpu: bool,
-    said: Option<bool>,
-    octets: &[u8],
-) -> JudgeOutcome
+fn take(judge: &mut LogJudge, from_cpu: bool, said: Option<bool>, octets: &[u8]) -> JudgeOutcome
     ensures next { log_judge_in judge.new ≡ log_with (log_judge_in judge.old) from_cpu said octets.now }
     ensures outcome { result ≡ flat_log_outcome (outcome_in_log (log_judge_in judge.old) from_cpu said octets.now) }
 {
     let mut kept = log_judge_from(judge);
     let outcome = kept.frame(from_cpu, said, octets);
     *judge = log_flat_of(&kept);
+    log_outcome_from(outcome)
+}
+
+/// Returns what a frame is as C sees it.
+pub(crate) fn log_outcome_from(outcome: LogOutcome) -> JudgeOutcome
+    ensures { result ≡ flat_log_outcome outcome }
+{
     match outcome {
         LogOutcome::Link(outcome) => outcome_from(outcome),
         LogOutcome::Late => without_breach(3, 5),
@@ -142,7 +140,7 @@ pub(crate) fn take(
 }
 
 /// Returns the judge that a struct of C stands for, whatever its octets are.
-fn log_judge_from(flat: &LogJudge) -> JudgeOfLog
+pub(crate) fn log_judge_from(flat: &LogJudge) -> JudgeOfLog
     ensures { log_judging result ≡ log_judge_in flat.now }
 {
     JudgeOfLog {
@@ -180,7 +178,7 @@ fn octet_from(has: u8, octet: u8) -> Option<u8>
 }
 
 /// Returns the struct of C that stands for a judge.
-fn log_flat_of(judge: &JudgeOfLog) -> LogJudge
+pub(crate) fn log_flat_of(judge: &JudgeOfLog) -> LogJudge
     ensures { log_judge_in result ≡ log_judging judge.now }
 {
     let flat = flat_without_late(judge);
@@ -267,7 +265,7 @@ fn start_from(start: u8) -> LogStart
 }
 
 /// Returns whether the CPU's end sent a frame, if its line says who did.
-fn end_from(said: u8) -> Option<bool>
+pub(crate) fn end_from(said: u8) -> Option<bool>
     ensures { result ≡ end_in said }
 {
     match said {
