@@ -10,7 +10,6 @@ use Rattle.fio_log.specs.declared.places.Place.{Place}
 use Rattle.fio_c.specs.Logs.{AreNext, Content, Holds, content_of, flat_place, flat_told}
 use Rattle.fio_c.specs.Told.{Told}
 use Rattle.fio_c.specs.declared.log_batch.LogBatch.{LogBatch}
-use Rattle.fio_c.specs.declared.log_batch.LogPlace.{LogPlace}
 use Rattle.fio_c.specs.declared.log_batch.LogVerdict.{LogVerdict}
 
 -- the front of a buffer, up to the end of what was written there

@@ -1,5 +1,5 @@
 -- The verdicts that a reader of logs returns, one after another, and the log that they are of.
-use Rattle.std.proofs.Common.{◌≡◌, ℕ, ◌+◌, ◌-◌, ◌^◌, ◌≤◌, ◌<◌, Bool, true, false, List, [], ◌∷◌, ◌++◌, length, map, take, Option, Some, refl, sym, subst, ap, ◌∙◌, arith, add-zero, if◌then◌else◌}
+use Rattle.std.proofs.Common.{◌≡◌, ℕ, ◌+◌, ◌-◌, ◌^◌, ◌≤◌, ◌<◌, Bool, true, false, List, [], ◌∷◌, ◌++◌, length, map, take, Some, refl, sym, subst, ap, ◌∙◌, arith, add-zero, if◌then◌else◌}
 use Rattle.std.proofs.lemmas.List.{map-append}
 use Rattle.std.proofs.lemmas.List.Elements.{All-nil, All-push}
 use Rattle.std.specs.List.{All}
@@ -11,10 +11,10 @@ use Rattle.fio_log.specs.Telling.{HasTaken, HasTold, IsLineOf, IsReaderOf, Telli
 use Rattle.fio_log.specs.declared.own_texts.OwnForm.{OwnForm}
 use Rattle.fio_log.specs.declared.verdict.Form.TheVariants.{Auto}
 use Rattle.fio_log.specs.declared.verdict.Verdict.{Verdict}
-use Rattle.fio_c.specs.Logs.{AreNext, HasNoneDue, HasReadOn, HasRoomFirst, HasTakenAll, HasVerdicts, Holds, content_of, flat_place, flat_told, has_room}
+use Rattle.fio_c.specs.Logs.{AreNext, HasNoneDue, HasReadOn, HasRoomFirst, HasTakenAll, HasVerdicts, Holds, content_of, flat_told, has_room}
 use Rattle.fio_c.specs.Told.{AreLinesAfter, HasReadOf, IsTextOf, IsVerdictOf, Returns, ReturnsAll, Texts, Told, log_of, told_by}
 use Rattle.fio_c.specs.declared.log_batch.LogBatch.{LogBatch}
-use Rattle.fio_c.proofs.Batches.{content_more, next_more}
+use Rattle.fio_c.proofs.Batches.{next_more}
 
 -- a reader that has read nothing has read nothing of any log
 pub nothing_read : (telling : Telling) → telling.making ≡ no_line → ((log : Log) → IsReaderOf log telling) → (texts : Texts) → HasReadOf texts telling

@@ -1,5 +1,5 @@
 -- The verdicts that a reader of logs returns, one after another, and the log that they are of.
-use Rattle.std.specs.Prelude.{◌≡◌, ℕ, ◌+◌, true, List, [], ◌∷◌, Option, Some}
+use Rattle.std.specs.Prelude.{◌≡◌, ℕ, ◌+◌, true, List, [], ◌∷◌, Some}
 use Rattle.std.specs.List.{All}
 use Rattle.fio_log.specs.Frames.{AreFramesAt, Log}
 use Rattle.fio_log.specs.Lines.{Text, is_whole}

@@ -1,7 +1,6 @@
-use Rattle.std.proofs.Common.{◌≡◌, ◌++◌, ◌∷◌, [], ap, ap₂, length, subst, ◌∙◌}
+use Rattle.std.proofs.Common.{◌≡◌, ◌++◌, ◌∷◌, [], ap₂, length, subst, ◌∙◌}
 use Rattle.fio_log.specs.Telling.{frames_of, places_of}
 use Rattle.fio_c.specs.Logs.{Content, Holds, flat_verdict}
-use Rattle.fio_c.specs.declared.log_batch.LogVerdict.{LogVerdict}
 use Rattle.fio_c.proofs.log_verdicts.add.Goals as goal
 
 pub returns-clause-told : goal.returns-clause-told

@@ -1,12 +1,9 @@
-use Rattle.std.proofs.Common.{◌≡◌, ◌<◌, ◌+◌, ◌∙◌, true, [], ap, refl, subst, sym, arith, length, take}
-use Rattle.std.proofs.lemmas.List.{take_all}
+use Rattle.std.proofs.Common.{◌≡◌, ◌<◌, ◌+◌, ◌∙◌, true, [], refl, subst, arith, length, take}
 use Rattle.std.proofs.lemmas.List.Elements.{All-nil, All-push}
 use Rattle.std.specs.List.{All}
 use Rattle.fio_log.specs.Sayings.{spells}
 use Rattle.fio_log.specs.Telling.{frames_of}
 use Rattle.fio_log.proofs.OwnTextLemmas.{spelled_short}
-use Rattle.fio_log.proofs.OwnVerdictLemmas.{none-left}
-use Rattle.fio_c.specs.Logs.{Holds}
 use Rattle.fio_c.proofs.Batches.{next_frame, no_frame, octets_next, octets_within, one_more}
 use Rattle.fio_c.proofs.log_verdicts.add_frames.Goals as goal
 

@@ -1,9 +1,6 @@
-use Rattle.std.proofs.Common.{◌≡◌, ◌<◌, ◌+◌, ◌++◌, ◌∷◌, [], ◌∙◌, ap, refl, subst, sym, arith, length, map, take}
-use Rattle.std.proofs.lemmas.List.{take_all}
+use Rattle.std.proofs.Common.{◌<◌, ◌++◌, ◌∷◌, [], ◌∙◌, refl, subst, arith, length}
 use Rattle.fio_log.specs.Telling.{places_of}
-use Rattle.fio_log.proofs.OwnVerdictLemmas.{none-left}
-use Rattle.fio_c.specs.Logs.{Content, Holds, flat_place}
-use Rattle.fio_c.specs.declared.log_batch.LogPlace.{LogPlace}
+use Rattle.fio_c.specs.Logs.{Content, Holds}
 use Rattle.fio_c.proofs.Batches.{next_place, no_place}
 use Rattle.fio_c.proofs.log_verdicts.add_places.Goals as goal
 
