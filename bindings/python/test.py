@@ -15,6 +15,7 @@ from fio2070 import ConfigurationItem, Entry, encode, tester
 
 sys.path.append(os.path.join(os.path.dirname(os.path.abspath(__file__)), '../../tests/support'))
 
+from late_runs import late_run
 from rows import read_rows
 
 BLOCK = bytes.fromhex('b605018c03e700000003e8')
@@ -338,6 +339,53 @@ class Rules(unittest.TestCase):
                     self.assertIsNone((content.sent if is_sent else content.heard)(octets), (turn, start))
 
 
+class LogJudges(unittest.TestCase):
+    """The judge of a log, on runs of right ends whose answers come late and twice, and of ends with a fault."""
+
+    ACCUSED = (fio2070.constants.OUTCOME_BROKEN, fio2070.constants.OUTCOME_BROKEN_CONTENT, fio2070.constants.OUTCOME_RESTARTED)
+
+    @staticmethod
+    def outcomes(log):
+        judge = fio2070.LogJudge(place='cpu', late_answers=True)
+        return [judge.frame(octets, side == '>', side) for side, octets in log]
+
+    def test_late_answers(self):
+        # A run is judged whole, and from some line on.
+        draw, late = random.Random(1), 0
+        for seed in range(12):
+            log = late_run(seed)
+            for start in (0, draw.randrange(len(log))):
+                found = self.outcomes(log[start:])
+                self.assertEqual([one for one in found if one.kind in self.ACCUSED], [], (seed, start))
+                late += sum(one.why == fio2070.constants.WHY_LATE for one in found)
+        self.assertGreater(late, 100)
+
+    def test_faults_beside_late_answers(self):
+        for fault, least in (('gives a block up', 4), ('goes on at an old block', 4), ('asks for a block again', 4),
+                             ('answers with another number', 4), ('says F without C', 4), ('cuts an answer', 4), ('doubles an entry', 1)):
+            found = sum(any(one.kind in self.ACCUSED for one in self.outcomes(late_run(seed, fault=fault))) for seed in range(8))
+            self.assertGreaterEqual(found, least, fault)
+
+    def test_lost_lines(self):
+        # Any frames of a right run are lost from its log at the CPU's end, each at a line that may have held a frame.
+        draw = random.Random(2)
+        for turn in range(20):
+            log, restart = link_with_restarts(draw)
+            judge = fio2070.LogJudge(place='cpu')
+            for is_sent, octets in log[restart:]:
+                if draw.random() < 0.1:
+                    judge.lose()
+                    continue
+                self.assertNotIn(judge.frame(octets, is_sent).kind, self.ACCUSED, turn)
+
+    def test_words(self):
+        judge = fio2070.LogJudge()
+        self.assertEqual(repr(judge), '<LogJudge>')
+        for call in [lambda: fio2070.LogJudge(place='bank'), lambda: fio2070.LogJudge(begun=True, late_answers=True),
+                     lambda: fio2070.LogJudge(per_block=0), lambda: judge.frame(BLOCK, False, 'module')]:
+            self.assertRaises(ValueError, call)
+
+
 class Messages(unittest.TestCase):
     def test_commands(self):
         command = fio2070.decode_command(bytes.fromhex('33020c0503830000'))
@@ -368,6 +416,7 @@ class Messages(unittest.TestCase):
         calls = [fio2070.show, fio2070.decode_command, fio2070.decode_answer, fio2070.read_outputs_answer,
                  fio2070.read_identification, fio2070.Poller(5).hear, fio2070.Checker().sent, fio2070.Checker().heard,
                  fio2070.ContentChecker().sent, fio2070.ContentChecker().heard, fio2070.Module().receive,
+                 lambda octets: fio2070.LogJudge().frame(octets, True),
                  fio2070.LogReader().read, fio2070.Wire().read, fio2070.WireBits().read, fio2070.wire_frame, fio2070.wire_check,
                  lambda octets: encode.set_outputs(octets, bytes(8)),
                  lambda octets: encode.set_outputs(bytes(8), octets), lambda octets: encode.other_command(56, octets),
