@@ -24,4 +24,5 @@ pub mod BreachesSoFar
 pub mod Checkers
 pub mod LinkJudges
 pub mod LinkLaws
+pub mod LogLaws
 pub mod BothFind

@@ -24,4 +24,5 @@ pub mod LinkKept
 pub mod LinkLaws
 pub mod LateAnswers
 pub mod LogJudges
+pub mod LogLaws
 pub mod Finding

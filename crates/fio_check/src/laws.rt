@@ -12,6 +12,8 @@ ghost use Rattle.fio_check.specs.Laws.{HasOneVerdict, IsTheLatest, KeepsFacts};
 ghost use Rattle.fio_check.specs.Lines.{TranscriptLine};
 ghost use Rattle.fio_check.specs.LinkJudges.{Judging, LogLine};
 ghost use Rattle.fio_check.specs.LinkLaws.{FindFirst, HasOutcomes, LinkGoesOn, LosesPlace, SaysTheSame};
+ghost use Rattle.fio_check.specs.LogJudges.{LogEvent, LogJudging};
+ghost use Rattle.fio_check.specs.LogLaws.{SaysAsLink};
 ghost use Rattle.fio_check.specs.Observations.{observation_at};
 ghost use Rattle.fio_check.specs.Verdicts.{verdict_on};
 ghost use Rattle.fio_check.specs.declared.checker.Checker.{Checker};
@@ -126,4 +128,10 @@ pub fn judges_say_what_checkers_find()
 #[tactic(auto, using(crate::proofs::BothFind::find_first))]
 pub fn checkers_find_side_by_side()
     ensures { (checker : Checker) (content : ContentChecking) (lines : List TranscriptLine) → FindFirst checker content lines }
+{}
+
+/// Of a log without late answers the judge of a log says of each frame what the judge of a link says of it, to which it gives the
+/// frames, each with its place, and the marks where lines are lost: so the laws of the judge of a link are laws of logs.
+pub fn logs_are_judged_as_links()
+    ensures { (log : LogJudging) (events : List LogEvent) → SaysAsLink log events }
 {}
