@@ -960,7 +960,8 @@ enum fio2070_why {
     FIO2070_WHY_UNHEARD = 2,       /**< excused: the CPU's end may not have heard the answer to the poll above */
     FIO2070_WHY_ABOVE_COMMAND = 3, /**< not judged: it is an answer above the first command */
     FIO2070_WHY_PLACE_LOST = 4,    /**< not judged: it is above the next poll below a place that is lost */
-    FIO2070_WHY_LATE = 5           /**< excused, in a log alone: a late answer, or a breach that late answers explain */
+    FIO2070_WHY_LATE = 5,          /**< excused, in a log alone: it is a late answer */
+    FIO2070_WHY_LATE_ABOVE = 6     /**< excused, in a log alone: a late answer above may be why it breaks a rule */
 };
 
 /** A judge of a link. Its fields are the library's own. */
@@ -1246,7 +1247,7 @@ void fio2070_log_judge_possible(struct fio2070_log_judge *judge);
 void fio2070_log_judge_miss(struct fio2070_log_judge *judge);
 /** Takes a frame that the CPU's end sent if `from_cpu` is not 0, else the module. `said` is who sent it as its line says, one of
  * enum fio2070_log_side. Writes what it is, as `fio2070_judge_sent` does, and returns its kind, one of enum fio2070_outcome. A
- * late answer is excused, with FIO2070_WHY_LATE, and so is a frame that breaks a rule which late answers may break. */
+ * late answer is excused, with FIO2070_WHY_LATE; with FIO2070_WHY_LATE_ABOVE a frame whose breach late answers may explain. */
 FIO2070_MUST_USE
 uint8_t fio2070_log_judge_frame(struct fio2070_log_judge *judge, uint8_t from_cpu, uint8_t said, const uint8_t *octets,
                                 size_t length, struct fio2070_judge_outcome *outcome);

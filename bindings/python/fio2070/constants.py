@@ -106,6 +106,7 @@ WHY_UNHEARD = 2
 WHY_ABOVE_COMMAND = 3
 WHY_PLACE_LOST = 4
 WHY_LATE = 5
+WHY_LATE_ABOVE = 6
 
 # How the lines of a log are read.
 LOG_AUTO = 0

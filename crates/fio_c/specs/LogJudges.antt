@@ -3,7 +3,7 @@ use Rattle.std.specs.Prelude.{ℕ, ◌==◌, ◌&&◌, ◌||◌, Bool, true, fal
 use Rattle.fio_check.specs.LogJudges.{Found, LogEvent, LogJudging, Lost, Missing, Possible, log_below_events, outcomes_in_log}
 use Rattle.fio_check.specs.declared.late_answers.LateAnswers.{LateAnswers}
 use Rattle.fio_check.specs.declared.log_judge.LogOutcome.{LogOutcome}
-use Rattle.fio_check.specs.declared.log_judge.LogOutcome.TheVariants.{Late, Link}
+use Rattle.fio_check.specs.declared.log_judge.LogOutcome.TheVariants.{Late, LateAbove, Link}
 use Rattle.fio_check.specs.declared.log_judge.LogStart.{LogStart}
 use Rattle.fio_check.specs.declared.log_judge.LogStart.TheVariants as starts
 use Rattle.fio_check.specs.declared.outcome.LogPlace.{LogPlace}
@@ -60,6 +60,7 @@ log_judge_in flat = record {
 abbrev pub flat_log_outcome : LogOutcome → JudgeOutcome
 flat_log_outcome (Link outcome) = flat_outcome outcome
 flat_log_outcome Late = without_breach 3 5
+flat_log_outcome LateAbove = without_breach 3 6
 
 -- ---- a batch of verdicts
 

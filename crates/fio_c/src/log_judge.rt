@@ -136,6 +136,7 @@ pub(crate) fn log_outcome_from(outcome: LogOutcome) -> JudgeOutcome
     match outcome {
         LogOutcome::Link(outcome) => outcome_from(outcome),
         LogOutcome::Late => without_breach(3, 5),
+        LogOutcome::LateAbove => without_breach(3, 6),
     }
 }
 

@@ -16,7 +16,7 @@ use Rattle.fio_check.specs.declared.late_answers.Lateness.TheVariants.{Late as L
 use Rattle.fio_check.specs.declared.limits.Limits.{Limits}
 use Rattle.fio_check.specs.declared.log_judge.LogJudge.{LogJudge}
 use Rattle.fio_check.specs.declared.log_judge.LogOutcome.{LogOutcome}
-use Rattle.fio_check.specs.declared.log_judge.LogOutcome.TheVariants.{Late, Link}
+use Rattle.fio_check.specs.declared.log_judge.LogOutcome.TheVariants.{Late, LateAbove, Link}
 use Rattle.fio_check.specs.declared.log_judge.LogStart.{LogStart}
 use Rattle.fio_check.specs.declared.log_judge.LogStart.TheVariants.{Anywhere, Begun, LateAnswers as StartLate}
 use Rattle.fio_check.specs.declared.observation.Observation.{Observation}
@@ -219,7 +219,7 @@ late_settled late outcome = late.settled && not (is_of_late outcome)
 
 -- what a frame is that is no late answer, below which this is kept of the answers
 abbrev pub outcome_kept_late : LateAnswers → Outcome → LogOutcome
-outcome_kept_late late outcome = if is_excused_late (late_settled late outcome) outcome then Late else Link outcome
+outcome_kept_late late outcome = if is_excused_late (late_settled late outcome) outcome then LateAbove else Link outcome
 
 -- below a late answer, or where one can still come
 abbrev pub log_forgetting : LogJudging → LateAnswers → LogJudging

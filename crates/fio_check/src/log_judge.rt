@@ -29,8 +29,10 @@ pub enum LogStart {
 pub enum LogOutcome {
     /// What the judge of a link says of it.
     Link(Outcome),
-    /// It is a late answer, or would break a rule that late answers may break.
+    /// It is a late answer.
     Late,
+    /// It would break a rule, but a late answer above may be the reason.
+    LateAbove,
 }
 
 /// The judge of a log: it takes frames, and what is known of the lines between them, in order.
@@ -250,7 +252,7 @@ impl LogJudge {
         }
         self.late = Some(below);
         if is_excused_late(below.settled, outcome) {
-            LogOutcome::Late
+            LogOutcome::LateAbove
         } else {
             LogOutcome::Link(outcome)
         }

@@ -104,6 +104,7 @@ pub const WHY_UNHEARD: u8 = 2;
 pub const WHY_ABOVE_COMMAND: u8 = 3;
 pub const WHY_PLACE_LOST: u8 = 4;
 pub const WHY_LATE: u8 = 5;
+pub const WHY_LATE_ABOVE: u8 = 6;
 
 // How the lines of a log are read.
 pub const LOG_AUTO: u8 = 0;

@@ -475,6 +475,12 @@ extern "C" {
         octets_count: usize,
         outcome: &mut JudgeOutcome,
     ) -> u8;
+    pub(crate) fn fio2070_log_judge_batch(
+        judge: &mut RawLogJudge,
+        as_said: u8,
+        batch: &RawLogBatch,
+        outcomes: &mut [JudgeOutcome; 20480],
+    ) -> u32;
     pub(crate) fn fio2070_poller_start(poller: &mut RawPoller, number: u8);
     pub(crate) fn fio2070_poller_poll(poller: &RawPoller, out: *mut u8, out_count: usize) -> usize;
     pub(crate) fn fio2070_poller_hear(

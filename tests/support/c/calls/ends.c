@@ -154,7 +154,7 @@ void call_poller(struct input *input) {
 
 static void mix_outcome(const struct fio2070_judge_outcome *found, uint8_t kind) {
     require(kind == found->kind && kind <= FIO2070_OUTCOME_NOT_JUDGED && found->reserved == 0, "the kind that is returned is that of the outcome");
-    require(found->items <= FIO2070_MOST_RECORD_ITEMS && found->why <= FIO2070_WHY_LATE, "the outcome is in its ranges");
+    require(found->items <= FIO2070_MOST_RECORD_ITEMS && found->why <= FIO2070_WHY_LATE_ABOVE, "the outcome is in its ranges");
     mix(kind), mix(found->why), mix(found->rule), mix(found->has_due), mix(found->due), mix(found->got), mix(found->input);
     mix(found->items);
 }
