@@ -1,7 +1,7 @@
 #!/usr/bin/env python3
 """`fiolog record` with the rules on content: as text exactly what `fio2070 record` writes for the examples and for lossy
-runs with an entry dropped, doubled, turned or swapped; each breach in the table, as JSON, VCD and picture; and what goes on
-after a breach, in the middle of traffic, and in logs of the bus and of the module. Last line: `N passed, M failed`."""
+runs with an entry dropped, doubled, turned or swapped, but for restarts; each breach in the table, as JSON, VCD and picture; and
+what goes on after a breach, in the middle of traffic, and in logs of the bus and of the module. Last line: `N passed, M failed`."""
 
 import csv
 import glob
@@ -22,10 +22,12 @@ from support.tables import TOP, output_of
 
 EXAMPLES = os.path.join(TOP, 'examples')
 # What each broken example accuses: line, rule, and if there is one, the input and the index in the block.
-BROKEN = {'clock-back': (5, 'clock'), 'doubled-entry': (10, 'fresh', 12, 0), 'flag-left': (3, 'cleared'),
+BROKEN = {'doubled-entry': (10, 'fresh', 12, 0), 'flag-left': (3, 'cleared'),
           'ignored-input': (7, 'ignored', 12, 0), 'lost-entry': (11, 'alternate', 12, 0), 'near-entries': (7, 'apart', 12, 1),
           'other-states': (13, 'state', 12), 'refused-configuration': (3, 'accepted'), 'refused-load': (3, 'done'),
-          'swapped-entries': (7, 'order', 12, 1), 'turned-entry': (9, 'alternate', 12, 0), 'watchdog-forgotten': (5, 'watchdog')}
+          'swapped-entries': (7, 'order', 12, 1), 'turned-entry': (9, 'alternate', 12, 0)}
+# Those in which the module restarted, or a stamp is wrong: `fio2070 record` names a rule, `fiolog` accuses nobody. The line of each.
+RESTARTED = {'clock-back': 5, 'watchdog-forgotten': 5}
 SEEDS = 9
 
 
@@ -46,7 +48,8 @@ def check_examples(check):
     """Each example as text, and what is broken in each form."""
     for path in sorted(glob.glob(os.path.join(EXAMPLES, '*.transcript'))):
         name = os.path.splitext(os.path.basename(path))[0]
-        same_text(check, name, transcript(name))
+        if name not in RESTARTED:
+            same_text(check, name, transcript(name))
     for name, (line, rule, *where) in BROKEN.items():
         path = os.path.join(EXAMPLES, name + '.transcript')
         words = 'line %d %sbreaks %s' % (line, 'input %d ' % where[0] if where else '', rule)
@@ -60,6 +63,15 @@ def check_examples(check):
         done = fiolog('record', '-q', '--vcd', path)
         check.equal('the VCD of %s' % name, (1, int(len(where) == 2), 'fiolog: %s\n' % words),
                     (done.status, done.out.count('\n1b\n'), done.err))
+    for name, line in RESTARTED.items():
+        path, words = os.path.join(EXAMPLES, name + '.transcript'), 'line %d restarted\n' % line
+        check.equal('the text of %s' % name, ('record 0\n' + words, 1), fiolog('record', '-q', '--text', path)[::2])
+        check.equal('the table of %s' % name, (words, 1), fiolog('record', '-q', path)[::2])
+        rows = [json.loads(one) for one in fiolog('record', '-q', '--json', path).out.splitlines()]
+        check.equal('the object of %s' % name, [{'line': line, 'time': None, 'outcome': 'restarted'}], rows)
+        check.equal('the row of %s' % name, '%d,,,,,,restarted' % line, fiolog('record', '-q', '--csv', path).out.splitlines()[-1])
+        done = fiolog('record', '-q', '--vcd', path)
+        check.equal('the VCD of %s' % name, (1, 'fiolog: ' + words), (done.status, done.err))
     check.equal('a record without a breach', (0, False),
                 (fiolog('record', '-q', os.path.join(EXAMPLES, 'good.transcript')).status,
                  'breach' in fiolog('record', '-q', '--vcd', os.path.join(EXAMPLES, 'good.transcript')).out))
@@ -120,7 +132,7 @@ def check_course(check):
                 (['line 7 breaks advance', 'line 14 input 12 breaks alternate'], 1), breaches(text=START + FIRST + later))
     load = '> 3200000000\n< b200\n'
     back = '> 360b\n< b60b010c00280000000029\n> 360c\n< b60c018c00010000000002\n'
-    check.equal('a time that goes back', ['line 7 breaks advance', 'line 14 breaks clock'], breaches(text=START + FIRST + SKIP + back)[0])
+    check.equal('a time that goes back', ['line 7 breaks advance', 'line 14 restarted'], breaches(text=START + FIRST + SKIP + back)[0])
     check.equal('a load above the breach lifts it', ['line 9 breaks advance'], breaches(text=START + FIRST + load + SKIP + back)[0])
     check.equal('an entry that comes late', (['line 8 input 13 breaks fresh'], 1), breaches(text=START + FIRST + EARLIER))
     # An input is ignored until it is configured, which only a log shows that begins with both ends.

@@ -96,7 +96,7 @@ def check_few(check):
 
 def check_except(check):
     """A rule that is left out is not said to be broken; what it would have said is counted."""
-    jump, lost = '> 3605\n< b6050000000003e8\n> 3609\n< b6090000000003e9\n', '> 3605\n< b605010c000a040000000b\n'
+    jump, lost = '> 3605\n< b6050000000003e8\n> 3609\n< b6090000000003e9\n', '> 3605\n< b605010c03ea04000003eb\n'
     for name, text, words, rules, count in (
             ('one rule', jump, ['--except', 'advance'], [], 1), ('another rule', jump, ['--except', 'pair'], ['advance'], 0),
             ('two rules', jump + lost, ['--except', 'advance', '--except', 'limits'], [], 2),
@@ -168,7 +168,9 @@ def check_hints(check):
             ('one above the first poll', '> 3180\n< b1800000000003e8\n' + good, [begin]),
             ('one in a log without a poll', '> 3180\n< b1800000000003e8\n', []),
             ('a block that comes late', '> 3605\n> 3605\n< b6050000000003e8\n< b6050002000003e8\n> 3606\n', [late]),
-            ('another answer that comes late', '> 34\n' + good + '< b4000000000000000000000001\n', [late]),
+            ('another answer that comes late', '> 34\n' + good + '< b40000000000000000000003e9\n', [late]),
+            ('one with a stamp before that of the block', '> 34\n' + good + '< b4000000000000000000000001\n', [late]),
+            ('an answer in time with such a stamp', good + '> 34\n< b4000000000000000000000001\n', []),
             ('an answer to nothing', good + '< ba00\n', [])):
         done = fiolog('check', text=text)
         check.equal('hints: ' + name, hints, [hint for hint in (begin, late) if hint in done.err])

@@ -18,20 +18,19 @@ OF_CONTENT = ('drops an entry', 'doubles an entry')
 TRIES = 16
 
 
-def breaches_of(log):
-    """The rules that `check --late-answers` says are broken in a log, and how many answers are late, as it is judged there."""
-    from fiolog.counts import Counts
-    from fiolog.late import LateRules
+def found_in(log):
+    """What `check --late-answers` finds in a log, the names of rules and of restarts, and how many answers are late, as it is judged
+    there."""
+    from fiolog.rules import Rules
 
     class Event:
         """A frame as the reader returns it, in a log at the CPU."""
 
         def __init__(self, direction, octets):
-            self.direction, self.octets, self.text = direction, octets, '%s %s' % (direction, octets.hex())
+            self.direction, self.octets, self.said = direction, octets, direction
 
-    counts = Counts()
-    rules = LateRules('cpu', (255, 1024), counts)
-    return [found.rule for found in (rules.breach(Event(*line)) for line in log) if found], counts.late_answers
+    rules = Rules('cpu', late=True)
+    return [found.rule for found in (rules.find(Event(*line)) for line in log) if found], rules.unjudged['late_answers']
 
 
 def fault_of_right_runs(runs):
@@ -41,28 +40,28 @@ def fault_of_right_runs(runs):
     for seed in range(runs):
         log = late_run(seed)
         for first in (0, dice.randrange(len(log)), dice.randrange(len(log))):
-            breaches, count = breaches_of(log[first:])
+            found, count = found_in(log[first:])
             late += count
-            if breaches:
-                return 'seed %d from line %d: %s' % (seed, first + 1, breaches)
+            if found:
+                return 'seed %d from line %d: %s' % (seed, first + 1, found)
     return None if late > runs else 'only %d answers are late' % late
 
 
 def fault_of_planted(fault, least):
     """A planted fault is found in at least this many runs."""
     from support.late_runs import late_run
-    found = sum(bool(breaches_of(late_run(seed, fault=fault))[0]) for seed in range(TRIES))
+    found = sum(bool(found_in(late_run(seed, fault=fault))[0]) for seed in range(TRIES))
     return None if found >= least else 'found in %d runs of %d' % (found, TRIES)
 
 
 def fault_of_command():
     """The command says the same about a log: how many answers are late, and no breach where `check` finds one of `pair`."""
     from support.late_runs import late_run
-    log = next(log for log in map(late_run, range(100)) if breaches_of(log)[1] > 2)
+    log = next(log for log in map(late_run, range(100)) if found_in(log)[1] > 2)
     text = ''.join('%s %s\n' % (direction, octets.hex()) for direction, octets in log)
     plain, late = fiolog('check', text=text), fiolog('check', '--late-answers', text=text)
     number = re.search(r'late answers (\d+)', late.out)
-    fits = plain.status == 1 and ': pair: ' in plain.out and 'try --late-answers' in plain.err and late.status == 0 and number and int(number[1]) == breaches_of(log)[1]
+    fits = plain.status == 1 and ': pair: ' in plain.out and 'try --late-answers' in plain.err and late.status == 0 and number and int(number[1]) == found_in(log)[1]
     return None if fits else (plain.out[-300:], late)
 
 

@@ -9,13 +9,12 @@ from collections import Counter
 from . import log, many, sides, terminal, unjudged
 from .counts import Counts, in_words
 from .decode import clock_of
-from .events import FRAME, JUDGED, LOSSES, OTHER, PASSED, POSSIBLE
+from .events import BAD, FRAME, JUDGED, LOSSES, OTHER, PASSED, POSSIBLE
 from .explain import explanation
-from .late import LateRules
 from .message import BLOCK, POLL, TYPE_ANSWER, message_of
 from .options import number_in
 from .protocol import BLOCK_ENTRIES, CONTENT_RULES, MOST_WAITING, RULES, STANDARD_WAITING
-from .rules import Rules, TranscriptRules
+from .rules import Rules
 from .shown import shown
 
 NAMES = [name for rules in (RULES, CONTENT_RULES) for name, _ in rules.values()]
@@ -80,18 +79,18 @@ def add_arguments(parser):
 
 
 class Spans:
-    """How often each rule is broken, and from when to when."""
+    """How often each rule is broken, and the module restarted, from when to when."""
 
     def __init__(self):
         self.spans = {}
 
     def add(self, rule, event):
-        """A breach of a rule."""
+        """A breach of a rule, or a restart."""
         first, _, count = self.spans.get(rule, (event, event, 0))
         self.spans[rule] = first, event, count + 1
 
     def words(self):
-        """A line for each rule."""
+        """A line for each."""
         for rule, (first, last, count) in self.spans.items():
             yield '%s: %s' % (rule, 'once, ' + _place(first) if count == 1 else
                               '%d times, first %s, last %s' % (count, _place(first), _place(last)))
@@ -103,19 +102,21 @@ def _place(event):
     return place if event.time is None else '%s at %s' % (place, clock_of(event))
 
 
-def frames_judged(read, option, late=None):
-    """Each frame and each damaged line of a log, with the breaches that are certain now and what judges it, anew for each file; at
-    the end of a file None with the other breaches. With --start-at-poll from the first poll on. If late answers are left out, they
-    are counted in `late`."""
+def frames_judged(read, option):
+    """Each frame of a log, and each other line that is judged, with the breaches and restarts that are certain now and what judges
+    it, anew for each file; at the end of a file None with the others. With --start-at-poll from the first poll on."""
     judgement, reader = None, None
     for event in read.events():
-        if event.kind not in JUDGED:
+        if event.kind not in JUDGED and not event.is_remark:
             continue
         if reader is not read.reader or judgement is None:
             yield from _ended(read, judgement)
-            judgement, reader, is_open = sides.Judgement(rules_for(option, late)), read.reader, not option.start_at_poll
+            judgement, reader, is_open = sides.Judgement(rules_for(option)), read.reader, not option.start_at_poll
         is_open = is_open or event.octets[:1] == bytes([POLL])
-        if is_open or event.kind in LOSSES:
+        if event.kind == PASSED:
+            judgement.remark(event)
+            yield event, (), judgement
+        elif is_open or event.kind in LOSSES:
             yield event, judgement.add(event), judgement
         else:
             read.above += 1
@@ -123,17 +124,14 @@ def frames_judged(read, option, late=None):
     yield from _ended(read, judgement)
 
 
-def rules_for(option, late=None):
+def rules_for(option):
     """The rules that judge a log, by the options of the command line."""
-    excepted = getattr(option, 'excepted', ())
-    if late:
-        return LateRules(option.at, option.limits, late, excepted)
-    judged = TranscriptRules if getattr(option, 'rules', 'all') == 'transcript' else Rules
-    return judged(option.at, not option.start_at_poll, option.whole, option.limits, excepted)
+    return Rules(option.at, option.whole, option.limits, getattr(option, 'excepted', ()), getattr(option, 'late_answers', False),
+                 getattr(option, 'rules', 'all') == 'all')
 
 
 def _ended(read, judgement):
-    """The breaches that were held, at the end of a file, of which is noted what is missing."""
+    """The breaches and restarts that were held, at the end of a file, of which is noted what is missing."""
     if judgement:
         broken = judgement.end(read.reasons, read.kinds[POSSIBLE])
         read.judgements.append(judgement)
@@ -142,19 +140,23 @@ def _ended(read, judgement):
 
 
 class Findings:
-    """Writes each breach, and says how often each rule is broken."""
+    """Writes each breach and each restart, and says how often each rule is broken."""
 
     def __init__(self, option, read):
         self.option, self.read, self.paint = option, read, terminal.painter('auto')
-        self.count, self.spans, self.has_late_answers = 0, Spans(), False
+        self.count, self.restarts, self.spans, self.has_late_answers = 0, 0, Spans(), False
+        self.awaited = None     # the type of the command above a frame, if that waits for its answer
 
     def add(self, event, found, counts):
-        """A breach."""
-        self.count += 1
+        """A breach, or a restart."""
+        self.count += not found.is_restart
+        self.restarts += found.is_restart
         self.spans.add(found.rule, event)
-        self.has_late_answers |= found.rule == 'pair' and answers_what_was_sent(event.octets, counts)
+        is_undue = found.rule == 'pair' or found.is_restart and event.octets[0] - TYPE_ANSWER != self.awaited
+        self.has_late_answers |= is_undue and answers_what_was_sent(event.octets, counts)
         if self.option.json:
-            print(json.dumps({'file': shown(event.file or self.read.name), 'line': event.number, 'rule': found.rule, **found.due, 'says': found.says}))
+            kind = {'outcome': found.rule} if found.is_restart else {'rule': found.rule, **found.due}
+            print(json.dumps({'file': shown(event.file or self.read.name), 'line': event.number, **kind, 'says': found.says}))
         else:
             print('%sline %d: %s: %s' % (event.head, event.number, self.paint('fault', found.rule), found.says))
 
@@ -167,15 +169,16 @@ def answers_what_was_sent(octets, counts):
 
 
 def run(option):
-    """Checks a log, or several side by side; status 1 if a rule is broken or no frame is there."""
+    """Checks a log, or several side by side; status 1 if a rule is broken, the module restarted, or no frame is there."""
     if len(option.files) > 1 and not option.merge:
         return many.run(option)
     read, counts = log.Log(option, sys.stdout.flush, writes=option.json), Counts()
     findings, judgement = Findings(option, read), None
-    for event, broken, judgement in frames_judged(read, option, counts if option.late_answers else None):
+    for event, broken, judgement in frames_judged(read, option):
         if event and event.kind in LOSSES:
             counts.lose(event)
-        elif event:
+        elif event and event.kind in (FRAME, BAD):
+            findings.awaited = counts.command
             counts.add(event, message_of(event.octets) if event.kind == FRAME else None)
         for where, found in broken:
             findings.add(where, found, counts)
@@ -190,15 +193,16 @@ def say_excused(excused):
     """Says how many polls are not judged."""
     if excused:
         terminal.say('not judged, since this log was not taken at the CPU: %d; a poll that repeats a block that was answered is right if the '
-                     'CPU did not hear it, and what comes after a damaged frame if it did' % excused)
+                     'CPU did not hear it' % excused)
 
 
 def end(option, read, counts, judgement, findings):
     """The summary, and the hints."""
     left_out = counts.unjudged() + read.unjudged + Counter(lines_passed_over=read.kinds[PASSED], frames_of_others=read.kinds[OTHER],
                                                               frames_above_a_poll=read.above)
-    late = {'late_answers': counts.late_answers} if option.late_answers else {}
-    numbers = {**counts.in_short(), **late, 'breaches': findings.count}
+    late = {'late_answers': left_out['late_answers']} if option.late_answers else {}
+    restarted = {'restarted': findings.restarts} if findings.restarts or option.json else {}
+    numbers = {**counts.in_short(), **late, 'breaches': findings.count, **restarted}
     if option.json:
         remarks = [sides.IN_SHORT[one.verdict] for one in read.judgements if one.verdict]
         print(json.dumps({'summary': {**numbers, **({'remarks': remarks} if remarks else {}), 'not_judged': unjudged.numbers(left_out)}}))
@@ -214,4 +218,4 @@ def end(option, read, counts, judgement, findings):
         terminal.say('the log begins in the middle of traffic: try --start-at-poll')
     if findings.has_late_answers and not option.late_answers:
         terminal.say('answers came late or twice: try --late-answers')
-    return 1 if findings.count or is_fault else 0
+    return 1 if findings.count or findings.restarts or is_fault else 0

@@ -8,8 +8,8 @@ from .message import AGAIN, BLOCK, LOST, MODULE_STATUS, POLL, RESET
 # How many response times are kept for the median and the 99th percentile: beyond, every second one, and so on.
 MOST_TIMES = 1 << 16
 # What two counts have together is the sum of what each has.
-SUMS = ('frames', 'damaged', 'polls', 'repeats', 'lost_answers', 'marks', 'entries', 'late_answers', 'restarts', 'types',
-        'inputs', 'fill', 'responses')
+SUMS = ('frames', 'damaged', 'polls', 'repeats', 'lost_answers', 'marks', 'entries', 'restarts', 'types', 'inputs',
+        'fill', 'responses')
 
 
 class Sample:
@@ -58,7 +58,6 @@ class Counts:
         self.first = self.last = self.open_poll = self.number = self.sent_at = self.command = None
         self.block = None
         self.restarts, self.first_reset, self.last_reset = 0, None, None     # P of the first 177 and of the last
-        self.late_answers = 0   # those that late.py leaves out
 
     def __add__(self, other):
         """The counts of two logs, or of two parts of a log. Their length is from the first time to the last."""
@@ -133,7 +132,7 @@ class Counts:
 
     def unjudged(self):
         """What is missing by what the module says, by its reason."""
-        return Counter(gaps=self.marks, restarts=self.restarts, late_answers=self.late_answers)
+        return Counter(gaps=self.marks, restarts=self.restarts)
 
     def end(self):
         """A poll at the end has no answer."""

@@ -4,7 +4,7 @@ import re
 from typing import NamedTuple, Optional, Tuple
 
 from . import judge
-from .log_words import CURES
+from .log_words import CURES, REASONS
 from .shown import shown
 
 FRAME, BAD, OTHER, POSSIBLE, DOUBTFUL, DAMAGED, PIECE, PASSED, PART, BLANK = (
@@ -12,6 +12,8 @@ FRAME, BAD, OTHER, POSSIBLE, DOUBTFUL, DAMAGED, PIECE, PASSED, PART, BLANK = (
 # Where judges lose their place; and what they are given.
 LOSSES = DAMAGED, DOUBTFUL, PIECE
 JUDGED = FRAME, BAD, *LOSSES
+# The notes of skipped lines of which judges are told: that frames are missing here, and that another part of the log begins.
+MISSING, HEADING = REMARKS = REASONS.get('loss', 'loss'), REASONS.get('heading', 'heading')
 # Of a text the beginning is kept.
 LONGEST_TEXT = 1 << 16
 # Times from here on are of a date; earlier ones are of the day if the line has one, else seconds since some start.
@@ -56,6 +58,11 @@ class Line(NamedTuple):
     def head(self):
         """What is said before the number of the line: the name of its file if that has to be said."""
         return shown(self.file) + ' ' if self.file else ''
+
+    @property
+    def is_remark(self):
+        """Whether judges are told of it, though it is skipped."""
+        return self.kind == PASSED and self.note in REMARKS
 
     @property
     def why(self):

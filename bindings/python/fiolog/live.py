@@ -39,7 +39,7 @@ PATIENCE = 0.2
 # What is said of datagrams that the system dropped before they were read.
 DROPPED = 'dropped by the system'
 # What of the frames that are not judged is named.
-SHOWN = 'frames_above_a_command', 'frames_of_one_direction'
+SHOWN = 'frames_above_a_command', 'frames_below_loads', 'frames_of_one_direction'
 # After so many lines without a frame a process writes no transcript.
 MOST_UNDECIDED = 1 << 10
 # What the status line names where it is 0 too.
@@ -143,12 +143,12 @@ class Station:
 
     def __init__(self, option, source):
         self.option, self.source, self.counts = option, source, Counts()
-        self.breaches = self.content_breaches = 0
+        self.breaches = self.content_breaches = self.restarts = 0
         self.name = '-'
         self.out = sys.stderr if option.pcapng == '-' else sys.stdout
         self.paint, self.status = terminal.painter('auto'), terminal.Status()
         self.line = as_text(self._write, self.paint)
-        self.judgement = sides.Judgement(Rules(option.at, whole=option.whole, limits=option.limits, excepted=option.excepted))
+        self.judgement = sides.Judgement(Rules(option.at, option.whole, option.limits, option.excepted))
         self.transcript = output.recorded(option.transcript, option.force) if option.transcript else None
         self.capture = None
         if option.pcapng:
@@ -161,6 +161,8 @@ class Station:
         if event.kind in LOSSES:
             self.judgement.add(event)
             self.counts.lose(event)
+        elif event.is_remark:
+            self.judgement.remark(event)
         if event.kind not in (FRAME, BAD, OTHER):
             if event.kind in (PASSED, POSSIBLE, *LOSSES) and self.option.verbose:
                 self._say('line %d: %s: %s' % (event.number, event.why, event.text[:100]))
@@ -188,10 +190,11 @@ class Station:
         self.out.write(text)
 
     def _name(self, broken):
-        """Says what frames break."""
+        """Says what frames break, and where the module restarted."""
         for event, found in broken:
-            self.breaches += not found.is_content
+            self.restarts += found.is_restart
             self.content_breaches += found.is_content
+            self.breaches += not (found.is_restart or found.is_content)
             self._write('line %d: %s: %s\n' % (event.number, self.paint('fault', found.rule), found.says))
 
     def flush(self):
@@ -211,7 +214,7 @@ class Station:
         """What was counted."""
         numbers = {in_words(name): number for name, number in self.counts.in_short(is_over).items()}
         numbers.update({'breaches': self.breaches, 'breaches in content': self.content_breaches})
-        kinds = {'skipped lines': self.source.reader.kinds[PASSED],
+        kinds = {'restarted': self.restarts, 'skipped lines': self.source.reader.kinds[PASSED],
                  'wrong frame checks' if self.option.serial else 'damaged lines': sum(self.source.reader.kinds[kind] for kind in LOSSES if kind != PIECE),
                  'lines with parts of messages': self.source.reader.kinds[PIECE],
                  'frames of other addresses': self.source.reader.kinds[OTHER],
@@ -220,7 +223,7 @@ class Station:
                 **{words: count for words, count in self.source.losses().items() if count}}
 
     def end(self):
-        """The summary; status 1 where a rule is broken or nothing came."""
+        """The summary; status 1 where a rule is broken, the module restarted, or nothing came."""
         for event in self.source.end():
             self.add(event)
         self._name(self.judgement.end(self.source.reader.reasons, self.source.reader.kinds[POSSIBLE]))
@@ -228,12 +231,12 @@ class Station:
             self._say(words)
         self._write(', '.join('%s %d' % pair for pair in self.numbers().items()) + '\n')
         self._flush()
-        check.say_excused(self.judgement.rules.excused)
+        check.say_excused(self.judgement.rules.unjudged['frames_not_at_the_cpu'])
         is_fault = sides.say([self.judgement])
         log.say_others(self.source.reader.others, self.counts.frames)
         if not self.counts.frames:
             terminal.say('no frame came')
-        return 1 if self.breaches or self.content_breaches or is_fault or not self.counts.frames else 0
+        return 1 if self.breaches or self.content_breaches or self.restarts or is_fault or not self.counts.frames else 0
 
 
 def opened(option):

@@ -14,7 +14,7 @@ from .summary import Summary, summary_of
 # More jobs than that are a mistake.
 MOST_ASKED = 1_000_000
 # What a row has; the first columns say which log is the worst.
-COLUMNS = ('breaches', 'damaged', 'marks', 'answers_lost', 'repeats', 'polls', 'frames')
+COLUMNS = ('breaches', 'restarted', 'damaged', 'marks', 'answers_lost', 'repeats', 'polls', 'frames')
 
 
 def add_arguments(parser):
@@ -41,13 +41,15 @@ def summary_or_fault(settings, name):
 
 def numbers(summary):
     """What a row says of a summary, by name."""
-    return {'breaches': summary.breaches, 'damaged': summary.counts.damaged, **summary.counts.in_short()}
+    return {'breaches': summary.breaches, 'restarted': summary.restarted, 'damaged': summary.counts.damaged, **summary.counts.in_short()}
 
 
 def first_words(summary):
-    """The first breach or, if little can be judged, why, as a row says it."""
+    """The first breach, else the first restart or, if little can be judged, why, as a row says it."""
     if summary.first_breach:
         return 'line %d: %s' % summary.first_breach[:2]
+    if summary.first_restart:
+        return 'line %d: restarted' % summary.first_restart
     return ', '.join(map(sides.IN_SHORT.get, summary.verdicts)) if summary.counts.frames else 'no frame'
 
 
@@ -72,8 +74,8 @@ def write_json(rows, faults, total, counts_alone):
 
 
 def run(option, counts_alone=False):
-    """Reads the files; status 1 if no frame is there or, unless it `counts_alone`, a rule is broken; 3 if a file cannot be
-    read; 130 if Ctrl-C ended it: then the rows are those of the files that were read."""
+    """Reads the files; status 1 if no frame is there or, unless it `counts_alone`, a rule is broken or a module
+    restarted; 3 if a file cannot be read; 130 if Ctrl-C ended it: then the rows are those of the files that were read."""
     work, count = partial(summary_or_fault, settings_of(option)), len(option.files)
     done = side_by_side.results(work, option.files, side_by_side.jobs_of(option.jobs, count))
     found = [(option.files[index], done[index]) for index in sorted(done)]
@@ -92,7 +94,7 @@ def run(option, counts_alone=False):
         key, words, _ = left_out(total, counts_alone)
         if words:
             print('%s: %s' % (key, words))
-    is_bad = not total.counts.frames or not counts_alone and (total.breaches or any(map(sides.is_fault, total.verdicts)))
+    is_bad = not total.counts.frames or not counts_alone and (total.breaches or total.restarted or any(map(sides.is_fault, total.verdicts)))
     if len(done) < count:
         terminal.say('ended: %d of %d logs were read' % (len(done), count))
         return 130

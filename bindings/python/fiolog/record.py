@@ -1,21 +1,21 @@
-"""`fiolog record`: what the CPU learned: the record of the proved CPU's end, which heard the answers of the log, and each
-breach of a rule."""
+"""`fiolog record`: what the CPU learned: the record of the proved CPU's end, which heard the answers of the log, each breach of a
+rule, and where the module restarted."""
 
 import csv
 import json
 import shutil
 import sys
 import tempfile
-from typing import NamedTuple
+from typing import NamedTuple, Union
 
 import fio2070
 
 from . import hires, log, plot, sides, terminal, unjudged
 from .check import add_place, frames_judged
 from .decode import clock_of
-from .events import FRAME, LOSSES, Line
+from .events import BAD, FRAME, Line
 from .message import BLOCK, LOST, POLL, message_of
-from .rules import Breach
+from .rules import Breach, Restart
 from .shown import shown
 from .waveform import Block, draw
 
@@ -26,19 +26,19 @@ def add_arguments(parser):
     log.add_arguments(parser)
     add_place(parser)
     form = parser.add_mutually_exclusive_group()
-    form.add_argument('--text', action='store_true', help='as `fio2070 record` writes it, to the first breach')
-    form.add_argument('--json', action='store_true', help='one object a line: an item, or with `breaks` a breach')
-    form.add_argument('--csv', action='store_true', help='a table; an item or a breach a row')
-    form.add_argument('--vcd', action='store_true', help='a VCD file; breaches on standard error')
+    form.add_argument('--text', action='store_true', help='as `fio2070 record` writes it, to the first breach or restart')
+    form.add_argument('--json', action='store_true', help='one object a line: an item, with `breaks` a breach, or with `outcome` a restart')
+    form.add_argument('--csv', action='store_true', help='a table; an item, a breach or a restart a row')
+    form.add_argument('--vcd', action='store_true', help='a VCD file; breaches and restarts on standard error')
     form.add_argument('--plot', metavar='FILE', help='a picture of the inputs over time, as .png, .svg or .pdf (by matplotlib)')
     hires.add_arguments(parser)
 
 
 class Taken(NamedTuple):
-    """What a frame added to the record, and its breach; `is_block` is true where the CPU takes it."""
+    """What a frame added to the record, and its breach or restart; `is_block` is true where the CPU takes it."""
     event: Line
     items: list
-    breach: Breach = None
+    found: Union[Breach, Restart, None] = None
     is_block: bool = False
 
 
@@ -73,51 +73,52 @@ def taken(read, option):
     """What each frame adds to the record or breaks, where it does either. As text the record begins at the first command."""
     hearing, is_text = Hearing(), getattr(option, 'text', False)
     for event, broken, judgement in frames_judged(read, option):
-        yield from (Taken(where, [], found) for where, found in broken if where is not event)
+        yield from (Taken(where, [], one) for where, one in broken if where is not event)
         if event is None:
             continue
-        breach = next((found for where, found in broken if where is event), None)
+        found = next((one for where, one in broken if where is event), None)
         is_taken, items = False, []
-        hearing.is_lost |= event.kind in LOSSES
+        hearing.is_lost |= event.kind not in (FRAME, BAD)
         if event.kind == FRAME and event.octets[0] == POLL:
             words = hearing.note(event)
             if words and not judgement.found and judgement.sides.answers:
                 terminal.say(words)
         elif event.kind == FRAME and event.octets[0] == BLOCK and not (is_text and not judgement.sides.commands):
             is_taken, items = hearing.hear(event.octets)
-        if is_taken or breach:
-            yield Taken(event, items, breach, is_taken)
+        if is_taken or found:
+            yield Taken(event, items, found, is_taken)
 
 
 class Record:
-    """The record of a log as it is read: what was broken is counted."""
+    """The record of a log as it is read: breaches and restarts are counted."""
 
     def __init__(self, read, option):
-        self.breaches, self.all = 0, taken(read, option)
+        self.faults, self.all = 0, taken(read, option)
 
     def __iter__(self):
         for one in self.all:
-            self.breaches += one.breach is not None
+            self.faults += one.found is not None
             yield one
 
     def blocks(self):
-        """The blocks that were taken, as they are drawn; breaches are said."""
+        """The blocks that were taken, as they are drawn; breaches and restarts are said."""
         for one in self:
-            if one.breach:
-                terminal.say(one.event.head + one.breach.words(one.event.number))
+            if one.found:
+                terminal.say(one.event.head + one.found.words(one.event.number))
             if one.is_block:
                 message = message_of(one.event.octets)
                 yield Block(message.fields['block'], message.fields['stamp'], bool(message.fields['status'] & LOST),
                             [(item.input, item.state, item.wide) for item in one.items if not item.gap],
-                            one.breach.entry if one.breach else -1)
+                            one.found.entry if one.found else -1)
 
     def parts(self):
-        """The items and the breaches with their lines: a breach of a rule on content below the items that are above it."""
+        """The items, the breaches and the restarts with their lines: a breach of a rule on content below the items that are above
+        it, a restart above the items of its block."""
         for one in self:
-            place = one.breach.items if one.breach and one.breach.is_content else len(one.items)
+            place = one.found.items if one.found and one.found.items >= 0 else len(one.items)
             yield from ((one.event, item, None) for item in one.items[:place])
-            if one.breach:
-                yield one.event, None, one.breach
+            if one.found:
+                yield one.event, None, one.found
             yield from ((one.event, item, None) for item in one.items[place:])
 
 
@@ -127,20 +128,22 @@ def item_words(item):
 
 
 def write(record):
-    """A table: the items with their lines, and the breaches in between."""
-    for event, item, breach in record.parts():
-        if breach:
-            print(event.head + breach.words(event.number))
+    """A table: the items with their lines, and the breaches and restarts in between."""
+    for event, item, found in record.parts():
+        if found:
+            print(event.head + found.words(event.number))
         else:
             print('%s%-6s %s' % (event.head, '%d:' % event.number, (clock_of(event) + ' ' if event.time is not None else '') + item_words(item)))
 
 
 def write_json(record):
     """An object a line."""
-    for event, item, breach in record.parts():
-        if breach:
-            fields = {name: number for name, number in (('input', breach.input), ('entry', breach.entry)) if number >= 0}
-            fields['breaks'] = breach.rule
+    for event, item, found in record.parts():
+        if found and found.is_restart:
+            fields = {'outcome': found.rule}
+        elif found:
+            fields = {name: number for name, number in (('input', found.input), ('entry', found.entry)) if number >= 0}
+            fields['breaks'] = found.rule
         else:
             fields = {'gap': True} if item.gap else {name: getattr(item, name) for name in COLUMNS[2:]}
         file = {'file': shown(event.file)} if event.file else {}
@@ -148,13 +151,14 @@ def write_json(record):
 
 
 def write_csv(record):
-    """A row for each item and each breach; a gap mark has `gap` in its last column, a breach its rule."""
+    """A row for each item, each breach and each restart; a gap mark has `gap` in its last column, a breach its rule, a restart
+    `restarted`."""
     rows = csv.writer(sys.stdout, lineterminator='\n')
     rows.writerow([*COLUMNS, 'mark'])
-    for event, item, breach in record.parts():
+    for event, item, found in record.parts():
         head = [event.number, '' if event.time is None else event.time]
-        if breach:
-            rows.writerow([*head, breach.input if breach.is_content else '', '', '', '', breach.rule])
+        if found:
+            rows.writerow([*head, found.input if found.is_content else '', '', '', '', found.rule])
         elif item.gap:
             rows.writerow([*head, '', '', '', '', 'gap'])
         else:
@@ -163,12 +167,12 @@ def write_csv(record):
 
 def write_text(record):
     """What `fio2070 record` writes: the items above the first breach of a rule on content, then that breach; where one of the
-    rules of `check` is broken, the first such breach alone."""
+    rules of `check` is broken, the first such breach alone. A restart is as a breach of a rule on content."""
     count, broken, verdict = 0, '', ''
     with tempfile.TemporaryFile('w+') as items:
-        for event, item, breach in record.parts():
-            words = breach.words(event.number) + '\n' if breach else ''
-            if breach and not breach.is_content:
+        for event, item, found in record.parts():
+            words = found.words(event.number) + '\n' if found else ''
+            if found and not (found.is_content or found.is_restart):
                 verdict = verdict or words
             broken = broken or words
             if not broken:
@@ -184,7 +188,7 @@ def write_text(record):
 
 
 def run(option):
-    """Writes the record; status 1 where a rule is broken or no frame is there."""
+    """Writes the record; status 1 where a rule is broken, the module restarted, or no frame is there."""
     read = log.Log(option, sys.stdout.flush, writes=not option.plot)
     record = Record(read, option)
     if option.hires:
@@ -202,4 +206,4 @@ def run(option):
     is_read = read.summary()
     if read.unjudged and not option.quiet:
         terminal.say('not judged: ' + unjudged.words(read.unjudged))
-    return 1 if sides.say(read.judgements) or record.breaches or not is_read else 0
+    return 1 if sides.say(read.judgements) or record.faults or not is_read else 0

@@ -1,25 +1,32 @@
-"""All rules over a log, frame by frame, by the library's two checkers. Those on content are judged where the others
-are kept: below a breach from the next poll on."""
+"""All rules over a log: what the library's judge says of each frame becomes a breach, a restart of the module, or a count of what
+is not judged."""
 
 from collections import Counter
 from typing import NamedTuple
 
 import fio2070
-from fio2070.constants import CONTENT_IGNORED, TYPE_LOAD_COUNTER
+from fio2070.constants import CONTENT_IGNORED, OUTCOME_BROKEN, OUTCOME_BROKEN_CONTENT, OUTCOME_KEPT, OUTCOME_RESTARTED
+from fio2070.constants import TYPE_ANSWER, TYPE_WATCHDOG, WHY_ABOVE_COMMAND, WHY_LATE, WHY_LOAD, WHY_PLACE_LOST, WHY_UNHEARD
 
-from .events import PIECE
+from .events import MISSING, PIECE
 from .judge import words_of
 from .log_words import LINE
 from .message import BLOCK, LOST, MORE, POLL, message_of
 from .protocol import ADVANCE, CONTENT_RULES, INPUTS, RULES
 
-# Loads of the counter that excused nothing yet: at this number they are never used up.
-MOST_EXCUSES = 255
 # What is said of what stands where a frame may be, and is none.
 WRONG_CHECK = LINE['damaged']
 # What was due and what came, by rule, where the library says both.
 DUE = {'pair': 'an answer %d was due, %d came', 'number': 'block %d was asked for, %d came',
        'advance': 'block %d was due, %d came'}
+# Why a frame is not judged, as the library says it and as it is counted (unjudged.py).
+NOT_JUDGED = {WHY_LOAD: 'frames_below_loads', WHY_UNHEARD: 'frames_not_at_the_cpu', WHY_LATE: 'late_answers',
+              WHY_ABOVE_COMMAND: 'frames_above_a_command', WHY_PLACE_LOST: 'frames_at_lost_places'}
+# What is said of a frame that shows a restart: by its stamp, or of an answer to a watchdog that was set before.
+WENT_BACK = 'the module restarted, or the stamp is wrong: its counter went back'
+FORGOTTEN = 'the module restarted, or forgot its watchdog: it says that none was set before'
+# How a line of the project's own texts begins: it says who sent a frame, whatever its type is.
+OWN = '> ', '< '
 
 
 class Breach(NamedTuple):
@@ -32,6 +39,7 @@ class Breach(NamedTuple):
     items: int = -1
     input: int = -1
     entry: int = -1
+    is_restart = False
 
     @property
     def is_content(self):
@@ -43,54 +51,94 @@ class Breach(NamedTuple):
         return 'line %d %sbreaks %s' % (line, 'input %d ' % self.input if self.input >= 0 else '', self.rule)
 
 
-class Judge:
-    """The library's checker, fed with frames as the CPU's end sent and heard them."""
+class Restart(NamedTuple):
+    """What is said of a frame above which the module restarted, if the frame is right. It is no breach: it accuses neither end."""
+    says: str
+    is_restart, is_content, rule, items, entry = True, False, 'restarted', 0, -1
 
-    def __init__(self, at, limits=(), late=None):
-        self.at, self.late, self.limits, self.excused, self.polled = at, late, limits, 0, None
-        self.checker, self.is_behind_damage = fio2070.Checker(*limits), False
+    def words(self, line):
+        """As `Breach.words`."""
+        return 'line %d restarted' % line
+
+
+class Rules:
+    """The library's judge of a log that was taken `at` one of its places, of a module with the standard limits or with these: the
+    most entries of a block, and the most that wait. The log may begin anywhere; a `whole` one begins with the start of both ends.
+    If `late` answers are left out, it begins anywhere. Breaches of `excepted` rules are left out; so are all of rules on content, if
+    it judges by those of transcripts alone."""
+
+    def __init__(self, at='auto', whole=False, limits=(), excepted=(), late=False, with_content=True):
+        self.judge = fio2070.LogJudge(*limits, place=at, begun=whole and not late, late_answers=late)
+        self.at, self.excepted, self.with_content = at, frozenset(excepted), with_content
+        self.unjudged = Counter()   # what is not judged, by its reason
+        self.has_polls = False      # whether there is a poll above
+        self._is_lost = False       # whether the place is lost, up to the next poll
 
     def lose(self, event):
-        """A frame was damaged here: the CPU may have heard it, so up to the next poll nothing is said against the CPU, and there
-        the rules begin anew. One with a wrong check was not heard, if the log was taken at the CPU."""
-        self.is_behind_damage |= not (self.at == 'cpu' and event.note == WRONG_CHECK)
+        """Takes a line that may have held a frame. One with a wrong check was not heard by the CPU, if the log was taken there."""
+        self.unjudged['pieces' if event.kind == PIECE else 'damaged_lines'] += 1
+        if not (self.at == 'cpu' and event.note == WRONG_CHECK):
+            self.judge.lose()
+            self._lose_place()
 
-    def place(self, event):
-        """Where this frame was logged: the CPU's end, the module's or the bus between."""
-        if self.at != 'auto':
-            return self.at
-        if not event.said:
-            return 'bus'
-        is_own = event.text[:2] in ('> ', '< ')
-        return 'module' if event.balance > 0 and not is_own else 'cpu'
+    def remark(self, event):
+        """Takes a skipped line that says that frames are missing, or that another part of the log begins."""
+        if event.note == MISSING:
+            self.judge.miss()
+        else:
+            self.judge.lose()
+            self._lose_place()
 
-    def breach(self, event):
-        """The breach of a frame; None where it keeps the rules."""
-        if self.late and self.late.leaves_out(event.direction, event.octets, self.checker):
-            return None
-        is_poll, before = len(event.octets) == 2 and event.octets[0] == POLL, self.polled
-        was_damaged = self.is_behind_damage
-        if is_poll and was_damaged:
-            self.checker = fio2070.Checker(*self.limits)
-        hear = self.checker.sent if event.direction == '>' else self.checker.heard
-        found = hear(event.octets)
-        if is_poll:
-            self.polled, self.is_behind_damage = event.octets[1], False
-        if found is None:
-            return None
-        rule, words = RULES[found.rule]
-        if self.late and self.late.excuses(rule):
-            return None
-        if was_damaged or rule == 'advance' and self.polled == before and self.place(event) != 'cpu':
-            # Whether the CPU heard the answer is not known here: asking again, or for the next block, may be right.
-            self.excused += 1
-            return None
-        if found.has_due:
-            meaning = ': ' + advance_words(found.due, found.got) if rule == 'advance' else ''
-            return Breach(rule, DUE[rule] % (found.due, found.got) + meaning, {'due': found.due, 'got': found.got})
-        if rule == 'limits':
-            return Breach(rule, limits_words(message_of(event.octets)))
-        return Breach(rule, rule == 'readable' and words_of(event.octets) or 'this line ' + words)
+    def _lose_place(self):
+        """Counts where the place is lost, if it was known."""
+        self.unjudged['lost_places'] += not self._is_lost
+        self._is_lost = True
+
+    def find(self, event):
+        """The breach of a frame, or that the module restarted above it; None where nothing is said of it."""
+        octets, is_sent, said = event.octets, event.direction == '>', event.said
+        if said and said != event.direction and event.text[:2] in OWN:
+            said = event.direction
+        outcome = self.judge.frame(octets, is_sent, said)
+        if is_sent and len(octets) == 2 and octets[0] == POLL:
+            self.has_polls, self._is_lost = True, False
+        return None if outcome.kind == OUTCOME_KEPT else self._of_outcome(octets, outcome)
+
+    def _of_outcome(self, octets, outcome):
+        """What is said of a frame that is not right, or not judged."""
+        kind, why, breach, content = outcome
+        if kind == OUTCOME_BROKEN_CONTENT:
+            return self._told(content_breach(octets, content)) if self.with_content else None
+        if kind in (OUTCOME_BROKEN, OUTCOME_RESTARTED) or why == WHY_LOAD:
+            self._lose_place()
+        if kind == OUTCOME_BROKEN:
+            return self._told(transcript_breach(octets, breach))
+        if kind == OUTCOME_RESTARTED:
+            return Restart(FORGOTTEN if octets[0] == TYPE_WATCHDOG + TYPE_ANSWER else WENT_BACK)
+        self.unjudged[NOT_JUDGED[why]] += 1
+        return None
+
+    def _told(self, found):
+        """A breach, unless its rule is left out."""
+        is_left_out = found.rule in self.excepted
+        self.unjudged['excepted_breaches'] += is_left_out
+        return None if is_left_out else found
+
+    @property
+    def unjudged_frames(self):
+        """How many frames are not judged."""
+        return sum(self.unjudged[name] for name in NOT_JUDGED.values())
+
+
+def transcript_breach(octets, found):
+    """A breach of a rule of transcripts, with what was due and what came, or in the words of its rule."""
+    rule, words = RULES[found.rule]
+    if found.has_due:
+        meaning = ': ' + advance_words(found.due, found.got) if rule == 'advance' else ''
+        return Breach(rule, DUE[rule] % (found.due, found.got) + meaning, {'due': found.due, 'got': found.got})
+    if rule == 'limits':
+        return Breach(rule, limits_words(message_of(octets)))
+    return Breach(rule, rule == 'readable' and words_of(octets) or 'this line ' + words)
 
 
 def advance_words(due, got):
@@ -106,101 +154,6 @@ def limits_words(block):
     if block.fields['status'] & MORE:
         return 'C says that more entries wait than a block takes, and %d entries came' % len(block.parts)
     return 'F says that entries were pushed out, and C is not there: they are only where more wait than a block takes'
-
-
-class Rules:
-    """The library's two checkers over a log, which may begin anywhere: an answer above its first command is not judged. Where it
-    `begins` in the middle of traffic, the rules on content wait for a poll; a `whole` log begins with the start of both ends. The
-    module has the standard limits, or these: the most entries of a block, and the most that wait. Breaches of `excepted` rules are
-    left out."""
-    # The reasons of frames that no rule judges.
-    unjudged_frames = 'frames_above_a_command', 'frames_at_lost_places', 'frames_not_at_the_cpu'
-
-    def __init__(self, at, begins=True, whole=False, limits=(), excepted=()):
-        self.judge, self.loads, self.lost = Judge(at, limits), [], Counter()
-        self.content = fio2070.ContentChecker(whole) if begins else None
-        self.excepted, self.is_open = frozenset(excepted), whole
-
-    @property
-    def excused(self):
-        """How many frames are not judged."""
-        return self.judge.excused
-
-    @property
-    def unjudged(self):
-        """What is not judged, by its reason."""
-        return self.lost + Counter(frames_not_at_the_cpu=self.excused)
-
-    def lose(self, event):
-        """A frame was damaged here: the rules on content begin again at the next poll."""
-        self.judge.lose(event)
-        self.lost['pieces' if event.kind == PIECE else 'damaged_lines'] += 1
-        self.lose_place()
-
-    def lose_place(self):
-        """The rules on content begin again at the next poll."""
-        self.lost['lost_places'] += self.content is not None
-        self.content = None
-
-    def breach(self, event):
-        """The breach of a frame; None where it keeps all rules."""
-        self.is_open = self.is_open or event.direction == '>'
-        if not self.is_open:
-            self.lost['frames_above_a_command'] += 1
-            return None
-        found = self.found(event)
-        if found and found.rule in self.excepted:
-            self.lost['excepted_breaches'] += 1
-            return None
-        return found
-
-    def found(self, event):
-        """The breach of a frame below the first command; None where it keeps all rules."""
-        is_poll = len(event.octets) == 2 and event.octets[0] == POLL
-        found = self.judge.breach(event)
-        if found:
-            self.lose_place()
-            return found
-        if event.direction == '<':
-            return self.heard(event.octets)
-        self.sent(event.octets, is_poll)
-        return None
-
-    def sent(self, octets, may_begin):
-        """Takes a frame that the CPU sent, at which the rules on content may begin anew."""
-        if self.content is None and may_begin:
-            self.begin()
-        if octets[:1] == bytes([TYPE_LOAD_COUNTER]):
-            self.loads = [*self.loads, octets][-MOST_EXCUSES:]
-        if self.content is None:
-            self.lost['frames_at_lost_places'] += 1
-        else:
-            self.content.sent(octets)
-
-    def heard(self, octets):
-        """The breach of a rule on content in a frame that the CPU heard."""
-        if self.content is None:
-            self.lost['frames_at_lost_places'] += 1
-            return None
-        found = self.content.heard(octets)
-        return content_breach(octets, found) if found else None
-
-    def begin(self):
-        """Goes on below a breach. The loads of the counter that were sent above still count."""
-        self.content = fio2070.ContentChecker()
-        for load in self.loads:
-            self.content.sent(load)
-
-
-class TranscriptRules(Rules):
-    """The rules of transcripts alone."""
-
-    def lose_place(self):
-        """Nothing: these rules go on by themselves."""
-
-    def found(self, event):
-        """The breach of a frame below the first command; None where it keeps these rules."""
-        return self.judge.breach(event)
 
 
 def content_breach(octets, found):

@@ -1,5 +1,5 @@
 """Logs of which little can be judged. In one of one direction, commands whose answers were not logged, or answers without their
-commands, no rule is: breaches are held until an answer shows that the log has both."""
+commands, no rule is: what is found is held until an answer shows that the log has both."""
 
 import pickle
 import tempfile
@@ -12,7 +12,7 @@ from .terminal import say as _say
 
 # Fewer frames do not show that a direction is missing.
 LEAST = 4
-# The octets of breaches that are held in memory; more are in a temporary file.
+# The octets of what is held in memory; more are in a temporary file.
 MOST_HELD = 1 << 20
 COMMANDS, ANSWERS, NOT_WHOLE, SILENT, FEW = 'commands', 'answers', 'not whole', 'silent', 'few'
 ONE_SIDED = COMMANDS, ANSWERS, NOT_WHOLE
@@ -72,13 +72,13 @@ class Sides:
 
 
 class Held:
-    """Breaches with their events, in order."""
+    """Breaches and restarts with their events, in order."""
 
     def __init__(self):
         self.file, self.count = tempfile.SpooledTemporaryFile(MOST_HELD), 0
 
     def add(self, one):
-        """Keeps a breach."""
+        """Keeps one."""
         pickle.dump(one, self.file)
         self.count += 1
 
@@ -97,12 +97,12 @@ class Judgement:
     def __init__(self, rules):
         self.rules, self.sides, self.held = rules, Sides(), Held()
         self.frames = self.left_out = self.losses = self.pieces = 0
-        self.verdict, self.words, self.found = '', '', None     # `found` is the breach of the latest frame
+        self.verdict, self.words, self.found = '', '', None     # `found` is what is said of the latest frame
         self.is_above_polls = False     # whether the first breach is above the first poll
         self._is_first = True
 
     def add(self, event):
-        """Takes a frame, or a line that may have held one; returns each breach that is certain now, with its event."""
+        """Takes a frame, or a line that may have held one; returns each breach and restart that is certain now, with its event."""
         sides = self.sides
         if not (sides.commands and sides.answers):
             sides.add(event)
@@ -111,15 +111,19 @@ class Judgement:
             self._lose(event)
             return ()
         self.frames += 1
-        self.found = found = self.rules.breach(event)
-        if found and self._is_first:
-            self._is_first, self.is_above_polls = False, self.rules.judge.polled is None
+        self.found = found = self.rules.find(event)
+        if found and self._is_first and not found.is_restart:
+            self._is_first, self.is_above_polls = False, not self.rules.has_polls
         if sides.answers:
             broken = ((event, found),) if found else ()
             return (*self.held.take(), *broken) if self.held.count else broken
         if found:
             self.held.add((event, found))
         return ()
+
+    def remark(self, event):
+        """Takes a skipped line of which judges are told."""
+        self.rules.remark(event)
 
     def _lose(self, event):
         self.rules.lose(event)
@@ -132,10 +136,9 @@ class Judgement:
         self.left_out += 1
 
     def end(self, reasons, possible=0):
-        """Returns the other breaches, at the end of the log. `reasons` are those why lines are passed over, `possible` counts the
+        """Returns the other breaches and restarts, at the end of the log. `reasons` are those why lines are passed over, `possible` counts the
         messages above all frames that nothing makes sure."""
-        unjudged = self.rules.unjudged
-        judged = self.frames - sum(unjudged[name] for name in self.rules.unjudged_frames)
+        judged = self.frames - self.rules.unjudged_frames
         said = self.frames + self.losses + self.pieces // 2 + possible + sum(reasons[reason] for reason in CURES)
         self.verdict = self.sides.verdict(reasons) or (FEW if 2 * judged < said else '')
         self.words = WORDS.get(self.verdict, '').format(judged=judged, said=said)

@@ -1,4 +1,4 @@
-"""Summaries of logs, which add: what was counted, and which rules were broken. So thousands of logs are read side by side,
+"""Summaries of logs, which add: what was counted, which rules were broken, and how often the module restarted. So thousands of logs are read side by side,
 on this machine by `fiolog check FILE..`, or on any engine that maps and reduces:
 
     from fiolog.summary import Summary, summary_of
@@ -24,6 +24,7 @@ class Summary:
 
     def __init__(self):
         self.counts, self.broken, self.first_breach = Counts(), Counter(), None
+        self.restarted, self.first_restart = 0, None    # how often, and the first line that shows it
         self.lines, self.unjudged, self.reasons = 0, Counter(), Counter()
         self.verdicts = Counter()   # of how many logs little can be judged, by its reason (sides.py)
 
@@ -41,6 +42,7 @@ class Summary:
         both = Summary()
         both.counts, both.broken = self.counts + other.counts, self.broken + other.broken
         both.first_breach = self.first_breach or other.first_breach
+        both.restarted, both.first_restart = self.restarted + other.restarted, self.first_restart or other.first_restart
         both.lines, both.unjudged = self.lines + other.lines, self.unjudged + other.unjudged
         both.reasons, both.verdicts = self.reasons + other.reasons, self.verdicts + other.verdicts
         return both
@@ -53,8 +55,11 @@ class Summary:
             self.counts.add(event, message_of(event.octets) if event.kind == FRAME else None)
 
     def add_breaches(self, broken):
-        """Counts breaches, each with its event."""
+        """Counts breaches and restarts, each with its event."""
         for event, found in broken:
+            if found.is_restart:
+                self.restarted, self.first_restart = self.restarted + 1, self.first_restart or event.number
+                continue
             self.broken[found.rule] += 1
             self.first_breach = self.first_breach or (event.number, found.rule, found.says)
 
@@ -78,7 +83,7 @@ def summary_of(source, at='auto', whole=False, limits=(), excepted=(), **setting
     """The summary of a log: a path, a file open for reading octets, or an iterator of octets. `at` says where it was taken, `whole`
     that it begins with the start of both ends, `limits` those of the module, `excepted` the rules that are left out; further
     settings are the reader's."""
-    summary, judgement = Summary(), Judgement(Rules(at, whole=whole, limits=limits, excepted=excepted))
+    summary, judgement = Summary(), Judgement(Rules(at, whole, limits, excepted))
     reader = Reader(**settings)
     for chunk in decoded(iter(chunks_of(source)), not settings.get('line')):
         _judge(summary, judgement, reader.feed(chunk))
@@ -96,3 +101,5 @@ def _judge(summary, judgement, events):
         if event.kind in JUDGED:
             summary.add(event)
             summary.add_breaches(judgement.add(event))
+        elif event.is_remark:
+            judgement.remark(event)
