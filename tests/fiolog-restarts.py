@@ -1,0 +1,261 @@
+#!/usr/bin/env python3
+"""What `fiolog` says where the module restarted, and what it does not judge where lines are lost: loads of the counter that may
+have been in them, remarks of loss, headings, losses of sync. Logs of right links that restart, with loads, pauses and damage, are
+accused of nothing. Last line: `N passed, M failed`."""
+
+import json
+import os
+import random
+import re
+import sys
+import tempfile
+from types import SimpleNamespace
+
+sys.dont_write_bytecode = True
+
+from support.check import Check
+from support.fiolog import copied, fiolog, use_library
+
+WORDS = 'the module restarted, or the stamp is wrong: its counter went back'
+# The counter of the module is 1000, 1010 and then 10: it restarted above line 6. Up to the next poll, in line 9, nothing is judged.
+ABOVE = ['> 3600', '< b6000000000003e8', '> 3601', '< b6010000000003f2']
+RESTART = [*ABOVE, '> 3602', '< b60200000000000a', '> 35', '< b5ffffffffffffffff0000000b', '> 3603', '< b603000000000014']
+# The same without the restart.
+GOOD = [*ABOVE, '> 3602', '< b6020000000003fc']
+# Below the poll of line 9 block 4 is due.
+JUMP = ['> 3606', '< b60600000000001e']
+# A line that may have held a frame; a load of the counter, and what is left of one in a damaged line.
+DAMAGED, LOAD, CUT_LOAD = '< b6060000', ['> 3200000000', '< b200'], '> 320000'
+BACK = ['> 3602', '< b60200000000000a', '> 3603', '< b603000000000014']
+AGAIN = ['> 3604', '< b604000000000005']
+
+
+def text_of(lines):
+    """Lines as a text."""
+    return '\n'.join(lines) + '\n'
+
+
+def last_object(done):
+    """The summary of a run with --json."""
+    return json.loads(done.out.splitlines()[-1])['summary']
+
+
+def not_judged(lines, *words):
+    """What is not judged in a log, by its reason."""
+    return {name: count for name, count in last_object(fiolog('check', '--json', *words, text=text_of(lines)))['not_judged'].items() if count}
+
+
+def check_check(check):
+    """A restart is told where a breach is, and is none."""
+    done = fiolog('check', text=text_of(RESTART))
+    check.equal('a restart', (['line 6: restarted: ' + WORDS, 'frames 10, polls 4, repeats 0, answers lost 0, gap marks 0, breaches 0, restarted 1',
+                               'not judged: 1 loss of sync, 2 frames from a loss of sync to the next poll'],
+                              'fiolog: restarted: once, in line 6\n', 1), (done.out.splitlines(), done.err, done.status))
+    done = fiolog('check', '--json', text=text_of(RESTART))
+    check.equal('its object', {'file': '-', 'line': 6, 'outcome': 'restarted', 'says': WORDS}, json.loads(done.out.splitlines()[0]))
+    check.equal('the object of the summary', (0, 1, 1), (last_object(done)['breaches'], last_object(done)['restarted'], done.status))
+    done = fiolog('check', text=text_of(GOOD))
+    check.equal('no restart', (0, False, 0), (done.status, 'restarted' in done.out + done.err,
+                                              last_object(fiolog('check', '--json', text=text_of(GOOD)))['restarted']))
+    for words in (['--rules', 'transcript'], ['--late-answers'], ['--whole'], ['--at', 'module'], ['--at', 'bus'], ['--start-at-poll'],
+                  ['--except', 'clock']):
+        done = fiolog('check', *words, text=text_of(RESTART))
+        check.equal('a restart, ' + ' '.join(words), (['line 6: restarted'], True, 1),
+                    (re.findall(r'^line \d+: \w+', done.out, re.M), 'breaches 0, restarted 1' in done.out, done.status))
+    done = fiolog('check', text=text_of(RESTART + JUMP))
+    check.equal('a breach below the next poll', (['6: restarted', '11: advance'], True),
+                (re.findall(r'^line (\d+: \w+)', done.out, re.M), 'breaches 1, restarted 1' in done.out))
+    watchdog = ['> 3a32', '< ba00', '> 3a32', '< ba00']
+    check.equal('a watchdog that is forgotten', ['line 4: restarted: the module restarted, or forgot its watchdog: it says that none was set before'],
+                re.findall(r'^line .*', fiolog('check', text=text_of(watchdog)).out, re.M))
+
+
+def check_others(check, folder):
+    """The other commands that judge say it too."""
+    paths = []
+    for name, lines in (('good', GOOD), ('damaged', [*GOOD, DAMAGED]), ('restart', RESTART), ('jump', GOOD[:4] + JUMP)):
+        paths.append(os.path.join(folder, name))
+        with open(paths[-1], 'w', encoding='ascii') as file:
+            file.write(text_of(lines))
+    done = fiolog('check', '--json', *paths)
+    rows = [json.loads(line) for line in done.out.splitlines()]
+    check.equal('a row of many logs: a restart is below breaches, and above damage', [('jump', 1, 0), ('restart', 0, 1), ('damaged', 0, 0), ('good', 0, 0)],
+                [(os.path.basename(row['file']), row['breaches'], row['restarted']) for row in rows[:-1]])
+    check.equal('the row of all', (1, 1, {'advance': 1}), tuple(rows[-1]['summary'][name] for name in ('breaches', 'restarted', 'rules')))
+    table = fiolog('check', *paths[::2]).out.splitlines()
+    check.equal('a table', (['file', 'breaches', 'restarted'], ['0', '1'], 'line 6: restarted'),
+                (table[1].split()[:3], table[2].split()[1:3], table[2][-17:]))
+    for command, status in (('check', 1), ('stats', 0)):
+        check.equal('the status of %s' % command, (status, 0), (fiolog(command, *paths[::2]).status, fiolog(command, paths[0], paths[0]).status))
+    done = fiolog('live', '-q', '--fifo', paths[2])
+    check.equal('live', ('line 6: restarted: ' + WORDS, 'breaches 0, breaches in content 0, restarted 1', 1),
+                (done.out.splitlines()[0], done.out.splitlines()[-1][-len('breaches 0, breaches in content 0, restarted 1'):], done.status))
+    check.equal('live without one', (0, False), (fiolog('live', '-q', '--fifo', paths[0]).status, 'restarted' in fiolog('live', '-q', '--fifo', paths[0]).out))
+    path = os.path.join(folder, 'load')
+    with open(path, 'w', encoding='ascii') as file:
+        file.write(text_of(LOADS['a load that was sent'][0]))
+    done = fiolog('live', '-q', '--fifo', path)
+    check.equal('live where a load may explain a stamp', (True, False, 0), (
+        'frames whose stamps a load of the counter may explain 1' in done.out, 'restarted' in done.out, done.status))
+    done = fiolog('record', '-q', text=text_of(RESTART))
+    check.equal('record', ('line 6 restarted\n', 1), (done.out, done.status))
+    done = fiolog('record', '-q', '--start-at-poll', paths[2], paths[2])
+    check.equal('record of a file twice', 2, done.out.count('line 6 restarted'))
+
+
+def check_record(check):
+    """A restart is above the items of its block, in each form."""
+    lines = ['> 3600', '< b600010c03e700000003e8', '> 3601', '< b601010c000900000000' + '0a']
+    items = ['2:     input 12 state 0 stamp 999 wide 999', 'line 4 restarted', '4:     input 12 state 0 stamp 9 wide 9']
+    check.equal('the table', items, fiolog('record', '-q', text=text_of(lines)).out.splitlines())
+    check.equal('the text ends there', ['record 1', 'input 12 state 0 stamp 999 wide 999', 'line 4 restarted'],
+                fiolog('record', '-q', '--text', text=text_of(lines)).out.splitlines())
+    rows = [json.loads(row) for row in fiolog('record', '-q', '--json', text=text_of(lines)).out.splitlines()]
+    check.equal('the objects', [(2, None), (4, 'restarted'), (4, None)], [(row['line'], row.get('outcome')) for row in rows])
+    rows = [row.split(',') for row in fiolog('record', '-q', '--csv', text=text_of(lines)).out.splitlines()[1:]]
+    check.equal('the rows', [('2', ''), ('4', 'restarted'), ('4', '')], [(row[0], row[-1]) for row in rows])
+
+
+# A log, which rules or restarts are told in it and where, and what is not judged.
+LOADS = {
+    'a load that was sent': ([*ABOVE, *LOAD, *BACK], [], {'frames_below_loads': 1, 'lost_places': 1}),
+    'it explains one stamp': ([*ABOVE, *LOAD, *BACK, *AGAIN], ['12: restarted'], {'frames_below_loads': 1, 'lost_places': 2}),
+    'one that a damaged line may have been': ([*ABOVE, CUT_LOAD, *BACK], [], {'damaged_lines': 1, 'frames_below_loads': 1, 'lost_places': 2}),
+    # The rules on content know no stamp above the first of them: so the load is used up by the second.
+    'that explains two stamps at most': ([*ABOVE, CUT_LOAD, *BACK, *AGAIN, '> 3605', '< b605000000000002'], ['13: restarted'],
+                                         {'damaged_lines': 1, 'frames_below_loads': 2, 'lost_places': 4}),
+    'none in the log': ([*ABOVE, *BACK], ['6: restarted'], {'lost_places': 1}),
+}
+
+
+def check_loads(check):
+    """A load of the counter, one that a lost line may have been too, explains one stamp that is before the latest."""
+    for name, (lines, told, unjudged) in LOADS.items():
+        done = fiolog('check', text=text_of(lines))
+        check.equal('a load: ' + name, (told, int(bool(told)), unjudged),
+                    (re.findall(r'^line (\d+: \w+)', done.out, re.M), done.status, not_judged(lines)))
+    for count, words in ((1, '1 frame whose stamp a load of the counter may explain'), (2, '2 frames whose stamps a load of the counter may explain')):
+        lines = [*ABOVE, *LOAD, *LOAD, *BACK, *(AGAIN if count == 2 else [])]
+        check.holds('the words of %d' % count, words in fiolog('check', text=text_of(lines)).out)
+
+
+# How often a log loses sync, with these options.
+LOSSES = {
+    'one damaged line': ([*ABOVE, DAMAGED, '> 3602'], 1),
+    'two, one below the other': ([*ABOVE, DAMAGED, DAMAGED, '> 3602'], 1),
+    'two up to the next poll': ([*ABOVE, DAMAGED, '> 35', DAMAGED, '> 3602'], 1),
+    'one on either side of a poll': ([*ABOVE, DAMAGED, '> 3602', DAMAGED, '> 3602'], 2),
+    'one above the first command': (['< b6050000000003e8', '< b60600', '> 3606', '< b6060000000003e9'], 1),
+    'a breach': ([*ABOVE, *JUMP, '> 3607'], 1),
+    'a breach, and damage below': ([*ABOVE, *JUMP, DAMAGED, '> 3607'], 1),
+    'damage, and a poll that is right below it': ([*ABOVE, DAMAGED, '> 3609', '< b609000000000400', '> 360a'], 1),
+    'a breach of a rule on content': ([*ABOVE, '> 32000000ff', '< b201', '> 3602'], 0),
+    'a restart': (RESTART, 1),
+    'a restart, and damage below': ([*RESTART[:6], DAMAGED, *RESTART[8:]], 1),
+    'a load that is excused': (LOADS['a load that was sent'][0], 1),
+    'none': (GOOD, 0),
+}
+
+
+def check_losses(check):
+    """The place is lost once at each loss of sync, up to the next poll."""
+    for name, (lines, count) in LOSSES.items():
+        for words in ((), ('--rules', 'transcript')):
+            check.equal('losses of sync, %s: %s' % (' '.join(words) or 'all rules', name), count, not_judged(lines, *words).get('lost_places', 0))
+    hidden = [*ABOVE, DAMAGED, '< b609000000000400', '> 35', '> 3605', '< b605000000000400', '> 3607']
+    check.equal('what is directly below damage is not judged, what is below the next poll is',
+                (['line 10: advance'], {'damaged_lines': 1, 'lost_places': 2, 'frames_at_lost_places': 2}),
+                (re.findall(r'^line \d+: \w+', fiolog('check', text=text_of(hidden)).out, re.M), not_judged(hidden)))
+
+
+class Told:
+    """A reader that has these verdicts on a log, whatever its text is."""
+
+    def __init__(self, verdicts):
+        self.verdicts = verdicts
+
+    def read(self, octets):
+        """Nothing is certain yet."""
+        return []
+
+    def end(self):
+        """The verdicts."""
+        return list(self.verdicts)
+
+
+POLL, ANSWER, LATER = (('frames', '', (bytes.fromhex(digits),)) for digits in ('3605', 'b60500000000000a', '3607'))
+LOSS, HEADING, TEXT = (('passed over', reason, ()) for reason in ('loss', 'heading', 'no octets'))
+# Lines, which rules are broken, and how often sync is lost. Block 6 is due below block 5. A remark of loss explains that up to the
+# next block or poll; a heading that, and what is up to the next poll.
+REMARKS = {
+    'other text': ([POLL, ANSWER, TEXT, LATER], {'advance': 1}, 1),
+    'a remark of loss': ([POLL, ANSWER, LOSS, LATER], {}, None),
+    'one above a block': ([POLL, LOSS, ANSWER, LATER], {'advance': 1}, None),
+    'a remark above an answer that nothing waits for': ([POLL, ANSWER, LOSS, ANSWER], {}, None),
+    'no remark above such an answer': ([POLL, ANSWER, ANSWER], {'pair': 1}, 1),
+    'a heading': ([POLL, ANSWER, HEADING, LATER], {}, 1),
+    'a heading above an answer': ([POLL, ANSWER, HEADING, ANSWER], {}, 1),
+    'a heading above all': ([HEADING, POLL, ANSWER, LATER], {'advance': 1}, 2),
+}
+
+
+def check_remarks(check, folder):
+    """Remarks of loss and headings reach the judge in each command that judges, and are skipped lines."""
+    import fio2070
+    from fiolog.summary import summary_of
+    from support.log_model import Verdict
+    path, real = os.path.join(folder, 'lines'), fio2070.LogReader
+    for name, (lines, broken, lost) in REMARKS.items():
+        verdicts = [Verdict(number, kind, reason, frames) for number, (kind, reason, frames) in enumerate(lines, 1)]
+        with open(path, 'w', encoding='ascii') as file:
+            file.write('\n' * len(lines))
+        fio2070.LogReader = lambda form='auto', told=verdicts: Told(told)
+        try:
+            found = summary_of(path)
+            checked, live, record = (copied(words, b'')[:2] for words in (
+                ('check', '-q', path), ('live', '-q', '--fifo', path), ('record', '-q', path)))
+        finally:
+            fio2070.LogReader = real
+        skipped = sum(kind == 'passed over' for kind, _, _ in lines)
+        check.equal('a summary, ' + name, (broken, skipped, 0), (dict(found.broken), found.left_out['lines_passed_over'], found.left_out['damaged_lines']))
+        if lost is not None:
+            check.equal('losses of sync, ' + name, lost, found.left_out['lost_places'])
+        for command, (status, out) in (('check', checked), ('live', live)):
+            check.equal('%s, %s' % (command, name), (int(bool(broken)), list(broken)),
+                        (status, re.findall(r'^line \d+: (\w+)', out.decode(), re.M)))
+        check.equal('record, ' + name, (int(bool(broken)), list(broken)), (record[0], re.findall(r'breaks (\w+)', record[1].decode())))
+
+
+def fault_of_right_links(links):
+    """Logs of right links that restart, whole, from a command on and with damage, are accused of nothing, and no restart is told that
+    was none. Where nothing is damaged and no load is sent, each is told."""
+    from support.restarting import damaged, fault_of, found_in, lines_of, restarting
+    told = restarts = 0
+    for seed in range(links):
+        draw, link = random.Random(seed), restarting(seed)
+        lines, begin = lines_of(link.frames), draw.choice(link.beginnings())
+        logs = [(0, lines, {}), (0, lines, {'whole': True}), (begin, lines[begin:], {})]
+        logs += [(first, damaged(lines[first:], draw, chance), {}) for first in (0, begin) for chance in (0.01, 0.1)]
+        for place, (first, log, settings) in enumerate(logs):
+            found, _ = found_in(log, **settings)
+            fault = fault_of(found, first, link.restarts)
+            if fault:
+                return 'seed %d, log %d from line %d: %s' % (seed, place, first + 1, fault)
+            if place == 0 and not link.loads:
+                told, restarts = told + len(found), restarts + len(link.restarts)
+    return None if told == restarts >= links // 10 else '%d of %d restarts are told' % (told, restarts)
+
+
+def main():
+    check = Check(links=(60, 1000))
+    use_library(check, 'restarts')
+    for part in (check_check, check_record, check_loads, check_losses):
+        part(check)
+    with tempfile.TemporaryDirectory() as folder:
+        for part in (check_others, check_remarks):
+            part(check, folder)
+    check.fault('right links', fault_of_right_links, check.given.links)
+    check.end()
+
+
+main()
