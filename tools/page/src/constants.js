@@ -12,6 +12,10 @@ export const LOG_FORMS = { auto: 0, frames: 1, transcript: 2 };
 export const LOG_KINDS = { blank: 0, says: 1, part: 2, possible: 3, damaged: 4, passedOver: 5 };
 export const LOG_REASONS = { noReason: 0, noOctets: 1, noMessage: 2, shortMessage: 3, severalMessages: 4, mayBeLonger: 5, tooLong: 6, badLine: 7, exchanged: 8, twoMore: 9 };
 export const LOG_SIDES = { noSide: 0, fromCpu: 1, fromModule: 2 };
+export const LOG_TAKEN = { auto: 0, atCpu: 1, atModule: 2, onBus: 3 };
+export const LOG_BEGINS = { anywhere: 0, withEnds: 1 };
+export const OUTCOMES = { kept: 0, broken: 1, brokenContent: 2, excused: 3, restarted: 4, notJudged: 5 };
+export const WHY = { none: 0, load: 1, unheard: 2, aboveCommand: 3, placeLost: 4, late: 5 };
 export const RULES = ['', 'readable', 'pair', 'number', 'advance', 'same', 'sequence', 'limits', 'rest', 'refusal'];
 export const CONTENT_RULES = ['', 'order', 'fresh', 'alternate', 'apart', 'ignored', 'state', 'clock', 'done', 'accepted', 'cleared', 'watchdog'];
 // What a right link does by a rule on content, and when that is judged.
