@@ -16,7 +16,7 @@ import time
 
 sys.dont_write_bytecode = True
 
-from support import page_lines, page_logs, page_views
+from support import page_judged, page_lines, page_logs, page_views
 from support.browsers import KEYS, Chromium, browsers, running
 from support.check import Check
 from support.opened import CELLS, PAGE, RANGE, TROUBLE, address, example, opened, saved, started, text_of
@@ -78,9 +78,11 @@ def check_contrast(check, page):
 
 
 def expected_verdict(base, recorded):
-    """What the page is to say first of a transcript: what `check` says, and `record` of the entries."""
+    """What the page is to say first of a transcript: what `check` says, and `record` of the entries and of restarts."""
     verdict = text_of(os.path.splitext(base)[0] + '.verdict')
     found = re.search(r'^line (\d+) (?:input \d+ )?breaks (\w+)$', verdict + recorded, re.M)
+    if recorded.endswith(' restarted\n'):
+        return ['restarted', None, None]
     return ['broken', *found.groups()] if found else ['good' if verdict.startswith('good') else 'partly', None, None]
 
 
@@ -94,7 +96,8 @@ def check_examples(check, browser, name):
         expected = text_of(shown) if has_shown else output_of('show', frames_of(text_of(base)))[0]
         check.equal('%s in %s' % (base, name), expected, saved(browser))
         if base.endswith('.transcript'):
-            recorded = output_of('record', text_of(base))[0]
+            # What breaks these rules is a restart to the page.
+            recorded = re.sub('breaks (?:clock|watchdog)$', 'restarted', output_of('record', text_of(base))[0], flags=re.M)
             check.equal('the verdict on %s in %s' % (base, name), expected_verdict(base, recorded), browser.run(VERDICT))
             browser.click('#tab-inputs')
             check.equal('the record of %s in %s' % (base, name), recorded, saved(browser, 'save-record'))
@@ -363,6 +366,7 @@ def check_browser(check, kind, folder):
         check_play(check, browser, kind.name)
         check_access(check, browser, kind.name)
         page_views.rows(check, browser, kind.name, folder)
+        page_judged.rows(check, browser, kind.name)
         page_lines.check_lines(check, browser, kind.name, folder)
         check_old(check, browser, kind.name, folder)
     print('%s: %.0f s' % (kind.name, time.monotonic() - begun))

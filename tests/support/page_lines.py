@@ -8,6 +8,7 @@ from support.loggers import hexdump, pairs, xxd
 from support.opened import ARROWS, CELLS, opened, pasted
 
 MESSAGES = [bytes.fromhex(digits) for digits in ('3605', 'b605018c03e700000003e8', '367e', 'b67e0000000003e9', '3607', 'b6070000000003ea')]
+ANSWER = bytes(5) + b'\1'
 SEEN = 'return document.getElementById(arguments[0]).textContent'
 CHOOSE = '''for (const [id, value] of Object.entries(arguments[0])) {
     const it = document.getElementById(id); it.value = value; it.dispatchEvent(new Event("change")); }'''
@@ -78,7 +79,13 @@ def check_damage(check, browser, name, folder):
         opened(browser, path)
         got = [row for row in rows(browser) if row[1]]
         check.equal('the messages of the address %s in %s' % (address, name), count, len(got))
-    browser.run(CHOOSE, {'form': 'auto', 'address': '14'})
+    with open(path, 'wb') as out:
+        out.write(b''.join(map(model.line_of, (MESSAGES[0], b'\xb6\x05' + ANSWER, b'\x36\x06'))) + model.line_of(b'\xb6\x06' + ANSWER)[:-2] + b'\0\x7e' + model.line_of(b'\x36\x07'))
+    for end, kind in (('auto', 'partly'), ('cpu', 'broken')):
+        browser.run(CHOOSE, {'form': 'line', 'address': '14', 'end': end})
+        opened(browser, path)
+        check.equal('the CPU goes on below a wrong check, taken at %s in %s' % (end, name), kind, browser.run('return document.getElementById("verdict").dataset.kind'))
+    browser.run(CHOOSE, {'form': 'auto', 'end': 'auto'})
 
 
 def check_lines(check, browser, name, folder):

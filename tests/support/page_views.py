@@ -1,16 +1,12 @@
 """What a user sees in each view of the page: the verdict, the order of rows, texts that are no log, examples, labels, waveforms,
 times, and the picture of a run."""
 
-import glob
-import json
 import os
 import re
 from xml.etree import ElementTree
 
 from support.browsers import KEYS
-from support.fiolog import LIBRARY, fiolog
-from support.opened import CELLS, OPEN_ALL, RANGE, example, is_message, opened, pasted, saved, started, text_of
-from support.strangers import READ
+from support.opened import CELLS, RANGE, example, is_message, opened, pasted, saved, started, text_of
 from support.tables import TOP
 
 # The breaches in the rows: the line, and the rule.
@@ -27,9 +23,10 @@ def check_verdict(check, browser, name):
     check.equal('which goes to the line in %s' % name, 'Line 10', browser.run('return document.querySelector(".detail h2").textContent'))
     for title, text, kind, words in [
             ('a log without directions', '36ff\nb6ff010000010200000001\n', 'good', 'does not say who sent'),
-            ('a log with a bad line', '> 36ff\n> 36f\n< b6ff010000010200000001\n', 'partly', '1 line could not be read as a message and is not judged'),
+            ('a log with a bad line', '> 36ff\n> 36f\n< b6ff010000010200000001\n> 3600\n< b600000000000002\n', 'partly', '1 line could not be read as a message and is not judged'),
             ('a log of the bus', '3605\nb605000000000001\n3605\n', 'partly', '1 message is not judged, since this log was not taken at the CPU'),
-            ('answers below a breach', '> 36ff\n< b605000000000001\n< b605000000000001\n', 'broken', '1 message below a breach, up to the next poll, is not judged'),
+            ('answers below a breach', '> 36ff\n< b605000000000001\n< b605000000000001\n', 'broken',
+             '1 loss of sync, at a breach: 1 message from there to the next poll is not judged'),
             ('an answer alone', 'b605018c4121000000416a\n', 'unjudged', '1 message above the first command is not judged'),
             ('a log that begins with an answer', '< b605000000000001\n> 3606\n< b606000000000002\n', 'partly', '1 message above the first command is not judged'),
             ('a breach above the first poll', '> 34\n< b605000000000001\n> 3606\n< b606000000000002\n', 'broken', 'in the middle of traffic'),
@@ -77,22 +74,6 @@ def check_ways(check, browser, name, folder):
         opened(browser, path)
         check.equal('a log that is read as %s in %s' % (way, name), words, [row[3] for row in browser.run(CELLS) if is_message(row)])
     browser.run('const it = document.getElementById("form"); it.value = "auto"; it.dispatchEvent(new Event("change"))')
-
-
-def check_as_fiolog(check, browser, name):
-    """The breaches of each log are those of `fiolog check`."""
-    if not os.path.exists(LIBRARY):
-        check.skip('the breaches that fiolog finds in %s' % name, 'no libfio2070.so here (make library)')
-        return
-    texts = [(os.path.basename(path), text_of(os.path.relpath(path, os.path.join(TOP, 'examples'))))
-             for ending in ('*.frames', '*.transcript', 'captures/*.txt') for path in sorted(glob.glob(os.path.join(TOP, 'examples', ending)))]
-    texts = [(base, text) for base, text in texts if '\0' not in text]
-    texts += [(title, text) for title, text, _ in READ[:40]]
-    browser.run(OPEN_ALL.replace(CELLS, BROKEN), [text for _, text in texts])
-    browser.wait('return window.tables !== null')
-    for (title, text), found in zip(texts, browser.run('return window.tables')):
-        lines = [json.loads(line) for line in fiolog('check', '--json', text=text).out.splitlines()]
-        check.equal('the breaches of %s in %s' % (title, name), [[line['line'], line['rule']] for line in lines if 'rule' in line], found)
 
 
 def check_order(check, browser, name, folder):
@@ -260,7 +241,6 @@ def check_ladder(check, browser, name):
 def rows(check, browser, name, folder):
     """Each of these rows."""
     check_verdict(check, browser, name)
-    check_as_fiolog(check, browser, name)
     check_order(check, browser, name, folder)
     check_no_log(check, browser, name, folder)
     check_ways(check, browser, name, folder)

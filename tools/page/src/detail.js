@@ -7,7 +7,7 @@ import { fieldsOf, wordsIn } from './fields.js';
 import { hexText } from './hex.js';
 import { DIRECTION } from './messagelist.js';
 import { doubtOf } from './notes.js';
-import { ruleWords } from './rules.js';
+import { entryOf, RESTART_HELP, ruleWords } from './rules.js';
 
 const WAYS = { [DIRECTION.none]: 'No direction', [DIRECTION.sent]: 'Sent by the CPU', [DIRECTION.heard]: 'Heard by the CPU' };
 const LONGEST = 4096;
@@ -60,11 +60,12 @@ function octetSpan(octet, index, names) {
 export function detailOf(log, place, textOf) {
   const head = element('h2', {}, `Line ${log.lines[place]}`);
   const way = element('p', { class: 'soft' }, WAYS[log.directions[place]] + timesOf(log, place));
-  const doubt = doubtOf(log, place), rule = log.reason(place);
-  const reason = rule ? element('p', { class: 'reason' }, `Breaks ${rule}.`)
+  const breach = log.breaches.get(place), doubt = log.reason(place) || doubtOf(log, place);
+  const reason = breach ? element('p', { class: 'reason' }, `Breaks ${log.reason(place)}.`)
     : doubt ? element('p', { class: 'doubt' }, `${doubt[0].toUpperCase()}${doubt.slice(1)}.`) : null;
-  const explained = rule ? [element('details', {}, element('summary', {}, 'What this rule says'),
-    ...ruleWords(log.breaches.get(place)).map((words) => element('p', { class: 'soft' }, words)))] : [];
+  const explained = breach ? [element('details', {}, element('summary', {}, 'What this rule says'),
+    ...ruleWords(breach).map((words) => element('p', { class: 'soft' }, words)))]
+    : log.restarts.has(place) ? [element('p', { class: 'soft' }, RESTART_HELP)] : [];
   const lines = log.written(place), octets = log.octets(place).slice(0, LONGEST);
   const all = wordsIn(lines);
   const isMessage = !log.isFaulty[place];
@@ -75,7 +76,7 @@ export function detailOf(log, place, textOf) {
   const grid = element('div', { class: 'grid', role: 'group', 'aria-label': 'Octets', onkeydown: (event) => step(event, octetSpans) },
     ...octetSpans.flatMap((it) => [it, '\u200b']));
   const content = log.content(place);
-  const broken = content && content.entry >= 0 ? content.entry + 1 : -1;
+  const entry = content ? entryOf(log, place, content) : -1, broken = entry >= 0 ? entry + 1 : -1;
   return element('div', {}, head, way, reason, ...explained, ...(isMessage ? bitsOf(octets[0], lines[0]) : []), linesWith(lines, wordSpans, broken),
     ...octets.length > 0 ? [element('h3', {}, 'Octets'), grid] : []);
 }

@@ -37,4 +37,4 @@ export function say(text) {
 export const withCommas = (number) => String(number).replace(/\B(?=(\d{3})+$)/g, ',');
 
 // A number with its noun, as `1 gap mark`.
-export const counted = (number, noun) => `${withCommas(number)} ${noun}${number === 1 ? '' : 's'}`;
+export const counted = (number, noun, several = `${noun}s`) => `${withCommas(number)} ${number === 1 ? noun : several}`;

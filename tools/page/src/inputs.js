@@ -11,6 +11,7 @@ const MOST_SHOWN = 2000;
 // The signs, each with the test of a record that has it.
 const LEGEND = [['×', 'warn', 'a poll without an answer', (record) => record.lostPolls.length > 0],
   ['↷', 'bad', 'a block that the CPU left out', (record) => record.skips.length > 0],
+  ['↻', 'warn', 'a restart of the module', (record) => record.restarts.length > 0],
   ['▨', 'bad', 'a gap mark: entries are missing', (record) => record.gaps.length > 0],
   ['◆', 'bad', 'an entry that breaks a rule', (record) => record.broken.length > 0]];
 
@@ -72,7 +73,7 @@ export class InputsView {
       : `A CPU that heard this log has recorded ${counted(record.times.length, 'transition')} of ${counted(this.waves.lanes.length, 'input')}`
         + `${record.gaps.length > 0 ? ` and ${counted(record.gaps.length, 'gap mark')}` : ''}. `
         + `${record.lostPolls.length > 0 ? `${counted(record.lostPolls.length, 'poll')} had no answer. ` : ''}`
-        + `Times are milliseconds of the module’s counter.${this.brokenWords()}`;
+        + `Times are milliseconds of the module’s counter.${this.foundWords()}`;
     this.legend.replaceChildren(...LEGEND.filter(([, , , test]) => test(record)).flatMap(([sign, kind, words]) =>
       [element('span', { class: kind }, sign), ` ${words}   `]));
     this.canvas.setAttribute('aria-label', 'Waveforms of ' + this.note.textContent);
@@ -83,10 +84,10 @@ export class InputsView {
     this.draw();
   }
 
-  // The first entry or answer that breaks a rule on content.
-  brokenWords() {
-    const first = [...this.log.breaches].find(([, breach]) => breach.isContent);
-    return first ? ` The first breach: ${contentLine(this.log, first[0])}.` : '';
+  // The first entry or answer that breaks a rule on content, and the first restart of the module.
+  foundWords() {
+    const { breaches, restarts, lines } = this.log, first = [...breaches].find(([, breach]) => breach.isContent), [restart] = restarts;
+    return (first ? ` The first breach: ${contentLine(this.log, first[0])}.` : '') + (restart >= 0 ? ` The first restart: line ${lines[restart]}.` : '');
   }
 
   draw() {

@@ -3,11 +3,11 @@
 //
 // A message is given by its address and length in the machine's memory: `place` puts octets there.
 
-import { LONGEST_FRAME, LONGEST_TEXT, MOST_RECORD_ITEMS, STANDARD_WAITING } from './constants.js';
+import { BLOCK_ENTRIES, LOG_BEGINS, LONGEST_FRAME, LONGEST_TEXT, MOST_RECORD_ITEMS, OUTCOMES, STANDARD_WAITING } from './constants.js';
 import { AT, SIZE } from './layouts.js';
 
 const FAULTS = { none: 0, unknownType: 3 };
-export const LOAD = 50, POLL = 54, BLOCK = POLL + 128;
+export const POLL = 54, BLOCK = POLL + 128, WATCHDOG_ANSWER = 186;
 // Octets from here on begin an answer.
 export const FIRST_ANSWER = 128;
 export const HEARD = { taken: 0, unreadable: 1, other: 2, stale: 3, noRoom: 4 };
@@ -110,14 +110,17 @@ export class Library {
     return module.start(id, perBlock) ? module : null;
   }
 
-  // What judges transcripts.
-  checker() {
-    return new Checker(this);
+  // What judges a log.
+  logJudge() {
+    return new LogJudge(this);
   }
 
-  // What judges the entries of transcripts.
-  contentChecker() {
-    return new ContentChecker(this);
+  // The address of the limits of a module, until the next call.
+  limits(waiting, perBlock) {
+    const { all, data } = this.machine, at = this.result;
+    data.setUint16(at + AT.limits.waiting, waiting, true);
+    all[at + AT.limits.per_block] = perBlock;
+    return at;
   }
 }
 
@@ -173,10 +176,8 @@ class Module {
   }
 
   start(id, perBlock) {
-    const { library } = this, { all, data } = library.machine, limits = library.result;
-    data.setUint16(limits + AT.limits.waiting, STANDARD_WAITING, true);
-    all[limits + AT.limits.per_block] = perBlock;
-    return library.calls.fio2070_sized_module_start(this.at, id, BigInt(limits)) === 0;
+    const { library } = this;
+    return library.calls.fio2070_sized_module_start(this.at, id, BigInt(library.limits(STANDARD_WAITING, perBlock))) === 0;
   }
 
   scan(levels) {
@@ -216,48 +217,42 @@ class Module {
   }
 }
 
-class Checker {
+class LogJudge {
   constructor(library) {
     this.library = library;
-    this.at = BigInt(library.machine.reserve(SIZE.checker));
+    this.at = BigInt(library.machine.reserve(SIZE.logJudge));
+    this.outcome = library.machine.reserve(SIZE.judgeOutcome);
   }
 
-  start() {
-    this.library.calls.fio2070_checker_start(this.at);
+  // Starts above the first line of a log that begins anywhere, taken where one of LOG_TAKEN says. The module has the standard limits.
+  start(taken) {
+    const { calls } = this.library, limits = this.library.limits(STANDARD_WAITING, BLOCK_ENTRIES);
+    calls.fio2070_log_judge_start(this.at, BigInt(limits), taken, LOG_BEGINS.anywhere);
   }
 
-  // The breach of a frame that the CPU sent or heard: its rule's number, 0 for none, and what was due.
-  judge(isSent, address, length) {
-    const { library } = this;
-    const call = isSent ? library.calls.fio2070_checker_sent : library.calls.fio2070_checker_heard;
-    const rule = call(this.at, BigInt(address), BigInt(length), BigInt(library.result));
-    if (rule === 0) return null;
-    const { all } = library.machine, at = library.result, place = AT.breach;
-    return { rule, hasDue: all[at + place.has_due] !== 0, due: all[at + place.due], got: all[at + place.got] };
-  }
-}
-
-class ContentChecker {
-  constructor(library) {
-    this.library = library;
-    this.at = BigInt(library.machine.reserve(SIZE.contentChecker));
+  // Takes a line that may have held a message, or a heading.
+  lose() {
+    this.library.calls.fio2070_log_judge_lose(this.at);
   }
 
-  start() {
-    this.library.calls.fio2070_content_start(this.at);
+  // Takes a line with a message that is only possible.
+  possible() {
+    this.library.calls.fio2070_log_judge_possible(this.at);
   }
 
-  sent(address, length) {
-    this.library.calls.fio2070_content_sent(this.at, BigInt(address), BigInt(length));
+  // Takes a line that speaks of loss.
+  miss() {
+    this.library.calls.fio2070_log_judge_miss(this.at);
   }
 
-  // The first rule that a frame breaks which the CPU heard: its number, its input, and how many items of the block are above
-  // the breach. Null where it breaks none.
-  heard(address, length) {
-    const { library } = this;
-    const rule = library.calls.fio2070_content_heard(this.at, BigInt(address), BigInt(length), BigInt(library.result));
-    if (rule === 0) return null;
-    const { all } = library.machine, at = library.result, place = AT.contentBreach;
-    return { rule, input: all[at + place.input], items: all[at + place.items] | all[at + place.items + 1] << 8 };
+  // Takes a message that the CPU sent or heard; `said` is one of LOG_SIDES. What it is, if it is not kept; else null.
+  frame(isSent, said, address, length) {
+    const { calls, machine: { all } } = this.library, at = this.outcome, place = AT.judgeOutcome;
+    const kind = calls.fio2070_log_judge_frame(this.at, isSent ? 1 : 0, said, BigInt(address), BigInt(length), BigInt(at));
+    if (kind === OUTCOMES.kept) return null;
+    return {
+      kind, why: all[at + place.why], rule: all[at + place.rule], hasDue: all[at + place.has_due] !== 0, due: all[at + place.due],
+      got: all[at + place.got], input: all[at + place.input], items: all[at + place.items] | all[at + place.items + 1] << 8,
+    };
   }
 }

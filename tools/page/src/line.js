@@ -112,7 +112,7 @@ class Heard {
   }
 
   addBad(line) {
-    this.found.messages.addBad(line, { why: `damaged: ${LINE.damaged}`, text: this.found.textOf(line).slice(0, 100) });
+    this.found.messages.addBad(line, { why: `damaged: ${LINE.damaged}`, text: this.found.textOf(line).slice(0, 100), hasWrongCheck: true });
   }
 
   // As readLog returns it, with why no frame was found.

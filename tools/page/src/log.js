@@ -2,10 +2,11 @@
 // counts of what was found.
 
 import { LOG_FORMS } from './constants.js';
+import { ENDS, Judging } from './judging.js';
 import { BLOCK, FIRST_ANSWER, POLL, STATUS_BITS } from './library.js';
 import { DIRECTION } from './messagelist.js';
 import { recordOf } from './record.js';
-import { breachWords, ENDS, ruleOf, Rules } from './rules.js';
+import { breachWords, restartWords, ruleOf } from './rules.js';
 import { isOfOneSide, sidesOf } from './sides.js';
 import { verdictOf } from './verdict.js';
 import { wordsOf } from './words.js';
@@ -18,24 +19,22 @@ export class Log {
     Object.assign(this, { library, name, form, passed, doubts, inTwoLines, isReversed, hasTimes: messages.clocks.some((clock) => clock !== '') });
     this.hasDirections = messages.sides.some((it) => it !== DIRECTION.none);
     Object.assign(this, { count: messages.count, starts: messages.starts, lengths: messages.lengths, lines: messages.lines,
-      times: messages.times, clocks: messages.clocks, sides: messages.sides, isPossible: messages.isPossible, isTurned: messages.isTurned,
-      damaged: messages.damaged, others: messages.others });
+      times: messages.times, clocks: messages.clocks, sides: messages.sides, isPossible: messages.isPossible, isOwn: messages.isOwn,
+      marks: messages.marks, damaged: messages.damaged, others: messages.others });
     this.arena = arena.hold(messages.octets.subarray(0, messages.end));
     this.poller = arena.poller;
-    this.checker = arena.checker;
-    this.contentChecker = arena.contentChecker;
     this.codes = new Uint8Array(this.count);
     this.blocks = new Uint8Array(this.count);
     this.status = new Uint8Array(this.count);
     this.entries = new Uint8Array(this.count);
     this.stamps = new Uint32Array(this.count);
     this.isFaulty = new Uint8Array(this.count);
-    this.breaches = new Map();
     this.decodeAll();
-    this.isAuto = end === ENDS.auto;
-    this.end = !this.hasDirections ? ENDS.bus : !this.isAuto ? end : isReversed && !read.isOwn ? ENDS.module : ENDS.cpu;
+    this.end = !this.hasDirections ? ENDS.bus : end !== ENDS.auto ? end : isReversed && !read.isOwn ? ENDS.module : ENDS.cpu;
     this.directions = this.directionsOf();
-    this.judgeAll();
+    this.logged = sidesOf(this);
+    this.judging = new Judging();
+    if (!isOfOneSide(this.logged)) this.judging.judgeAll(this, arena.judge, end);
     this.record = recordOf(this);
     this.summary = summaryOf(this);
     this.verdict = verdictOf(this);
@@ -91,11 +90,13 @@ export class Log {
     return this.octets(place)[0] < FIRST_ANSWER ? DIRECTION.sent : DIRECTION.heard;
   }
 
-  // Where a message was logged: on the bus if nothing says who sent it, else as the directions down to it say.
-  endOf(place) {
-    if (this.sides[place] === DIRECTION.none) return ENDS.bus;
-    if (!this.isAuto) return this.end;
-    return this.isTurned[place] ? ENDS.module : ENDS.cpu;
+  // The breaches and the restarts, by the places of their messages.
+  get breaches() {
+    return this.judging.breaches;
+  }
+
+  get restarts() {
+    return this.judging.restarts;
   }
 
   // Whether the CPU sent or heard a message, as it is judged: by its first octet if nothing says it.
@@ -116,55 +117,23 @@ export class Log {
     return this.hasDirections && this.end !== ENDS.bus;
   }
 
-  // Judges each message that is sure. A damaged line may have held a frame: nobody is accused for it up to the next poll. What the
-  // CPU heard above the first command is not judged: the log begins below the command.
-  judgeAll() {
-    const rules = new Rules(this);
-    let judged = 0, isBegun = false;
-    this.logged = sidesOf(this);
-    this.badLines = this.aboveCommand = 0;
-    const isJudged = !isOfOneSide(this.logged);
-    for (let place = 0; place < this.count; place++) {
-      if (this.others.has(place)) continue;
-      if (this.damaged.has(place)) rules.lose();
-      if (this.isBadLine(place)) {
-        this.badLines += 1;
-        continue;
-      }
-      if (this.isPossible[place]) {
-        // Among messages that are sure it may have been one.
-        if (judged > 0) rules.lose();
-        continue;
-      }
-      judged += 1;
-      isBegun ||= this.judgedWay(place) === DIRECTION.sent;
-      if (!isJudged || !isBegun) {
-        this.aboveCommand += isJudged ? 1 : 0;
-        continue;
-      }
-      const breach = rules.judge(place);
-      if (breach) this.breaches.set(place, breach);
-    }
-    const { excused, belowDamage, skipped, withoutContent } = rules;
-    Object.assign(this, { excused, belowDamage, skipped, withoutContent });
-  }
-
   // The breach of a rule on content of a message; undefined if it has none.
   content(place) {
     const breach = this.breaches.get(place);
     return breach && breach.isContent ? breach : undefined;
   }
 
-  // What the breach of a message means; empty if it breaks no rule.
+  // What the breach of a message means, or that the module restarted; empty if it is neither.
   meaning(place) {
     const breach = this.breaches.get(place);
-    return breach ? breachWords(this, place, breach) : '';
+    if (breach) return breachWords(this, place, breach);
+    return this.restarts.has(place) ? restartWords(this, place) : '';
   }
 
-  // The rule that a message breaks, and what that means; empty if it breaks none.
+  // The rule that a message breaks, and what that means; else as `meaning`.
   reason(place) {
     const breach = this.breaches.get(place);
-    return breach ? `${ruleOf(breach)}: ${this.meaning(place)}` : '';
+    return (breach ? `${ruleOf(breach)}: ` : '') + this.meaning(place);
   }
 
   // Whether a message breaks a rule.
@@ -187,9 +156,11 @@ export class Log {
 }
 
 function summaryOf(log) {
-  const counts = { messages: log.count - log.others.size, others: log.others.size, possible: 0, faults: 0, polls: 0, unanswered: 0, blocks: 0, entries: 0, repeats: 0, gaps: 0 };
+  const others = log.others.size, counts = { messages: log.count - others, others, badLines: -others, possible: 0, faults: 0, polls: 0, unanswered: 0, blocks: 0,
+    entries: 0, repeats: 0, gaps: 0 };
   for (let place = 0; place < log.count; place++) {
     const code = log.codes[place];
+    counts.badLines += log.isBadLine(place) ? 1 : 0;
     counts.faults += log.isFaulty[place];
     counts.possible += log.isPossible[place];
     if (code === POLL) {
@@ -203,5 +174,5 @@ function summaryOf(log) {
       counts.gaps += log.status[place] & STATUS_BITS.lost ? 1 : 0;
     }
   }
-  return { ...counts, broken: log.breaches.size };
+  return { ...counts, broken: log.breaches.size, restarts: log.restarts.size };
 }

@@ -14,11 +14,10 @@ import { PlayView } from './play.js';
 import { Tabs } from './tabs.js';
 import { wordsOf } from './words.js';
 
-// What the log that is open needs in the machine's memory: its octets, and a poller.
+// What the log that is open needs in the machine's memory: its octets, a poller, and what judges it.
 class Arena {
   constructor(library) {
-    Object.assign(this, { machine: library.machine, address: 0, size: 0, poller: library.poller(0), checker: library.checker(),
-      contentChecker: library.contentChecker() });
+    Object.assign(this, { machine: library.machine, address: 0, size: 0, poller: library.poller(0), judge: library.logJudge() });
   }
 
   hold(octets) {

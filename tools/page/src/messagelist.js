@@ -1,6 +1,9 @@
 // Messages of a log as they are read: their octets one after the other, and a column for each thing known of them.
 
+// Who sent a message, by the numbers of LOG_SIDES.
 export const DIRECTION = { none: 0, sent: 1, heard: 2 };
+// What lines without octets say above a message: that frames were lost, or that another part of the log begins.
+export const MARKS = { loss: 1, heading: 2 };
 
 // Twice as much room.
 function widened(column) {
@@ -22,33 +25,40 @@ export class MessageList {
     // What the log says of the side that sent each.
     this.sides = new Uint8Array(room);
     this.isPossible = new Uint8Array(room);
-    // Whether most directions, down to the line of each, are those of the module's end.
-    this.isTurned = new Uint8Array(room);
+    // Whether its line is one of the project's own transcripts, which says as whose the message is judged.
+    this.isOwn = new Uint8Array(room);
+    // The MARKS of the lines directly above each; those above the end of the log are in the place after the last.
+    this.marks = new Uint8Array(room);
     this.times = new Float64Array(room);
     this.clocks = [];
-    // Why lines that may have held a frame gave none, and their texts, by the places of the rows that they have.
+    // Why lines that may have held a frame gave none, their texts, and whether it is by their check, by the places of their rows.
     this.damaged = new Map();
     // What is said of frames with another address, and their octets, likewise.
     this.others = new Map();
   }
 
   widen() {
-    for (const name of ['starts', 'lengths', 'lines', 'sides', 'isPossible', 'isTurned', 'times']) this[name] = widened(this[name]);
+    for (const name of ['starts', 'lengths', 'lines', 'sides', 'isPossible', 'isOwn', 'marks', 'times']) this[name] = widened(this[name]);
   }
 
-  add({ line, side, octets, isPossible, isTurned, time, clock }) {
+  add({ line, side, octets, isPossible, isOwn, time, clock }) {
     const place = this.count++;
-    if (place === this.starts.length) this.widen();
     this.starts[place] = this.end;
     this.lengths[place] = octets.length;
     this.lines[place] = line;
     this.sides[place] = side;
     this.isPossible[place] = isPossible ? 1 : 0;
-    this.isTurned[place] = isTurned ? 1 : 0;
+    this.isOwn[place] = isOwn ? 1 : 0;
     this.times[place] = time ?? NaN;
     this.clocks.push(clock);
     this.octets.set(octets, this.end);
     this.end += octets.length;
+    if (this.count === this.starts.length) this.widen();
+  }
+
+  // Notes one of MARKS above the next message.
+  mark(mark) {
+    this.marks[this.count] |= mark;
   }
 
   // A frame with an address that is not judged: what is said of it, and its octets as a text.
@@ -60,6 +70,6 @@ export class MessageList {
   // A line that can't be read: a message without octets. `damage` is why it gave no frame, and its text, if it may have held one.
   addBad(line, damage = null) {
     if (damage) this.damaged.set(this.count, damage);
-    this.add({ line, side: DIRECTION.none, octets: new Uint8Array(0), isPossible: false, isTurned: false, time: null, clock: '' });
+    this.add({ line, side: DIRECTION.none, octets: new Uint8Array(0), isPossible: false, isOwn: false, time: null, clock: '' });
   }
 }

@@ -5,11 +5,11 @@ import { counted, element, say, select, withCommas } from './dom.js';
 import { detailOf } from './detail.js';
 import { kindOf, CAN_READ } from './foreign.js';
 import { hexText } from './hex.js';
+import { ENDS } from './judging.js';
 import { BLOCK, POLL, STATUS_BITS } from './library.js';
 import { REASONS } from './log_words.js';
 import { DIRECTION } from './messagelist.js';
 import { hasNotes, noteOf } from './notes.js';
-import { ENDS } from './rules.js';
 import { saveText } from './save.js';
 import { Sheet } from './sheet.js';
 import { VirtualTable } from './table.js';
@@ -22,6 +22,7 @@ const SHOWN_OCTETS = 40;
 const FACTS = [
   ['messages', 'message', () => true],
   ['broken', 'breach', (log, place) => log.isBroken(place), 'bad'],
+  ['restarts', 'restart', (log, place) => log.restarts.has(place), 'warn'],
   ['faults', 'faulty line', (log, place) => log.isFaulty[place] === 1, 'bad'],
   ['possible', 'possible message', (log, place) => log.isPossible[place] === 1, 'warn'],
   ['others', 'other frame', (log, place) => log.others.has(place), 'warn'],
@@ -36,7 +37,7 @@ const FACTS = [
 const pluralOf = (noun) => noun.endsWith('y') ? noun.slice(0, -1) + 'ies' : noun.endsWith('h') ? noun + 'es' : noun + 's';
 // What is said of a log by its form, after its name.
 const FORMS = ['', ', read as frames', ', read as a transcript'];
-const SIGNS = { good: '✓', partly: '✓', unjudged: '?', broken: '✗', none: '?' };
+const SIGNS = { good: '✓', partly: '✓', unjudged: '?', restarted: '!', broken: '✗', none: '?' };
 const hasBit = (log, place, bit) => log.codes[place] === BLOCK && (log.status[place] & bit) !== 0;
 
 // What helps, by the reason why lines are skipped.
@@ -103,13 +104,13 @@ export class MessagesView {
     this.filter = { fact: 'messages', way: '', text: '' };
     this.table.root.classList.toggle('has-times', log.hasTimes);
     this.table.root.classList.toggle('has-notes', hasNotes(log));
-    this.table.root.classList.toggle('has-rules', log.breaches.size > 0);
+    this.table.root.classList.toggle('has-rules', log.breaches.size + log.restarts.size > 0);
     this.table.root.classList.toggle('has-doubts', log.damaged.size + log.others.size + log.summary.possible > 0);
     this.parts.forEach((part) => { part.hidden = false; });
     this.none.hidden = true;
     this.drawVerdict();
     this.drawFacts();
-    const isOther = log.form !== LOG_FORMS.auto && log.badLines > 0;
+    const isOther = log.form !== LOG_FORMS.auto && log.summary.badLines > 0;
     this.note.replaceChildren(this.noteOf(log), ...isOther ? [' ', element('button', { id: 'as-any', onclick: readAsAny }, 'Read it as any log')] : []);
     this.narrow({});
     if (log.verdict.kind === VERDICTS.none && log.summary.possible === 0) this.showNoMessage(file);
@@ -207,6 +208,7 @@ export class MessagesView {
     if (log.directions[place] === DIRECTION.sent) kinds.push('sent');
     if (log.isPossible[place] || log.others.has(place)) kinds.push('possible');
     else if (log.isBroken(place)) kinds.push('broken');
+    else if (log.restarts.has(place)) kinds.push('restarted');
     else if (log.isFaulty[place]) kinds.push('faulty');
     else if (hasBit(log, place, STATUS_BITS.lost)) kinds.push('marked');
     return kinds;

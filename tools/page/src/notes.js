@@ -1,5 +1,5 @@
-// What a row says beside its message: the rule that it breaks, what the bits of its status say, that no answer came, that nothing
-// makes it sure, or why a damaged line gave none.
+// What a row says beside its message: the rule that it breaks, that the module restarted, what the bits of its status say, that no
+// answer came, that nothing makes it sure, or why a damaged line gave none.
 
 import { BITS } from './bits.js';
 import { BLOCK } from './library.js';
@@ -29,6 +29,6 @@ export function noteOf(log, place) {
 
 // Whether a row of a log has a note.
 export function hasNotes(log) {
-  if (log.breaches.size > 0 || log.damaged.size > 0 || log.others.size > 0 || log.summary.unanswered > 0 || log.summary.possible > 0) return true;
+  if (log.breaches.size > 0 || log.restarts.size > 0 || log.damaged.size > 0 || log.others.size > 0 || log.summary.unanswered > 0 || log.summary.possible > 0) return true;
   return log.status.subarray(0, log.count).some((status, place) => status > 0 && statusNotes(log.codes[place], status).length > 0);
 }

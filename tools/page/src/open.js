@@ -2,9 +2,9 @@
 
 import { element, labelled, select } from './dom.js';
 import { fromHex } from './hex.js';
+import { ENDS } from './judging.js';
 import { LINE_WAYS } from './line.js';
 import { REWRITINGS, rewritten } from './rewriting.js';
-import { ENDS } from './rules.js';
 import { ANY, OWN } from './wire.js';
 
 const MOST_OCTETS = 256 * 2 ** 20;

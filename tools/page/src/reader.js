@@ -7,7 +7,7 @@ import { Doubts } from './doubts.js';
 import { fromHex } from './hex.js';
 import { FIRST_ANSWER } from './library.js';
 import { REASONS } from './log_words.js';
-import { DIRECTION, MessageList } from './messagelist.js';
+import { DIRECTION, MARKS, MessageList } from './messagelist.js';
 import { IN_TWO_LINES, Pieces } from './pieces.js';
 
 // The year 10000, which no time of a log has.
@@ -35,6 +35,9 @@ export function octetsOf(file) {
 
 // The lines of a log.
 export const linesOf = (octets, form) => new TextDecoder().decode(octets).split(form === LOG_FORMS.auto ? /\r\n|\r|\n/ : '\n');
+
+// What a skipped line says of the messages below it, by the number of its reason.
+const MARK_OF = { [LOG_REASONS.loss]: MARKS.loss, [LOG_REASONS.heading]: MARKS.heading };
 
 const WITHOUT_MESSAGE = [LOG_KINDS.damaged, LOG_KINDS.passedOver];
 
@@ -75,7 +78,12 @@ export class Found {
     else if (this.form !== LOG_FORMS.auto && reason === LOG_REASONS.noMessage) this.addFaulty(verdict);
     else if (kind === LOG_KINDS.damaged) this.messages.addBad(line, { why: `damaged: ${REASONS[reason]}`, text: this.textOf(line).slice(0, LONGEST_SHOWN) });
     else if (kind === LOG_KINDS.passedOver && this.form !== LOG_FORMS.auto) this.messages.addBad(line);
-    else if (kind === LOG_KINDS.passedOver) this.passed[reason] += 1;
+    else if (kind === LOG_KINDS.passedOver) this.passOver(reason);
+  }
+
+  passOver(reason) {
+    this.passed[reason] += 1;
+    this.messages.mark(MARK_OF[reason] || 0);
   }
 
   // Two lines in which one message stands.
@@ -93,11 +101,10 @@ export class Found {
   addFrames({ line, kind, said, time, frames, places }) {
     const text = this.textOf(line), isPossible = kind === LOG_KINDS.possible, inTime = time < END_OF_TIME ? time : null;
     const side = DIRECTIONS[said], clock = inTime === null ? '' : clockOf([text, this.textOf(line - 1)], inTime);
-    const isOwn = text.startsWith('> ') || text.startsWith('< ');
+    const isOwn = side !== DIRECTION.none && (text.startsWith('> ') || text.startsWith('< '));
     if (!isPossible) frames.forEach((octets) => this.noteSide(side, octets[0], isOwn));
-    const isTurned = !isOwn && this.reversed > this.agreeing;
     for (const octets of frames) {
-      this.messages.add({ line, side, octets, isPossible, isTurned, time: inTime, clock });
+      this.messages.add({ line, side, octets, isPossible, isOwn, time: inTime, clock });
       if (!isPossible && this.form === LOG_FORMS.auto) this.doubts.add(text, octets, places);
     }
   }

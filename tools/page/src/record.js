@@ -3,6 +3,7 @@
 
 import { CONTENT_RULES } from './constants.js';
 import { BLOCK, HEARD, POLL } from './library.js';
+import { entryOf } from './rules.js';
 import { itemText } from './script.js';
 
 const WRAP = 2 ** 32;
@@ -18,11 +19,12 @@ class Record {
     this.places = [];
     // The indexes of the transitions that break a rule on content.
     this.broken = [];
-    // Stretches with entries missing, the blocks taken, polls without an answer, and polls that left a block out.
+    // Stretches with entries missing, the blocks taken, polls without an answer, polls that left a block out, and restarts.
     this.gaps = [];
     this.blocks = [];
     this.lostPolls = [];
     this.skips = [];
+    this.restarts = [];
     this.offset = 0;
     this.latest = 0;
   }
@@ -71,14 +73,15 @@ export function recordOf(log) {
   let isStarted = false;
   for (let place = 0; place < log.count; place++) {
     const code = log.codes[place];
+    if (log.restarts.has(place)) record.restarts.push(mark(record, place));
     if (code !== POLL && code !== BLOCK) continue;
     if (!isStarted) poller.number = log.blocks[place];
     isStarted = true;
     if (code === BLOCK) {
       const heard = poller.hear(log.address(place), log.lengths[place]);
       if (heard.kind !== HEARD.taken) continue;
-      const content = log.content(place);
-      if (content && content.entry >= 0) record.broken.push(record.times.length + content.entry);
+      const content = log.content(place), entry = content ? entryOf(log, place, content) : -1;
+      if (entry >= 0) record.broken.push(record.times.length + entry);
       record.add(poller, heard, place, log.stamps[place]);
       continue;
     }
@@ -91,8 +94,8 @@ export function recordOf(log) {
   return record;
 }
 
-// The lines that `fio2070 record` writes of a log: the record, to the first breach of a rule on content, where the log keeps
-// the rules of `check`, else the line of `check`. Null if the log does not say what the CPU sent and heard.
+// The lines that `fio2070 record` writes of a log: the record, to the first breach of a rule on content or the first restart of the
+// module, where the log keeps the rules of `check`, else the line of `check`. Null if the log does not say what the CPU sent and heard.
 export function recordLines(log) {
   if (!log.isOfCpu) return null;
   if (!log.checkLine.startsWith('good ')) return [log.checkLine];
@@ -101,6 +104,7 @@ export function recordLines(log) {
   if (first >= 0) poller.number = log.blocks[first];
   for (let place = 0; place < log.count; place++) {
     const content = log.content(place);
+    if (log.restarts.has(place)) return [`record ${lines.length}`, ...lines, `line ${log.lines[place]} restarted`];
     if (first >= 0 && place > first && log.codes[place] === BLOCK) {
       const heard = poller.hear(log.address(place), log.lengths[place]);
       const items = Array.from({ length: heard.items }, (_, index) => itemText(poller.recordItem(index)));

@@ -116,6 +116,7 @@ export class Waves {
     this.drawBlocks(head);
     this.drawSigns(head, this.record.lostPolls, 'warn', '×');
     this.drawSigns(head, this.record.skips, 'bad', '↷');
+    this.drawSigns(head, this.record.restarts, 'warn', '↻');
     this.drawBroken(paint);
     this.drawSelected(paint);
   }

@@ -1,0 +1,145 @@
+"""What the page says of a log by the library's judge: restarts of the module, what is not judged and why, and the same breaches,
+restarts and counts as `fiolog check`."""
+
+import glob
+import json
+import os
+import re
+
+from support.damage import DAMAGED
+from support.fiolog import LIBRARY, fiolog
+from support.opened import CELLS, OPEN_ALL, pasted, text_of
+from support.strangers import READ
+from support.tables import TOP
+
+# The kind of the verdict, all that it says, and what is not judged.
+SAID = '''const it = document.getElementById("not-judged");
+return [document.getElementById("verdict").dataset.kind, document.getElementById("verdict-text").textContent, it ? it.textContent : ""]'''
+# The breaches and the restarts in the rows, each with its line, and what is not judged.
+FOUND = '''const it = document.getElementById("not-judged"), rule = (row) => row.children[4].textContent.split(":")[0];
+const found = [...document.querySelectorAll(".line.broken, .line.restarted")].map((row) =>
+    [Number(row.children[0].textContent), row.matches(".broken") ? rule(row) : "restarted"]);
+return [found, it ? it.textContent : ""]'''
+# How the page says each count that `fiolog check --json` has by this name.
+COUNTS = {
+    'frames_above_a_command': r'([\d,]+) messages? above the first command',
+    'frames_not_at_the_cpu': r'([\d,]+) messages? (?:is|are) not judged, since this log was not taken at the CPU',
+    'frames_below_loads': r'([\d,]+) messages? (?:is|are) not judged, since a load of the counter',
+    'lost_places': r'([\d,]+) loss(?:es)? of sync',
+    'frames_at_lost_places': r'([\d,]+) messages? from there to the next poll',
+}
+
+STATUS = '> 34\n< b4000000000000000000000001\n'
+# The counter shows 21 ms, then 11.
+LATER, EARLIER = '> 3600\n< b600000000000015\n', '> 3601\n< b60100000000000b\n'
+BACK = LATER + EARLIER
+RESTARTED = 'the module restarted, or the stamp is wrong: its counter went back'
+LOAD, CUT, DONE = '> 3200000000\n', '> 320\n', '< b200\n'
+# A log, the kind of its verdict, what that says, and what is not judged, by its name: by hand, from the rules of the judge.
+LOGS = [
+    ('a restart', BACK, 'restarted', ['Line 4: ' + RESTARTED, 'No rule is broken in the 4 messages that could be judged', 'look at its supply'], {'lost_places': 1}),
+    ('what is below a restart, up to the next poll', BACK + STATUS + '> 3602\n< b60200000000000c\n', 'restarted', ['in the 6 messages that'],
+     {'lost_places': 1, 'frames_at_lost_places': 2}),
+    ('two restarts', BACK + '> 3602\n< b602000000000015\n> 3603\n< b60300000000000b\n', 'restarted', ['2 restarts. The first: line 4'], {'lost_places': 2}),
+    ('a breach below the poll below a restart', BACK + '> 3602\n< b60300000000000c\n', 'broken',
+     ['Line 6 breaks the rule number', 'Line 4: ' + RESTARTED], {'lost_places': 2}),
+    ('a watchdog that is forgotten', '> 3a32\n< ba00\n> 3a32\n< ba00\n', 'restarted', ['Line 4: the module restarted, or forgot its watchdog'], {'lost_places': 1}),
+    ('a load that was sent', LATER + LOAD + DONE + EARLIER, 'partly', ['in the 5 messages that'], {'frames_below_loads': 1, 'lost_places': 1}),
+    ('a load that a lost line may have been', LATER + CUT + DONE + EARLIER + STATUS + '> 3602\n< b60200000000000c\n', 'partly', ['in the 5 messages that'],
+     {'frames_below_loads': 1, 'lost_places': 2, 'frames_at_lost_places': 3}),
+    ('two steps back below one lost line', LATER + CUT + DONE + '> 3601\n< b601000000000016\n> 3602\n< b60200000000000b\n> 3603\n< b60300000000000a\n',
+     'restarted', ['Line 10: ' + RESTARTED],
+     {'frames_below_loads': 1, 'lost_places': 3, 'frames_at_lost_places': 1}),
+    ('two damaged lines, one below the other', '> 3605\n< b6050\n< b6050\n' + STATUS + '> 3606\n< b606000000000002\n> 3607\n< b607000000000003\n', 'partly', ['in the 5 messages that'],
+     {'lost_places': 1, 'frames_at_lost_places': 2}),
+]
+
+
+def counts_in(words):
+    """What is not judged, by its name."""
+    found = {name: re.search(form, words) for name, form in COUNTS.items()}
+    return {name: int(one[1].replace(',', '')) for name, one in found.items() if one}
+
+
+def check_logs(check, browser, name):
+    """The verdict on each of these logs, and what is not judged."""
+    for title, text, kind, says, counts in LOGS:
+        pasted(browser, text)
+        got, verdict, not_judged = browser.run(SAID)
+        check.equal('%s: the verdict in %s' % (title, name), (kind, []), (got, [words for words in says if words not in verdict]))
+        check.equal('%s: what is not judged in %s' % (title, name), counts, counts_in(not_judged))
+
+
+def check_restart(check, browser, name):
+    """A restart is marked at its message, which says what to do, and can be chosen among the messages."""
+    pasted(browser, BACK)
+    check.equal('the row of a restart in %s' % name, [[[4, 'restarted']], RESTARTED], [browser.run(FOUND)[0], browser.run(
+        'return document.querySelector(".line.restarted .rule").textContent')])
+    browser.click('#first-breach')
+    detail = browser.run('return document.querySelector(".detail").textContent')
+    check.holds('and its message in %s' % name, all(words in detail for words in ('Line 4', 'T' + RESTARTED[1:] + '.', 'has P', 'configure its inputs')), detail)
+    browser.click('[data-fact="restarts"]')
+    check.equal('restarts alone in %s' % name, ['1 restart', 1], browser.run(
+        'return [document.querySelector("[data-fact=restarts]").textContent, document.querySelectorAll(".line").length]'))
+    pasted(browser, BACK.replace('b60000', 'b600018c0014'))
+    browser.click('#tab-inputs')
+    check.holds('the record says it in %s' % name, 'The first restart: line 4.' in browser.run('return document.getElementById("record-note").textContent'))
+
+
+# Judges a text with these marks above its messages, by the calls: the lines of breaches, and the counts of messages without a judgement.
+MARKED = '''const script = document.createElement("script"); script.textContent = `window.judged = async (text, marks) => {
+    const library = new Library(await startMachine(BUILDS)), read = readLog(library, new LogReader(library), new TextEncoder().encode(text), LOG_FORMS.auto);
+    for (const [place, mark] of marks) read.messages.marks[place] |= MARKS[mark];
+    const { breaches, lines, judging, verdict } = new Log(library, new Arena(library), "marked", read, ENDS.auto);
+    return [[...breaches.keys()].map((place) => lines[place]), judging.losses, judging.unjudged[WHY.placeLost], verdict.notJudged.join(" ")]; }`;
+document.head.append(script); window.found = null; window.judged(...arguments).then((found) => { window.found = found; }, (fault) => { window.found = String(fault); });'''
+# The CPU goes on without the answer to its poll; and an answer comes twice.
+SKIPS = '> 3605\n< b605000000000001\n> 3606\n> 3607\n< b607000000000003\n> 3608\n< b608000000000004\n'
+PAIR = '> 3605\n< b605000000000001\n'
+TWICE = PAIR + '< b605000000000001\n> 3606\n< b606000000000002\n'
+MARKS = [
+    ('no remark', SKIPS, [], [4], 1, 1), ('a remark of loss', SKIPS, [[3, 'loss']], [], 0, 0), ('one above a poll', SKIPS, [[0, 'loss']], [4], 1, 1),
+    ('a heading', SKIPS, [[3, 'heading']], [], 1, 0), ('an answer twice', TWICE, [], [3], 1, 0), ('with a remark of loss', TWICE, [[2, 'loss']], [], 0, 1),
+    ('below a heading', TWICE, [[2, 'heading']], [], 1, 1), ('a heading at the end', PAIR, [[2, 'heading']], [], 1, 0),
+]
+
+
+def check_marks(check, browser, name):
+    """What remarks of loss and headings do, which lines without octets say: no reader gives them yet."""
+    for title, text, marks, broken, losses, count in MARKS:
+        browser.run(MARKED, text, marks)
+        found = browser.wait('return window.found')
+        check.equal('%s in %s' % (title, name), [broken, losses, count], found[:3])
+        check.equal('%s is said in %s' % (title, name), {key: number for key, number in (('lost_places', losses), ('frames_at_lost_places', count)) if number and losses},
+                    counts_in(found[3]))
+
+
+def by_fiolog(text):
+    """The same by `fiolog check`: breaches, restarts, and the counts that the page has too."""
+    lines = [json.loads(line) for line in fiolog('check', '--json', text=text).out.splitlines()]
+    counts = lines[-1].get('summary', {}).get('not_judged', {}) if lines else {}
+    return ([[line['line'], line.get('rule') or line['outcome']] for line in lines if 'line' in line],
+            {name: counts[name] for name in COUNTS if counts.get(name)})
+
+
+def check_as_fiolog(check, browser, name):
+    """The breaches, the restarts and what is not judged of each log are those of `fiolog check`."""
+    if not os.path.exists(LIBRARY):
+        check.skip('what fiolog finds in %s' % name, 'no libfio2070.so here (make library)')
+        return
+    texts = [(os.path.basename(path), text_of(os.path.relpath(path, os.path.join(TOP, 'examples'))))
+             for ending in ('*.frames', '*.transcript', 'captures/*.txt') for path in sorted(glob.glob(os.path.join(TOP, 'examples', ending)))]
+    texts = [(base, text) for base, text in texts if '\0' not in text]
+    texts += [(title, text) for title, text, *_ in READ[:40] + DAMAGED + LOGS]
+    browser.run(OPEN_ALL.replace(CELLS, FOUND), [text for _, text in texts])
+    browser.wait('return window.tables !== null')
+    for (title, text), (found, not_judged) in zip(texts, browser.run('return window.tables')):
+        check.equal('%s as fiolog judges it in %s' % (title, name), by_fiolog(text), (found, counts_in(not_judged)))
+
+
+def rows(check, browser, name):
+    """Each of these checks."""
+    check_logs(check, browser, name)
+    check_restart(check, browser, name)
+    check_marks(check, browser, name)
+    check_as_fiolog(check, browser, name)

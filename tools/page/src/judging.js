@@ -1,0 +1,88 @@
+// A log by the library's judge: the breaches, the restarts of the module, and how many messages are not judged, by why.
+
+import { LOG_TAKEN, OUTCOMES, WHY } from './constants.js';
+import { POLL } from './library.js';
+import { DIRECTION, MARKS } from './messagelist.js';
+
+// Where a log may have been taken.
+export const ENDS = { auto: 'auto', cpu: 'cpu', module: 'module', bus: 'bus' };
+// What loses sync.
+export const CAUSES = { breach: 'breach', restart: 'restart', heading: 'heading', load: 'load', line: 'line' };
+const TAKEN = { [ENDS.auto]: LOG_TAKEN.auto, [ENDS.cpu]: LOG_TAKEN.atCpu, [ENDS.module]: LOG_TAKEN.atModule, [ENDS.bus]: LOG_TAKEN.onBus };
+
+export class Judging {
+  constructor() {
+    // The breaches and the restarts, by the places of their messages.
+    this.breaches = new Map();
+    this.restarts = new Set();
+    // How many messages are not judged, by the number of WHY; how often sync was lost, up to the next poll, and by which of CAUSES.
+    this.unjudged = new Uint32Array(Object.keys(WHY).length);
+    this.losses = 0;
+    this.causes = new Set();
+  }
+
+  // How many messages no rule judges.
+  get leftOut() {
+    return this.unjudged.reduce((sum, count) => sum + count, 0);
+  }
+
+  // Judges each message that is sure; `taken` is one of ENDS. Nobody is accused for what a line that gave none may have held.
+  judgeAll(log, judge, taken) {
+    Object.assign(this, { log, judge, isLost: false, isBegun: false });
+    judge.start(TAKEN[taken]);
+    for (let place = 0; place < log.count; place++) {
+      this.takeMarks(log.marks[place]);
+      // At the CPU, what has a wrong check was not heard.
+      if (log.damaged.has(place) && !(taken === ENDS.cpu && log.damaged.get(place).hasWrongCheck)) this.lose(CAUSES.line);
+      if (log.isPossible[place]) this.takePossible();
+      else if (!log.isBadLine(place)) this.takeMessage(place);
+    }
+    this.takeMarks(log.marks[log.count]);
+  }
+
+  takeMarks(marks) {
+    if (marks & MARKS.loss) this.judge.miss();
+    if (marks & MARKS.heading) this.lose(CAUSES.heading);
+  }
+
+  lose(cause) {
+    this.judge.lose();
+    this.noteLoss(cause);
+  }
+
+  // Among messages that are sure it may have been one.
+  takePossible() {
+    this.judge.possible();
+    if (this.isBegun) this.noteLoss(CAUSES.line);
+  }
+
+  takeMessage(place) {
+    const { log } = this, way = log.judgedWay(place), said = log.isOwn[place] ? way : log.sides[place];
+    this.isBegun = true;
+    if (log.codes[place] === POLL) this.isLost = false;
+    const outcome = this.judge.frame(way === DIRECTION.sent, said, log.address(place), log.lengths[place]);
+    if (outcome) this.note(place, outcome);
+  }
+
+  // Notes what a message is that is not kept.
+  note(place, { kind, why, ...breach }) {
+    if (kind === OUTCOMES.brokenContent) this.breaches.set(place, { ...breach, isContent: true });
+    else if (kind === OUTCOMES.broken) {
+      this.breaches.set(place, { ...breach, isContent: false });
+      this.noteLoss(CAUSES.breach);
+    } else if (kind === OUTCOMES.restarted) {
+      this.restarts.add(place);
+      this.noteLoss(CAUSES.restart);
+    } else {
+      this.unjudged[why] += 1;
+      if (why === WHY.load) this.noteLoss(CAUSES.load);
+    }
+  }
+
+  noteLoss(cause) {
+    if (this.isLost) return;
+    this.isLost = true;
+    this.losses += 1;
+    this.causes.add(cause);
+  }
+}
