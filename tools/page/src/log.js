@@ -141,6 +141,13 @@ export class Log {
     return this.breaches.has(place);
   }
 
+  // Whether an answer is not directly below its command.
+  isUndue(place) {
+    let above = place - 1;
+    while (this.others.has(above)) above -= 1;
+    return this.codes[above] + FIRST_ANSWER !== this.codes[place];
+  }
+
   // Whether a message is a poll with no block answer directly below. Above a damaged line that is not known.
   isUnanswered(place) {
     let next = place + 1;

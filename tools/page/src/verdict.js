@@ -82,6 +82,7 @@ function sentencesOf(log, isJudged) {
     said.push(`${counted(losses, 'loss', 'losses')} of sync, at ${places}${atLostPlaces === 0 ? ', with no message from there to the next poll'
       : `: ${counted(atLostPlaces, 'message')} from there to the next poll ${are(atLostPlaces)} not judged`}.`);
   }
+  if ([...log.restarts].some((place) => log.isUndue(place))) said.push('An answer that comes late has an earlier stamp too: fiolog check --late-answers leaves late ones out.');
   if (first !== undefined && poll < 0) said.push('The log has no poll, so it is of the middle of traffic: what breaks a rule here may be right.');
   else if (first < poll) said.push('The log begins in the middle of traffic: what breaks a rule above the first poll may be right.');
   if (isJudged && !hasDirections) said.push('The log does not say who sent a message: each is judged as sent by the end that its type belongs to.');
