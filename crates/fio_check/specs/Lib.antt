@@ -25,4 +25,5 @@ pub mod LinkLaws
 pub mod LateAnswers
 pub mod LogJudges
 pub mod LogLaws
+pub mod LogSigns
 pub mod Finding

@@ -11,7 +11,8 @@
 //! (`Checkers`). Their laws (`Laws`) are the contracts of
 //! the module `laws`. Those of the rules on content follow: events, what is above one by places
 //! (`ContentAbove`), the rules, the same event by event (`ContentFacts`), the checker. `LinkJudge` has both checkers, and says
-//! whom to accuse by a log in which lines may be lost (`LinkJudges`).
+//! whom to accuse by a log in which lines may be lost (`LinkJudges`). `LogSigns` says what kind of log it looks like
+//! if it is not the log of one link in order.
 //!
 //! # Examples
 //!
@@ -26,6 +27,8 @@
 //! ```
 #![tactic(auto)]
 
+mod block_order;
+mod block_rows;
 mod checker;
 mod content;
 mod content_above;
@@ -42,11 +45,15 @@ mod limits;
 mod line;
 mod link_judge;
 mod log_judge;
+mod log_signs;
 mod observation;
 mod outcome;
+mod repeated_frames;
 mod rules;
 mod verdict;
 
+pub use block_order::{BlockOrder, BlockSeen};
+pub use block_rows::BlockRows;
 pub use checker::{Breach, Checker, Due, Skips};
 pub use content::{ContentBreach, ContentChecker};
 pub use content_rules::{BrokenRule, ContentRule};
@@ -56,7 +63,9 @@ pub use limits::Limits;
 pub use line::Line;
 pub use link_judge::LinkJudge;
 pub use log_judge::{LogJudge, LogOutcome, LogStart};
+pub use log_signs::{LogSign, LogSigns};
 pub use observation::Observation;
 pub use outcome::{Excuse, LogPlace, Outcome, Unjudged};
+pub use repeated_frames::RepeatedFrames;
 pub use rules::{Rule, rule_broken, rule_broken_within};
 pub use verdict::{Verdict, check_trace};

@@ -1,0 +1,88 @@
+//! Signs that a log is not the log of one link in order: what kind of log it looks like.
+ghost use Rattle.std.specs.Prelude.{◌≡◌};
+ghost use Rattle.fio_check.specs.LogSigns.{no_signs, sign_of, signs_with};
+
+use crate::block_order::{BlockOrder, BlockSeen};
+use crate::block_rows::BlockRows;
+use crate::repeated_frames::RepeatedFrames;
+
+/// What kind of log a log looks like that is not the log of one link in order.
+#[derive(Clone, Copy, Debug, PartialEq, Eq, Hash)]
+pub enum LogSign {
+    /// Each frame is there twice.
+    Twice,
+    /// The logs of both ends are merged.
+    BothEnds,
+    /// The last line is first.
+    Reversed,
+    /// It has two links.
+    TwoLinks,
+}
+
+/// Counts of the frames of a log, which tell whether it looks like another one than the log of one link in order. They change
+/// nothing of what a judge says of a frame.
+///
+/// # Examples
+///
+/// ```rust
+/// use fio_check::{LogSign, LogSigns};
+///
+/// let mut signs = LogSigns::new();
+/// for number in 0..4_u8 {
+///     signs.frame(false, None, &[0xb6, number, 0, 0, 0, 0, 0, number]);
+///     signs.frame(false, None, &[0xb6, number, 0, 0, 0, 0, 0, number]);
+/// }
+/// assert_eq!(rt; signs.sign(), Some(LogSign::Twice));
+/// ```
+#[derive(Debug, Drop)]
+pub struct LogSigns {
+    /// The answers that have the octets of the frame directly above.
+    pub frames: RepeatedFrames,
+    /// The order of the block answers.
+    pub order: BlockOrder,
+    /// The rows of their numbers.
+    pub rows: BlockRows,
+}
+
+impl LogSigns {
+    /// Returns the counts above the first frame.
+    pub fn new() -> LogSigns
+        ensures { result ≡ no_signs }
+    {
+        LogSigns {
+            frames: RepeatedFrames::new(),
+            order: BlockOrder::new(),
+            rows: BlockRows::new(),
+        }
+    }
+
+    /// Takes a frame, by whether the CPU's end sent it, and by whether its line says so, if it says who sent it.
+    pub fn frame(&mut self, from_cpu: bool, said: Option<bool>, octets: &[u8])
+        ensures { self.new ≡ signs_with self.old from_cpu said octets.now }
+    {
+        self.frames.add(from_cpu, said, octets);
+        if let Some(block) = BlockSeen::of(from_cpu, octets) {
+            self.order.add(block);
+            self.rows.add(block.number);
+        }
+    }
+
+    /// Returns what kind of log it looks like, if it is not the log of one link in order: the first that holds.
+    pub fn sign(&self) -> Option<LogSign>
+        ensures { result ≡ sign_of self.now }
+    {
+        if self.frames.is_twice() {
+            if self.frames.is_of_both_ends() {
+                Some(LogSign::BothEnds)
+            } else {
+                Some(LogSign::Twice)
+            }
+        } else if self.order.is_reversed() {
+            Some(LogSign::Reversed)
+        } else if self.rows.are_two_links(self.order.blocks) {
+            Some(LogSign::TwoLinks)
+        } else {
+            None
+        }
+    }
+}
