@@ -5,6 +5,7 @@ pub mod Flat
 pub mod Logs
 pub mod Told
 pub mod LogJudges
+pub mod LogSigns
 pub mod Texts
 pub mod Version
 pub mod Wires

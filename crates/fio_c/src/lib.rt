@@ -44,6 +44,7 @@ mod log;
 mod log_batch;
 mod log_judge;
 mod log_judge_batch;
+mod log_signs;
 mod log_verdicts;
 mod parts;
 mod poller;

@@ -172,7 +172,7 @@ fn late_from(flat: &LogJudge) -> Option<LateAnswers>
 }
 
 /// Returns an octet that there may be.
-fn octet_from(has: u8, octet: u8) -> Option<u8>
+pub(crate) fn octet_from(has: u8, octet: u8) -> Option<u8>
     ensures { result ≡ octet_in has octet }
 {
     if has == 0 { None } else { Some(octet) }

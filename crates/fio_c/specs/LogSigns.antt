@@ -1,0 +1,41 @@
+-- What kind of log a log looks like, as C sees it.
+use Rattle.std.specs.Prelude.{ℕ, ◌==◌, not, take, Option, Some, None, if◌then◌else◌}
+use Rattle.fio_check.specs.declared.block_order.BlockSeen.{BlockSeen}
+use Rattle.fio_check.specs.declared.log_signs.LogSign.{LogSign}
+use Rattle.fio_check.specs.declared.log_signs.LogSign.TheVariants.{BothEnds, Reversed, Twice, TwoLinks}
+use Rattle.fio_check.specs.declared.log_signs.LogSigns.{LogSigns as Signs}
+use Rattle.fio_c.specs.Checkers.{octet_in}
+use Rattle.fio_c.specs.LogJudges.{end_in}
+use Rattle.fio_c.specs.declared.log_signs.LogSigns.{LogSigns}
+
+-- the latest block answer
+abbrev pub block_seen_of : LogSigns → Option BlockSeen
+block_seen_of flat = if flat.has_block == 0 then None else Some (record { number = flat.number; stamp = flat.stamp })
+
+-- the counts that a struct of C stands for, whatever its octets are
+abbrev pub log_signs_in : LogSigns → Signs
+log_signs_in flat = record {
+  frames = record {
+    above = record { items = take flat.length flat.above };
+    said = end_in flat.said;
+    again = not (flat.again == 0);
+    answers = flat.answers;
+    repeated = flat.repeated;
+    contrary = flat.contrary;
+  };
+  order = record { above = block_seen_of flat; blocks = flat.blocks; backward = flat.backward };
+  rows = record {
+    first = octet_in flat.has_first flat.first;
+    second = octet_in flat.has_second flat.second;
+    changes = flat.changes;
+    jumps = flat.jumps;
+  };
+}
+
+-- the number of a sign
+abbrev pub sign_number : Option LogSign → ℕ
+sign_number None = 0
+sign_number (Some Twice) = 1
+sign_number (Some BothEnds) = 2
+sign_number (Some Reversed) = 3
+sign_number (Some TwoLinks) = 4

@@ -1,0 +1,200 @@
+//! What kind of log a log looks like, in memory of the caller.
+ghost use Rattle.std.specs.Prelude.{◌≡◌, ◌==◌, not, length, take};
+ghost use Rattle.fio_check.specs.LogSigns.{no_signs, sign_of, signs_with};
+ghost use Rattle.fio_c.specs.LogJudges.{end_in};
+ghost use Rattle.fio_c.specs.LogSigns.{block_seen_of, log_signs_in, sign_number};
+
+use crate::log_judge::{end_from, octet_from};
+use fio_check::{
+    BlockOrder, BlockRows, BlockSeen, LogSign, LogSigns as SignsOfLog, RepeatedFrames,
+};
+use fio_message::{FRAME_OCTETS, Frame};
+
+/// Counts of the frames of a log. Its fields are the library's own: what it keeps of the frames that it took.
+#[derive(Clone, Copy)]
+#[repr(C)]
+pub struct LogSigns {
+    /// How many answers there are.
+    pub answers: u32,
+    /// How many of them are the second of equal frames.
+    pub repeated: u32,
+    /// For how many of those the two lines say different senders.
+    pub contrary: u32,
+    /// How many block answers there are.
+    pub blocks: u32,
+    /// How many of them seem to come before the one above.
+    pub backward: u32,
+    /// How many of them went on with the other row of numbers than the one above.
+    pub changes: u32,
+    /// How many of them started a row in place of another one.
+    pub jumps: u32,
+    /// The stamp of the latest block answer.
+    pub stamp: u32,
+    /// How many octets are kept of the frame directly above.
+    pub length: u16,
+    /// Who sent that frame by its line: 1 the CPU's end, 2 the module, any other if it does not say it.
+    pub said: u8,
+    /// 1 where that frame has the octets of the one above it.
+    pub again: u8,
+    /// 1 where there is a block answer above.
+    pub has_block: u8,
+    /// The number of the latest block answer.
+    pub number: u8,
+    /// 1 where there is a row of numbers.
+    pub has_first: u8,
+    /// The number of the row that the latest block answer is of.
+    pub first: u8,
+    /// 1 where there is another row.
+    pub has_second: u8,
+    /// Its number.
+    pub second: u8,
+    /// The octets that are kept of the frame directly above.
+    pub above: [u8; FRAME_OCTETS],
+    /// 0 if the library writes it.
+    pub reserved: u8,
+}
+
+/// Starts above the first frame of a log.
+#[unsafe(no_mangle)]
+pub extern "C" fn fio2070_log_signs_start(signs: &mut LogSigns)
+    ensures { log_signs_in signs.new ≡ no_signs }
+{
+    *signs = flat_signs_of(&SignsOfLog::new());
+}
+
+/// Takes a frame that the CPU's end sent, if `from_cpu` is not 0, or the module. `said` is who sent it by its line: 1 the CPU's end,
+/// 2 the module, any other number if the line does not say it.
+#[unsafe(no_mangle)]
+pub extern "C" fn fio2070_log_signs_frame(
+    signs: &mut LogSigns,
+    from_cpu: u8,
+    said: u8,
+    octets: &[u8],
+)
+    ensures { log_signs_in signs.new ≡ signs_with (log_signs_in signs.old) (not (from_cpu == 0)) (end_in said) octets.now }
+{
+    let mut kept = signs_from(signs);
+    kept.frame(from_cpu != 0, end_from(said), octets);
+    *signs = flat_signs_of(&kept);
+}
+
+/// Returns what kind of log it looks like: 0 the log of one link in order, or one of too few frames to say; 1 each frame is there
+/// twice; 2 the logs of both ends are merged; 3 the last line is first; 4 it has two links.
+#[unsafe(no_mangle)]
+pub extern "C" fn fio2070_log_signs_sign(signs: &LogSigns) -> u8
+    ensures { result ≡ sign_number (sign_of (log_signs_in signs.now)) }
+{
+    match signs_from(signs).sign() {
+        None => 0,
+        Some(LogSign::Twice) => 1,
+        Some(LogSign::BothEnds) => 2,
+        Some(LogSign::Reversed) => 3,
+        Some(LogSign::TwoLinks) => 4,
+    }
+}
+
+/// Returns the counts that a struct of C stands for, whatever its octets are.
+fn signs_from(flat: &LogSigns) -> SignsOfLog
+    ensures { result ≡ log_signs_in flat.now }
+{
+    SignsOfLog {
+        frames: RepeatedFrames {
+            above: frame_from(flat),
+            said: end_from(flat.said),
+            again: flat.again != 0,
+            answers: flat.answers,
+            repeated: flat.repeated,
+            contrary: flat.contrary,
+        },
+        order: BlockOrder {
+            above: block_from(flat),
+            blocks: flat.blocks,
+            backward: flat.backward,
+        },
+        rows: BlockRows {
+            first: octet_from(flat.has_first, flat.first),
+            second: octet_from(flat.has_second, flat.second),
+            changes: flat.changes,
+            jumps: flat.jumps,
+        },
+    }
+}
+
+/// Returns the octets that are kept of the frame directly above.
+fn frame_from(flat: &LogSigns) -> Frame
+    ensures { result.items ≡ take flat.now.length flat.now.above }
+{
+    let length = usize::from(flat.length).min(FRAME_OCTETS);
+    let mut frame = Frame::new();
+    // There is room, so this never fails.
+    let _fits = frame.try_extend_from_slice(&flat.above[..length]);
+    frame
+}
+
+/// Returns the latest block answer, if there is one.
+fn block_from(flat: &LogSigns) -> Option<BlockSeen>
+    ensures { result ≡ block_seen_of flat.now }
+{
+    if flat.has_block == 0 {
+        return None;
+    }
+    Some(BlockSeen {
+        number: flat.number,
+        stamp: flat.stamp,
+    })
+}
+
+/// Returns the struct of C that stands for counts.
+fn flat_signs_of(signs: &SignsOfLog) -> LogSigns
+    ensures { log_signs_in result ≡ signs.now }
+{
+    let (frames, order, rows) = (&signs.frames, &signs.order, &signs.rows);
+    LogSigns {
+        answers: frames.answers,
+        repeated: frames.repeated,
+        contrary: frames.contrary,
+        blocks: order.blocks,
+        backward: order.backward,
+        changes: rows.changes,
+        jumps: rows.jumps,
+        stamp: match order.above {
+            Some(block) => block.stamp,
+            None => 0,
+        },
+        length: frames.above.len() as u16,
+        said: end_number(frames.said),
+        again: u8::from(frames.again),
+        has_block: u8::from(order.above.is_some()),
+        number: match order.above {
+            Some(block) => block.number,
+            None => 0,
+        },
+        has_first: u8::from(rows.first.is_some()),
+        first: rows.first.unwrap_or(0),
+        has_second: u8::from(rows.second.is_some()),
+        second: rows.second.unwrap_or(0),
+        above: octets_of(&frames.above),
+        reserved: 0,
+    }
+}
+
+/// Returns room that begins with the octets of a frame, and has zeros after them.
+fn octets_of(frame: &Frame) -> [u8; FRAME_OCTETS]
+    ensures { take (length frame.now.items) result ≡ frame.now.items }
+{
+    let octets = frame.as_slice();
+    let mut room = [0; FRAME_OCTETS];
+    room[..octets.len()].copy_from_slice(octets);
+    room
+}
+
+/// Returns the number of who sent a frame by its line.
+fn end_number(said: Option<bool>) -> u8
+    ensures { end_in result ≡ said }
+{
+    match said {
+        None => 0,
+        Some(true) => 1,
+        Some(false) => 2,
+    }
+}
