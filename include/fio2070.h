@@ -1174,8 +1174,9 @@ void fio2070_log_end(struct fio2070_log_reader *reader);
  * A struct fio2070_log_judge judges the frames that a reader of a log finds, by what it says of the lines between them too. It
  * is a judge of a link (group judge), which finds by the directions of the log where it was taken. A line that may have held a
  * frame loses the place; a remark of loss, which has no octets, excuses what a lost frame explains. Of a log that was taken at
- * a CPU which waits for each answer only until a deadline, late answers can be left out (docs/CAPTURES.md, Late answers). If
- * FIO2070_NO_LOG is defined, there are no such calls.
+ * a CPU which waits for each answer only until a deadline, late answers can be left out (docs/CAPTURES.md, Late answers). A
+ * struct fio2070_log_signs says what kind of log it looks like, if it is not the log of one link in order. If FIO2070_NO_LOG is
+ * defined, there are no such calls.
  * @code
  * const uint8_t poll[] = {54, 0}, block[] = {182, 0, 0, 0, 0, 0, 0, 11}, next[] = {54, 1}, third[] = {54, 2};
  * struct fio2070_log_judge judge;
@@ -1251,6 +1252,55 @@ void fio2070_log_judge_miss(struct fio2070_log_judge *judge);
 FIO2070_MUST_USE
 uint8_t fio2070_log_judge_frame(struct fio2070_log_judge *judge, uint8_t from_cpu, uint8_t said, const uint8_t *octets,
                                 size_t length, struct fio2070_judge_outcome *outcome);
+
+/** What kind of log a log looks like (docs/CAPTURES.md, A log that is not what it seems). */
+enum fio2070_log_sign {
+    FIO2070_LOG_SIGN_NONE = 0,      /**< the log of one link in order, or too few frames to say */
+    FIO2070_LOG_SIGN_TWICE = 1,     /**< each frame is there twice */
+    FIO2070_LOG_SIGN_BOTH_ENDS = 2, /**< the logs of both ends are merged */
+    FIO2070_LOG_SIGN_REVERSED = 3,  /**< the last line is first */
+    FIO2070_LOG_SIGN_TWO_LINKS = 4  /**< it has two links */
+};
+
+/** Counts of the frames of a log. Its fields are the library's own. */
+struct fio2070_log_signs {
+    uint32_t answers;
+    uint32_t repeated;
+    uint32_t contrary;
+    uint32_t blocks;
+    uint32_t backward;
+    uint32_t changes;
+    uint32_t jumps;
+    uint32_t stamp;
+    uint16_t length;
+    uint8_t said;
+    uint8_t again;
+    uint8_t has_block;
+    uint8_t number;
+    uint8_t has_first;
+    uint8_t first;
+    uint8_t has_second;
+    uint8_t second;
+    uint8_t above[773];
+    uint8_t reserved;
+};
+
+/** Starts above the first frame of a log. */
+void fio2070_log_signs_start(struct fio2070_log_signs *signs);
+/** Takes a frame that the CPU's end sent if `from_cpu` is not 0, else the module. `said` is who sent it as its line says, one of
+ * enum fio2070_log_side. Give it each frame of the log, in order. It changes nothing of what a judge says of the frame. */
+void fio2070_log_signs_frame(struct fio2070_log_signs *signs, uint8_t from_cpu, uint8_t said, const uint8_t *octets,
+                             size_t length);
+/** Returns what kind of log it looks like by the frames down to here, one of enum fio2070_log_sign: the first of these that holds.
+ *
+ * FIO2070_LOG_SIGN_TWICE holds if of 8 or more answers at least two of five have the octets of the frame directly above, where
+ * that one has not those of the frame above it. If for at least half of those the two lines say different senders, it is
+ * FIO2070_LOG_SIGN_BOTH_ENDS. FIO2070_LOG_SIGN_REVERSED holds if of 8 or more block answers more than half have the number of
+ * the block answer above less one, and a stamp that is not later. FIO2070_LOG_SIGN_TWO_LINKS holds if of 8 or more block
+ * answers at least a quarter go on with the other of two rows of numbers than the block answer above, and at most one in ten
+ * starts a row in place of another one. A block answer goes on with a row by its latest number, by the next one, or late by the
+ * one above it. */
+uint8_t fio2070_log_signs_sign(const struct fio2070_log_signs *signs);
 #endif
 
 /** @} */
@@ -1661,6 +1711,8 @@ FIO2070_SAME(log_batch, sizeof(struct fio2070_log_batch) == 565264 &&
              offsetof(struct fio2070_log_batch, octets) == 499728);
 
 FIO2070_SAME(log_judge, sizeof(struct fio2070_log_judge) == 752);
+
+FIO2070_SAME(log_signs, sizeof(struct fio2070_log_signs) == 816);
 #endif
 
 FIO2070_SAME(limits, sizeof(struct fio2070_limits) == 4 &&

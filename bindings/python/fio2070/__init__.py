@@ -18,15 +18,16 @@ from typing import Any, List, NamedTuple, Optional, Sequence, Tuple
 from . import _library as c
 from . import constants, encode
 from .encode import Octets
-from .judges import LinkJudge, LogJudge
+from .judges import LinkJudge, LogJudge, LogSigns
 from .logs import LogReader, Verdict
 from .records import Answer, Breach, Command, ConfigurationItem, ContentBreach, Entry, Fault, Outcome, RecordItem
 from .wire import Wire, WireBits, WireHeard, wire_check, wire_frame
 
 __all__ = ['Answer', 'Breach', 'Checker', 'Command', 'ConfigurationItem', 'ContentBreach', 'ContentChecker', 'Counter', 'Entry',
-           'Fault', 'Filters', 'Heard', 'LinkJudge', 'LogJudge', 'LogReader', 'Module', 'Octets', 'Outcome', 'Poller', 'RecordItem',
-           'Verdict', 'Wire', 'WireBits', 'WireHeard', 'constants', 'content_rule_text', 'decode_answer', 'decode_command', 'encode',
-           'read_identification', 'read_outputs_answer', 'rule_text', 'show', 'tester', 'version', 'widen', 'wire_check', 'wire_frame']
+           'Fault', 'Filters', 'Heard', 'LinkJudge', 'LogJudge', 'LogReader', 'LogSigns', 'Module', 'Octets', 'Outcome', 'Poller',
+           'RecordItem', 'Verdict', 'Wire', 'WireBits', 'WireHeard', 'constants', 'content_rule_text', 'decode_answer',
+           'decode_command', 'encode', 'read_identification', 'read_outputs_answer', 'rule_text', 'show', 'tester', 'version',
+           'widen', 'wire_check', 'wire_frame']
 
 __version__ = '%d.%d.%d' % (constants.VERSION // 10000, constants.VERSION // 100 % 100, constants.VERSION % 100)
 

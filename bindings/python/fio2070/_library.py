@@ -134,6 +134,11 @@ class CLogJudge(ctypes.Structure):
     _fields_ = [('words', c_uint64 * 94)]
 
 
+class CLogSigns(ctypes.Structure):
+    """The octets of struct fio2070_log_signs."""
+    _fields_ = [('words', c_uint64 * 102)]
+
+
 class CFilters(ctypes.Structure):
     _fields_ = [('words', c_uint64 * 27)]
 
@@ -240,6 +245,9 @@ _declare('fio2070_log_judge_miss', None, POINTER(CLogJudge))
 _declare('fio2070_log_judge_frame', c_uint8, POINTER(CLogJudge), c_uint8, c_uint8, c_char_p, c_size_t,
          POINTER(CJudgeOutcome))
 _declare('fio2070_log_judge_batch', c_uint32, POINTER(CLogJudge), c_uint8, POINTER(CLogBatch), POINTER(CJudgeOutcome))
+_declare('fio2070_log_signs_start', None, POINTER(CLogSigns))
+_declare('fio2070_log_signs_frame', None, POINTER(CLogSigns), c_uint8, c_uint8, c_char_p, c_size_t)
+_declare('fio2070_log_signs_sign', c_uint8, POINTER(CLogSigns))
 _declare('fio2070_poller_start', None, POINTER(CPoller), c_uint8)
 _declare('fio2070_poller_poll', c_size_t, POINTER(CPoller), POINTER(c_uint8), c_size_t)
 _declare('fio2070_poller_hear', CHeard, POINTER(CPoller), c_char_p, c_size_t, POINTER(CRecordItem), c_size_t)

@@ -149,6 +149,13 @@ LOG_BEGINS_ANYWHERE = 0
 LOG_BEGINS_WITH_ENDS = 1
 LOG_LEAVES_OUT_LATE = 2
 
+# What kind of log a log looks like.
+LOG_SIGN_NONE = 0
+LOG_SIGN_TWICE = 1
+LOG_SIGN_BOTH_ENDS = 2
+LOG_SIGN_REVERSED = 3
+LOG_SIGN_TWO_LINKS = 4
+
 # One's own frames on a line, and the most octets of one.
 WIRE_ADDRESS = 0x14
 WIRE_CONTROL = 0x83

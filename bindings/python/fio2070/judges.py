@@ -1,4 +1,5 @@
-"""The judges: of a link, by its frames and where they were logged; and of a log, by what a reader finds in it."""
+"""The judges: of a link, by its frames and where they were logged; and of a log, by what a reader finds in it. And the signs that a
+log is not the log of one link in order."""
 
 from typing import Any
 
@@ -11,11 +12,20 @@ _PLACES = {'auto': constants.LOG_TAKEN_AUTO, 'cpu': constants.LOG_TAKEN_AT_CPU, 
            'bus': constants.LOG_TAKEN_ON_BUS}
 # Who sent a frame, as its line says: as in `Verdict.said`.
 _SIDES = {'': constants.LOG_NO_SIDE, '>': constants.LOG_FROM_CPU, '<': constants.LOG_FROM_MODULE}
+_SIGNS = {constants.LOG_SIGN_NONE: '', constants.LOG_SIGN_TWICE: 'twice', constants.LOG_SIGN_BOTH_ENDS: 'both ends',
+          constants.LOG_SIGN_REVERSED: 'reversed', constants.LOG_SIGN_TWO_LINKS: 'two links'}
 
 
 def _check_limits(per_block: int, waiting: int) -> None:
     if not (1 <= per_block <= 255 and 1 <= waiting <= c.MOST_WAITING):
         raise ValueError('per_block is 1 to 255, waiting 1 to 8,192')
+
+
+def _side(said: str) -> int:
+    """The number of who sent a frame, as its line says."""
+    if said not in _SIDES:
+        raise ValueError("who sent a frame is '>', '<' or empty")
+    return _SIDES[said]
 
 
 def _outcome(found: Any) -> Outcome:
@@ -99,7 +109,28 @@ class LogJudge:
         """What a frame is that the CPU sent, or the module. `said` is who sent it as its line says, as in `Verdict.said`: '>' the
         CPU, '<' the module, else empty."""
         octets = octets_of(octets)
-        if said not in _SIDES:
-            raise ValueError("who sent a frame is '>', '<' or empty")
-        c.library.fio2070_log_judge_frame(self._judge, bool(from_cpu), _SIDES[said], octets, len(octets), self._found)
+        c.library.fio2070_log_judge_frame(self._judge, bool(from_cpu), _side(said), octets, len(octets), self._found)
         return _outcome(self._found)
+
+
+class LogSigns:
+    """Counts of the frames of a log, which tell whether it looks like another one than the log of one link in order. Give it each
+    frame, in the order of the log. They change nothing of what a judge says of a frame."""
+
+    def __init__(self) -> None:
+        self._signs = c.CLogSigns()
+        c.library.fio2070_log_signs_start(self._signs)
+
+    def __repr__(self) -> str:
+        return '<LogSigns %s>' % (self.sign or 'none')
+
+    def frame(self, octets: Octets, from_cpu: bool, said: str = '') -> None:
+        """Takes a frame that the CPU sent, or the module. `said` is as for `LogJudge.frame`."""
+        octets = octets_of(octets)
+        c.library.fio2070_log_signs_frame(self._signs, bool(from_cpu), _side(said), octets, len(octets))
+
+    @property
+    def sign(self) -> str:
+        """What kind of log it looks like by the frames down to here: 'twice' each frame is there twice, 'both ends' the logs of both
+        ends are merged, 'reversed' the last line is first, 'two links' it has two links; else it is empty."""
+        return _SIGNS[c.library.fio2070_log_signs_sign(self._signs)]

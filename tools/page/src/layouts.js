@@ -19,6 +19,7 @@ export const SIZE = {
   logPlace: 16,
   logBatch: 565264,
   logJudge: 752,
+  logSigns: 816,
   limits: 4,
   sizedModule: 1056,
   errorCounts: 2,

@@ -275,6 +275,7 @@ opaque! {
     RawJudge: 91,
     RawLogJudge: 94,
     RawLogReader: 65536,
+    RawLogSigns: 102,
     RawSizedModule: 132,
 }
 
@@ -481,6 +482,15 @@ extern "C" {
         batch: &RawLogBatch,
         outcomes: &mut [JudgeOutcome; 20480],
     ) -> u32;
+    pub(crate) fn fio2070_log_signs_start(signs: &mut RawLogSigns);
+    pub(crate) fn fio2070_log_signs_frame(
+        signs: &mut RawLogSigns,
+        from_cpu: u8,
+        said: u8,
+        octets: *const u8,
+        octets_count: usize,
+    );
+    pub(crate) fn fio2070_log_signs_sign(signs: &RawLogSigns) -> u8;
     pub(crate) fn fio2070_poller_start(poller: &mut RawPoller, number: u8);
     pub(crate) fn fio2070_poller_poll(poller: &RawPoller, out: *mut u8, out_count: usize) -> usize;
     pub(crate) fn fio2070_poller_hear(
