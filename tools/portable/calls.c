@@ -530,6 +530,14 @@ JUDGES(log_judge, frame,
        (struct fio2070_log_judge * log_judge, uint8_t from_cpu, uint8_t said, const uint8_t *octets, size_t length,
         struct fio2070_judge_outcome *outcome),
        it, from_cpu, said, frame, length, to)
+
+SAME(size_of_log_signs, sizeof(struct fio2070_log_signs), 816);
+
+OVER(log_signs, start, 1, void, , (struct fio2070_log_signs * log_signs), it)
+OVER(log_signs, frame, 1, void, ,
+     (struct fio2070_log_signs * log_signs, uint8_t from_cpu, uint8_t said, const uint8_t *octets, size_t length), it, from_cpu,
+     said, READS(octets, length), length)
+OVER(log_signs, sign, 0, uint8_t, return (uint8_t), (const struct fio2070_log_signs *log_signs), it)
 #endif
 
 OVER(filters, start, 1, void, , (struct fio2070_filters * filters), it)
