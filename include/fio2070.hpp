@@ -511,6 +511,23 @@ private:
     LogJudge() = default;
     ::fio2070_log_judge judge_{};
 };
+
+/// Counts of the frames of a log, which tell whether it looks like another one than the log of one link in order. They change
+/// nothing of what a judge says of a frame.
+class LogSigns {
+public:
+    LogSigns() { ::fio2070_log_signs_start(&signs_); }
+    /// Takes a frame that the CPU sent, or the module. `said` is who sent it as its line says. Give it each frame, in the order of
+    /// the log.
+    void frame(Octets octets, bool from_cpu, ::fio2070_log_side said = FIO2070_LOG_NO_SIDE) {
+        ::fio2070_log_signs_frame(&signs_, from_cpu, static_cast<std::uint8_t>(said), octets.data(), octets.size());
+    }
+    /// What kind of log it looks like by the frames down to here.
+    ::fio2070_log_sign sign() const { return static_cast<::fio2070_log_sign>(::fio2070_log_signs_sign(&signs_)); }
+
+private:
+    ::fio2070_log_signs signs_{};
+};
 #endif
 
 /// A frame as it goes over a line of octets, with both flags; none if the message does not have 1 to 773 octets.

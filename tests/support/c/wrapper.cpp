@@ -238,6 +238,7 @@ static void has_checkers() {
     CHECK(fio2070::LinkJudge::anywhere()->heard(empty).why == FIO2070_WHY_ABOVE_COMMAND && !fio2070::LinkJudge::anywhere(0));
     CHECK(fio2070::LogJudge::start()->frame(empty, false).why == FIO2070_WHY_ABOVE_COMMAND);
     CHECK(fio2070::LogJudge::start(FIO2070_LOG_TAKEN_AT_CPU, FIO2070_LOG_LEAVES_OUT_LATE)->frame(empty, false).why == FIO2070_WHY_LATE);
+    CHECK(fio2070::LogSigns().sign() == FIO2070_LOG_SIGN_NONE);
 }
 
 static void writes_a_line() {

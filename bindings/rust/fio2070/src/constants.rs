@@ -147,6 +147,13 @@ pub const LOG_BEGINS_ANYWHERE: u8 = 0;
 pub const LOG_BEGINS_WITH_ENDS: u8 = 1;
 pub const LOG_LEAVES_OUT_LATE: u8 = 2;
 
+/// What kind of log a log looks like.
+pub const LOG_SIGN_NONE: u8 = 0;
+pub const LOG_SIGN_TWICE: u8 = 1;
+pub const LOG_SIGN_BOTH_ENDS: u8 = 2;
+pub const LOG_SIGN_REVERSED: u8 = 3;
+pub const LOG_SIGN_TWO_LINKS: u8 = 4;
+
 // One's own frames on a line, and the most octets of one.
 pub const WIRE_ADDRESS: u8 = 0x14;
 pub const WIRE_CONTROL: u8 = 0x83;

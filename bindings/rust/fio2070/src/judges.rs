@@ -1,6 +1,7 @@
-//! The judges: of a link, by its frames and where they were logged; and of a log, by what a reader finds in it.
+//! The judges: of a link, by its frames and where they were logged; and of a log, by what a reader finds in it. And the signs that a log
+//! is not the log of one link in order.
 
-use crate::raw::{self, JudgeOutcome, RawJudge, RawLimits, RawLogJudge};
+use crate::raw::{self, JudgeOutcome, RawJudge, RawLimits, RawLogJudge, RawLogSigns};
 
 // SAFETY of the calls below: slices are given with their lengths, all memory is initialised and,
 // where it is written, borrowed by the call alone; the structs are begun by `_start`.
@@ -124,5 +125,48 @@ impl LogJudge {
             )
         };
         outcome
+    }
+}
+
+/// Counts of the frames of a log, which tell whether it looks like another one than the log of one link in order. They change
+/// nothing of what a judge says of a frame.
+///
+/// ```
+/// use fio2070::{constants::*, LogSigns};
+///
+/// let mut signs = LogSigns::new();
+/// for number in 0..4 {
+///     signs.frame(false, LOG_NO_SIDE, &[0xb6, number, 0, 0, 0, 0, 0, number]);
+///     signs.frame(false, LOG_NO_SIDE, &[0xb6, number, 0, 0, 0, 0, 0, number]);
+/// }
+/// assert_eq!(signs.sign(), LOG_SIGN_TWICE);
+/// ```
+#[derive(Clone)]
+pub struct LogSigns(RawLogSigns);
+
+impl Default for LogSigns {
+    fn default() -> LogSigns {
+        LogSigns::new()
+    }
+}
+
+impl LogSigns {
+    /// Above the first frame of a log.
+    pub fn new() -> LogSigns {
+        let mut signs = RawLogSigns::default();
+        unsafe { raw::fio2070_log_signs_start(&mut signs) };
+        LogSigns(signs)
+    }
+
+    /// Takes a frame that the CPU sent, or the module. `said` is as for `LogJudge::frame`. Give it each frame, in the order of
+    /// the log.
+    pub fn frame(&mut self, from_cpu: bool, said: u8, octets: &[u8]) {
+        let (start, count) = (octets.as_ptr(), octets.len());
+        unsafe { raw::fio2070_log_signs_frame(&mut self.0, from_cpu.into(), said, start, count) };
+    }
+
+    /// What kind of log it looks like by the frames down to here: one of `constants::LOG_SIGN_NONE` and those after it.
+    pub fn sign(&self) -> u8 {
+        unsafe { raw::fio2070_log_signs_sign(&self.0) }
     }
 }

@@ -39,7 +39,7 @@ pub use encode::{
 };
 pub use ends::{Checker, ContentChecker, Counter, Filters, Heard, Module, Poller};
 pub use errors::ConfigurationError;
-pub use judges::{LinkJudge, LogJudge};
+pub use judges::{LinkJudge, LogJudge, LogSigns};
 pub use logs::{Frames, LogBatch, LogReader, Verdict};
 pub use raw::{
     Answer, Breach, Command, ConfigurationItem, ContentBreach, Entry, ErrorCounts, Fault,
