@@ -142,6 +142,15 @@ def log_outcomes(per_block, waiting, place, start, text):
     return ', '.join(said)
 
 
+def sign_of(text):
+    """The number of the sign below the last of frames."""
+    signs = fio2070.LogSigns()
+    for line in text.split(', ') if text else ():
+        sides, _, octets = line.partition(' ')
+        signs.frame(bytes.fromhex(octets), sides[0] == '>', sides[1:])
+    return str(('', 'twice', 'both ends', 'reversed', 'two links').index(signs.sign))
+
+
 def said_by(call, numbers, text):
     """The result of a row, or its error."""
     if call.startswith('encode_'):
@@ -152,6 +161,8 @@ def said_by(call, numbers, text):
         return heard_line(call, numbers, text)
     if call == 'log':
         return verdicts(*numbers, text)
+    if call == 'log_signs':
+        return sign_of(text)
     if call.startswith('content'):
         return breaches(fio2070.ContentChecker(begun=call == 'content_begun'), text)
     octets = b'' if call.startswith(('checker', 'judge', 'log_judge')) else bytes.fromhex(text)
@@ -384,6 +395,50 @@ class LogJudges(unittest.TestCase):
         for call in [lambda: fio2070.LogJudge(place='bank'), lambda: fio2070.LogJudge(begun=True, late_answers=True),
                      lambda: fio2070.LogJudge(per_block=0), lambda: judge.frame(BLOCK, False, 'module')]:
             self.assertRaises(ValueError, call)
+
+
+class Signs(unittest.TestCase):
+    """What kind of log a log looks like, of logs of right links in which commands are lost or late and the module restarts."""
+
+    def sign(self, log):
+        signs = fio2070.LogSigns()
+        for is_sent, octets, *said in log:
+            signs.frame(octets, is_sent, *said)
+        return signs.sign
+
+    def logs(self):
+        draw = random.Random(13)
+        for _ in range(20):
+            yield draw, link_with_restarts(draw)[0]
+
+    def test_right_links(self):
+        for draw, log in self.logs():
+            for part in (log, log + log, [frame for frame in log if draw.random() > .1], [frame for frame in log if frame[0]],
+                         [frame for frame in log if not frame[0]]):
+                self.assertEqual(self.sign(part), '')
+
+    def test_each_frame_twice(self):
+        for _, log in self.logs():
+            self.assertEqual(self.sign(frame for frame in log for _ in range(2)), 'twice')
+
+    def test_both_ends(self):
+        for _, log in self.logs():
+            merged = [(is_sent, octets, said) for is_sent, octets in log for said in '><']
+            self.assertEqual(self.sign(merged), 'both ends')
+
+    def test_last_line_first(self):
+        for _, log in self.logs():
+            self.assertEqual(self.sign(log[::-1]), 'reversed')
+
+    def test_two_links(self):
+        for draw, log in self.logs():
+            other = link_with_restarts(draw)[0]
+            # Up to six frames of one link, then of the other.
+            parts, lists = [], [log[::-1], other[::-1]]
+            while all(lists):
+                for frames in lists:
+                    parts += [frames.pop() for _ in range(min(len(frames), draw.randint(2, 6)))]
+            self.assertEqual(self.sign(parts), 'two links')
 
 
 class Messages(unittest.TestCase):

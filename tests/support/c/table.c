@@ -198,6 +198,18 @@ static void say_log_outcomes(const struct row *row) {
     }
 }
 
+/* The sign below the last frame. */
+static void say_sign(const struct row *row) {
+    struct fio2070_log_signs signs;
+    const char *frame;
+    memset(&signs, 0xa5, sizeof signs);
+    fio2070_log_signs_start(&signs);
+    for (frame = *row->text ? row->text : NULL; frame != NULL; frame = next_frame(frame))
+        fio2070_log_signs_frame(&signs, *frame == '>', side_said(frame), octets, octets_in(strchr(frame, ' ') + 1, octets));
+    say("%u", fio2070_log_signs_sign(&signs));
+    if (signs.reserved != 0) say(" not in the struct");
+}
+
 static void say_line(const struct row *row, size_t length) {
     size_t count;
     if (is_call(row, "wire_check")) {
@@ -289,6 +301,7 @@ static void run(const struct row *row) {
     else if (strncmp(row->call, "content", 7) == 0) say_content_breaches(row);
     else if (strncmp(row->call, "judge", 5) == 0) say_outcomes(row);
     else if (is_call(row, "log_judge")) say_log_outcomes(row);
+    else if (is_call(row, "log_signs")) say_sign(row);
     else if (is_call(row, "wire") || is_call(row, "wire_bits")) say_heard_line(row);
     else if (strncmp(row->call, "wire_", 5) == 0) say_line(row, length);
     else if (is_call(row, "log")) say_log(row);

@@ -143,6 +143,16 @@ static std::string log_outcomes(const row &it) {
     return said;
 }
 
+static std::string sign_of(const row &it) {
+    fio2070::LogSigns signs;
+    for (const char *frame = *it.text ? it.text : nullptr; frame; frame = next_frame(frame)) {
+        List octets(1024);
+        octets.resize(octets_in(strchr(frame, ' ') + 1, octets.data()));
+        signs.frame(octets, *frame == '>', static_cast<fio2070_log_side>(side_said(frame)));
+    }
+    return std::to_string(signs.sign());
+}
+
 static std::string framed(const row &it, const List &octets) {
     const auto frame = fio2070::wire_frame(octets, static_cast<std::uint8_t>(it.numbers[0]), static_cast<std::uint8_t>(it.numbers[1]));
     *said = 0;
@@ -222,6 +232,7 @@ static std::string run(const row &it) {
     if (call.rfind("content", 0) == 0) return content_judged(it);
     if (call.rfind("judge", 0) == 0) return outcomes(it);
     if (call == "log_judge") return log_outcomes(it);
+    if (call == "log_signs") return sign_of(it);
     if (call == "log") return logged(it);
     if (call == "wire") return heard_line<fio2070::Wire>(it);
     if (call == "wire_bits") return heard_line<fio2070::WireBits>(it);

@@ -304,6 +304,21 @@ fn by_log_judge(row: &Row) -> String {
     said.join(", ")
 }
 
+/// The number of the sign below the last of frames.
+fn by_log_signs(row: &Row) -> String {
+    let mut signs = LogSigns::new();
+    for line in row.text.split(", ").filter(|line| !line.is_empty()) {
+        let (sides, octets) = line.split_once(' ').unwrap();
+        let side = ["", ">", "<"].iter().position(|side| *side == &sides[1..]);
+        signs.frame(
+            sides.starts_with('>'),
+            side.unwrap() as u8,
+            &octets_of(octets),
+        );
+    }
+    signs.sign().to_string()
+}
+
 fn outcome_words(outcome: JudgeOutcome) -> String {
     let mut words = outcome.kind.to_string();
     let mut add = |is_there: bool, name: &str, number: u16| {
@@ -437,6 +452,7 @@ fn run(row: &Row) -> Result<String, Fault> {
         "content" | "content_begun" => by_content_checker(row),
         "judge" | "judge_begun" => by_judge(row),
         "log_judge" => by_log_judge(row),
+        "log_signs" => by_log_signs(row),
         "log" => by_log_reader(row),
         "wire" => heard_line!(row, Wire, octets_of, Wire::lose),
         "wire_bits" => heard_line!(row, WireBits, str::as_bytes, |_: &mut WireBits| ()),
