@@ -79,6 +79,7 @@ static void log_judges(void) {
 
 int main(void) {
     STARTS(counter_start, fio2070_counter);
+    STARTS(log_signs_start, fio2070_log_signs);
     STARTS(checker_start, fio2070_checker);
     STARTS(content_start, fio2070_content_checker);
     STARTS(content_start_begun, fio2070_content_checker);

@@ -8,7 +8,8 @@ uint64_t sum;
 int has_garbage;
 
 void (*const GROUP_CALLS[GROUPS])(struct input *input) = {call_decoders, call_encoders, call_parts, call_module,
-                                                          call_poller, call_checkers, call_log_reader, call_wire};
+                                                          call_poller, call_checkers, call_log_reader, call_wire,
+                                                          call_log_signs};
 
 int LLVMFuzzerTestOneInput(const uint8_t *octets, size_t length) {
     struct input input = {octets, length};

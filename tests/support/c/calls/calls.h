@@ -49,10 +49,11 @@ void call_module(struct input *input);
 void call_poller(struct input *input);
 void call_checkers(struct input *input);
 void call_log_reader(struct input *input);
+void call_log_signs(struct input *input);
 void call_wire(struct input *input);
 
 /* A group of calls for each of the above; the first octet says which. */
-enum { GROUPS = 8 };
+enum { GROUPS = 9 };
 extern void (*const GROUP_CALLS[GROUPS])(struct input *input);
 int LLVMFuzzerTestOneInput(const uint8_t *octets, size_t length);
 

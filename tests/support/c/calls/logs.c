@@ -1,4 +1,4 @@
-/* The reader of logs: a log that is cut at random. */
+/* The reader of logs: a log that is cut at random. The signs of a log: frames, of which some come twice. */
 #include "calls.h"
 
 #include <stdlib.h>
@@ -62,4 +62,24 @@ void call_log_reader(struct input *input) {
         require(fio2070_log_read(&reader, NULL, 0, &batch) == 0, "of no octets none is taken");
         require_batch(&line);
     } while (batch.verdict_count > 0);
+}
+
+void call_log_signs(struct input *input) {
+    struct fio2070_log_signs *signs = (struct fio2070_log_signs *)untouched(sizeof *signs);
+    uint8_t how = take8(input), sign = FIO2070_LOG_SIGN_NONE;
+    fio2070_log_signs_start(signs);
+    require(fio2070_log_signs_sign(signs) == sign, "a log without frames has no sign");
+    if (has_garbage && how & 1) take_into(input, signs, sizeof *signs);
+    while (input->left > 0) {
+        size_t length;
+        uint8_t *frame = take_frame(input, &length);
+        how = take8(input);
+        fio2070_log_signs_frame(signs, how & 1, how >> 6, frame, length);
+        if (how & 2) fio2070_log_signs_frame(signs, how & 1, how >> 4 & 3, frame, length);
+        sign = fio2070_log_signs_sign(signs);
+        require(sign <= FIO2070_LOG_SIGN_TWO_LINKS, "the sign is in its range");
+        mix(sign);
+        free(frame);
+    }
+    free(signs);
 }
