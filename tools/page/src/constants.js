@@ -15,7 +15,7 @@ export const LOG_SIDES = { noSide: 0, fromCpu: 1, fromModule: 2 };
 export const LOG_TAKEN = { auto: 0, atCpu: 1, atModule: 2, onBus: 3 };
 export const LOG_BEGINS = { anywhere: 0, withEnds: 1 };
 export const OUTCOMES = { kept: 0, broken: 1, brokenContent: 2, excused: 3, restarted: 4, notJudged: 5 };
-export const WHY = { none: 0, load: 1, unheard: 2, aboveCommand: 3, placeLost: 4, late: 5 };
+export const WHY = { none: 0, load: 1, unheard: 2, aboveCommand: 3, placeLost: 4, late: 5, lateAbove: 6 };
 export const RULES = ['', 'readable', 'pair', 'number', 'advance', 'same', 'sequence', 'limits', 'rest', 'refusal'];
 export const CONTENT_RULES = ['', 'order', 'fresh', 'alternate', 'apart', 'ignored', 'state', 'clock', 'done', 'accepted', 'cleared', 'watchdog'];
 // What a right link does by a rule on content, and when that is judged.
