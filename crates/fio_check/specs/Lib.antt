@@ -26,4 +26,5 @@ pub mod LateAnswers
 pub mod LogJudges
 pub mod LogLaws
 pub mod LogSigns
+pub mod LogCounts
 pub mod Finding
