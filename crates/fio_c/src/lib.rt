@@ -14,7 +14,8 @@
 //! | write what `show` writes of a message | `fio2070_show` |
 //! | write a code in words | `fio2070_fault_text`, `fio2070_rule_text`, `fio2070_content_rule_text`, `fio2070_heard_text` |
 //! | judge what the CPU's end sends and hears | `fio2070_checker_..`, `fio2070_content_..` |
-//! | judge a log in which lines may be lost | `fio2070_judge_..` |
+//! | judge a log in which lines may be lost | `fio2070_judge_..`, `fio2070_log_judge_..` |
+//! | count what a log has | `fio2070_log_counts_..` |
 //! | read a log of any logger | `fio2070_log_..` |
 //! | be the CPU's end | `fio2070_poller_..` |
 //! | be the module | `fio2070_sized_module_..`; `fio2070_module_..` are these, in the header alone |
@@ -23,7 +24,7 @@
 //! | use its parts | `fio2070_counter_..`, `fio2070_filters_..`, `fio2070_widen` |
 //!
 //! The definitions are in `specs/`: flat forms of commands, answers and blocks (`Flat`), checkers
-//! (`Checkers`), the judge of a link (`Judges`), logs (`Logs`), words (`Texts`), versions (`Version`), lines (`Wires`). `fio_flat` has the other structs, and what calls do to them
+//! (`Checkers`), the judge of a link (`Judges`), that of a log (`LogJudges`), logs (`Logs`, `Told`), counts (`LogCounts`), words (`Texts`), versions (`Version`), lines (`Wires`). `fio_flat` has the other structs, and what calls do to them
 //! and to the caller's arrays.
 #![tactic(auto)]
 
@@ -42,6 +43,7 @@ mod filters;
 mod judge;
 mod log;
 mod log_batch;
+mod log_counts;
 mod log_judge;
 mod log_judge_batch;
 mod log_signs;
