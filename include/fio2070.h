@@ -1305,6 +1305,87 @@ uint8_t fio2070_log_signs_sign(const struct fio2070_log_signs *signs);
 
 /** @} */
 
+/** @defgroup log_counts Counts of a log
+ * A struct fio2070_log_counts has what is counted of the frames of a log: of each type, polls and how often they are sent again
+ * or not answered, restarts, gap marks and entries. Its numbers are there to be read at any time. If FIO2070_NO_LOG is defined,
+ * there are no such calls.
+ * @code
+ * const uint8_t poll[] = {54, 5}, block[] = {182, 5, 1, 140, 3, 231, 0, 0, 0, 3, 232};
+ * struct fio2070_log_counts counts;
+ * uint64_t taken;
+ * fio2070_log_counts_start(&counts);
+ * if (fio2070_log_counts_frame(&counts, 1, 1000000, poll, sizeof poll, &taken) != 0) return 1; // it is no answer
+ * if (fio2070_log_counts_frame(&counts, 1, 1003200, block, sizeof block, &taken) == 1)
+ *     printf("after %d us, input 12: %d\n", (int)taken, (int)counts.inputs[12]); // after 3200 us, input 12: 1
+ * @endcode
+ * @{ */
+
+#ifndef FIO2070_NO_LOG
+/** What is counted of the frames of a log, modulo 2^64, and what of the frames above tells what the next one counts. A poll below
+ * which there is neither a command nor a block answer is not counted as unanswered yet: `waits` is 1 then. */
+struct fio2070_log_counts {
+    /** The frames. */
+    uint64_t frames;
+    /** The polls. */
+    uint64_t polls;
+    /** The polls with the number of the poll above. */
+    uint64_t repeats;
+    /** The polls below which a command comes before a block answer. */
+    uint64_t unanswered;
+    /** The gap marks. */
+    uint64_t marks;
+    /** The entries of blocks. */
+    uint64_t entries;
+    /** How often the module says that it was reset, and did not say so before. */
+    uint64_t restarts;
+    /** The messages of each type. */
+    uint64_t types[256];
+    /** The entries of each input. */
+    uint64_t inputs[128];
+    /** The blocks with each number of entries. */
+    uint64_t fills[256];
+    /** When the command above was sent, in microseconds. */
+    uint64_t sent_at;
+    /** 1 where that is known. */
+    uint8_t has_sent_at;
+    /** The type of the latest command, until it is answered. */
+    uint8_t command;
+    /** 1 where there is one. */
+    uint8_t has_command;
+    /** The number of the latest poll. */
+    uint8_t polled;
+    /** 1 where there is one. */
+    uint8_t has_polled;
+    /** 1 where that poll is not answered yet. */
+    uint8_t waits;
+    /** The number of the latest block answer. */
+    uint8_t block;
+    /** 1 where there is one. */
+    uint8_t has_block;
+    /** 1 where the latest status answer says that the module was reset. */
+    uint8_t reset;
+    /** 1 where the first one says so. */
+    uint8_t first_reset;
+    /** 1 where there is one. */
+    uint8_t has_reset;
+    /** 0 in each octet that the library writes. */
+    uint8_t reserved[5];
+};
+
+/** Begins with no frame: each octet is 0. */
+void fio2070_log_counts_start(struct fio2070_log_counts *counts);
+/** Takes a place where a frame may be lost: whether the latest poll and command were answered is not known. */
+void fio2070_log_counts_lose(struct fio2070_log_counts *counts);
+/** Counts a frame, sent at `time`, in microseconds, if `has_time` is not 0. If it is the answer that the latest command waits for,
+ * both have a time, and its time is not before the command's, it returns 1, and `taken` is how long the module took for the
+ * answer, in microseconds; else it returns 0, and `taken` is 0. A frame that spells no message is counted in `frames` alone. Of
+ * a block that is sent again below the same block neither entries nor a gap mark are counted. */
+uint8_t fio2070_log_counts_frame(struct fio2070_log_counts *counts, uint8_t has_time, uint64_t time, const uint8_t *octets,
+                                 size_t length, uint64_t *taken);
+#endif
+
+/** @} */
+
 /** @defgroup parts Parts of a module
  * The counter and the filters of a module by themselves, for a firmware that has the rest.
  * @code
@@ -1742,6 +1823,32 @@ FIO2070_SAME(heard, sizeof(struct fio2070_heard) == 32 &&
              offsetof(struct fio2070_heard, entries) == 10 &&
              offsetof(struct fio2070_heard, reserved) == 11 &&
              offsetof(struct fio2070_heard, fault) == 16);
+
+#ifndef FIO2070_NO_LOG
+FIO2070_SAME(log_counts, sizeof(struct fio2070_log_counts) == 5200 &&
+             offsetof(struct fio2070_log_counts, polls) == 8 &&
+             offsetof(struct fio2070_log_counts, repeats) == 16 &&
+             offsetof(struct fio2070_log_counts, unanswered) == 24 &&
+             offsetof(struct fio2070_log_counts, marks) == 32 &&
+             offsetof(struct fio2070_log_counts, entries) == 40 &&
+             offsetof(struct fio2070_log_counts, restarts) == 48 &&
+             offsetof(struct fio2070_log_counts, types) == 56 &&
+             offsetof(struct fio2070_log_counts, inputs) == 2104 &&
+             offsetof(struct fio2070_log_counts, fills) == 3128 &&
+             offsetof(struct fio2070_log_counts, sent_at) == 5176 &&
+             offsetof(struct fio2070_log_counts, has_sent_at) == 5184 &&
+             offsetof(struct fio2070_log_counts, command) == 5185 &&
+             offsetof(struct fio2070_log_counts, has_command) == 5186 &&
+             offsetof(struct fio2070_log_counts, polled) == 5187 &&
+             offsetof(struct fio2070_log_counts, has_polled) == 5188 &&
+             offsetof(struct fio2070_log_counts, waits) == 5189 &&
+             offsetof(struct fio2070_log_counts, block) == 5190 &&
+             offsetof(struct fio2070_log_counts, has_block) == 5191 &&
+             offsetof(struct fio2070_log_counts, reset) == 5192 &&
+             offsetof(struct fio2070_log_counts, first_reset) == 5193 &&
+             offsetof(struct fio2070_log_counts, has_reset) == 5194 &&
+             offsetof(struct fio2070_log_counts, reserved) == 5195);
+#endif
 
 FIO2070_SAME(content_checker, sizeof(struct fio2070_content_checker) == 696);
 

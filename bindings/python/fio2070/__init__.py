@@ -17,6 +17,7 @@ from typing import Any, List, NamedTuple, Optional, Sequence, Tuple
 
 from . import _library as c
 from . import constants, encode
+from .counts import LogCounts
 from .encode import Octets
 from .judges import LinkJudge, LogJudge, LogSigns
 from .logs import LogReader, Verdict
@@ -28,6 +29,10 @@ __all__ = ['Answer', 'Breach', 'Checker', 'Command', 'ConfigurationItem', 'Conte
            'RecordItem', 'Verdict', 'Wire', 'WireBits', 'WireHeard', 'constants', 'content_rule_text', 'decode_answer',
            'decode_command', 'encode', 'read_identification', 'read_outputs_answer', 'rule_text', 'show', 'tester', 'version',
            'widen', 'wire_check', 'wire_frame']
+           'Fault', 'Filters', 'Heard', 'LinkJudge', 'LogCounts', 'LogJudge', 'LogReader', 'Module', 'Octets', 'Outcome', 'Poller',
+           'RecordItem', 'Verdict', 'Wire', 'WireBits', 'WireHeard', 'constants', 'content_rule_text', 'decode_answer',
+           'decode_command', 'encode', 'read_identification', 'read_outputs_answer', 'rule_text', 'show', 'tester', 'version', 'widen',
+           'wire_check', 'wire_frame']
 
 __version__ = '%d.%d.%d' % (constants.VERSION // 10000, constants.VERSION // 100 % 100, constants.VERSION % 100)
 

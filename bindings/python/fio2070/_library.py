@@ -137,6 +137,13 @@ class CLogJudge(ctypes.Structure):
 class CLogSigns(ctypes.Structure):
     """The octets of struct fio2070_log_signs."""
     _fields_ = [('words', c_uint64 * 102)]
+class CLogCounts(ctypes.Structure):
+    _fields_ = [('frames', c_uint64), ('polls', c_uint64), ('repeats', c_uint64), ('unanswered', c_uint64),
+                ('marks', c_uint64), ('entries', c_uint64), ('restarts', c_uint64), ('types', c_uint64 * 256), ('inputs', c_uint64
+                * 128), ('fills', c_uint64 * 256), ('sent_at', c_uint64), ('has_sent_at', c_uint8),
+                ('command', c_uint8), ('has_command', c_uint8), ('polled', c_uint8), ('has_polled', c_uint8), ('waits', c_uint8),
+                ('block', c_uint8), ('has_block', c_uint8), ('reset', c_uint8), ('first_reset', c_uint8),
+                ('has_reset', c_uint8), ('reserved', c_uint8 * 5)]
 
 
 class CFilters(ctypes.Structure):
@@ -238,6 +245,10 @@ _declare('fio2070_judge_heard', c_uint8, POINTER(CJudge), c_uint8, c_char_p, c_s
 _declare('fio2070_log_start', None, POINTER(CLogReader), c_uint8)
 _declare('fio2070_log_read', c_size_t, POINTER(CLogReader), c_char_p, c_size_t, POINTER(CLogBatch))
 _declare('fio2070_log_end', None, POINTER(CLogReader))
+_declare('fio2070_log_counts_start', None, POINTER(CLogCounts))
+_declare('fio2070_log_counts_lose', None, POINTER(CLogCounts))
+_declare('fio2070_log_counts_frame', c_uint8, POINTER(CLogCounts), c_uint8, c_uint64, c_char_p, c_size_t,
+         POINTER(c_uint64))
 _declare('fio2070_log_judge_start', c_uint8, POINTER(CLogJudge), CLimits, c_uint8, c_uint8)
 _declare('fio2070_log_judge_lose', None, POINTER(CLogJudge))
 _declare('fio2070_log_judge_possible', None, POINTER(CLogJudge))

@@ -22,6 +22,7 @@
 extern crate std;
 
 pub mod constants;
+mod counts;
 mod encode;
 mod ends;
 mod errors;
@@ -43,7 +44,7 @@ pub use judges::{LinkJudge, LogJudge, LogSigns};
 pub use logs::{Frames, LogBatch, LogReader, Verdict};
 pub use raw::{
     Answer, Breach, Command, ConfigurationItem, ContentBreach, Entry, ErrorCounts, Fault,
-    JudgeOutcome, LogPlace, Outputs, RecordItem,
+    JudgeOutcome, LogCounts, LogPlace, Outputs, RecordItem,
 };
 pub use wire::{wire_check, wire_frame, Wire, WireBits, WireHeard};
 pub use written::Unwritten;

@@ -226,6 +226,46 @@ pub(crate) struct RawLogBatch {
     pub octets: [u8; 65536],
 }
 
+/// What is counted of the frames of a log, modulo 2^64: begin with `LogCounts::new`. `waits` is 1 where the latest poll is not
+/// answered yet; it is not counted as unanswered before the next command.
+///
+/// ```
+/// use fio2070::LogCounts;
+///
+/// let mut counts = LogCounts::new();
+/// assert_eq!(counts.frame(&[0x36, 5], Some(1_000_000)), None);
+/// let block = [0xb6, 5, 1, 0x8c, 3, 0xe7, 0, 0, 0, 3, 0xe8];
+/// assert_eq!(counts.frame(&block, Some(1_003_200)), Some(3_200));
+/// assert_eq!((counts.polls, counts.inputs[12]), (1, 1));
+/// ```
+#[derive(Clone, Copy, Debug, PartialEq, Eq)]
+#[repr(C)]
+pub struct LogCounts {
+    pub frames: u64,
+    pub polls: u64,
+    pub repeats: u64,
+    pub unanswered: u64,
+    pub marks: u64,
+    pub entries: u64,
+    pub restarts: u64,
+    pub types: [u64; 256],
+    pub inputs: [u64; 128],
+    pub fills: [u64; 256],
+    pub sent_at: u64,
+    pub has_sent_at: u8,
+    pub command: u8,
+    pub has_command: u8,
+    pub polled: u8,
+    pub has_polled: u8,
+    pub waits: u8,
+    pub block: u8,
+    pub has_block: u8,
+    pub reset: u8,
+    pub first_reset: u8,
+    pub has_reset: u8,
+    pub reserved: [u8; 5],
+}
+
 #[derive(Clone)]
 #[repr(C)]
 pub(crate) struct RawWire {
@@ -459,6 +499,16 @@ extern "C" {
         batch: &mut RawLogBatch,
     ) -> usize;
     pub(crate) fn fio2070_log_end(reader: &mut RawLogReader);
+    pub(crate) fn fio2070_log_counts_start(counts: &mut LogCounts);
+    pub(crate) fn fio2070_log_counts_lose(counts: &mut LogCounts);
+    pub(crate) fn fio2070_log_counts_frame(
+        counts: &mut LogCounts,
+        has_time: u8,
+        time: u64,
+        octets: *const u8,
+        octets_count: usize,
+        taken: &mut u64,
+    ) -> u8;
     pub(crate) fn fio2070_log_judge_start(
         judge: &mut RawLogJudge,
         limits: RawLimits,

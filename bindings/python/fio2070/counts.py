@@ -1,0 +1,72 @@
+"""What is counted of the frames of a log."""
+
+import collections
+import ctypes
+from typing import Any, Counter, Optional
+
+from . import _library as c
+from .encode import Octets, check_range, octets_of
+
+
+def _number(name: str, words: str) -> Any:
+    """A number of the library's struct."""
+    return property(lambda self: int(getattr(self._counts, name)), doc=words)
+
+
+def _table(name: str, words: str) -> Any:
+    """A table of the library's struct."""
+    return property(lambda self: _counted(getattr(self._counts, name)), doc=words)
+
+
+def _counted(table: Any) -> 'Counter[int]':
+    """What of a table of counts is not 0, by its place."""
+    return collections.Counter({place: number for place, number in enumerate(table) if number})
+
+
+class LogCounts:
+    """What is counted of the frames of a log. Give it each frame, and each place where one may be lost, in the order of the log."""
+
+    frames: int = _number('frames', 'The frames.')
+    polls: int = _number('polls', 'The polls.')
+    repeats: int = _number('repeats', 'The polls with the number of the poll above.')
+    unanswered: int = _number('unanswered', 'The polls below which a command comes before a block answer.')
+    marks: int = _number('marks', 'The gap marks.')
+    entries: int = _number('entries', 'The entries of blocks, each block counted once.')
+    restarts: int = _number('restarts', 'How often the module says that it was reset, and did not say so before.')
+    types: 'Counter[int]' = _table('types', 'The messages of each type.')
+    inputs: 'Counter[int]' = _table('inputs', 'The entries of each input.')
+    fills: 'Counter[int]' = _table('fills', 'The blocks with each number of entries.')
+
+    def __init__(self) -> None:
+        self._counts, self._taken = c.CLogCounts(), ctypes.c_uint64()
+        c.library.fio2070_log_counts_start(self._counts)
+
+    def __repr__(self) -> str:
+        return '<LogCounts frames=%d>' % self.frames
+
+    @property
+    def waits(self) -> bool:
+        """Whether the latest poll is not answered yet: a poll at the end of a log is not counted as unanswered."""
+        return bool(self._counts.waits)
+
+    @property
+    def first_reset(self) -> Optional[bool]:
+        """Whether the first status answer says that the module was reset; None above it."""
+        return bool(self._counts.first_reset) if self._counts.has_reset else None
+
+    @property
+    def reset(self) -> Optional[bool]:
+        """Whether the latest one says so."""
+        return bool(self._counts.reset) if self._counts.has_reset else None
+
+    def lose(self) -> None:
+        """A frame may be lost here: whether the latest poll and command were answered is not known."""
+        c.library.fio2070_log_counts_lose(self._counts)
+
+    def frame(self, octets: Octets, time: Optional[int] = None) -> Optional[int]:
+        """Counts a frame, by its time in microseconds, 0 to 2^64 - 1, if it has one. Returns how long the module took for its answer, in
+        microseconds, if that is known: of the answer that the latest command waits for, whose time is not before the command's."""
+        octets, has_time = octets_of(octets), time is not None
+        check_range(1 << 64, time or 0)
+        is_known = c.library.fio2070_log_counts_frame(self._counts, has_time, time or 0, octets, len(octets), self._taken)
+        return int(self._taken.value) if is_known else None

@@ -1,0 +1,63 @@
+//! What is counted of the frames of a log.
+
+use crate::raw::{self, LogCounts};
+
+// SAFETY of the calls below: slices are given with their lengths, all memory is initialised and,
+// where it is written, borrowed by the call alone.
+
+impl LogCounts {
+    /// The counts of no frame.
+    pub fn new() -> LogCounts {
+        let mut counts = LogCounts {
+            frames: 0,
+            polls: 0,
+            repeats: 0,
+            unanswered: 0,
+            marks: 0,
+            entries: 0,
+            restarts: 0,
+            types: [0; 256],
+            inputs: [0; 128],
+            fills: [0; 256],
+            sent_at: 0,
+            has_sent_at: 0,
+            command: 0,
+            has_command: 0,
+            polled: 0,
+            has_polled: 0,
+            waits: 0,
+            block: 0,
+            has_block: 0,
+            reset: 0,
+            first_reset: 0,
+            has_reset: 0,
+            reserved: [0; 5],
+        };
+        unsafe { raw::fio2070_log_counts_start(&mut counts) };
+        counts
+    }
+
+    /// A frame may be lost here: whether the latest poll and command were answered is not known.
+    pub fn lose(&mut self) {
+        unsafe { raw::fio2070_log_counts_lose(self) }
+    }
+
+    /// Counts a frame, by its time in microseconds, if it has one. Returns how long the module took for its answer, in
+    /// microseconds, if that is known: of the answer that the latest command waits for, whose time is not before the command's.
+    pub fn frame(&mut self, octets: &[u8], time: Option<u64>) -> Option<u64> {
+        let (start, count, mut taken) = (octets.as_ptr(), octets.len(), 0);
+        let (has_time, time) = (time.is_some().into(), time.unwrap_or(0));
+        match unsafe {
+            raw::fio2070_log_counts_frame(self, has_time, time, start, count, &mut taken)
+        } {
+            0 => None,
+            _ => Some(taken),
+        }
+    }
+}
+
+impl Default for LogCounts {
+    fn default() -> LogCounts {
+        LogCounts::new()
+    }
+}
