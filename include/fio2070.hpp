@@ -527,6 +527,26 @@ public:
 
 private:
     ::fio2070_log_signs signs_{};
+/// What is counted of the frames of a log.
+class LogCounts {
+public:
+    LogCounts() { ::fio2070_log_counts_start(&counts_); }
+    /// A frame may be lost here: whether the latest poll and command were answered is not known.
+    void lose() { ::fio2070_log_counts_lose(&counts_); }
+    /// Counts a frame, by its time in microseconds, if it has one. Returns how long the module took for its answer, in microseconds, if
+    /// that is known.
+    std::optional<std::uint64_t> frame(Octets octets, std::optional<std::uint64_t> time = std::nullopt) {
+        std::uint64_t taken;
+        const bool is_known = ::fio2070_log_counts_frame(&counts_, time.has_value(), time.value_or(0), octets.data(), octets.size(),
+                                                         &taken) != 0;
+        return is_known ? std::optional<std::uint64_t>(taken) : std::nullopt;
+    }
+    /// The numbers.
+    const ::fio2070_log_counts &operator*() const { return counts_; }
+    const ::fio2070_log_counts *operator->() const { return &counts_; }
+
+private:
+    ::fio2070_log_counts counts_;
 };
 #endif
 

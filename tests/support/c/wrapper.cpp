@@ -237,6 +237,8 @@ static void has_checkers() {
     CHECK(fio2070::LinkJudge::begun()->heard(empty) == fio2070_judge_outcome({FIO2070_OUTCOME_BROKEN, 0, FIO2070_RULE_PAIR, 0, 0, 0, FIO2070_NO_INPUT, 0, 0}));
     CHECK(fio2070::LinkJudge::anywhere()->heard(empty).why == FIO2070_WHY_ABOVE_COMMAND && !fio2070::LinkJudge::anywhere(0));
     CHECK(fio2070::LogJudge::start()->frame(empty, false).why == FIO2070_WHY_ABOVE_COMMAND);
+    fio2070::LogCounts counts;
+    CHECK(!counts.frame(empty, 0) && counts->frames == 1 && counts->polls == 0);
     CHECK(fio2070::LogJudge::start(FIO2070_LOG_TAKEN_AT_CPU, FIO2070_LOG_LEAVES_OUT_LATE)->frame(empty, false).why == FIO2070_WHY_LATE);
     CHECK(fio2070::LogSigns().sign() == FIO2070_LOG_SIGN_NONE);
 }
