@@ -538,6 +538,35 @@ OVER(log_signs, frame, 1, void, ,
      (struct fio2070_log_signs * log_signs, uint8_t from_cpu, uint8_t said, const uint8_t *octets, size_t length), it, from_cpu,
      said, READS(octets, length), length)
 OVER(log_signs, sign, 0, uint8_t, return (uint8_t), (const struct fio2070_log_signs *log_signs), it)
+/* Counts with their numbers of 64 bits, which are at the front, in the module's order of octets instead of the processor's, or
+ * the other way. */
+static void settle_counts(struct fio2070_log_counts *counts) {
+    uint8_t *octets = (uint8_t *)counts;
+    size_t place;
+    for (place = 0; place < offsetof(struct fio2070_log_counts, has_sent_at); place += 8) {
+        uint64_t number = get64(octets + place);
+        memcpy(octets + place, &number, 8);
+    }
+}
+
+SAME(size_of_log_counts, sizeof(struct fio2070_log_counts), 5200);
+
+OVER(log_counts, start, 1, void, , (struct fio2070_log_counts * log_counts), it)
+OVER(log_counts, lose, 1, void, , (struct fio2070_log_counts * log_counts), it)
+
+uint8_t fio2070_log_counts_frame(struct fio2070_log_counts *counts, uint8_t has_time, uint64_t time, const uint8_t *octets,
+                                 size_t length, uint64_t *taken) {
+    uint8_t is_known;
+    MACHINE(fio2070_log_counts_frame);
+    if (!IS_LITTLE) settle_counts(counts);
+    {
+        uint64_t a = WRITES(counts, sizeof *counts), b = READS(octets, length), c = WRITES(taken, sizeof *taken);
+        is_known = (uint8_t)call_fio2070_log_counts_frame(&machine, a, has_time, time, b, length, c);
+    }
+    if (!IS_LITTLE) settle_counts(counts);
+    *taken = get64((const uint8_t *)taken);
+    return is_known;
+}
 #endif
 
 OVER(filters, start, 1, void, , (struct fio2070_filters * filters), it)
