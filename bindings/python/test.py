@@ -1,5 +1,6 @@
 """The worked examples in Python: `python3 -m unittest test`, with FIO2070_LIBRARY naming the library."""
 
+import collections
 import ctypes
 import doctest
 import os
@@ -151,6 +152,25 @@ def sign_of(text):
     return str(('', 'twice', 'both ends', 'reversed', 'two links').index(signs.sign))
 
 
+def counted(text):
+    """What is counted of frames, each with its time if it has one; `-` is a line that may have held one."""
+    counts, said = fio2070.LogCounts(), []
+    for line in text.split(', '):
+        if line == '-':
+            counts.lose()
+            continue
+        octets, _, time = line.partition(' ')
+        taken = counts.frame(bytes.fromhex(octets), int(time) if time else None)
+        if taken is not None:
+            said.append('taken %d' % taken)
+    for name in ('frames', 'polls', 'repeats', 'unanswered', 'marks', 'entries', 'restarts', 'types', 'inputs', 'fills', 'waits',
+                 'reset', 'first_reset'):
+        number = getattr(counts, name)
+        said += ['%s %d %d' % (name, *one) for one in sorted(number.items())] if isinstance(number, collections.Counter) else \
+            ['%s %d' % (name, number or 0)] * bool(number)
+    return ' '.join(said)
+
+
 def said_by(call, numbers, text):
     """The result of a row, or its error."""
     if call.startswith('encode_'):
@@ -163,6 +183,8 @@ def said_by(call, numbers, text):
         return verdicts(*numbers, text)
     if call == 'log_signs':
         return sign_of(text)
+    if call == 'log_counts':
+        return counted(text)
     if call.startswith('content'):
         return breaches(fio2070.ContentChecker(begun=call == 'content_begun'), text)
     octets = b'' if call.startswith(('checker', 'judge', 'log_judge')) else bytes.fromhex(text)

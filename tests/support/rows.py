@@ -3,7 +3,7 @@
 library in C, C++, Python and Rust read. An argument is a number, or a text: octets in hexadecimal, a list of items or entries,
 frames that were sent (>) and heard (<), where `-` is a place at which lines are lost, a line, of whose octets one is lost at `, `,
 or a log, in which `~` is the end of a line. For a judge of a log a second `>` or `<` is who sent a frame as its line says, `?` is a
-possible message, and `!` a line that speaks of loss. `30*3` is short for `303030`, and `+` joins octets. A result that is a struct is
+possible message, and `!` a line that speaks of loss. For counts of a log a frame has its octets, and its time if it has one. `30*3` is short for `303030`, and `+` joins octets. A result that is a struct is
 written by its fields that are not 0, in the order of the struct; the result for frames by the rule that each breaks, or by what
 a judge says of each; that for the signs of a log by the number of the sign below the last frame; that for a log by the line, the kind and the reason of each verdict, and what else it has. A log is read
 whole and in pieces of each length, one log after another by the same reader; a line by one octet a call and by many.

@@ -210,6 +210,27 @@ static void say_sign(const struct row *row) {
     if (signs.reserved != 0) say(" not in the struct");
 }
 
+/* A line `-` may have held a frame. */
+static void say_counted(const struct row *row) {
+    struct fio2070_log_counts counts;
+    const char *frame;
+    uint64_t taken;
+    uint8_t is_known;
+    memset(&counts, 0xa5, sizeof counts);
+    fio2070_log_counts_start(&counts);
+    for (frame = row->text; frame != NULL; frame = next_frame(frame)) {
+        if (*frame == '-') {
+            fio2070_log_counts_lose(&counts);
+            continue;
+        }
+        taken = 1;
+        is_known = fio2070_log_counts_frame(&counts, (uint8_t)has_time(frame), time_of(frame), octets, octets_in(frame, octets), &taken);
+        if (is_known) say("%staken %llu", *said ? " " : "", (unsigned long long)taken);
+        if (is_known > 1 || (!is_known && taken != 0)) say(" not known");
+    }
+    say_counts(&counts);
+}
+
 static void say_line(const struct row *row, size_t length) {
     size_t count;
     if (is_call(row, "wire_check")) {
@@ -302,6 +323,7 @@ static void run(const struct row *row) {
     else if (strncmp(row->call, "judge", 5) == 0) say_outcomes(row);
     else if (is_call(row, "log_judge")) say_log_outcomes(row);
     else if (is_call(row, "log_signs")) say_sign(row);
+    else if (is_call(row, "log_counts")) say_counted(row);
     else if (is_call(row, "wire") || is_call(row, "wire_bits")) say_heard_line(row);
     else if (strncmp(row->call, "wire_", 5) == 0) say_line(row, length);
     else if (is_call(row, "log")) say_log(row);

@@ -153,6 +153,23 @@ static std::string sign_of(const row &it) {
     return std::to_string(signs.sign());
 }
 
+static std::string counted(const row &it) {
+    fio2070::LogCounts counts;
+    *said = 0;
+    for (const char *frame = it.text; frame; frame = next_frame(frame)) {
+        List octets(1024);
+        if (*frame == '-') {
+            counts.lose();
+            continue;
+        }
+        octets.resize(octets_in(frame, octets.data()));
+        const auto taken = has_time(frame) ? counts.frame(octets, time_of(frame)) : counts.frame(octets);
+        if (taken) say("%staken %llu", *said ? " " : "", static_cast<unsigned long long>(*taken));
+    }
+    say_counts(&*counts);
+    return said;
+}
+
 static std::string framed(const row &it, const List &octets) {
     const auto frame = fio2070::wire_frame(octets, static_cast<std::uint8_t>(it.numbers[0]), static_cast<std::uint8_t>(it.numbers[1]));
     *said = 0;
@@ -233,6 +250,7 @@ static std::string run(const row &it) {
     if (call.rfind("judge", 0) == 0) return outcomes(it);
     if (call == "log_judge") return log_outcomes(it);
     if (call == "log_signs") return sign_of(it);
+    if (call == "log_counts") return counted(it);
     if (call == "log") return logged(it);
     if (call == "wire") return heard_line<fio2070::Wire>(it);
     if (call == "wire_bits") return heard_line<fio2070::WireBits>(it);

@@ -135,6 +135,24 @@ static void say_outcome(const struct fio2070_judge_outcome *it) {
     if (it->items) say(" items %u", it->items);
 }
 
+/* Says what of a table of counts is not 0. */
+static void say_table(const char *name, const uint64_t *counts, unsigned count) {
+    char words[32];
+    unsigned place;
+    for (place = 0; place < count; place++) {
+        snprintf(words, sizeof words, "%s %u", name, place);
+        say_field(words, counts[place]);
+    }
+}
+
+static void say_counts(const struct fio2070_log_counts *it) {
+    say_field("frames", it->frames), say_field("polls", it->polls), say_field("repeats", it->repeats);
+    say_field("unanswered", it->unanswered), say_field("marks", it->marks), say_field("entries", it->entries);
+    say_field("restarts", it->restarts), say_table("types", it->types, 256), say_table("inputs", it->inputs, 128);
+    say_table("fills", it->fills, 256), say_field("waits", it->waits), say_field("reset", it->reset);
+    say_field("first_reset", it->first_reset);
+}
+
 /* Says each verdict of a batch. */
 static void say_verdicts(const struct fio2070_log_batch *batch) {
     size_t verdict, frame = 0, octet = 0, place = 0;
@@ -165,6 +183,11 @@ static const char *next_frame(const char *frame) {
     const char *comma = strchr(frame, ',');
     return comma ? comma + 2 : NULL;
 }
+
+/* Whether there is a number below the octets of a frame, its time. */
+static int has_time(const char *frame) { return frame[strcspn(frame, " ,")] == ' '; }
+
+static uint64_t time_of(const char *frame) { return has_time(frame) ? strtoull(strchr(frame, ' '), NULL, 10) : 0; }
 
 /* Who sent a frame of a log as its line says, below who sent it. */
 static uint8_t side_said(const char *frame) {

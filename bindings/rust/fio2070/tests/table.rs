@@ -319,6 +319,51 @@ fn by_log_signs(row: &Row) -> String {
     signs.sign().to_string()
 }
 
+/// What is counted of frames; `-` is a line that may have held one.
+fn by_log_counts(row: &Row) -> String {
+    let (mut counts, mut said) = (LogCounts::default(), Vec::new());
+    for line in row.text.split(", ") {
+        if line == "-" {
+            counts.lose();
+            continue;
+        }
+        let (octets, time) = line.split_once(' ').unwrap_or((line, ""));
+        if let Some(taken) = counts.frame(&octets_of(octets), time.parse().ok()) {
+            said.push(format!("taken {taken}"));
+        }
+    }
+    said.extend(counts_words(&counts));
+    said.join(" ")
+}
+
+fn counts_words(counts: &LogCounts) -> Vec<String> {
+    let table = |name: &str, counts: &[u64]| -> Vec<(String, u64)> {
+        let numbers = counts.iter().enumerate();
+        numbers
+            .map(|(place, number)| (format!("{name} {place}"), *number))
+            .collect()
+    };
+    let number = |name: &str, number: u64| vec![(name.to_string(), number)];
+    let all = [
+        number("frames", counts.frames),
+        number("polls", counts.polls),
+        number("repeats", counts.repeats),
+        number("unanswered", counts.unanswered),
+        number("marks", counts.marks),
+        number("entries", counts.entries),
+        number("restarts", counts.restarts),
+        table("types", &counts.types),
+        table("inputs", &counts.inputs),
+        table("fills", &counts.fills),
+        number("waits", counts.waits.into()),
+        number("reset", counts.reset.into()),
+        number("first_reset", counts.first_reset.into()),
+    ];
+    let said = all.concat().into_iter().filter(|(_, number)| *number != 0);
+    said.map(|(name, number)| format!("{name} {number}"))
+        .collect()
+}
+
 fn outcome_words(outcome: JudgeOutcome) -> String {
     let mut words = outcome.kind.to_string();
     let mut add = |is_there: bool, name: &str, number: u16| {
@@ -453,6 +498,7 @@ fn run(row: &Row) -> Result<String, Fault> {
         "judge" | "judge_begun" => by_judge(row),
         "log_judge" => by_log_judge(row),
         "log_signs" => by_log_signs(row),
+        "log_counts" => by_log_counts(row),
         "log" => by_log_reader(row),
         "wire" => heard_line!(row, Wire, octets_of, Wire::lose),
         "wire_bits" => heard_line!(row, WireBits, str::as_bytes, |_: &mut WireBits| ()),
