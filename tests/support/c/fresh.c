@@ -85,6 +85,8 @@ static void ends(void) {
     struct fio2070_judge *judge = (struct fio2070_judge *)fresh(sizeof *judge);
     struct fio2070_log_judge *log = (struct fio2070_log_judge *)fresh(sizeof *log);
     struct fio2070_judge_outcome *outcome = (struct fio2070_judge_outcome *)fresh(sizeof *outcome);
+    struct fio2070_log_counts *counts = (struct fio2070_log_counts *)fresh(sizeof *counts);
+    uint64_t *lasted = (uint64_t *)fresh(sizeof *lasted);
     struct fio2070_record_item *items = (struct fio2070_record_item *)fresh(FIO2070_MOST_RECORD_ITEMS * sizeof *items);
     struct fio2070_limits limits = FIO2070_STANDARD_LIMITS;
     struct fio2070_poller *poller = (struct fio2070_poller *)fresh(sizeof *poller);
@@ -111,6 +113,10 @@ static void ends(void) {
     CHECK(fio2070_log_judge_frame(log, 1, FIO2070_LOG_FROM_CPU, (const uint8_t *)"\x36\5", 2, outcome) == FIO2070_OUTCOME_KEPT && outcome->why == 0);
     fio2070_log_judge_miss(log);
     CHECK(fio2070_log_judge_frame(log, 0, FIO2070_LOG_FROM_MODULE, out, count, outcome) == FIO2070_OUTCOME_KEPT && outcome->items == 0);
+    fio2070_log_counts_start(counts);
+    fio2070_log_counts_lose(counts);
+    CHECK(fio2070_log_counts_frame(counts, 1, 10, (const uint8_t *)"\x36\5", 2, lasted) == 0 && *lasted == 0 && counts->waits == 1);
+    CHECK(fio2070_log_counts_frame(counts, 1, 30, out, count, lasted) == 1 && *lasted == 20 && counts->inputs[12] == 1);
     fio2070_poller_start(poller, 5);
     heard = fio2070_poller_hear(poller, out, count, items, FIO2070_MOST_RECORD_ITEMS);
     CHECK(heard.kind == FIO2070_HEARD_TAKEN && heard.items == 1 && heard.stamp == 1 && poller->number == 6);

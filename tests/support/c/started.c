@@ -84,6 +84,7 @@ int main(void) {
     STARTS(content_start, fio2070_content_checker);
     STARTS(content_start_begun, fio2070_content_checker);
     STARTS(filters_start, fio2070_filters);
+    STARTS(log_counts_start, fio2070_log_counts);
     modules();
     judges();
     log_judges();

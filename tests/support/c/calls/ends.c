@@ -181,8 +181,26 @@ static void judge_in_log(struct fio2070_log_judge *judge, struct input *input, c
     free(found);
 }
 
+static void mix_counts(const struct fio2070_log_counts *it) {
+    unsigned place;
+    mix(it->frames), mix(it->polls), mix(it->repeats), mix(it->unanswered), mix(it->marks), mix(it->entries), mix(it->restarts);
+    mix(it->sent_at), mix(it->waits), mix(it->reset), mix(it->first_reset);
+    for (place = 0; place < 256; place++) mix(it->types[place]), mix(it->fills[place]);
+    for (place = 0; place < 128; place++) mix(it->inputs[place]);
+}
+
+static void count(struct fio2070_log_counts *counts, struct input *input, const uint8_t *frame, size_t length) {
+    uint8_t how = take8(input), is_known;
+    uint64_t taken = UNTOUCHED, above = counts->frames;
+    if (how % 8 == 0) fio2070_log_counts_lose(counts);
+    is_known = fio2070_log_counts_frame(counts, (uint8_t)(how >> 4), take16(input), frame, length, &taken);
+    require(is_known <= 1 && (is_known || taken == 0) && (how >> 4 || !is_known), "a time is taken by an answer with a time");
+    require(counts->frames == above + 1, "each frame is counted");
+    mix(taken), mix_counts(counts);
+}
+
 static void check(struct fio2070_checker *checker, struct fio2070_content_checker *content, struct fio2070_judge *link,
-                  struct fio2070_log_judge *log, struct input *input, uint8_t polled) {
+                  struct fio2070_log_judge *log, struct fio2070_log_counts *counts, struct input *input, uint8_t polled) {
     size_t length;
     int is_sent = take8(input) % 2;
     uint8_t *frame = take_frame(input, &length), rule;
@@ -204,6 +222,7 @@ static void check(struct fio2070_checker *checker, struct fio2070_content_checke
     mix(found.rule), mix(found.input), mix(found.items);
     judge(link, input, frame, length, is_sent);
     judge_in_log(log, input, frame, length, is_sent);
+    count(counts, input, frame, length);
     free(frame);
 }
 
@@ -212,6 +231,7 @@ void call_checkers(struct input *input) {
     struct fio2070_content_checker *content = (struct fio2070_content_checker *)untouched(sizeof *content);
     struct fio2070_judge *link = (struct fio2070_judge *)untouched(sizeof *link);
     struct fio2070_log_judge *log = (struct fio2070_log_judge *)untouched(sizeof *log);
+    struct fio2070_log_counts *counts = (struct fio2070_log_counts *)untouched(sizeof *counts);
     struct fio2070_limits limits = {0, 0, 0};
     uint8_t how = take8(input), polled = 0;
     memset(&checker, UNTOUCHED, sizeof checker);
@@ -225,9 +245,12 @@ void call_checkers(struct input *input) {
     if (has_garbage && how & 4) take_into(input, content, sizeof *content);
     if (has_garbage && how & 32) take_into(input, link, sizeof *link);
     if (has_garbage && how & 64) take_into(input, log, sizeof *log);
+    fio2070_log_counts_start(counts);
     if (has_garbage && how & 8) take_into(input, &checker, sizeof checker);
-    while (input->left > 0) check(&checker, content, link, log, input, polled), polled = (uint8_t)(polled + (take8(input) % 3 == 0));
+    if (has_garbage && how & 128) take_into(input, counts, sizeof *counts);
+    while (input->left > 0) check(&checker, content, link, log, counts, input, polled), polled = (uint8_t)(polled + (take8(input) % 3 == 0));
     free(content);
     free(link);
     free(log);
+    free(counts);
 }
