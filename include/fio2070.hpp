@@ -527,6 +527,8 @@ public:
 
 private:
     ::fio2070_log_signs signs_{};
+};
+
 /// What is counted of the frames of a log.
 class LogCounts {
 public:

@@ -25,14 +25,10 @@ from .records import Answer, Breach, Command, ConfigurationItem, ContentBreach, 
 from .wire import Wire, WireBits, WireHeard, wire_check, wire_frame
 
 __all__ = ['Answer', 'Breach', 'Checker', 'Command', 'ConfigurationItem', 'ContentBreach', 'ContentChecker', 'Counter', 'Entry',
-           'Fault', 'Filters', 'Heard', 'LinkJudge', 'LogJudge', 'LogReader', 'LogSigns', 'Module', 'Octets', 'Outcome', 'Poller',
-           'RecordItem', 'Verdict', 'Wire', 'WireBits', 'WireHeard', 'constants', 'content_rule_text', 'decode_answer',
+           'Fault', 'Filters', 'Heard', 'LinkJudge', 'LogCounts', 'LogJudge', 'LogReader', 'LogSigns', 'Module', 'Octets', 'Outcome',
+           'Poller', 'RecordItem', 'Verdict', 'Wire', 'WireBits', 'WireHeard', 'constants', 'content_rule_text', 'decode_answer',
            'decode_command', 'encode', 'read_identification', 'read_outputs_answer', 'rule_text', 'show', 'tester', 'version',
            'widen', 'wire_check', 'wire_frame']
-           'Fault', 'Filters', 'Heard', 'LinkJudge', 'LogCounts', 'LogJudge', 'LogReader', 'Module', 'Octets', 'Outcome', 'Poller',
-           'RecordItem', 'Verdict', 'Wire', 'WireBits', 'WireHeard', 'constants', 'content_rule_text', 'decode_answer',
-           'decode_command', 'encode', 'read_identification', 'read_outputs_answer', 'rule_text', 'show', 'tester', 'version', 'widen',
-           'wire_check', 'wire_frame']
 
 __version__ = '%d.%d.%d' % (constants.VERSION // 10000, constants.VERSION // 100 % 100, constants.VERSION % 100)
 
