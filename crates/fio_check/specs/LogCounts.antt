@@ -86,6 +86,7 @@ counted_code counts time code = counted_sent (record counts {
   has_command = 1;
 }) time
 
+-- what a poll is more than another command
 abbrev pub counted_poll_of : LogCounts → Command → LogCounts
 counted_poll_of counts (commands.Poll number) = counted_poll counts number
 counted_poll_of counts command = counts
@@ -135,6 +136,7 @@ counted_block counts number entries status =
     if says_again status && not (counts.has_block == 0) && counts.block == number then below
     else counted_entries below entries status
 
+-- what a status answer or a block answer is more than another answer
 abbrev pub counted_answer_of : LogCounts → Answer → LogCounts
 counted_answer_of counts (answers.Status flags receive_errors transmit_errors stamp) = counted_reset counts (nat_le RESET flags)
 counted_answer_of counts (answers.Block block entries status stamp) = counted_block counts block entries.items status
@@ -145,11 +147,13 @@ abbrev pub counted_answer : LogCounts → Option ℕ → Answer → LogCounts
 counted_answer counts time answer = counted_answer_of (counted_awaited
     (record counts { types = raised counts.types (answer_code answer) }) (answer_code answer)) answer
 
+-- how long the module took for an answer, if that is known
 abbrev pub time_to_answer : LogCounts → Option ℕ → Answer → Option ℕ
 time_to_answer counts time answer = time_taken counts time (answer_code answer)
 
 -- ---- a frame
 
+-- a message: a command or an answer; what is neither counts no further
 abbrev pub counted_message : LogCounts → Option ℕ → Option Command → Option Answer → LogCounts
 counted_message counts time (Some command) answer = counted_command counts time command
 counted_message counts time None (Some answer) = counted_answer counts time answer
@@ -160,6 +164,7 @@ abbrev pub counts_with : LogCounts → Option ℕ → List ℕ → LogCounts
 counts_with counts time octets =
     counted_message (record counts { frames = more counts.frames }) time (command_in octets) (answer_in octets)
 
+-- the same of a message
 abbrev pub time_to_message : LogCounts → Option ℕ → Option Command → Option Answer → Option ℕ
 time_to_message counts time None (Some answer) = time_to_answer counts time answer
 time_to_message counts time command answer = None
