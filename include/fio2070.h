@@ -17,10 +17,11 @@
  *    argument without const points to. Such an argument overlaps no other. So threads may call at once, each with its
  *    own structs. A firmware that scans in a timer interrupt makes each other call on the module, getters too, with
  *    that interrupt held off.
- *  - The structs filters, counter, checker, content_checker, module, sized_module, wire, wire_bits and log_reader are
- *    written by the calls of this header alone, _start first, and so are the slots of a sized_module. Before _start they may
- *    hold any octets; _start sets each of those of a struct but a log_reader. They may be copied and moved by memcpy. A
- *    log_reader that other code wrote, or that was not started, is no reader: what a call then does is not promised at all.
+ *  - The structs filters, counter, checker, content_checker, judge, log_judge, log_counts, module, sized_module, wire, wire_bits
+ *    and log_reader are written by the calls of this header alone, _start first, and so are the slots of a sized_module. Before
+ *    _start they may hold any octets; _start sets each of those of a struct but a log_reader. They may be copied and moved by
+ *    memcpy. A log_reader that other code wrote, or that was not started, is no reader: what a call then does is not promised at
+ *    all.
  *
  * Sources: TEES 2009 is Caltrans TEES 2009. "Own profile" is a choice of this project if TEES
  * leaves one: 64 inputs, 64 outputs, and what docs/PROTOCOL.md marks so.
@@ -36,8 +37,8 @@
  * A text ends in a zero octet, which its count leaves out, as that of snprintf does: it was written if its count is less
  * than `room`. No message has more than FIO2070_LONGEST_FRAME octets.
  *
- * The calls are in groups, each with an example: numbers, decode, encode, wire, poller, checker, content, judge, log, parts,
- * module.
+ * The calls are in groups, each with an example: numbers, decode, encode, wire, poller, checker, content, judge, log, log_judge,
+ * log_counts, parts, module.
  */
 #ifndef FIO2070_H
 #define FIO2070_H
