@@ -495,6 +495,7 @@ class Messages(unittest.TestCase):
                  fio2070.ContentChecker().sent, fio2070.ContentChecker().heard, fio2070.Module().receive,
                  lambda octets: fio2070.LogJudge().frame(octets, True),
                  fio2070.LogReader().read, fio2070.Wire().read, fio2070.WireBits().read, fio2070.wire_frame, fio2070.wire_check,
+                 fio2070.LogReader().read, fio2070.LogCounts().frame, fio2070.Wire().read, fio2070.WireBits().read, fio2070.wire_frame, fio2070.wire_check,
                  lambda octets: encode.set_outputs(octets, bytes(8)),
                  lambda octets: encode.set_outputs(bytes(8), octets), lambda octets: encode.other_command(56, octets),
                  lambda octets: encode.other_answer(183, octets)]
@@ -522,9 +523,14 @@ class Messages(unittest.TestCase):
             for given in (1.5, '5', None, b'5', [5]):
                 with self.subTest(call=call, given=given):
                     self.assertRaises(TypeError, call, given)
-        for given in (1.5, '5', b'5', [5]):
+        for given in (1.5, '5', b'5', [5], [], ''):
+            self.assertRaises(TypeError, fio2070.LogCounts().frame, b'', given)
             self.assertRaises(TypeError, fio2070.Wire, given)
             self.assertRaises(TypeError, fio2070.WireBits, None, given)
+
+    def test_times(self):
+        for time in (-1, 2**64):
+            self.assertRaises(ValueError, fio2070.LogCounts().frame, b'', time)
 
     def test_texts_of_objects(self):
         checker, counter = fio2070.Checker(), fio2070.Counter()
@@ -533,7 +539,7 @@ class Messages(unittest.TestCase):
         counter.tick()
         for one, text in [(fio2070.Poller(5), '<Poller number=5 items=0>'), (counter, '<Counter now=1>'),
                           (checker, '<Checker polled=5 awaited=182 skips=False>'),
-                          (fio2070.ContentChecker(), '<ContentChecker>'),
+                          (fio2070.ContentChecker(), '<ContentChecker>'), (fio2070.LogCounts(), '<LogCounts frames=0>'),
                           (fio2070.Filters(), '<Filters filtered=%s raw=%s>' % ('f' * 16, 'f' * 16)),
                           (fio2070.Module(), '<Module counter=0 waiting=0 flags=80>')]:
             self.assertEqual(repr(one), text)

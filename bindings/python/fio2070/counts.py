@@ -66,7 +66,7 @@ class LogCounts:
     def frame(self, octets: Octets, time: Optional[int] = None) -> Optional[int]:
         """Counts a frame, by its time in microseconds, 0 to 2^64 - 1, if it has one. Returns how long the module took for its answer, in
         microseconds, if that is known: of the answer that the latest command waits for, whose time is not before the command's."""
-        octets, has_time = octets_of(octets), time is not None
-        check_range(1 << 64, time or 0)
-        is_known = c.library.fio2070_log_counts_frame(self._counts, has_time, time or 0, octets, len(octets), self._taken)
+        octets, sent_at = octets_of(octets), 0 if time is None else time
+        check_range(1 << 64, sent_at)
+        is_known = c.library.fio2070_log_counts_frame(self._counts, time is not None, sent_at, octets, len(octets), self._taken)
         return int(self._taken.value) if is_known else None
