@@ -6,8 +6,9 @@ use Rattle.std.proofs.lemmas.List.Sums.{sum_by-cons}
 use Rattle.std.specs.List.{concat, sum_by}
 use Rattle.fio_check.specs.LogJudges.{LogEvent, LogJudging, log_below_events, log_with_event, outcome_in_log, outcomes_in_log}
 use Rattle.fio_c.specs.Judges.{without_breach}
-use Rattle.fio_c.specs.LogJudges.{end_in, event_of_frame, events_of_verdict, events_of_verdicts, flat_log_outcome, frames_in, is_sent_frame, outcomes_of_verdict, outcomes_of_verdicts}
-use Rattle.fio_c.specs.Logs.{Content, Holds}
+use Rattle.fio_c.specs.LogJudges.{end_in, event_of_frame, events_of_told, events_of_verdict, events_of_verdicts, flat_log_outcome, frames_in, is_sent_frame, outcomes_of_verdict, outcomes_of_verdicts}
+use Rattle.fio_c.specs.Logs.{Content, Holds, content_of, flat_told}
+use Rattle.fio_c.specs.Told.{Told}
 use Rattle.fio_c.specs.declared.judge.JudgeOutcome.{JudgeOutcome}
 use Rattle.fio_c.specs.declared.log_batch.LogBatch.{LogBatch}
 use Rattle.fio_c.specs.declared.log_batch.TheConstants.{LOG_FRAMES, LOG_VERDICTS}
@@ -233,3 +234,22 @@ length_verdicts as_said log (verdict ∷ verdicts) frames =
       length-drop verdict.frames frames,
       sum_by-cons (λ (one : LogVerdict). one.frames) verdict verdicts,
     )
+
+-- ---- what a reader told
+
+-- each verdict has its own frames
+pub told_events : (as_said : Bool) (told : List Told) → events_of_verdicts as_said (content_of told).verdicts (content_of told).frames ≡ events_of_told as_said told
+told_events as_said [] = refl
+told_events as_said (one ∷ told) =
+    let rest = (content_of told).frames in
+    ap₂ (λ (own more : List (List ℕ)). events_of_verdict as_said (flat_told one) own ++ events_of_verdicts as_said (content_of told).verdicts more)
+    (take-append_seam one.frames rest) (drop-append_seam one.frames rest)
+    ∙ ap (λ (left : List LogEvent). events_of_verdict as_said (flat_told one) one.frames ++ left) (told_events as_said told)
+
+-- as many frames as their verdicts say
+pub told_frames : (told : List Told) → sum_by (λ (verdict : LogVerdict). verdict.frames) (content_of told).verdicts ≡ length (content_of told).frames
+told_frames [] = refl
+told_frames (one ∷ told) =
+    sum_by-cons (λ (verdict : LogVerdict). verdict.frames) (flat_told one) (content_of told).verdicts
+    ∙ ap (λ n. length one.frames + n) (told_frames told)
+    ∙ sym (length-append one.frames (content_of told).frames)

@@ -1,5 +1,6 @@
 -- The judge of a log as C sees it.
 use Rattle.std.specs.Prelude.{ℕ, ◌==◌, ◌&&◌, ◌||◌, Bool, true, false, not, nat_lt, List, [], ◌∷◌, ◌++◌, map, take, drop, slice_get, unwrap_or, Option, Some, None, if◌then◌else◌}
+use Rattle.std.specs.List.{flat_map}
 use Rattle.fio_check.specs.LogJudges.{Found, LogEvent, LogJudging, Lost, Missing, Possible, log_below_events, outcomes_in_log}
 use Rattle.fio_check.specs.declared.late_answers.LateAnswers.{LateAnswers}
 use Rattle.fio_check.specs.declared.log_judge.LogOutcome.{LogOutcome}
@@ -10,6 +11,8 @@ use Rattle.fio_check.specs.declared.outcome.LogPlace.{LogPlace}
 use Rattle.fio_check.specs.declared.outcome.LogPlace.TheVariants.{Bus, Cpu, Module}
 use Rattle.fio_c.specs.Checkers.{octet_in}
 use Rattle.fio_c.specs.Judges.{flat_outcome, judge_in, without_breach}
+use Rattle.fio_c.specs.Logs.{flat_told}
+use Rattle.fio_c.specs.Told.{Told}
 use Rattle.fio_c.specs.declared.judge.JudgeOutcome.{JudgeOutcome}
 use Rattle.fio_c.specs.declared.log_batch.LogVerdict.{LogVerdict}
 use Rattle.fio_c.specs.declared.log_judge.LogJudge.{LogJudge}
@@ -107,6 +110,10 @@ outcomes_of_verdicts judge as_said (verdict ∷ verdicts) frames =
     outcomes_of_verdict judge as_said verdict (take verdict.frames frames)
     ++ outcomes_of_verdicts (log_below_events judge (events_of_verdict as_said verdict (take verdict.frames frames)))
     as_said verdicts (drop verdict.frames frames)
+
+-- what verdicts with their frames say to the judge, as a reader told them
+abbrev pub events_of_told : Bool → List Told → List LogEvent
+events_of_told as_said told = flat_map (λ one. events_of_verdict as_said (flat_told one) one.frames) told
 
 -- ---- the frames of a batch
 

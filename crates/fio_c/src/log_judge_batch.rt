@@ -1,10 +1,11 @@
 //! The judge of a log, over all that a batch of the reader of logs says.
-ghost use Rattle.std.specs.Prelude.{◌≡◌, ◌==◌, ◌++◌, ◌≤◌, drop, length, map, min, not, sum};
+ghost use Rattle.std.specs.Prelude.{◌≡◌, ◌==◌, ◌++◌, ◌≤◌, List, drop, length, map, min, not, sum};
 ghost use Rattle.std.specs.List.{sum_by};
 ghost use Rattle.fio_check.specs.LogJudges.{log_below_events, log_judging, log_with_event, outcome_in_log, outcomes_in_log};
 ghost use Rattle.fio_c.specs.Judges.{without_breach};
-ghost use Rattle.fio_c.specs.LogJudges.{event_of_frame, event_of_line, events_of_verdict, events_of_verdicts, flat_log_outcome, frames_in, is_sent_frame, log_judge_in, outcomes_of_verdict, outcomes_of_verdicts};
-ghost use Rattle.fio_c.specs.Logs.{Content, Holds};
+ghost use Rattle.fio_c.specs.LogJudges.{event_of_frame, event_of_line, events_of_told, events_of_verdict, events_of_verdicts, flat_log_outcome, frames_in, is_sent_frame, log_judge_in, outcomes_of_verdict, outcomes_of_verdicts};
+ghost use Rattle.fio_c.specs.Logs.{Content, Holds, content_of};
+ghost use Rattle.fio_c.specs.Told.{Told};
 
 use crate::judge::{JudgeOutcome, without_breach};
 use crate::log_batch::{LOG_FRAMES, LOG_VERDICTS, LogBatch, LogVerdict};
@@ -35,6 +36,9 @@ pub extern "C" fn fio2070_log_judge_batch(
         → result ≡ length (outcomes_of_verdicts (log_judge_in judge.old) (not (as_said == 0)) content.verdicts content.frames) }
     ensures each { (content : Content) → Holds batch.now content
         → result ≡ min (sum_by (λ verdict. verdict.frames) content.verdicts) (length content.frames) }
+    ensures told { (told : List Told) → Holds batch.now (content_of told)
+        → log_judge_in judge.new ≡ log_below_events (log_judge_in judge.old) (events_of_told (not (as_said == 0)) told) }
+    ensures all { (told : List Told) → Holds batch.now (content_of told) → result ≡ length (content_of told).frames }
     ensures within { result ≤ LOG_FRAMES }
 {
     let verdicts = &batch.verdicts[..(batch.verdict_count as usize).min(LOG_VERDICTS)];

@@ -1,9 +1,10 @@
-use Rattle.std.proofs.Common.{◌==◌, ◌++◌, ◌∙◌, List, ℕ, length, not, drop, ap, ap₂, rules}
+use Rattle.std.proofs.Common.{◌==◌, ◌++◌, ◌∙◌, List, ℕ, length, not, drop, ap, ap₂, rules, arith}
 use Rattle.fio_check.specs.LogJudges.{LogJudging, log_below_events, log_judging}
 use Rattle.fio_c.specs.LogJudges.{events_of_verdicts, log_judge_in, outcomes_of_verdicts}
+use Rattle.fio_c.specs.Logs.{content_of}
 use Rattle.fio_c.specs.declared.judge.JudgeOutcome.{JudgeOutcome}
 use Rattle.fio_c.specs.declared.log_batch.LogVerdict.{LogVerdict}
-use Rattle.fio_c.proofs.JudgedBatches.{held, length_verdicts}
+use Rattle.fio_c.proofs.JudgedBatches.{held, length_verdicts, told_events, told_frames}
 use Rattle.fio_c.proofs.log_judge_batch.fio2070_log_judge_batch.Goals as goal
 
 pub returns-clause-next : goal.returns-clause-next
@@ -34,3 +35,10 @@ returns-clause-count c = λ content holds.
 pub returns-clause-each : goal.returns-clause-each
 returns-clause-each c = λ content holds.
     returns-clause-count c content holds ∙ length_verdicts (not (c.args.as_said == 0)) (log_judge_in c.args.judge.now) content.verdicts content.frames
+
+pub returns-clause-told : goal.returns-clause-told
+returns-clause-told c = λ told holds.
+    returns-clause-next c (content_of told) holds ∙ ap (log_below_events (log_judge_in c.args.judge.now)) (told_events (not (c.args.as_said == 0)) told)
+
+pub returns-clause-all : goal.returns-clause-all
+returns-clause-all c = λ told holds. omega (arith, returns-clause-each c (content_of told) holds, told_frames told)
