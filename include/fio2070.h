@@ -1077,7 +1077,10 @@ enum fio2070_log_reason {
     FIO2070_LOG_TOO_LONG = 6,         /**< it is longer than a line, or than the octets of several lines, that are kept */
     FIO2070_LOG_BAD_LINE = 7,         /**< it is no line of the text that it is read as by order */
     FIO2070_LOG_EXCHANGED = 8,        /**< its octets spell a message with a count if those of each pair are exchanged */
-    FIO2070_LOG_TWO_MORE = 9          /**< its octets spell a message with a count but for two at one end */
+    FIO2070_LOG_TWO_MORE = 9,         /**< its octets spell a message with a count but for two at one end */
+    FIO2070_LOG_LOSS = 10,            /**< it has no octets, and its words speak of loss: an answer may be missing here */
+    FIO2070_LOG_HEADING = 11,         /**< it has no octets, and is the heading of a log or of a part of one */
+    FIO2070_LOG_ONE_LESS = 12         /**< its octets spell a message with a count but for one missing at their end */
 };
 
 /** Who sent the octets of a line, as the line says: by its last word or arrow before them that says it. */
@@ -1159,8 +1162,9 @@ void fio2070_log_start(struct fio2070_log_reader *reader, uint8_t form);
  * whose lines are counted from 1.
  *
  * Proved are: which lines the octets make that it takes; that the verdicts in a batch are those of the next lines, each once
- * and in order, with all their frames and places; that each frame spells a message and is written at its places; and that a
- * new log begins as said. How many octets it takes, when a verdict is due and what it says are tested. */
+ * and in order, with all their frames and places; that each frame spells a message and is written at its places; that a line
+ * with the reason FIO2070_LOG_LOSS or FIO2070_LOG_HEADING has such words; and that a new log begins as said. How many octets it
+ * takes, when a verdict is due and what else it says are tested. */
 FIO2070_MUST_USE
 size_t fio2070_log_read(struct fio2070_log_reader *reader, const uint8_t *octets, size_t length,
                         struct fio2070_log_batch *batch);

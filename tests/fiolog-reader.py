@@ -11,7 +11,7 @@ sys.dont_write_bytecode = True
 
 from support.check import Check
 from support.fiolog import use_library
-from support.log_model import REMARKS, LogReader as Model
+from support.log_model import OTHERWISE, REMARKS, LogReader as Model
 from support.loggers import LOGGERS
 from support.other_text import BY_CHANCE, REMARKED, other_text
 from support.sessions import SESSION, random_session, timed
@@ -64,6 +64,18 @@ REASONS = {
     'a header and a check': ('RX 14 83 b6 05 00 00 00 00 00 01 a4 7c\n', ['no message']),
     'a short message of exchanged octets': ('TX 0536\n', ['no message']),
     'a short message and a check': ('TX 36 05 a4 7c\n', ['no message']),
+    'a message without its last octet, in no log of frames': ('RX b6 05 00 00 00 00 00\n', ['no message']),
+    'words of loss': ('07:15:02 3 frames lost\nRX buffer OVERRUN\nrx_dropped: 9\n[warn] Overflow, octets missing\nmissed an answer\nTX FIFO full\n'
+                      'truncated\n* loss *\n', ['loss'] * 8),
+    'headings': ('=~=~=~=~=~= PuTTY log 2026.03.01 12:00:00 =~=~=~=~=~=\nDocklight Log File (HEX) started 22.11.2026 07:15:02\n'
+                 'Log file opened 2026-03-01 12:00:00\nScript started on 2026-03-01 12:00:00 [TERM="xterm"]\n==> rx.log <==\n'
+                 '--------- beginning of main\n*** 3 octets lost ***\n  # # #\n\t___\nWelcome to minicom 2.8\nEnabling Logfile\n'
+                 'Mar  1 00:00:00 host newsyslog: logfile turned over\nsyslogd 1.5.0: restart.\nSerial port COM3 opened\nSession started.\n'
+                 'Log file created at: 2026/03/01 12:00:00\nlistening on eth0, link-type EN10MB (Ethernet), capture size 65535 bytes\n'
+                 'Begin capture\nRECORDING RESUMED\n-- Logs begin at Sun 2026-03-01 12:00:00 UTC --\n',
+                 ['heading'] * 7 + ['no octets'] + ['heading'] * 12),
+    'words that say nothing': ('main loop idle\nport 3 idle\nqueue 08\nheartbeat 34\nstarting scan 12\nfile saved\nlossless\nblossom\nfully\n'
+                               'login reopening\nopen 3\n-> port\n==\n-- MARK --\n', ['no octets'] * 3 + ['short message'] + ['no octets'] * 10),
 }
 
 # Forms of which frames are lost: a loose type whose rows may go on is passed over; the others are none of the definition's.
@@ -214,6 +226,9 @@ def check_reasons(check):
         check.equal('%s: no frame, and why' % name, ([], expected), (read.octets + read.possible, [one.reason for one in read.verdicts]))
     read = Read('RX b6 05 00 00 00 00 00 01\nRX b6 06 00 00 00 00 00 02 a4 7c\n')
     check.equal('a check of another kind below a frame', [('frames', ''), ('damaged', 'no message')], [(one.kind, one.reason) for one in read.verdicts])
+    read = Read('RX b6 05 00 00 00 00 00 01\nRX b6 06 00 00 00 00 00\nRX b6 07 00 00 00 00\nRX b6 08 01 8c 03 e7 00 00 00 03\nRX lost\nRX\n3 lost\n')
+    check.equal('octets that are missing below a frame', ['', 'one less', 'no message', 'one less', 'loss', 'no octets', 'loss'],
+                [one.reason for one in read.verdicts])
 
 
 def check_strangers(check):
@@ -293,7 +308,7 @@ def check_other_text(check):
         check.holds('%s: each line has a verdict' % name, read.is_whole)
         for one, octets in read.frames:
             found[name, one.line] = octets.hex()
-        remarked.update({(name, one.line): one.reason for one in read.verdicts if one.reason in REMARKS})
+        remarked.update({(name, one.line): one.reason for one in read.verdicts if one.reason in OTHERWISE})
     for row, listed, got in (('frames', BY_CHANCE, found), ('remarks', REMARKED, remarked)):
         expected = {key: value for key, value in listed.items() if count > 13_000 or key[1] <= 500 and int(key[0].split(', ')[-1]) < 26}
         check.equal('%s in other text' % row, expected, got)

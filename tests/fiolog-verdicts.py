@@ -55,6 +55,15 @@ def check_cures(check):
                               ('other text', 'nothing here\n', [])):
         said, named = fiolog('check', text=text).err, fiolog('check', '-v', text=text).err
         check.equal('what helps: ' + name, (words, words), ([one for one in (swap, two) if ': ' + one in said], [one for one in (swap, two) if '(%s): ' % one in named]))
+    whole, less = 'TX 36 05\nRX B6 05 00 00 00 00 00 01\n', 'TX 36 06\nRX B6 06 00 00 00 00 00\n'
+    for name, text, words in (('one message', whole + less, ['1 message lacks its last octet']), ('several', whole + less * 3, ['3 messages lack their last octet']),
+                              ('beside other damage', whole + less + 'TX 36 06\nRX B6 06 00 00 00\n', []), ('of no frame', 'RX B6 06 00 00 00 00 00\n', [])):
+        for more in (), ('-q',), ('-v',):
+            check.equal('a last octet that is missing, %s%s' % (name, ''.join(more)), [] if more == ('-q',) else words,
+                        re.findall('[0-9]+ messages? lacks? .* last octet', fiolog('check', *more, text=text).err))
+    said = fiolog('check', '-v', text=whole + less + '3 frames lost\nLog file opened\nidle\n').err
+    check.equal('a line is named by its words', ['4: an octet too few', '5: octets may be lost', '6: heading', '7: no octets'],
+                re.findall(r'line (\d+: [^:]*): ', said))
     header = 'TX 00 08 36 05\nRX 00 08 B6 05 00 00 00 00 00 01\n'
     check.equal('it helps: --sdlc --no-check', ['poll block 5', 'block 5 entries 0 status 00 stamp 1'],
                 [line[9:] for line in fiolog('decode', '-q', '--sdlc', '--no-check', text=header).out.splitlines()])

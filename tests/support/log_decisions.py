@@ -249,9 +249,14 @@ class Decisions:
         return one is not None and not self.is_of_frames(one, self.frames, entry)
 
 
+# What a line is said to have instead of a reason that only lines of another kind have.
+ONLY = {'damaged': {'exchanged': 'no message', 'two more': 'no message', 'loss': 'no octets', 'heading': 'no octets'},
+        'passed over': {'one less': 'no message'}}
+
+
 def told(entry):
     first, kind = entry.lines[0], entry.kind
-    reason = '' if kind == 'frames' else 'short message' if entry.messages else entry.reason
+    reason = '' if kind == 'frames' else 'short message' if entry.messages else ONLY[kind].get(entry.reason, entry.reason) if kind in ONLY else entry.reason
     if kind not in ('frames', 'possible'):
         return [Verdict(line.number, kind, reason) for line in entry.lines]
     lines = entry.lines if len(entry.lines) > 1 else entry.lines * len(entry.used)

@@ -8,10 +8,13 @@ from support.log_clock import DIGITS, HEX, MONTHS, without_time
 from support.log_sources import Sources, numbers_in
 from support.log_runs import (BLANK, HELD, LATER, LINE, LONG, LOOSE, MOST, ROW, SHAPES, WORD, YOUNG, frames_of, hex_runs, is_pair, lacks,
                               length_of, remark_of, runs, spells)
+from support.log_wordings import without_octets
 
 NO_OCTETS, NO_MESSAGE, SHORT, SEVERAL, LONGER, TOO_LONG, BAD_LINE = (
     'no octets', 'no message', 'short message', 'several messages', 'may be longer', 'too long', 'bad line')
-REMARKS = 'exchanged', 'two more'
+OTHERWISE = 'exchanged', 'two more'
+WORDINGS = 'loss', 'heading'
+REMARKS = (*OTHERWISE, 'one less', *WORDINGS)
 
 
 class Verdict(NamedTuple):
@@ -472,8 +475,9 @@ class Reader:
 
     def pass_over(self, entry):
         has_octets = any(len(one.octets) > 1 for one in entry.said)
-        remark = next(filter(None, (remark_of(one.octets) for one in entry.said)), NO_MESSAGE)
-        entry.settle('passed over', SHORT if entry.fits else remark if has_octets else NO_OCTETS)
+        remarks = [remark_of(one.octets) for one in entry.said if not one.frames]
+        remark = next((one for one in remarks if one in OTHERWISE), next(filter(None, remarks), NO_MESSAGE))
+        entry.settle('passed over', SHORT if entry.fits else remark if has_octets else without_octets(entry.whole))
 
     def ask(self, entry):
         """Marks the one message that a line says, where no line of the log is a frame, as possible: one of two octets or more, or
@@ -511,7 +515,9 @@ class Reader:
             self.queue.pop(0)
             if entry.kind == 'passed over' and entry.reason != TOO_LONG and self.count and self.is_damaged(entry):
                 entry.kind = 'damaged'
-                entry.reason = NO_MESSAGE if entry.reason in REMARKS else entry.reason
+                entry.reason = NO_MESSAGE if entry.reason in OTHERWISE else NO_OCTETS if entry.reason in WORDINGS else entry.reason
+            elif entry.reason == 'one less':
+                entry.reason = NO_MESSAGE
             time = None if entry.time is None else round(entry.time * 1_000_000)
             first, *others = entry.numbers
             said = said_in(entry.whole, entry.places[0][1]) if entry.places else ''

@@ -5,6 +5,7 @@ import itertools
 import re
 
 from support.log_lines import text_of
+from support.log_wordings import without_octets
 from support.log_octets import ANY_LENGTH, Run, begins, column_of, is_written_alike, needed, said
 
 WIDTH = 8               # octets of a row, at least
@@ -282,11 +283,14 @@ def why(line):
     if line.saying:
         return 'several messages' if sum(said(run.octets)[1] for run in line.saying) > 1 else 'short message'
     if not line.runs:
-        return 'no octets'
-    for run in line.runs:
-        octets = run.octets
-        swapped = bytes(octets[place ^ 1] for place in range(len(octets))) if len(octets) % 2 == 0 else b''
-        for reason, other in (('exchanged', [swapped]), ('two more', [octets[2:], octets[:-2]])):
-            if any(said(one) and one[0] in (51, 182) for one in other if one):
-                return reason
-    return 'no message'
+        return without_octets(line.text)
+    remarks = [remark for run in line.runs for remark in remarks_on(run.octets)]
+    return next((one for one in remarks if one != 'one less'), 'one less' if remarks else 'no message')
+
+
+def remarks_on(octets):
+    """How octets that are no message would be one with a count."""
+    swapped = bytes(octets[place ^ 1] for place in range(len(octets))) if len(octets) % 2 == 0 else b''
+    for reason, other in (('exchanged', [swapped]), ('two more', [octets[2:], octets[:-2]]), ('one less', [octets + b'\x5a'])):
+        if any(said(one) and one[0] in (51, 182) and len(one) > 2 for one in other if one):
+            yield reason

@@ -73,9 +73,10 @@ def is_counted(octets):
 
 def remark_of(octets):
     """What is remarked of octets that spell no message: that they spell one with a count if the octets of each pair are exchanged,
-    perhaps with a 0 at the end, or without their first or last two octets."""
+    perhaps with a 0 at the end, or without their first or last two octets, or with one octet more at the end."""
     swapped = octets if len(octets) % 2 else bytes(octets[place ^ 1] for place in range(len(octets)))
-    for remark, texts in (('exchanged', (swapped, swapped[:-1] if swapped[-1:] == b'\0' else b'')), ('two more', (octets[2:], octets[:-2]))):
+    for remark, texts in (('exchanged', (swapped, swapped[:-1] if swapped[-1:] == b'\0' else b'')), ('two more', (octets[2:], octets[:-2])),
+                          ('one less', (octets + b'\0', octets + b'\xa5'))):
         if any(spells(text) and is_counted(text) for text in texts):
             return remark
     return None

@@ -132,6 +132,9 @@ LOG_TOO_LONG = 6
 LOG_BAD_LINE = 7
 LOG_EXCHANGED = 8
 LOG_TWO_MORE = 9
+LOG_LOSS = 10
+LOG_HEADING = 11
+LOG_ONE_LESS = 12
 
 # Who sent the octets of a line of a log, as it says.
 LOG_NO_SIDE = 0

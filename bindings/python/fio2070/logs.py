@@ -11,7 +11,7 @@ from .encode import Octets, octets_of
 _FORMS = {'auto': constants.LOG_AUTO, 'frames': constants.LOG_FRAMES, 'transcript': constants.LOG_TRANSCRIPT}
 _KINDS = ('blank', 'frames', 'part', 'possible', 'damaged', 'passed over')
 _REASONS = ('', 'no octets', 'no message', 'short message', 'several messages', 'may be longer', 'too long',
-            'bad line', 'exchanged', 'two more')
+            'bad line', 'exchanged', 'two more', 'loss', 'heading', 'one less')
 _SIDES = ('', '>', '<')
 # How many octets the library gets at a time: what a batch leaves of them is copied.
 _PIECE = 65536
@@ -27,7 +27,8 @@ class Verdict(NamedTuple):
     'possible', a message that nothing makes sure; 'damaged', which may have held a frame; or 'passed over'. `reason` says why
     the line gives no frame, in one of these words: 'no octets', 'no message', 'short message', 'several messages', 'may be
     longer', 'too long', 'exchanged' (a message that has a count, if the octets of each pair are exchanged), 'two more' (one but
-    for two octets at one end), and by order 'bad line'; else it is empty. The octets of `frames` are written at `places`, in
+    for two octets at one end), 'one less' (of a damaged line: one but for its last octet), 'loss' (no octets, and words of loss),
+    'heading' (no octets, and the heading of a log or of a part of one), and by order 'bad line'; else it is empty. The octets of `frames` are written at `places`, in
     their order: each is the number of a line, and where it begins and ends there, in octets of UTF-8, after colours, NUL and
     marks are taken out. `time` is in microseconds since 1970, or since midnight or a start; None if the log has none there. `said` is
     '>' if the line says that the CPU sent these octets, '<' if the module, else empty."""

@@ -6,7 +6,7 @@ from collections import Counter
 
 from . import merge, source
 from .events import BAD, FRAME, LOSSES, PART, PASSED, PIECE, POSSIBLE
-from .log_words import CURES
+from .log_words import CURES, REASONS
 from .by_order import CHECKED, UNCHECKED
 from .line import LINES
 from .options import line_address
@@ -132,6 +132,9 @@ class Log:
         for reason, cure in () if self.option.quiet else CURES.items():
             if self.reasons[reason] or self.damages[reason]:
                 say('%s: %s' % (reason, cure))
+        less = self.damages[REASONS['one less']]
+        if less and less == self.damaged and not self.option.quiet:
+            say('%d message%s last octet: does the logger cut lines off?' % (less, ' lacks its' if less == 1 else 's lack their'))
         if self.flagged and not self.option.quiet and not self.option.sdlc:
             say('%d line%s a flag, address and control octet of SDLC, and no frame that is read: try --sdlc' % (
                 self.flagged, ' has' if self.flagged == 1 else 's have'))

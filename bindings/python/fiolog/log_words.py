@@ -11,6 +11,9 @@ REASONS = {
     'bad line': 'bad line',
     'exchanged': 'octets that are a message if those of each pair are exchanged',
     'two more': 'octets that are a message but for two at their beginning or end',
+    'loss': 'octets may be lost',
+    'heading': 'heading',
+    'one less': 'an octet too few',
 }
 # What helps, by the words of a reason.
 CURES = {

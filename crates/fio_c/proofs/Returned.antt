@@ -7,6 +7,7 @@ use Rattle.fio_log.specs.Frames.{AreFramesAt, Log}
 use Rattle.fio_log.specs.Lines.{Making, Text, is_whole, no_line}
 use Rattle.fio_log.specs.OwnVerdicts.{IsOwnVerdict, own_form_of}
 use Rattle.fio_log.specs.Sayings.{spells}
+use Rattle.fio_log.specs.Wordings.{SaysWords}
 use Rattle.fio_log.specs.Telling.{HasTaken, HasTold, IsLineOf, IsReaderOf, Telling, frames_of, places_of}
 use Rattle.fio_log.specs.declared.own_texts.OwnForm.{OwnForm}
 use Rattle.fio_log.specs.declared.verdict.Form.TheVariants.{Auto}
@@ -43,14 +44,16 @@ line_read texts before after text kept has = record {
 pub verdict_of : (texts : Texts) (before after : Telling) (verdict : Verdict) → HasTold before verdict after
     → ((log : Log) → IsReaderOf log before → IsReaderOf log after)
     → ((log : Log) → IsReaderOf log before → before.form ≡ Auto → AreFramesAt log (frames_of after) (places_of after))
+    → ((log : Log) → IsReaderOf log before → before.form ≡ Auto → SaysWords (log verdict.line) verdict.reason)
     → ((own : OwnForm) → own_form_of before.form ≡ Some own → IsOwnVerdict own after.making.text verdict.kind verdict.reason (frames_of after))
     → ((own : OwnForm) → own_form_of before.form ≡ Some own → (verdict.line ≡ after.read) × (is_whole after.making.ending ≡ true))
     → HasReadOf texts before → HasReadOf texts after × IsVerdictOf texts before.form (told_by verdict after)
-verdict_of texts before after verdict told kept written own last has =
+verdict_of texts before after verdict told kept written words own last has =
     let read = same_read texts before after told.making told.read kept has in (
       read,
       record {
         written = written (log_of texts) has.kept;
+        words = words (log_of texts) has.kept;
         own = λ form is.
             let line = last form is in
             subst (λ text. IsOwnVerdict form text verdict.kind verdict.reason (frames_of after))

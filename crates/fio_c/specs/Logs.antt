@@ -41,6 +41,9 @@ reason_number reasons.TooLong = 6
 reason_number reasons.BadLine = 7
 reason_number reasons.Exchanged = 8
 reason_number reasons.TwoMore = 9
+reason_number reasons.Loss = 10
+reason_number reasons.Heading = 11
+reason_number reasons.OneLess = 12
 
 -- the number of who sent octets
 abbrev pub side_number : Option Direction → ℕ

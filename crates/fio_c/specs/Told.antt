@@ -6,6 +6,7 @@ use Rattle.fio_log.specs.Lines.{Text, is_whole}
 use Rattle.fio_log.specs.OwnVerdicts.{IsOwnVerdict, own_form_of}
 use Rattle.fio_log.specs.Sayings.{spells}
 use Rattle.fio_log.specs.Telling.{HasTold, IsReaderOf, Telling, frames_of, places_of}
+use Rattle.fio_log.specs.Wordings.{SaysWords}
 use Rattle.fio_log.specs.declared.own_texts.OwnForm.{OwnForm}
 use Rattle.fio_log.specs.declared.places.Place.{Place}
 use Rattle.fio_log.specs.declared.verdict.Form.{Form}
@@ -57,9 +58,10 @@ abbrev pub AreLinesAfter : ℕ → Texts → List Text → Type 0
 AreLinesAfter above texts [] = Unit {0}
 AreLinesAfter above texts (text ∷ more) = (text ≡ texts (above + 1)) × AreLinesAfter (above + 1) texts more
 
--- A verdict is of a log with these lines: its frames are written at its places or, if lines are read by order, it is what
--- `read_own_line` says of its line.
+-- A verdict is of a log with these lines: its frames are written at its places, and what it says of the words of its line is
+-- so; or, if lines are read by order, it is what `read_own_line` says of its line.
 pub record IsVerdictOf (texts : Texts) (form : Form) (one : Told) : Type 0 where
   pub written : form ≡ Auto → AreFramesAt (log_of texts) one.frames one.places
+  pub words : form ≡ Auto → SaysWords (texts one.verdict.line).octets one.verdict.reason
   pub own : (own : OwnForm) → own_form_of form ≡ Some own
       → IsOwnVerdict own (texts one.verdict.line) one.verdict.kind one.verdict.reason one.frames

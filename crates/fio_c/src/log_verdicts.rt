@@ -131,6 +131,9 @@ fn reason_number(reason: Reason) -> u8
         Reason::BadLine => 7,
         Reason::Exchanged => 8,
         Reason::TwoMore => 9,
+        Reason::Loss => 10,
+        Reason::Heading => 11,
+        Reason::OneLess => 12,
     }
 }
 

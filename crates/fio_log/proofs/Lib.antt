@@ -7,6 +7,8 @@ pub mod OwnTextLemmas
 pub mod RoomLemmas
 pub mod RunLemmas
 pub mod WordLemmas
+pub mod WordingLemmas
+pub mod RemarkLemmas
 pub mod LineLemmas
 pub mod FrameLemmas
 pub mod MessageRunLemmas

@@ -4,6 +4,7 @@ use Rattle.std.specs.List.{All}
 use Rattle.fio_log.specs.Chains.{part_of}
 use Rattle.fio_log.specs.LineRuns.{IsWrittenAt}
 use Rattle.fio_log.specs.Sayings.{octets_kept_as}
+use Rattle.fio_log.specs.Wordings.{SaysWords}
 use Rattle.fio_log.specs.declared.judge.joined.Joined.{Joined}
 use Rattle.fio_log.specs.declared.judge.joined.Row.{Row}
 use Rattle.fio_log.specs.declared.judge.entries.Entries.{Entries}
@@ -80,11 +81,12 @@ IsMessageOf octets run = IsWithin octets (message_of run)
 abbrev pub IsRunOf : Log → ℕ → List Row → MessageRun → Type 0
 IsRunOf log from rows run = AreFramesAt log (message_of run ∷ []) (run_places from rows run)
 
--- the messages of an entry are written where its runs are
-abbrev pub IsEntryOf : Log → Entry → Type 0
-IsEntryOf log entry = All (IsRunOf log entry.from entry.rows.items) entry.runs.items
+-- What an entry keeps of a log: its messages are written where its runs are, and what it keeps of the words of its first line is so.
+pub record IsEntryOf (log : Log) (entry : Entry) : Type 0 where
+  pub written : All (IsRunOf log entry.from entry.rows.items) entry.runs.items
+  pub words : SaysWords (log entry.from) entry.without_octets
 
--- the messages of all entries are written where their runs are
+-- what all entries keep of a log is so
 abbrev pub AreEntriesOf : Log → Entries → Type 0
 AreEntriesOf log entries = All (IsEntryOf log) entries.slots.all.items
 

@@ -10,6 +10,7 @@ pub mod LineRuns
 pub mod Lines
 pub mod Frames
 pub mod Keeping
+pub mod Wordings
 pub mod Verdicts
 pub mod Telling
 pub mod Chains

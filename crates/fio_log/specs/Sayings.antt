@@ -6,6 +6,7 @@ use Rattle.fio_message.specs.Commands.{command_length}
 use Rattle.fio_message.specs.Answers.{answer_length}
 use Rattle.fio_message.specs.Decoding.{command_in, answer_in}
 use Rattle.fio_message.specs.declared.types.TheConstants.{BLOCK_ANSWER, CONFIGURE_INPUTS, RAW_INPUTS}
+use Rattle.fio_message.specs.declared.limits.TheConstants.{FRAME_OCTETS}
 use Rattle.fio_message.specs.declared.faults.DecodeError.{DecodeError}
 use Rattle.fio_message.specs.declared.faults.DecodeError.TheVariants.{WrongLength}
 use Rattle.fio_wire.specs.Checks.{frame_check_of}
@@ -39,6 +40,12 @@ needed_of other = 0
 abbrev pub is_counted : List ℕ → Bool
 is_counted octets =
     slice_index octets 0 == BLOCK_ANSWER || slice_index octets 0 == CONFIGURE_INPUTS && nat_lt 2 (length octets)
+
+-- Octets lack their last one: a count in them says that the message that they begin has one octet more.
+pub record LacksLast (octets : List ℕ) : Type 0 where
+  pub counted : is_counted octets ≡ true
+  pub needed : length_of octets ≡ Some (length octets + 1)
+  pub within : length octets < FRAME_OCTETS
 
 -- Whether the octets from a place to another are a frame: a header of two octets, a message, and the right check of
 -- both, its low octet first.

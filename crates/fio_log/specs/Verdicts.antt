@@ -1,5 +1,5 @@
 -- What a verdict says agrees with its frames and their places.
-use Rattle.std.specs.Prelude.{◌≡◌, ℕ, ◌<◌, ◌≤◌, ◌⊎◌, ◌↔◌, List, [], ◌∷◌, length}
+use Rattle.std.specs.Prelude.{◌≡◌, ℕ, ◌<◌, ◌≤◌, ◌⊎◌, ◌↔◌, List, [], ◌∷◌, Option, Some, None, length}
 use Rattle.fio_log.specs.declared.places.Place.{Place}
 use Rattle.fio_log.specs.declared.verdict.Kind.{Kind}
 use Rattle.fio_log.specs.declared.verdict.Kind.TheVariants as kinds
@@ -15,14 +15,27 @@ HasFrames kinds.Part count = count ≡ 0
 HasFrames kinds.Damaged count = count ≡ 0
 HasFrames kinds.PassedOver count = count ≡ 0
 
+-- the kind of lines that alone have a reason, if one kind alone has it
+abbrev pub only_kind : Reason → Option Kind
+only_kind reasons.Exchanged = Some kinds.PassedOver
+only_kind reasons.TwoMore = Some kinds.PassedOver
+only_kind reasons.Loss = Some kinds.PassedOver
+only_kind reasons.Heading = Some kinds.PassedOver
+only_kind reasons.OneLess = Some kinds.Damaged
+only_kind other = None
+
+-- whether a reason is one why a line of a kind gave no frame: not one that only another kind has
+abbrev pub IsReasonFor : Kind → Reason → Type 0
+IsReasonFor kind reason = ¬ (reason ≡ reasons.None) × ((only : Kind) → only_kind reason ≡ Some only → kind ≡ only)
+
 -- whether a line of a kind has a reason why it gave no frame: not if it did, is blank or a part
 abbrev pub HasReason : Kind → Reason → Type 0
 HasReason kinds.Frames reason = reason ≡ reasons.None
-HasReason kinds.Possible reason = ¬ (reason ≡ reasons.None)
+HasReason kinds.Possible reason = IsReasonFor kinds.Possible reason
 HasReason kinds.Blank reason = reason ≡ reasons.None
 HasReason kinds.Part reason = reason ≡ reasons.None
-HasReason kinds.Damaged reason = ¬ (reason ≡ reasons.None)
-HasReason kinds.PassedOver reason = ¬ (reason ≡ reasons.None)
+HasReason kinds.Damaged reason = IsReasonFor kinds.Damaged reason
+HasReason kinds.PassedOver reason = IsReasonFor kinds.PassedOver reason
 
 -- a place is behind another: in a later line, or in the same one at its end or after it
 abbrev pub IsPast : Place → Place → Type 0

@@ -7,6 +7,7 @@ ghost use Rattle.std.specs.Prelude.{◌≡◌, ◌+◌, ℕ, List, IfSome, lengt
 ghost use Rattle.std.specs.List.{All};
 ghost use Rattle.fio_log.specs.Frames.{IsJudgeOf, Log};
 ghost use Rattle.fio_log.specs.LineRuns.{IsLineRun};
+ghost use Rattle.fio_log.specs.Wordings.{SaysWords};
 
 pub(crate) mod close;
 mod damage;
@@ -39,6 +40,7 @@ use crate::judge::remarks::remark_on;
 use crate::judge::slots::Slot;
 use crate::line_run::{LineRun, LineRuns};
 use crate::verdict::{Kind, Reason};
+use crate::wordings::reason_without_octets;
 
 /// A line that is read.
 #[derive(Clone, Copy)]
@@ -55,6 +57,17 @@ impl Line<'_> {
     /// Returns whether it has nothing but blanks.
     fn is_blank(&self) -> bool {
         !self.is_long && self.text.iter().all(|octet| octet.is_ascii_whitespace())
+    }
+
+    /// Returns why it gives no frame if it has no octets. Its words are read only if no run of it has two octets or more.
+    fn without_octets(&self, runs: &LineRuns) -> Reason
+        ensures { SaysWords self.now.text.now result }
+    {
+        if self.is_long || runs.has_octets() {
+            Reason::NoOctets
+        } else {
+            reason_without_octets(self.text)
+        }
     }
 
     /// Returns whether the line is indented.
@@ -172,14 +185,14 @@ impl Judge {
             return;
         };
         if line.is_blank() {
-            self.put(slot, line, None);
+            self.put(slot, line, None, runs);
             self.decider
                 .settle(slot, State::Passed(Kind::Blank, Reason::None));
             return;
         }
         let heading = self.heading;
         self.heading = if runs.has_octets() { None } else { runs.time };
-        self.put(slot, line, runs.time.or(heading));
+        self.put(slot, line, runs.time.or(heading), runs);
         self.keep_runs(slot, line.number, runs);
         if line.is_long {
             self.decider
@@ -207,10 +220,11 @@ impl Judge {
     }
 
     /// Puts the entry of a line in the next slot.
-    fn put(&mut self, slot: Slot, line: Line, time: Option<u64>)
-        ensures { (log : Log) → IsJudgeOf log self.old → IsJudgeOf log self.new }
+    fn put(&mut self, slot: Slot, line: Line, time: Option<u64>, runs: &LineRuns)
+        ensures { (log : Log) → IsJudgeOf log self.old → line.entry.text.now ≡ log line.entry.number → IsJudgeOf log self.new }
     {
-        self.entries.begin(slot, line.number, time);
+        self.entries
+            .begin(slot, line.number, time, line.without_octets(runs));
         self.decider.queue.push(slot, line.number, line.text);
     }
 

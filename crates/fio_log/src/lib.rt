@@ -14,7 +14,7 @@
 //! The definitions are in `specs/`, in this order: characters (`Digits`), words with their marks (`Words`), the octets that
 //! characters spell (`Readings`, `Numbers`, `Literals`) and the places where they are written (`Written`), runs (`Runs`),
 //! what octets say (`Sayings`), the runs of a line (`LineRuns`), lines (`Lines`), chains of messages (`Chains`), frames and their
-//! places (`Frames`), what an entry keeps (`Keeping`), what a verdict says (`Verdicts`), what a reader has read and returned
+//! places (`Frames`), what an entry keeps (`Keeping`), what words say (`Wordings`), what a verdict says (`Verdicts`), what a reader has read and returned
 //! (`Telling`). Only the code says what times are, and which messages are frames (`judge`). The laws are
 //! the contracts of `Reader` and of the module `laws`.
 //!
@@ -63,6 +63,7 @@ mod sources;
 mod surroundings;
 mod verdict;
 mod ways;
+mod wordings;
 
 pub use clock::{Time, time_in};
 pub use directions::Direction;

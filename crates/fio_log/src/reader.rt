@@ -7,6 +7,7 @@ ghost use Rattle.std.specs.List.{All};
 ghost use Rattle.fio_log.specs.Frames.{AreFramesAt, AreFramesOf, IsJudgeOf, Log};
 ghost use Rattle.fio_log.specs.OwnVerdicts.{IsOwnVerdict, own_form_of};
 ghost use Rattle.fio_log.specs.Verdicts.{AreAgreed};
+ghost use Rattle.fio_log.specs.Wordings.{SaysWords};
 ghost use Rattle.fio_log.specs.Telling.{HasNoMore, HasTaken, HasTold, IsLineOf, IsReaderOf, KeepsVerdict, frames_of, has_told_all, places_of, read_at_end};
 ghost use Rattle.fio_log.specs.declared.own_texts.OwnForm.{OwnForm};
 ghost use Rattle.fio_log.specs.declared.verdict.Form.TheVariants.{Auto};
@@ -357,6 +358,8 @@ impl Reader {
         ensures kept { (log : Log) → IsReaderOf log self.old → IsReaderOf log self.new }
         ensures written { (log : Log) → IsReaderOf log self.old → self.old.form ≡ Auto
             → AreFramesAt log (frames_of self.new) (places_of self.new) }
+        ensures words { (log : Log) → IsReaderOf log self.old → self.old.form ≡ Auto
+            → IfSome result (λ verdict. SaysWords (log verdict.line) verdict.reason) }
     {
         if !self.is_due() {
             return None;
@@ -390,6 +393,7 @@ impl Reader {
         ensures last { (own : OwnForm) → own_form_of self.old.form ≡ Some own
             → (self.new.told + 1 ≡ self.new.read) × (is_whole self.new.making.ending ≡ true) }
         ensures kept { (log : Log) → IsReaderOf log self.old → IsReaderOf log self.new }
+        ensures words { (log : Log) → IsReaderOf log self.old → self.old.form ≡ Auto → SaysWords (log line) result.reason }
     {
         if self.form == Form::Auto {
             self.tell_judged(line)
@@ -408,6 +412,7 @@ impl Reader {
         ensures ended { self.new.is_ended ≡ self.old.is_ended }
         ensures form { self.new.form ≡ self.old.form }
         ensures kept { (log : Log) → IsReaderOf log self.old → IsReaderOf log self.new }
+        ensures words { (log : Log) → IsReaderOf log self.old → SaysWords (log line) result.reason }
     {
         self.judge.tell(line, &mut self.frames)
     }

@@ -53,6 +53,12 @@ pub enum Reason {
     Exchanged,
     /// Its octets spell a message that has a count, but for two at their beginning or at their end.
     TwoMore,
+    /// It has no octets, and speaks of loss.
+    Loss,
+    /// It has no octets, and is the heading of a log or of a part of one.
+    Heading,
+    /// Its octets spell a message that has a count, but for one that is missing at their end.
+    OneLess,
 }
 
 /// What a reader says of a line.

@@ -12,6 +12,9 @@ export const REASONS = [
   'bad line',
   'octets that are a message if those of each pair are exchanged',
   'octets that are a message but for two at their beginning or end',
+  'octets may be lost',
+  'heading',
+  'an octet too few',
 ];
 export const POSSIBLE = 'possible: nothing makes it sure';
 export const DOUBTS = {

@@ -46,6 +46,9 @@ const CURES = {
   [LOG_REASONS.twoMore]: ' (at “How is it written?” choose SDLC frames, without their check, or an expression)',
 };
 
+// The reasons of lines that have no octets.
+const WITHOUT_OCTETS = [LOG_REASONS.noOctets, LOG_REASONS.loss, LOG_REASONS.heading];
+
 // How many lines are skipped, and why; the most frequent reasons first.
 function passedWords(passed) {
   const reasons = passed.map((count, reason) => [count, reason]).filter(([count]) => count > 0).sort(([one], [other]) => other - one);
@@ -118,7 +121,7 @@ export class MessagesView {
 
   // Says what a text is that is no log, and what can be read.
   showNoMessage(file) {
-    const { log } = this, hasOctets = log.passed.some((count, reason) => count > 0 && reason !== LOG_REASONS.noOctets);
+    const { log } = this, hasOctets = log.passed.some((count, reason) => count > 0 && !WITHOUT_OCTETS.includes(reason));
     this.showNone(element('h2', {}, `No message was found in ${log.name}`), element('p', { id: 'no-log-kind' }, kindOf(file, hasOctets)),
       ...log.count === 0 ? [] : [element('p', {}, `${counted(log.count, 'line')} may have octets and could not be read, the first in line ${log.lines[0]}.`)],
       element('p', { id: 'no-log-passed' }, `${passedWords(log.passed)}${doubtWords(log)}`),

@@ -130,6 +130,9 @@ pub const LOG_TOO_LONG: u8 = 6;
 pub const LOG_BAD_LINE: u8 = 7;
 pub const LOG_EXCHANGED: u8 = 8;
 pub const LOG_TWO_MORE: u8 = 9;
+pub const LOG_LOSS: u8 = 10;
+pub const LOG_HEADING: u8 = 11;
+pub const LOG_ONE_LESS: u8 = 12;
 
 // Who sent the octets of a line of a log, as it says.
 pub const LOG_NO_SIDE: u8 = 0;

@@ -26,10 +26,10 @@ impl Decider {
         };
         let is_damaged = self.says_in_style(entries.get(slot))
             || !is_of_others && self.vocabulary.may_be_left(self.queue.text(slot));
-        let (kind, reason) = match reason {
-            Reason::Exchanged | Reason::TwoMore if is_damaged => (Kind::Damaged, Reason::NoMessage),
-            _ if is_damaged => (Kind::Damaged, reason),
-            _ => (Kind::PassedOver, reason),
+        let kind = if is_damaged {
+            Kind::Damaged
+        } else {
+            Kind::PassedOver
         };
         self.settle(slot, State::Passed(kind, reason));
     }

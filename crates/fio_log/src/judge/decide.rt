@@ -270,7 +270,7 @@ impl Decider {
         } else if !self.keys.as_slice().iter().any(|key| key.is_long) {
             (Kind::PassedOver, Reason::NoOctets)
         } else if self.is_damaged() {
-            (Kind::Damaged, Reason::NoMessage)
+            (Kind::Damaged, self.remark.unwrap_or(Reason::NoMessage))
         } else {
             (Kind::PassedOver, self.remark.unwrap_or(Reason::NoMessage))
         };

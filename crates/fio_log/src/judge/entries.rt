@@ -2,11 +2,13 @@
 ghost use Rattle.std.specs.Prelude.{◌≡◌, ℕ, ◌<◌, [], IfSome};
 ghost use Rattle.fio_log.specs.Frames.{AreEntriesOf, AreJoined, IsEntryOf, IsMessageOf, IsRunOf, Log, line_place};
 ghost use Rattle.fio_log.specs.Keeping.{AreWith, IsKeptIn};
+ghost use Rattle.fio_log.specs.Wordings.{SaysWords};
 
 use crate::judge::joined::{Joined, Row};
 use crate::judge::message_run::MessageRun;
 use crate::judge::slots::{Slot, Slots};
 use crate::places::Place;
+use crate::verdict::Reason;
 use arrayvec::ArrayVec;
 use std::mem;
 
@@ -23,6 +25,8 @@ pub(crate) struct Entry {
     pub from: u64,
     /// Its time, in microseconds.
     pub time: Option<u64>,
+    /// Why its first line gives no frame if it has no octets, by the words of the line.
+    pub without_octets: Reason,
     /// The runs that say messages, without those of the same octets and shape.
     pub runs: ArrayVec<MessageRun, ENTRY_RUNS>,
     /// Where the octets of its only run are written, if it has several lines.
@@ -31,13 +35,15 @@ pub(crate) struct Entry {
 
 impl Default for Entry {
     ghost use Rattle.std.specs.Prelude.{◌≡◌, []};
+    ghost use Rattle.fio_log.specs.declared.verdict.Reason.TheVariants.{NoOctets};
 
-    ghost is_default = { λ entry. entry.runs.items ≡ [] };
+    ghost is_default = { λ entry. (entry.runs.items ≡ []) × (entry.without_octets ≡ NoOctets) };
 
     fn default() -> Entry {
         Entry {
             from: 0,
             time: None,
+            without_octets: Reason::NoOctets,
             runs: ArrayVec::new(),
             rows: ArrayVec::new(),
         }
@@ -45,19 +51,20 @@ impl Default for Entry {
 }
 
 impl Entry {
-    /// Begins an entry of one line, which has no runs yet.
-    fn begin(&mut self, line: u64, time: Option<u64>)
-        ensures { self.new.runs.items ≡ [] }
+    /// Begins an entry of one line, which has no runs yet. `without_octets` is why the line gives no frame if it has no octets.
+    fn begin(&mut self, line: u64, time: Option<u64>, without_octets: Reason)
+        ensures { (log : Log) → SaysWords (log line) without_octets → IsEntryOf log self.new }
     {
         self.from = line;
         self.time = time;
+        self.without_octets = without_octets;
         self.runs.clear();
         self.rows.clear();
     }
 
     /// Takes its runs out.
     fn take_runs(&mut self) -> ArrayVec<MessageRun, ENTRY_RUNS>
-        ensures { self.new.runs.items ≡ [] }
+        ensures { (log : Log) → IsEntryOf log self.old → IsEntryOf log self.new }
     {
         mem::replace(&mut self.runs, ArrayVec::new())
     }
@@ -98,6 +105,7 @@ impl Entry {
             → IsEntryOf log self.new }
     {
         self.from = lines.from;
+        self.without_octets = Reason::NoOctets;
         self.runs.clear();
         self.rows.clear();
         let Some(run) = run else {
@@ -175,6 +183,17 @@ impl Entry {
         }
     }
 
+    /// Returns why a line of the entry gives no frame, by what is decided of it, and by its words if it has no octets.
+    pub(crate) fn reason_of(&self, line: u64, reason: Reason) -> Reason
+        ensures { (log : Log) → IsEntryOf log self.now → SaysWords (log line) result }
+    {
+        match reason {
+            Reason::NoOctets if line == self.from => self.without_octets,
+            Reason::Loss | Reason::Heading => Reason::NoOctets,
+            reason => reason,
+        }
+    }
+
     /// Returns whether it is nothing but one message.
     pub(crate) fn is_bare(&self) -> bool {
         match self.runs.as_slice() {
@@ -229,11 +248,11 @@ impl Entries {
         self.slots.all.as_mut_slice()[slot.index()].take_runs()
     }
 
-    /// Begins an entry of one line in a slot.
-    pub(crate) fn begin(&mut self, slot: Slot, line: u64, time: Option<u64>)
-        ensures { (log : Log) → AreEntriesOf log self.old → AreEntriesOf log self.new }
+    /// Begins an entry of one line in a slot. `without_octets` is why the line gives no frame if it has no octets.
+    pub(crate) fn begin(&mut self, slot: Slot, line: u64, time: Option<u64>, without_octets: Reason)
+        ensures { (log : Log) → AreEntriesOf log self.old → SaysWords (log line) without_octets → AreEntriesOf log self.new }
     {
-        self.slots.all.as_mut_slice()[slot.index()].begin(line, time);
+        self.slots.all.as_mut_slice()[slot.index()].begin(line, time, without_octets);
     }
 
     /// Keeps a run of a line that says a message in the entry of a slot, which is of that line alone.

@@ -1,8 +1,9 @@
 //! The verdict of a line, with its frames and their places.
-ghost use Rattle.std.specs.Prelude.{◌≡◌, ◌≤◌, [], ◌∷◌, ◌++◌, ◌↔◌, false, length, map, true};
+ghost use Rattle.std.specs.Prelude.{◌≡◌, ◌≤◌, ℕ, List, [], ◌∷◌, ◌++◌, ◌↔◌, false, length, map, true};
 ghost use Rattle.fio_log.specs.Frames.{AreFramesOf, IsEntryOf, IsJudgeOf, Log, frames_told, octets_in, places_told, run_places};
 ghost use Rattle.std.specs.List.{concat};
 ghost use Rattle.fio_log.specs.Verdicts.{AreAgreed, AreOfLine, HasFrames, HasReason};
+ghost use Rattle.fio_log.specs.Wordings.{SaysWords};
 ghost use Rattle.fio_log.specs.declared.chains.TheConstants.{CHAIN_FRAMES, CHAIN_OCTETS};
 
 use crate::directions::Direction;
@@ -222,6 +223,7 @@ impl Judge {
         ensures frames { (log : Log) → IsJudgeOf log self.old → AreFramesOf log frames.new }
         ensures agreed { AreAgreed line result.kind result.reason
             (frames_told self.new.join.lines frames.new) (places_told self.new.join.lines frames.new) }
+        ensures words { (log : Log) → IsJudgeOf log self.old → SaysWords (log line) result.reason }
     {
         frames.clear();
         self.decider.queue.remove_before(line);
@@ -238,13 +240,14 @@ impl Judge {
         ensures written { (log : Log) → IsJudgeOf log self.now → AreFramesOf log frames.old → AreFramesOf log frames.new }
         ensures agreed { AreAgreed line result.kind result.reason
             (frames_told self.now.join.lines frames.new) (places_told self.now.join.lines frames.new) }
+        ensures words { (log : Log) → IsJudgeOf log self.now → SaysWords (log line) result.reason }
     {
         let entry = self.entries.get(slot);
         let decision = self.decider.queue.get(slot);
         let (decided, reason) = decision.verdict(entry.from, line);
         frames.fill(entry, decided, decision.state);
         let kind = frames.agree(decided, line, &self.join.lines);
-        let reason = reason_of(kind, reason);
+        let reason = reason_for(kind, entry.reason_of(line, reason));
         let said = self.said(entry, kind, decision.state);
         Verdict {
             time: if kind == Kind::Blank {
@@ -288,12 +291,17 @@ fn has_frames(kind: Kind, count: usize) -> bool
     }
 }
 
-/// Returns the reason why a line of a kind gave no frame: the one that is decided, if it has one.
-fn reason_of(kind: Kind, reason: Reason) -> Reason
-    ensures { HasReason kind result }
+/// Returns the reason why a line of a kind gave no frame: the one that is decided, if lines of its kind have it. Without that it
+/// has no octets, or these spell no message.
+fn reason_for(kind: Kind, reason: Reason) -> Reason
+    ensures has { HasReason kind result }
+    ensures words { (line : List ℕ) → SaysWords line reason → SaysWords line result }
 {
     match (kind, reason) {
         (Kind::Frames | Kind::Blank | Kind::Part, _) => Reason::None,
+        (Kind::Damaged | Kind::Possible, Reason::Loss | Reason::Heading) => Reason::NoOctets,
+        (Kind::Damaged | Kind::Possible, Reason::Exchanged | Reason::TwoMore) => Reason::NoMessage,
+        (Kind::PassedOver | Kind::Possible, Reason::OneLess) => Reason::NoMessage,
         (Kind::Possible | Kind::Damaged | Kind::PassedOver, Reason::None) => Reason::NoOctets,
         (Kind::Possible | Kind::Damaged | Kind::PassedOver, reason) => reason,
     }

@@ -19,4 +19,4 @@ returns-else-not-add_message c = λ log frames entry.
       c.add_places.ensures.messages,
     )
     (AreFramesAt-append log (map octets_in c.args.self.now.messages.items) (message_of run ∷ [])
-    c.args.self.now.places.items (run_places from rows run) frames (rw (sym is) at (entry c.args.index run inside)))
+    c.args.self.now.places.items (run_places from rows run) frames (rw (sym is) at (entry.written c.args.index run inside)))
