@@ -106,14 +106,26 @@ MARKS = [
 ]
 
 
+# Lines that say so, and whether the reader knows them.
+WORDS = {'loss': '3 frames lost\n', 'heading': '---- part 2 ----\n'}
+HAS_WORDS = 'loss' in json.loads(text_of('../tools/log-words.json'))['reasons']
+
+
 def check_marks(check, browser, name):
-    """What remarks of loss and headings do, which lines without octets say: no reader gives them yet."""
+    """What remarks of loss and headings do, which lines without octets say: by the calls, and in a log."""
     for title, text, marks, broken, losses, count in MARKS:
         browser.run(MARKED, text, marks)
         found = browser.wait('return window.found')
         check.equal('%s in %s' % (title, name), [broken, losses, count], found[:3])
         check.equal('%s is said in %s' % (title, name), {key: number for key, number in (('lost_places', losses), ('frames_at_lost_places', count)) if number and losses},
                     counts_in(found[3]))
+        if not marks or not HAS_WORDS:
+            continue
+        [(place, mark)], lines = marks, text.splitlines(True)
+        pasted(browser, ''.join([*lines[:place], WORDS[mark], *lines[place:]]))
+        seen, not_judged = browser.run(FOUND)
+        check.equal('%s, as a line in %s' % (title, name), ([line + (line > place) for line in broken], counts_in(found[3])),
+                    ([line for line, _ in seen], counts_in(not_judged)))
 
 
 def by_fiolog(text):
