@@ -10,6 +10,7 @@ pub mod WordLemmas
 pub mod WordingLemmas
 pub mod RemarkLemmas
 pub mod LineLemmas
+pub mod BlankLemmas
 pub mod FrameLemmas
 pub mod MessageRunLemmas
 pub mod TellingLemmas

@@ -8,6 +8,7 @@ pub mod Runs
 pub mod Sayings
 pub mod LineRuns
 pub mod Lines
+pub mod Blanks
 pub mod Frames
 pub mod Keeping
 pub mod Wordings

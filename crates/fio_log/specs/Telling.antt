@@ -2,6 +2,7 @@
 use Rattle.std.specs.Prelude.{◌≡◌, ℕ, ◌+◌, ◌≤◌, ◌==◌, ◌&&◌, Bool, true, false, if◌then◌else◌, List, [], length}
 use Rattle.std.specs.List.{All, concat}
 use Rattle.fio_log.specs.Frames.{AreFramesOf, IsJudgeOf, Log, frames_told, places_told}
+use Rattle.fio_log.specs.Blanks.{AreBlankLines, Texts, have_line}
 use Rattle.fio_log.specs.Lines.{Making, finished, is_whole, lines_after, only, with_making}
 use Rattle.fio_log.specs.LineRuns.{IsLineRun}
 use Rattle.fio_log.specs.Verdicts.{AreAgreed}
@@ -17,7 +18,7 @@ use Rattle.fio_log.specs.declared.verdict.Verdict.{Verdict}
 
 -- A reader: how it reads, the line that is being made, how many lines are read, how many verdicts are returned, whether the
 -- next one can be returned, and whether the log has ended; the frames of the last verdict, what is kept of the lines above,
--- whether the last line waits to be searched for runs or to be judged, and its runs.
+-- whether the last line waits to be searched for runs or to be judged, and its runs; the blank lines without a verdict.
 pub record Telling : Type 0 where
   pub form : Form
   pub making : Making
@@ -30,6 +31,7 @@ pub record Telling : Type 0 where
   pub is_unread : Bool
   pub is_held : Bool
   pub runs : List LineRun
+  pub blanks : List ℕ
 
 -- the frames of the last verdict
 abbrev pub frames_of : Telling → List (List ℕ)
@@ -42,6 +44,15 @@ places_of telling = places_told telling.judge.join.lines telling.last
 -- If the line that is being made is whole, it is the last line of the log that is read.
 abbrev pub IsLineOf : Log → Telling → Type 0
 IsLineOf log telling = is_whole telling.making.ending ≡ true → telling.making.text.octets ≡ log telling.read
+
+-- the line that is made, if it is whole, is the last one that is read of a log with these lines
+abbrev pub IsTextOf : Texts → Telling → Type 0
+IsTextOf texts telling = is_whole telling.making.ending ≡ true → telling.making.text ≡ texts telling.read
+
+-- A reader of a log with these lines knows which of them are blank, of those that have no verdict yet.
+pub record KnowsBlanks (texts : Texts) (telling : Telling) : Type 0 where
+  pub text : IsTextOf texts telling
+  pub blanks : telling.form ≡ Auto → AreBlankLines texts telling.told telling.read telling.blanks
 
 -- What a reader keeps of a log is written in the log.
 pub record IsReaderOf (log : Log) (telling : Telling) : Type 0 where
@@ -106,3 +117,4 @@ pub record KeepsVerdict (before after : Telling) : Type 0 where
   pub told : after.told ≡ before.told
   pub judge : after.judge ≡ before.judge
   pub last : after.last ≡ before.last
+  pub blank : have_line after.blanks (after.told + 1) ≡ have_line before.blanks (before.told + 1)

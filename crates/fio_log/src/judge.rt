@@ -3,8 +3,9 @@
 //! Each line becomes an entry in a slot of a ring (`entries`, `queue`, `slots`), unless it continues lines that are open
 //! (`open`, `join`, `close`). An entry is decided, or waits (`decide`, `pair`, `wait`), and then its verdict is told (`tell`,
 //! `damage`).
-ghost use Rattle.std.specs.Prelude.{◌≡◌, ◌+◌, ℕ, List, IfSome, length};
+ghost use Rattle.std.specs.Prelude.{◌≡◌, ◌+◌, ◌&&◌, not, ℕ, List, IfSome, length};
 ghost use Rattle.std.specs.List.{All};
+ghost use Rattle.fio_log.specs.Blanks.{are_blanks};
 ghost use Rattle.fio_log.specs.Frames.{IsJudgeOf, Log};
 ghost use Rattle.fio_log.specs.LineRuns.{IsLineRun};
 ghost use Rattle.fio_log.specs.Wordings.{SaysWords};
@@ -29,6 +30,7 @@ pub(crate) mod tell;
 pub(crate) mod vocabulary;
 mod wait;
 
+use crate::blanks::are_blanks;
 use crate::judge::decide::{Decider, RunKey};
 use crate::judge::decision::State;
 use crate::judge::entries::Entries;
@@ -55,8 +57,10 @@ pub(crate) struct Line<'a> {
 
 impl Line<'_> {
     /// Returns whether it has nothing but blanks.
-    fn is_blank(&self) -> bool {
-        !self.is_long && self.text.iter().all(|octet| octet.is_ascii_whitespace())
+    pub(crate) fn is_blank(self) -> bool
+        ensures { result ≡ (not self.entry.is_long && are_blanks self.entry.text.now) }
+    {
+        !self.is_long && are_blanks(self.text)
     }
 
     /// Returns why it gives no frame if it has no octets. Its words are read only if no run of it has two octets or more.
@@ -131,7 +135,6 @@ impl Judge {
         }
         let decision = self.decider.queue.get_mut(slot);
         decision.until = line.number;
-        decision.is_spaced |= going == Going::Blank;
         if going == Going::Over {
             self.close();
         }

@@ -32,6 +32,7 @@
 #![tactic(auto)]
 
 mod around;
+mod blanks;
 mod chains;
 mod clock;
 mod digits;

@@ -2,16 +2,20 @@
 ghost use Rattle.std.specs.Prelude.{◌≡◌, ◌+◌, ◌≤◌, ◌<◌, ◌↔◌, true, false, IfSome, IsSome, MatchOption, Some, [], get_or, length, slice_index_or, take};
 ghost use Rattle.fio_log.specs.Lines.{finished, is_whole, no_line};
 ghost use Rattle.fio_log.specs.LineRuns.{IsLineRun};
+ghost use Rattle.fio_log.specs.Blanks.{AreBlankLines, Texts, begin_with, is_blank_line};
 ghost use Rattle.fio_log.specs.Sayings.{spells};
 ghost use Rattle.std.specs.List.{All};
 ghost use Rattle.fio_log.specs.Frames.{AreFramesAt, AreFramesOf, IsJudgeOf, Log};
 ghost use Rattle.fio_log.specs.OwnVerdicts.{IsOwnVerdict, own_form_of};
 ghost use Rattle.fio_log.specs.Verdicts.{AreAgreed};
 ghost use Rattle.fio_log.specs.Wordings.{SaysWords};
-ghost use Rattle.fio_log.specs.Telling.{HasNoMore, HasTaken, HasTold, IsLineOf, IsReaderOf, KeepsVerdict, frames_of, has_told_all, places_of, read_at_end};
+ghost use Rattle.fio_log.specs.Telling.{HasNoMore, HasTaken, HasTold, IsLineOf, IsReaderOf, IsTextOf, KeepsVerdict, KnowsBlanks, frames_of, has_told_all, places_of, read_at_end};
 ghost use Rattle.fio_log.specs.declared.own_texts.OwnForm.{OwnForm};
 ghost use Rattle.fio_log.specs.declared.verdict.Form.TheVariants.{Auto};
+ghost use Rattle.fio_log.specs.declared.verdict.Kind.TheVariants.{Blank};
+ghost use Rattle.fio_log.specs.declared.blanks.TheConstants.{BLANKS};
 
+use crate::blanks::Blanks;
 use crate::chains::CHAIN_OCTETS;
 use crate::judge::slots::ENTRIES;
 use crate::judge::tell::Frames;
@@ -39,6 +43,8 @@ pub struct Reader {
     patterns: Patterns,
     judge: Judge,
     frames: Frames,
+    /// The blank lines that have no verdict yet, if lines are not read by order.
+    blanks: Blanks,
     form: Form,
     /// The verdict of the last line, if it is read by order.
     own: Verdict,
@@ -53,10 +59,12 @@ pub struct Reader {
 }
 
 impl Model for Reader {
-    ghost use Rattle.std.specs.Prelude.{◌≡◌, ◌+◌, ◌≤◌, ◌<◌, Some, true};
+    ghost use Rattle.std.specs.Prelude.{◌≡◌, ◌+◌, ◌≤◌, ◌<◌, Some, false, length, true};
+    ghost use Rattle.fio_log.specs.Blanks.{AreBetween};
     ghost use Rattle.fio_log.specs.Lines.{is_whole};
     ghost use Rattle.fio_log.specs.OwnVerdicts.{IsToldByOrder, own_form_of};
     ghost use Rattle.fio_log.specs.Telling.{Telling};
+    ghost use Rattle.fio_log.specs.declared.blanks.TheConstants.{BLANKS};
     ghost use Rattle.fio_log.specs.declared.own_texts.OwnForm.{OwnForm};
 
     ghost Value = { Telling };
@@ -73,6 +81,7 @@ impl Model for Reader {
       is_unread = r.is_unread;
       is_held = r.is_held;
       runs = r.runs.all.items;
+      blanks = r.blanks.lines.items;
     } };
 
     ghost invariant = { λ r. (r.told ≤ r.read)
@@ -81,7 +90,10 @@ impl Model for Reader {
         × (r.is_held ≡ true → is_whole r.maker.ending ≡ true)
         × ((own : OwnForm) → own_form_of r.form ≡ Some own → r.told < r.read
         → (r.is_ready ≡ true) × (r.told + 1 ≡ r.read) × IsToldByOrder own r.read r.maker r.own r.frames)
-        × (r.is_unread ≡ true → is_whole r.maker.ending ≡ true) };
+        × (r.is_unread ≡ true → is_whole r.maker.ending ≡ true)
+        × AreBetween r.told r.read r.blanks.lines.items
+        × (r.is_ready ≡ false → length r.blanks.lines.items + 2 ≤ BLANKS)
+        × (is_whole r.maker.ending ≡ false → length r.blanks.lines.items < BLANKS) };
 }
 
 impl Reader {
@@ -93,6 +105,7 @@ impl Reader {
         ensures open { result.is_ended ≡ false }
         ensures form { result.form ≡ form }
         ensures kept { (log : Log) → IsReaderOf log result }
+        ensures blanks { (texts : Texts) → KnowsBlanks texts result }
     {
         Reader {
             maker: LineMaker::new(),
@@ -100,6 +113,7 @@ impl Reader {
             patterns: Patterns::new(),
             judge: Judge::new(),
             frames: Frames::new(),
+            blanks: Blanks::new(),
             form,
             own: Verdict::of(0, Kind::Blank, Reason::None, None),
             read: 0,
@@ -119,12 +133,14 @@ impl Reader {
         ensures open { self.new.is_ended ≡ false }
         ensures form { self.new.form ≡ self.old.form }
         ensures kept { (log : Log) → IsReaderOf log self.new }
+        ensures blanks { (texts : Texts) → KnowsBlanks texts self.new }
     {
         self.maker.restart();
         self.runs.clear();
         self.patterns.clear();
         self.judge.clear();
         self.frames.clear();
+        self.blanks.clear();
         self.own = Verdict::of(0, Kind::Blank, Reason::None, None);
         self.read = 0;
         self.told = 0;
@@ -150,6 +166,7 @@ impl Reader {
         ensures forward { self.old.is_ready ≡ false → self.old.is_ended ≡ false → self.old.read < u64.MAX
             → 0 < length octets.now → 0 < result }
         ensures kept { (log : Log) → IsReaderOf log self.old → IsLineOf log self.new → IsReaderOf log self.new }
+        ensures blanks { (texts : Texts) → KnowsBlanks texts self.old → IsTextOf texts self.new → KnowsBlanks texts self.new }
     {
         if self.is_ready || self.is_ended || self.read == u64::MAX || octets.is_empty() {
             return 0;
@@ -175,6 +192,7 @@ impl Reader {
         ensures form { self.new.form ≡ self.old.form }
         ensures ready { self.old.is_ready ≡ true → KeepsVerdict self.old self.new }
         ensures kept { (log : Log) → IsReaderOf log self.old → IsLineOf log self.new → IsReaderOf log self.new }
+        ensures blanks { (texts : Texts) → KnowsBlanks texts self.old → IsTextOf texts self.new → KnowsBlanks texts self.new }
     {
         self.finish_line();
         self.is_ended = true;
@@ -194,6 +212,7 @@ impl Reader {
         ensures form { self.new.form ≡ self.old.form }
         ensures ready { self.old.is_ready ≡ true → KeepsVerdict self.old self.new }
         ensures kept { (log : Log) → IsReaderOf log self.old → IsLineOf log self.new → IsReaderOf log self.new }
+        ensures blanks { (texts : Texts) → KnowsBlanks texts self.old → IsTextOf texts self.new → KnowsBlanks texts self.new }
     {
         if self.is_ended || self.read == u64::MAX || self.maker.is_whole() {
             return;
@@ -210,6 +229,7 @@ impl Reader {
         requires open { self.old.is_ended ≡ false }
         requires whole { is_whole self.old.making.ending ≡ true }
         requires none { self.old.is_held ≡ false }
+        requires few { length self.old.blanks < BLANKS }
         requires told { (own : OwnForm) → own_form_of self.old.form ≡ Some own → self.old.told ≡ self.old.read }
         ensures line { self.new.making ≡ self.old.making }
         ensures read { self.new.read ≡ self.old.read + 1 }
@@ -218,6 +238,9 @@ impl Reader {
         ensures form { self.new.form ≡ self.old.form }
         ensures kept { (log : Log) → IsJudgeOf log self.old.judge → (self.old.form ≡ Auto → AreFramesOf log self.old.last)
             → IsLineOf log self.new → IsReaderOf log self.new }
+        ensures blanks { (texts : Texts) → (self.old.form ≡ Auto
+            → AreBlankLines texts self.old.told self.old.read self.old.blanks) → IsTextOf texts self.new
+            → KnowsBlanks texts self.new }
     {
         self.count_line();
         self.read_unread();
@@ -230,15 +253,19 @@ impl Reader {
         requires open { self.old.is_ended ≡ false }
         requires whole { is_whole self.old.making.ending ≡ true }
         requires none { self.old.is_held ≡ false }
+        requires few { length self.old.blanks < BLANKS }
         requires told { (own : OwnForm) → own_form_of self.old.form ≡ Some own → self.old.told ≡ self.old.read }
         ensures line { self.new.making ≡ self.old.making }
         ensures read { self.new.read ≡ self.old.read + 1 }
         ensures told { self.new.told ≡ self.old.told }
         ensures ended { self.new.is_ended ≡ self.old.is_ended }
         ensures form { self.new.form ≡ self.old.form }
-        ensures auto { self.old.form ≡ Auto → KeepsVerdict self.old self.new }
+        ensures auto { self.old.form ≡ Auto → self.old.is_ready ≡ true → KeepsVerdict self.old self.new }
         ensures kept { (log : Log) → IsJudgeOf log self.old.judge → (self.old.form ≡ Auto → AreFramesOf log self.old.last)
             → IsLineOf log self.new → IsReaderOf log self.new }
+        ensures blanks { (texts : Texts) → (self.old.form ≡ Auto
+            → AreBlankLines texts self.old.told self.old.read self.old.blanks) → IsTextOf texts self.new
+            → KnowsBlanks texts self.new }
     {
         self.read += 1;
         match self.form.own() {
@@ -248,7 +275,11 @@ impl Reader {
                     .tell_own(form, last_line(&self.maker, self.read));
                 self.is_ready = true;
             }
-            None => self.is_unread = true,
+            None => {
+                self.is_unread = true;
+                self.blanks.note(last_line(&self.maker, self.read));
+                self.is_ready |= self.blanks.are_many();
+            }
         }
     }
 
@@ -260,6 +291,7 @@ impl Reader {
         ensures ended { self.new.is_ended ≡ self.old.is_ended }
         ensures form { self.new.form ≡ self.old.form }
         ensures none { self.new.is_unread ≡ false }
+        ensures blanks { self.new.blanks ≡ self.old.blanks }
         ensures kept { (log : Log) → IsReaderOf log self.old → IsReaderOf log self.new }
     {
         if self.is_unread {
@@ -279,6 +311,7 @@ impl Reader {
         ensures form { self.new.form ≡ self.old.form }
         ensures none { self.new.is_held ≡ false }
         ensures unread { self.new.is_unread ≡ false }
+        ensures blanks { self.new.blanks ≡ self.old.blanks }
         ensures kept { (log : Log) → IsReaderOf log self.old → IsReaderOf log self.new }
     {
         self.read_unread();
@@ -298,6 +331,7 @@ impl Reader {
         ensures told { self.new.told ≡ self.old.told }
         ensures ended { self.new.is_ended ≡ self.old.is_ended }
         ensures form { self.new.form ≡ self.old.form }
+        ensures blanks { self.new.blanks ≡ self.old.blanks }
         ensures kept { (log : Log) → IsReaderOf log self.old → IsReaderOf log self.new }
     {
         if self.told == self.read {
@@ -321,7 +355,8 @@ impl Reader {
         }
         self.is_ready = self.is_ended
             || self.judge.is_decided(next)
-            || self.read - self.told > WAITING_LINES;
+            || self.read - self.told > WAITING_LINES
+            || self.blanks.are_many();
     }
 
     /// Returns whether there is a verdict to return. Nothing changes if that is known.
@@ -336,6 +371,7 @@ impl Reader {
         ensures told { self.new.told ≡ self.old.told }
         ensures ended { self.new.is_ended ≡ self.old.is_ended }
         ensures form { self.new.form ≡ self.old.form }
+        ensures blanks { self.new.blanks ≡ self.old.blanks }
         ensures kept { (log : Log) → IsReaderOf log self.old → IsReaderOf log self.new }
     {
         let was_ready = self.is_ready;
@@ -355,6 +391,9 @@ impl Reader {
             IsOwnVerdict own self.new.making.text verdict.kind verdict.reason (frames_of self.new)) }
         ensures last { (own : OwnForm) → own_form_of self.old.form ≡ Some own → IfSome result (λ verdict.
             (verdict.line ≡ self.new.read) × (is_whole self.new.making.ending ≡ true)) }
+        ensures blank { (texts : Texts) → KnowsBlanks texts self.old → self.old.form ≡ Auto → IfSome result (λ verdict.
+            (verdict.kind ≡ Blank) ↔ (is_blank_line (texts verdict.line) ≡ true)) }
+        ensures blanks { (texts : Texts) → KnowsBlanks texts self.old → KnowsBlanks texts self.new }
         ensures kept { (log : Log) → IsReaderOf log self.old → IsReaderOf log self.new }
         ensures written { (log : Log) → IsReaderOf log self.old → self.old.form ≡ Auto
             → AreFramesAt log (frames_of self.new) (places_of self.new) }
@@ -368,8 +407,13 @@ impl Reader {
         let lines = &self.judge.join.lines;
         let (frames, places) = (self.frames.count(lines), self.frames.place_count(lines));
         self.told += 1;
+        self.blanks.remove(self.told);
+        let are_many = self.blanks.are_many();
         self.is_ready = self.told < self.read
-            && (self.is_ended || self.form != Form::Auto || self.judge.is_decided(self.told + 1));
+            && (self.is_ended
+                || self.form != Form::Auto
+                || self.judge.is_decided(self.told + 1)
+                || are_many);
         Some(Verdict {
             line: self.told,
             frames,
@@ -392,6 +436,8 @@ impl Reader {
             → IsOwnVerdict own self.new.making.text result.kind result.reason (frames_of self.new) }
         ensures last { (own : OwnForm) → own_form_of self.old.form ≡ Some own
             → (self.new.told + 1 ≡ self.new.read) × (is_whole self.new.making.ending ≡ true) }
+        ensures blanks { self.new.blanks ≡ self.old.blanks }
+        ensures blank { self.old.form ≡ Auto → (result.kind ≡ Blank) ↔ (begin_with self.old.blanks line ≡ true) }
         ensures kept { (log : Log) → IsReaderOf log self.old → IsReaderOf log self.new }
         ensures words { (log : Log) → IsReaderOf log self.old → self.old.form ≡ Auto → SaysWords (log line) result.reason }
     {
@@ -411,10 +457,13 @@ impl Reader {
         ensures told { self.new.told ≡ self.old.told }
         ensures ended { self.new.is_ended ≡ self.old.is_ended }
         ensures form { self.new.form ≡ self.old.form }
+        ensures blanks { self.new.blanks ≡ self.old.blanks }
+        ensures blank { (result.kind ≡ Blank) ↔ (begin_with self.old.blanks line ≡ true) }
         ensures kept { (log : Log) → IsReaderOf log self.old → IsReaderOf log self.new }
         ensures words { (log : Log) → IsReaderOf log self.old → SaysWords (log line) result.reason }
     {
-        self.judge.tell(line, &mut self.frames)
+        let is_blank = self.blanks.begin_with(line);
+        self.judge.tell(line, is_blank, &mut self.frames)
     }
 
     /// Returns the verdict of the last line, which is read by order; its frames are taken.

@@ -1,4 +1,7 @@
 //! Decisions: what is decided of each entry.
+ghost use Rattle.std.specs.Prelude.{◌≡◌, ◌↔◌, true};
+ghost use Rattle.fio_log.specs.declared.verdict.Kind.TheVariants.{Blank};
+
 use crate::around::Around;
 use crate::judge::entries::{ENTRY_RUNS, Entry};
 use crate::judge::shapes::Shapes;
@@ -28,8 +31,6 @@ pub(crate) struct Decision {
     pub state: State,
     /// Up to how many frames it waits.
     pub waits: u64,
-    /// Whether the line below its first one is blank.
-    pub is_spaced: bool,
     /// What surrounds its last run of two octets or more, or else, if it says no message, its last run.
     pub around: Option<Around>,
     /// Which of its runs are made sure by other lines.
@@ -60,7 +61,6 @@ impl Decision {
             until: line,
             state: State::Waiting,
             waits: 0,
-            is_spaced: false,
             around: None,
             sure: [false; ENTRY_RUNS],
         }
@@ -162,11 +162,14 @@ impl Decision {
     }
 
     /// Returns what a line of the entry is, and why it gave no frame. `from` is the entry's first line.
-    pub(crate) fn verdict(&self, from: u64, line: u64) -> (Kind, Reason) {
-        if self.is_spaced && line.checked_sub(from) == Some(1) {
+    pub(crate) fn verdict(&self, from: u64, line: u64, is_blank: bool) -> (Kind, Reason)
+        ensures { (result.0 ≡ Blank) ↔ (is_blank ≡ true) }
+    {
+        if is_blank {
             return (Kind::Blank, Reason::None);
         }
         match self.state {
+            State::Passed(Kind::Blank, _) => (Kind::PassedOver, Reason::NoOctets),
             State::Passed(Kind::Possible, _) if line > from => (Kind::Part, Reason::None),
             State::Passed(kind, reason) => (kind, reason),
             State::Waiting => (Kind::PassedOver, Reason::ShortMessage),

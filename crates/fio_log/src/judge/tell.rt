@@ -5,6 +5,7 @@ ghost use Rattle.std.specs.List.{concat};
 ghost use Rattle.fio_log.specs.Verdicts.{AreAgreed, AreOfLine, HasFrames, HasReason};
 ghost use Rattle.fio_log.specs.Wordings.{SaysWords};
 ghost use Rattle.fio_log.specs.declared.chains.TheConstants.{CHAIN_FRAMES, CHAIN_OCTETS};
+ghost use Rattle.fio_log.specs.declared.verdict.Kind.TheVariants.{Blank};
 
 use crate::directions::Direction;
 use crate::judge::Judge;
@@ -101,6 +102,7 @@ impl Frames {
         ensures placed { (length (frames_told lines.now self.new) ≡ 0) ↔ (length (places_told lines.now self.new) ≡ 0) }
         ensures order { AreOfLine line (places_told lines.now self.new) }
         ensures written { (log : Log) → AreFramesOf log self.old → AreFramesOf log self.new }
+        ensures blank { (result ≡ Blank) ↔ (kind ≡ Blank) }
     {
         let (count, places) = (self.count(lines), self.place_count(lines));
         if has_frames(kind, count) && (count == 0) == (places == 0) && self.are_in(line, lines) {
@@ -218,33 +220,35 @@ impl Judge {
     }
 
     /// Returns what a line is, and takes its messages. Removes the entries before it.
-    pub(crate) fn tell(&mut self, line: u64, frames: &mut Frames) -> Verdict
+    pub(crate) fn tell(&mut self, line: u64, is_blank: bool, frames: &mut Frames) -> Verdict
         ensures judge { (log : Log) → IsJudgeOf log self.old → IsJudgeOf log self.new }
         ensures frames { (log : Log) → IsJudgeOf log self.old → AreFramesOf log frames.new }
         ensures agreed { AreAgreed line result.kind result.reason
             (frames_told self.new.join.lines frames.new) (places_told self.new.join.lines frames.new) }
         ensures words { (log : Log) → IsJudgeOf log self.old → SaysWords (log line) result.reason }
+        ensures blank { (result.kind ≡ Blank) ↔ (is_blank ≡ true) }
     {
         frames.clear();
         self.decider.queue.remove_before(line);
         if self.decider.queue.len() == 0 {
-            return Verdict::of(line, Kind::PassedOver, Reason::NoOctets, None);
+            return verdict_without_entry(line, is_blank);
         }
         let slot = self.decider.queue.slot(0);
         self.decider.find_damage(&self.entries, slot);
-        self.tell_entry(slot, line, frames)
+        self.tell_entry(slot, line, is_blank, frames)
     }
 
     /// Returns the verdict on a line of the entry in a slot, and takes its messages.
-    fn tell_entry(&self, slot: Slot, line: u64, frames: &mut Frames) -> Verdict
+    fn tell_entry(&self, slot: Slot, line: u64, is_blank: bool, frames: &mut Frames) -> Verdict
         ensures written { (log : Log) → IsJudgeOf log self.now → AreFramesOf log frames.old → AreFramesOf log frames.new }
         ensures agreed { AreAgreed line result.kind result.reason
             (frames_told self.now.join.lines frames.new) (places_told self.now.join.lines frames.new) }
         ensures words { (log : Log) → IsJudgeOf log self.now → SaysWords (log line) result.reason }
+        ensures blank { (result.kind ≡ Blank) ↔ (is_blank ≡ true) }
     {
         let entry = self.entries.get(slot);
         let decision = self.decider.queue.get(slot);
-        let (decided, reason) = decision.verdict(entry.from, line);
+        let (decided, reason) = decision.verdict(entry.from, line, is_blank);
         frames.fill(entry, decided, decision.state);
         let kind = frames.agree(decided, line, &self.join.lines);
         let reason = reason_for(kind, entry.reason_of(line, reason));
@@ -273,9 +277,23 @@ impl Judge {
     }
 }
 
+/// Returns the verdict on a line of which nothing is kept.
+fn verdict_without_entry(line: u64, is_blank: bool) -> Verdict
+    ensures none { HasFrames result.kind 0 }
+    ensures reason { HasReason result.kind result.reason }
+    ensures blank { (result.kind ≡ Blank) ↔ (is_blank ≡ true) }
+{
+    if is_blank {
+        Verdict::of(line, Kind::Blank, Reason::None, None)
+    } else {
+        Verdict::of(line, Kind::PassedOver, Reason::NoOctets, None)
+    }
+}
+
 /// Returns whether a line of a kind gives octets of a message.
 fn gives_octets(kind: Kind) -> bool
-    ensures { result ≡ false → HasFrames kind 0 }
+    ensures none { result ≡ false → HasFrames kind 0 }
+    ensures blank { kind ≡ Blank → result ≡ false }
 {
     matches!(kind, Kind::Frames | Kind::Possible)
 }

@@ -1,9 +1,11 @@
-use Rattle.std.proofs.Common.{◌≡◌, ◌∙◌, Some, false, true, sym, ap, arith}
+use Rattle.std.proofs.Common.{◌≡◌, ◌∙◌, Some, false, true, sym, ap, arith, rules}
 use Rattle.fio_log.specs.OwnVerdicts.{own_form_of}
 use Rattle.fio_log.specs.Telling.{Telling}
 use Rattle.fio_log.specs.contracts.reader.Reader.{the_invariant, the_view}
 use Rattle.fio_log.specs.declared.own_texts.OwnForm.{OwnForm}
 use Rattle.fio_log.specs.declared.reader.Reader.TheInside.{Inside}
+use Rattle.fio_log.specs.declared.verdict.Form.TheVariants.{Auto}
+use Rattle.fio_log.proofs.BlankLemmas.{same_blanks}
 use Rattle.fio_log.proofs.OwnVerdictLemmas.{none-left}
 use Rattle.fio_log.proofs.reader.Reader.feed.Goals as goal
 
@@ -38,6 +40,9 @@ invariant_of-self c =
       λ unread.
           let none : c.self-2.inside.is_unread ≡ false = ap (λ (telling : Telling). telling.is_unread) c.self-2.view_is ∙ was.unread in
           let no : false ≡ true = sym none ∙ unread in absurd (cc),
+      kept.6,
+      search rules,
+      search rules,
     )
 
 pub read_line-requires-clause-told : goal.read_line-requires-clause-told
@@ -61,4 +66,14 @@ invariant_of-self-else-is_whole c =
       λ unread.
           let none : c.self-2.inside.is_unread ≡ false = ap (λ (telling : Telling). telling.is_unread) c.self-2.view_is ∙ was.unread in
           let no : false ≡ true = sym none ∙ unread in absurd (cc),
+      kept.6,
+      search rules,
+      search rules,
     )
+
+pub returns-then-is_whole-clause-blanks : goal.returns-then-is_whole-clause-blanks
+returns-then-is_whole-clause-blanks c = λ texts know text.
+    let was = c.judge_held.ensures in
+    let first = λ (auto : c.judge_held.new.self.form ≡ Auto).
+    same_blanks texts c.args.self.now c.judge_held.new.self was.told was.read was.form was.blanks know.blanks auto in
+    c.read_line.ensures.blanks texts (rw (← c.self-2.view_is) at first) text

@@ -14,6 +14,9 @@ invariant_of-self c =
       λ held. search rules,
       λ own is less. let no : false ≡ true = sym unended ∙ (kept.4 own is less).2.whole in absurd (cc),
       λ unread. search rules,
+      kept.6,
+      kept.7,
+      λ part. search rules,
     )
 
 pub count_line-requires-clause-told : goal.count_line-requires-clause-told
@@ -29,8 +32,14 @@ returns-then-is_whole-2-clause-ready c = λ ready.
     let less : c.self.inside.told < c.self.inside.read = kept.1 (rw (← c.self.view_is) at ready) in
     let auto : c.self.inside.form ≡ Auto =
     auto-form c.self.inside.form (λ own is. let no : false ≡ true = sym unended ∙ (kept.4 own is less).2.whole in absurd (cc)) in
-    let same = c.count_line.ensures.auto auto in
-    rw (← c.self.view_is) (record { is_ready = same.is_ready; told = same.told; judge = same.judge; last = same.last })
+    let same = c.count_line.ensures.auto auto (rw (← c.self.view_is) at ready) in
+    rw (← c.self.view_is) (record {
+      is_ready = same.is_ready;
+      told = same.told;
+      judge = same.judge;
+      last = same.last;
+      blank = same.blank;
+    })
 
 pub invariant_of-self-else-is_whole-2 : goal.invariant_of-self-else-is_whole-2
 invariant_of-self-else-is_whole-2 c =
@@ -42,4 +51,12 @@ invariant_of-self-else-is_whole-2 c =
       λ held. let no : false ≡ true = sym unended ∙ kept.3 held in absurd (cc),
       λ own is less. let no : false ≡ true = sym unended ∙ (kept.4 own is less).2.whole in absurd (cc),
       λ unread. let no : false ≡ true = sym unended ∙ kept.5 unread in absurd (cc),
+      kept.6,
+      kept.7,
+      λ part. kept.8 unended,
     )
+
+pub returns-then-is_whole-2-clause-blanks : goal.returns-then-is_whole-2-clause-blanks
+returns-then-is_whole-2-clause-blanks c = λ texts know text.
+    let before = rw (← c.self.view_is) at know in
+    c.count_line.ensures.blanks texts before.blanks text

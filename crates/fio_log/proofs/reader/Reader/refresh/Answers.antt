@@ -47,6 +47,9 @@ invariant_of-self-then-ne c =
       kept.3,
       λ own is less. (refl, (kept.4 own is less).1, (kept.4 own is less).2),
       kept.5,
+      kept.6,
+      λ unready. absurd (cc),
+      kept.8,
     )
 
 pub invariant_of-self-2 : goal.invariant_of-self-2
@@ -59,5 +62,8 @@ invariant_of-self-2 c =
       λ own is less.
           let no : None ≡ Some own = sym (ap own_form_of auto) ∙ is in
           absurd (cc),
+      search rules,
+      search rules,
+      search rules,
       search rules,
     )
