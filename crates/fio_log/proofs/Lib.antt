@@ -13,6 +13,7 @@ pub mod LineLemmas
 pub mod BlankLemmas
 pub mod FrameLemmas
 pub mod MessageRunLemmas
+pub mod KeepingLemmas
 pub mod TellingLemmas
 pub mod OwnVerdictLemmas
 pub mod NumberLemmas

@@ -1,12 +1,17 @@
 -- What an entry keeps of the runs that it is given: nothing is dropped silently.
-use Rattle.std.specs.Prelude.{◌≡◌, ℕ, ◌≤◌, ◌⊎◌, ◌++◌, List, [], ◌∷◌, length, slice_index_or}
-use Rattle.std.specs.List.{Any}
+use Rattle.std.specs.Prelude.{◌≡◌, ℕ, ◌≤◌, ◌<◌, ◌⊎◌, ◌++◌, Bool, true, false, List, [], ◌∷◌, IsSome, Some, length, slice_index_or}
+use Rattle.std.specs.List.{All, Any}
 use Rattle.fio_log.specs.Frames.{message_of}
+use Rattle.fio_log.specs.Sayings.{message_said}
 use Rattle.fio_log.specs.declared.judge.entries.Entries.{Entries}
 use Rattle.fio_log.specs.declared.judge.entries.Entry.{Entry}
 use Rattle.fio_log.specs.declared.judge.entries.TheConstants.{ENTRY_RUNS}
 use Rattle.fio_log.specs.declared.judge.message_run.MessageRun.{MessageRun}
 use Rattle.fio_log.specs.declared.judge.slots.Slot.{Slot}
+use Rattle.fio_log.specs.declared.line_run.LineRun.{LineRun}
+use Rattle.fio_log.specs.declared.line_run.LineRuns.{LineRuns}
+use Rattle.fio_log.specs.declared.sayings.Saying.{Saying}
+use Rattle.fio_log.specs.declared.sayings.Saying.TheVariants.{Says}
 
 -- a run has the octets and the shape of another
 abbrev pub IsSame : MessageRun → MessageRun → Type 0
@@ -17,9 +22,60 @@ abbrev pub AreWith : List MessageRun → MessageRun → List MessageRun → Type
 AreWith runs run after =
     (after ≡ runs ++ run ∷ []) ⊎ ((after ≡ runs) × (Any (IsSame run) runs ⊎ (ENTRY_RUNS ≤ length runs)))
 
+-- the entry in a slot
+abbrev pub entry_in : Entries → Slot → Entry → Entry
+entry_in entries slot none = slice_index_or entries.slots.all.items slot.index none
+
 -- A run of a line is given to the entry in a slot, if that is of the line alone.
 abbrev pub IsKeptIn : Entries → Slot → ℕ → MessageRun → Entries → Type 0
 IsKeptIn before slot line run after =
-    (none : Entry) → (slice_index_or before.slots.all.items slot.index none).from ≡ line
-    → (slice_index_or before.slots.all.items slot.index none).rows.items ≡ []
-    → AreWith (slice_index_or before.slots.all.items slot.index none).runs.items run (slice_index_or after.slots.all.items slot.index none).runs.items
+    (none : Entry) → (entry_in before slot none).from ≡ line → (entry_in before slot none).rows.items ≡ []
+    → AreWith (entry_in before slot none).runs.items run (entry_in after slot none).runs.items
+
+-- the entry in a slot is of a line alone
+abbrev pub IsOfLine : Entries → Slot → ℕ → Type 0
+IsOfLine entries slot line =
+    (none : Entry) → ((entry_in entries slot none).from ≡ line) × ((entry_in entries slot none).rows.items ≡ [])
+
+-- some runs say a message in a shape, or there is no room for more
+abbrev pub HaveMessage : List MessageRun → List ℕ → ℕ → Type 0
+HaveMessage runs octets shape =
+    Any (λ run. (message_of run ≡ octets) × (run.around.whole ≡ shape)) runs ⊎ (ENTRY_RUNS ≤ length runs)
+
+-- the runs of the entry in a slot do
+abbrev pub HasMessage : Entries → Slot → List ℕ → ℕ → Type 0
+HasMessage entries slot octets shape = (none : Entry) → HaveMessage (entry_in entries slot none).runs.items octets shape
+
+-- The entry in a slot, of a line alone, stays so, and what it has of messages stays in it.
+pub record KeepsMessages (before : Entries) (slot : Slot) (number : ℕ) (after : Entries) : Type 0 where
+  pub line : IsOfLine before slot number → IsOfLine after slot number
+  pub messages : IsOfLine before slot number → (octets : List ℕ) (shape : ℕ) → HasMessage before slot octets shape
+      → HasMessage after slot octets shape
+
+-- whether octets say a message that is sure by itself
+abbrev pub says_sure : Saying → Bool
+says_sure (Says from to is_sure) = is_sure
+says_sure other = false
+
+-- one of some runs says a message, and has more octets than a run
+abbrev pub SayLonger : List LineRun → LineRun → Type 0
+SayLonger runs run = Any (λ other. (length run.octets.items < length other.octets.items)
+    × IsSome (message_said other.octets.items other.saying)) runs
+
+-- A run of a line says a message to its entry: it is no octet beside a longer message and, if the line has more runs than are
+-- kept, the message is sure by itself.
+pub record IsGiven (runs : LineRuns) (run : LineRun) (octets : List ℕ) : Type 0 where
+  pub said : message_said run.octets.items run.saying ≡ Some octets
+  pub apart : length run.octets.items ≡ 1 → ¬ SayLonger runs.all.items run
+  pub sure : runs.is_over ≡ true → says_sure run.saying ≡ true
+
+-- the entry in a slot has each message that some runs of a line say to it
+abbrev pub HasEach : Entries → Slot → LineRuns → List LineRun → Type 0
+HasEach entries slot runs some =
+    All (λ run. (octets : List ℕ) → IsGiven runs run octets → HasMessage entries slot octets run.around.whole) some
+
+-- an entry is of a line alone, and has each message that the line's runs say to it
+pub record HasLine (entries : Entries) (line : ℕ) (runs : LineRuns) : Type 0 where
+  pub slot : Slot
+  pub of_line : IsOfLine entries slot line
+  pub each : HasEach entries slot runs runs.all.items

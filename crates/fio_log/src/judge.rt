@@ -3,10 +3,12 @@
 //! Each line becomes an entry in a slot of a ring (`entries`, `queue`, `slots`), unless it continues lines that are open
 //! (`open`, `join`, `close`). An entry is decided, or waits (`decide`, `pair`, `wait`), and then its verdict is told (`tell`,
 //! `damage`).
-ghost use Rattle.std.specs.Prelude.{◌≡◌, ◌+◌, ◌&&◌, not, ℕ, List, IfSome, length};
+ghost use Rattle.std.specs.Prelude.{◌≡◌, ◌+◌, ◌<◌, ◌&&◌, not, ℕ, List, IfSome, false, length};
+ghost use Rattle.fio_log.specs.declared.judge.slots.TheConstants.{ENTRIES};
 ghost use Rattle.std.specs.List.{All};
 ghost use Rattle.fio_log.specs.Blanks.{are_blanks};
 ghost use Rattle.fio_log.specs.Frames.{IsJudgeOf, Log};
+ghost use Rattle.fio_log.specs.Keeping.{HasEach, HasLine, HasMessage, IsGiven, IsOfLine, KeepsMessages};
 ghost use Rattle.fio_log.specs.LineRuns.{IsLineRun};
 ghost use Rattle.fio_log.specs.Wordings.{SaysWords};
 
@@ -181,8 +183,11 @@ impl Judge {
 
     /// Reads a line that does not continue those above it.
     pub(crate) fn begin(&mut self, line: Line, runs: &LineRuns)
-        ensures { (log : Log) → IsJudgeOf log self.old → line.entry.text.now ≡ log line.entry.number
+        ensures written { (log : Log) → IsJudgeOf log self.old → line.entry.text.now ≡ log line.entry.number
             → All (IsLineRun (log line.entry.number)) runs.now.all.items → IsJudgeOf log self.new }
+        ensures given { self.old.decider.queue.count < ENTRIES
+            → (not line.entry.is_long && are_blanks line.entry.text.now) ≡ false
+            → HasLine self.new.entries line.entry.number runs.now }
     {
         let Some(slot) = self.decider.next_slot(&mut self.entries) else {
             return;
@@ -224,7 +229,8 @@ impl Judge {
 
     /// Puts the entry of a line in the next slot.
     fn put(&mut self, slot: Slot, line: Line, time: Option<u64>, runs: &LineRuns)
-        ensures { (log : Log) → IsJudgeOf log self.old → line.entry.text.now ≡ log line.entry.number → IsJudgeOf log self.new }
+        ensures written { (log : Log) → IsJudgeOf log self.old → line.entry.text.now ≡ log line.entry.number → IsJudgeOf log self.new }
+        ensures line { IsOfLine self.new.entries slot line.entry.number }
     {
         self.entries
             .begin(slot, line.number, time, line.without_octets(runs));
@@ -233,8 +239,10 @@ impl Judge {
 
     /// Keeps the runs of a line in its entry.
     fn keep_runs(&mut self, slot: Slot, line: u64, runs: &LineRuns)
-        ensures { (log : Log) → IsJudgeOf log self.old → All (IsLineRun (log line)) runs.now.all.items
+        ensures written { (log : Log) → IsJudgeOf log self.old → All (IsLineRun (log line)) runs.now.all.items
             → IsJudgeOf log self.new }
+        ensures line { IsOfLine self.old.entries slot line → IsOfLine self.new.entries slot line }
+        ensures each { IsOfLine self.old.entries slot line → HasEach self.new.entries slot runs.now runs.now.all.items }
     {
         self.decider.keys.clear();
         for run in runs.all.as_slice() {
@@ -249,7 +257,10 @@ impl Judge {
 
     /// Keeps a run of a line in its entry, if it says a message and is no number beside a longer one.
     fn keep_message(&mut self, slot: Slot, line: u64, run: &LineRun, runs: &LineRuns)
-        ensures { (log : Log) → IsJudgeOf log self.old → IsLineRun (log line) run.now → IsJudgeOf log self.new }
+        ensures written { (log : Log) → IsJudgeOf log self.old → IsLineRun (log line) run.now → IsJudgeOf log self.new }
+        ensures kept { KeepsMessages self.old.entries slot line self.new.entries }
+        ensures given { IsOfLine self.old.entries slot line → (octets : List ℕ) → IsGiven runs.now run.now octets
+            → HasMessage self.new.entries slot octets run.now.around.whole }
     {
         let key = RunKey::of(&run.around, run.octets.as_slice(), run.saying);
         let _room = self.decider.keys.try_push(key);
@@ -266,8 +277,9 @@ impl Judge {
 
     /// Returns whether the next line may continue this one; if so, begins with it.
     fn opens(&mut self, line: Line, runs: &LineRuns) -> bool
-        ensures { (log : Log) → IsJudgeOf log self.old → line.entry.text.now ≡ log line.entry.number
+        ensures written { (log : Log) → IsJudgeOf log self.old → line.entry.text.now ≡ log line.entry.number
             → All (IsLineRun (log line.entry.number)) runs.now.all.items → IsJudgeOf log self.new }
+        ensures entries { self.new.entries ≡ self.old.entries }
     {
         if let Some(is_open) = self.begin_dump(line, runs) {
             self.decider.forget_chain();
@@ -283,8 +295,9 @@ impl Judge {
     /// Begins with the first row of a dump, unless it is known that the line is none. Returns whether it has octets; `None` if
     /// the line is no such row.
     fn begin_dump(&mut self, line: Line, runs: &LineRuns) -> Option<bool>
-        ensures { (log : Log) → IsJudgeOf log self.old → line.entry.text.now ≡ log line.entry.number
+        ensures written { (log : Log) → IsJudgeOf log self.old → line.entry.text.now ≡ log line.entry.number
             → IsJudgeOf log self.new }
+        ensures entries { self.new.entries ≡ self.old.entries }
     {
         if runs.is_no_dump {
             return None;

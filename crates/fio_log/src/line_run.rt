@@ -1,6 +1,6 @@
 //! The runs of octets in a line, what they say, and what surrounds them.
-ghost use Rattle.std.specs.Prelude.{◌≡◌, []};
-ghost use Rattle.fio_log.specs.Sayings.{SaysPart};
+ghost use Rattle.std.specs.Prelude.{◌≡◌, [], IsSome, true};
+ghost use Rattle.fio_log.specs.Sayings.{SaysPart, message_said};
 
 use crate::around::Around;
 use crate::octets::Octets;
@@ -39,7 +39,9 @@ impl LineRun {
     }
 
     /// Returns whether it says a message.
-    pub(crate) fn says(&self) -> bool {
+    pub(crate) fn says(&self) -> bool
+        ensures { result ≡ true → IsSome (message_said self.now.octets.items self.now.saying) }
+    {
         matches!(self.saying, Saying::Says { .. })
     }
 }

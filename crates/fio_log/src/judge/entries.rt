@@ -1,7 +1,7 @@
 //! Entries: lines of a log that have one decision, and what is read of them.
 ghost use Rattle.std.specs.Prelude.{◌≡◌, ℕ, ◌<◌, [], IfSome};
 ghost use Rattle.fio_log.specs.Frames.{AreEntriesOf, AreJoined, IsEntryOf, IsMessageOf, IsRunOf, Log, line_place};
-ghost use Rattle.fio_log.specs.Keeping.{AreWith, IsKeptIn};
+ghost use Rattle.fio_log.specs.Keeping.{AreWith, IsKeptIn, IsOfLine};
 ghost use Rattle.fio_log.specs.Wordings.{SaysWords};
 
 use crate::judge::joined::{Joined, Row};
@@ -53,7 +53,10 @@ impl Default for Entry {
 impl Entry {
     /// Begins an entry of one line, which has no runs yet. `without_octets` is why the line gives no frame if it has no octets.
     fn begin(&mut self, line: u64, time: Option<u64>, without_octets: Reason)
-        ensures { (log : Log) → SaysWords (log line) without_octets → IsEntryOf log self.new }
+        ensures words { (log : Log) → SaysWords (log line) without_octets → IsEntryOf log self.new }
+        ensures none { self.new.runs.items ≡ [] }
+        ensures from { self.new.from ≡ line }
+        ensures rows { self.new.rows.items ≡ [] }
     {
         self.from = line;
         self.time = time;
@@ -250,7 +253,8 @@ impl Entries {
 
     /// Begins an entry of one line in a slot. `without_octets` is why the line gives no frame if it has no octets.
     pub(crate) fn begin(&mut self, slot: Slot, line: u64, time: Option<u64>, without_octets: Reason)
-        ensures { (log : Log) → AreEntriesOf log self.old → SaysWords (log line) without_octets → AreEntriesOf log self.new }
+        ensures written { (log : Log) → AreEntriesOf log self.old → SaysWords (log line) without_octets → AreEntriesOf log self.new }
+        ensures line { IsOfLine self.new slot line }
     {
         self.slots.all.as_mut_slice()[slot.index()].begin(line, time, without_octets);
     }
@@ -259,6 +263,7 @@ impl Entries {
     pub(crate) fn keep(&mut self, slot: Slot, line: u64, run: MessageRun)
         ensures written { (log : Log) → AreEntriesOf log self.old → IsRunOf log line [] run → AreEntriesOf log self.new }
         ensures kept { IsKeptIn self.old slot line run self.new }
+        ensures line { IsOfLine self.old slot line → IsOfLine self.new slot line }
     {
         self.slots.all.as_mut_slice()[slot.index()].keep_of_line(line, run);
     }

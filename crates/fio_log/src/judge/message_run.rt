@@ -1,7 +1,7 @@
 //! Runs of octets that say a message, as the judge keeps them.
 ghost use Rattle.std.specs.Prelude.{◌≡◌, ◌≤◌, ◌↔◌, ℕ, [], IfSome, IsTrue, length, option_map, slice_range, true};
 ghost use Rattle.fio_log.specs.Frames.{IsMessageOf, IsRunOf, Log, message_of, octets_in};
-ghost use Rattle.fio_log.specs.Keeping.{IsSame};
+ghost use Rattle.fio_log.specs.Keeping.{IsSame, says_sure};
 ghost use Rattle.fio_log.specs.LineRuns.{IsLineRun};
 ghost use Rattle.fio_log.specs.Sayings.{SaysPart, message_said, spells};
 
@@ -37,6 +37,8 @@ impl MessageRun {
     /// Returns a run of a line if it says a message.
     pub(crate) fn of_line(run: &LineRun) -> Option<MessageRun>
         ensures message { option_map message_of result ≡ message_said run.now.octets.items run.now.saying }
+        ensures shape { IfSome result (λ said. said.around.whole ≡ run.now.around.whole) }
+        ensures sure { IfSome result (λ said. said.is_sure ≡ says_sure run.now.saying) }
         ensures written { (log : Log) (line : ℕ) → IsLineRun (log line) run.now → IfSome result (IsRunOf log line []) }
     {
         MessageRun::of(
@@ -60,6 +62,8 @@ impl MessageRun {
     ) -> Option<MessageRun>
         requires { SaysPart octets.now saying }
         ensures message { option_map message_of result ≡ message_said octets.now saying }
+        ensures shape { IfSome result (λ run. run.around.whole ≡ around.now.whole) }
+        ensures sure { IfSome result (λ run. run.is_sure ≡ says_sure saying) }
         ensures start { IfSome result (λ run. run.start ≡ start) }
         ensures end { IfSome result (λ run. run.end ≡ end) }
         ensures notation { IfSome result (λ run. run.notation ≡ notation) }

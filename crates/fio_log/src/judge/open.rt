@@ -1,6 +1,7 @@
 //! Which lines the next one may continue.
-ghost use Rattle.std.specs.Prelude.{ℕ, List, IfSome};
+ghost use Rattle.std.specs.Prelude.{◌≡◌, ℕ, List, IfSome, length, true};
 ghost use Rattle.std.specs.List.{All};
+ghost use Rattle.fio_log.specs.Keeping.{SayLonger};
 ghost use Rattle.fio_log.specs.LineRuns.{IsLineRun};
 
 use crate::chains::begins_with_message;
@@ -78,11 +79,15 @@ pub(crate) fn is_octet_row(row: &LineRun, runs: &LineRuns, shapes: &Shapes) -> b
 }
 
 /// Returns whether a line says a message that has more octets than its last run.
-pub(crate) fn says_longer(row: &LineRun, runs: &LineRuns) -> bool {
-    runs.all
-        .as_slice()
-        .iter()
-        .any(|run| run.octets.len() > row.octets.len() && run.says())
+pub(crate) fn says_longer(row: &LineRun, runs: &LineRuns) -> bool
+    ensures { result ≡ true → SayLonger runs.now.all.items row.now }
+{
+    for run in runs.all.as_slice() {
+        if run.octets.len() > row.octets.len() && run.says() {
+            return true;
+        }
+    }
+    false
 }
 
 /// Returns the last run of a line, the longest that ends there.
@@ -102,6 +107,9 @@ pub(crate) fn last_run(runs: &LineRuns) -> Option<&LineRun>
 }
 
 /// Returns whether a run of one octet is a number: its line says a longer message.
-pub(crate) fn is_number(run: &LineRun, runs: &LineRuns) -> bool {
+pub(crate) fn is_number(run: &LineRun, runs: &LineRuns) -> bool
+    ensures one { result ≡ true → length run.now.octets.items ≡ 1 }
+    ensures longer { result ≡ true → SayLonger runs.now.all.items run.now }
+{
     run.octets.len() == 1 && says_longer(run, runs)
 }

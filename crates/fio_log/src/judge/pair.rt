@@ -1,5 +1,7 @@
 //! Pairs of a command and its answer in neighbouring lines.
+ghost use Rattle.std.specs.Prelude.{◌<◌, IsSome};
 ghost use Rattle.fio_log.specs.Frames.{AreEntriesOf, Log};
+ghost use Rattle.fio_log.specs.declared.judge.slots.TheConstants.{ENTRIES};
 
 use crate::judge::decide::Decider;
 use crate::judge::entries::{ENTRY_RUNS, Entries, say_same};
@@ -58,7 +60,8 @@ impl Above {
 impl Decider {
     /// Returns the slot of the next entry. The runs of the entry that was in it are kept if they may pair.
     pub(crate) fn next_slot(&mut self, entries: &mut Entries) -> Option<Slot>
-        ensures { (log : Log) → AreEntriesOf log entries.old → AreEntriesOf log entries.new }
+        ensures written { (log : Log) → AreEntriesOf log entries.old → AreEntriesOf log entries.new }
+        ensures room { self.old.queue.count < ENTRIES → IsSome result }
     {
         let slot = self.queue.next_slot()?;
         if slot.is(self.above.slot) {

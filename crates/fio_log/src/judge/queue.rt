@@ -1,4 +1,7 @@
 //! The entries that wait for their verdict, oldest first: what is decided of each, and the text of its first line.
+ghost use Rattle.std.specs.Prelude.{◌<◌, IsSome};
+ghost use Rattle.fio_log.specs.declared.judge.slots.TheConstants.{ENTRIES};
+
 use crate::judge::decision::Decision;
 use crate::judge::slots::{ENTRIES, Slot, Slots};
 use arrayvec::ArrayVec;
@@ -58,7 +61,9 @@ impl Queue {
     }
 
     /// Returns the slot of the entry that a next line would have; `None` if there is no room.
-    pub(crate) fn next_slot(&self) -> Option<Slot> {
+    pub(crate) fn next_slot(&self) -> Option<Slot>
+        ensures { self.now.count < ENTRIES → IsSome result }
+    {
         (self.count < ENTRIES).then_some(self.slot(self.count))
     }
 

@@ -9,7 +9,7 @@ returns-then-self-clause-kept c = λ log before.
     let text = c.last_line.ensures.text ∙ is.line (c.self.invariant.3 c.if-self.true) in
     record {
       line = is.line;
-      judge = c.begin.ensures log is.judge (rw c.last_line.ensures.number text) (rw c.last_line.ensures.number (is.held c.if-self.true));
+      judge = c.begin.ensures.written log is.judge (rw c.last_line.ensures.number text) (rw c.last_line.ensures.number (is.held c.if-self.true));
       held = λ none. absurd (cc);
       frames = is.frames;
     }
