@@ -42,6 +42,7 @@ class Restarting(Link):
         self.asked = None
         self.restarts.append(len(self.frames))
         self.late = self.late * self.draw.choice((0, 1))
+        self.exchange(encode.status(0))
         while self.frames[-1][0] or self.frames[-1][1][0] != STATUS:
             self.exchange(encode.status(0))
         if self.draw.random() < 0.5:
