@@ -65,12 +65,13 @@ impl Line<'_> {
         !self.is_long && are_blanks(self.text)
     }
 
-    /// Returns why it gives no frame if it has no octets. Its words are read only if no run of it has two octets or more.
+    /// Returns why it gives no frame if it has no octets; `None` if a run of it has two octets or more, or it is too long: then its
+    /// words are not read.
     fn without_octets(&self, runs: &LineRuns) -> Reason
         ensures { SaysWords self.now.text.now result }
     {
         if self.is_long || runs.has_octets() {
-            Reason::NoOctets
+            Reason::None
         } else {
             reason_without_octets(self.text)
         }

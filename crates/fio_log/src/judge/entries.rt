@@ -25,7 +25,8 @@ pub(crate) struct Entry {
     pub from: u64,
     /// Its time, in microseconds.
     pub time: Option<u64>,
-    /// Why its first line gives no frame if it has no octets, by the words of the line.
+    /// Why its first line gives no frame if it has no octets, by the words of the line; `None` if these are not read. So the
+    /// default is nothing but zeros, of which a reader can be made in its place, and not on the stack.
     pub without_octets: Reason,
     /// The runs that say messages, without those of the same octets and shape.
     pub runs: ArrayVec<MessageRun, ENTRY_RUNS>,
@@ -35,15 +36,15 @@ pub(crate) struct Entry {
 
 impl Default for Entry {
     ghost use Rattle.std.specs.Prelude.{◌≡◌, []};
-    ghost use Rattle.fio_log.specs.declared.verdict.Reason.TheVariants.{NoOctets};
+    ghost use Rattle.fio_log.specs.declared.verdict.Reason.TheVariants as reasons;
 
-    ghost is_default = { λ entry. (entry.runs.items ≡ []) × (entry.without_octets ≡ NoOctets) };
+    ghost is_default = { λ entry. (entry.runs.items ≡ []) × (entry.without_octets ≡ reasons.None) };
 
     fn default() -> Entry {
         Entry {
             from: 0,
             time: None,
-            without_octets: Reason::NoOctets,
+            without_octets: Reason::None,
             runs: ArrayVec::new(),
             rows: ArrayVec::new(),
         }
@@ -108,7 +109,7 @@ impl Entry {
             → IsEntryOf log self.new }
     {
         self.from = lines.from;
-        self.without_octets = Reason::NoOctets;
+        self.without_octets = Reason::None;
         self.runs.clear();
         self.rows.clear();
         let Some(run) = run else {
