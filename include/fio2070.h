@@ -1257,6 +1257,13 @@ void fio2070_log_judge_miss(struct fio2070_log_judge *judge);
 FIO2070_MUST_USE
 uint8_t fio2070_log_judge_frame(struct fio2070_log_judge *judge, uint8_t from_cpu, uint8_t said, const uint8_t *octets,
                                 size_t length, struct fio2070_judge_outcome *outcome);
+/** Takes the verdicts of a batch that fio2070_log_read wrote, in order, as the calls above take them: frames; possible and damaged
+ * lines; lines that speak of loss, and headings as damaged ones. Who sent a frame is said by its type; if `as_said` is not 0 by its
+ * line, if that says it, as in a transcript that is read by order. Writes what each frame of the batch is, in their order, and
+ * returns how many they are. The frame of a possible line is not judged, for no reason. */
+FIO2070_MUST_USE
+uint32_t fio2070_log_judge_batch(struct fio2070_log_judge *judge, uint8_t as_said, const struct fio2070_log_batch *batch,
+                                 struct fio2070_judge_outcome outcomes[20480]);
 
 /** What kind of log a log looks like (docs/CAPTURES.md, A log that is not what it seems). */
 enum fio2070_log_sign {

@@ -484,27 +484,28 @@ SAME(size_of_log_batch, sizeof(struct fio2070_log_batch), 565264);
 OVER(log, start, 1, void, , (struct fio2070_log_reader * log, uint8_t form), it, form)
 OVER(log, end, 1, void, , (struct fio2070_log_reader * log), it)
 
-/* A batch that the module wrote, in the processor's own order of octets. */
-static void settle_batch(struct fio2070_log_batch *batch) {
+/* A batch with its numbers in the module's order of octets instead of the processor's, or the other way; so many are in use. */
+static void settle_batch(struct fio2070_log_batch *batch, uint32_t verdicts, uint32_t frames, uint32_t places) {
     uint32_t place;
     batch->verdict_count = get32((const uint8_t *)&batch->verdict_count);
     batch->frame_count = get32((const uint8_t *)&batch->frame_count);
     batch->octet_count = get32((const uint8_t *)&batch->octet_count);
     batch->place_count = get32((const uint8_t *)&batch->place_count);
-    for (place = 0; place < batch->verdict_count; place++) {
+    for (place = 0; place < verdicts && place < 4096; place++) {
         struct fio2070_log_verdict *it = &batch->verdicts[place];
         it->line = get64((const uint8_t *)&it->line);
         it->time = get64((const uint8_t *)&it->time);
         it->frames = get32((const uint8_t *)&it->frames);
         it->places = get32((const uint8_t *)&it->places);
     }
-    for (place = 0; place < batch->place_count; place++) {
+    for (place = 0; place < places && place < 20480; place++) {
         struct fio2070_log_place *it = &batch->places[place];
         it->line = get64((const uint8_t *)&it->line);
         it->start = get32((const uint8_t *)&it->start);
         it->end = get32((const uint8_t *)&it->end);
     }
-    for (place = 0; place < batch->frame_count; place++) batch->lengths[place] = get16((const uint8_t *)&batch->lengths[place]);
+    for (place = 0; place < frames && place < 20480; place++)
+        batch->lengths[place] = get16((const uint8_t *)&batch->lengths[place]);
 }
 
 size_t fio2070_log_read(struct fio2070_log_reader *reader, const uint8_t *octets, size_t length,
@@ -515,7 +516,9 @@ size_t fio2070_log_read(struct fio2070_log_reader *reader, const uint8_t *octets
         uint64_t a = WRITES(reader, sizeof *reader), b = READS(octets, length), c = WRITES(batch, sizeof *batch);
         taken = (size_t)call_fio2070_log_read(&machine, a, b, length, c);
     }
-    if (!IS_LITTLE) settle_batch(batch);
+    if (!IS_LITTLE)
+        settle_batch(batch, get32((const uint8_t *)&batch->verdict_count), get32((const uint8_t *)&batch->frame_count),
+                     get32((const uint8_t *)&batch->place_count));
     return taken;
 }
 
@@ -531,6 +534,23 @@ JUDGES(log_judge, frame,
         struct fio2070_judge_outcome *outcome),
        it, from_cpu, said, frame, length, to)
 
+uint32_t fio2070_log_judge_batch(struct fio2070_log_judge *judge, uint8_t as_said, const struct fio2070_log_batch *batch,
+                                 struct fio2070_judge_outcome outcomes[20480]) {
+    /* The batch is as it was when the call returns. */
+    struct fio2070_log_batch *it = (struct fio2070_log_batch *)(uintptr_t)batch;
+    const uint32_t verdicts = batch->verdict_count, frames = batch->frame_count, places = batch->place_count;
+    uint32_t place, count;
+    MACHINE(fio2070_log_judge_batch);
+    if (!IS_LITTLE) settle_batch(it, verdicts, frames, places);
+    {
+        uint64_t a = WRITES(judge, sizeof *judge), b = READS(batch, sizeof *batch), c = WRITES(outcomes, 20480 * sizeof *outcomes);
+        count = (uint32_t)call_fio2070_log_judge_batch(&machine, a, as_said, b, c);
+    }
+    if (!IS_LITTLE) settle_batch(it, verdicts, frames, places);
+    for (place = 0; place < count; place++) outcomes[place].items = get16((const uint8_t *)&outcomes[place].items);
+    return count;
+}
+
 SAME(size_of_log_signs, sizeof(struct fio2070_log_signs), 816);
 
 OVER(log_signs, start, 1, void, , (struct fio2070_log_signs * log_signs), it)
@@ -538,6 +558,7 @@ OVER(log_signs, frame, 1, void, ,
      (struct fio2070_log_signs * log_signs, uint8_t from_cpu, uint8_t said, const uint8_t *octets, size_t length), it, from_cpu,
      said, READS(octets, length), length)
 OVER(log_signs, sign, 0, uint8_t, return (uint8_t), (const struct fio2070_log_signs *log_signs), it)
+
 /* Counts with their numbers of 64 bits, which are at the front, in the module's order of octets instead of the processor's, or
  * the other way. */
 static void settle_counts(struct fio2070_log_counts *counts) {
