@@ -11,7 +11,7 @@ use Rattle.fio_check.specs.Observations.{observation_in}
 use Rattle.fio_check.specs.Places.{is_some_and}
 use Rattle.fio_check.specs.declared.late_answers.LateAnswers.{LateAnswers}
 use Rattle.fio_check.specs.declared.late_answers.Lateness.{Lateness}
-use Rattle.fio_check.specs.declared.late_answers.Lateness.TheVariants.{InTime, LateButTaken} 
+use Rattle.fio_check.specs.declared.late_answers.Lateness.TheVariants.{InTime, LateButTaken}
 use Rattle.fio_check.specs.declared.late_answers.Lateness.TheVariants.{Late as LateOne}
 use Rattle.fio_check.specs.declared.limits.Limits.{Limits}
 use Rattle.fio_check.specs.declared.log_judge.LogJudge.{LogJudge}

@@ -196,7 +196,8 @@ impl LinkJudge {
     pub(crate) fn answer_without_content(&mut self, observation: Observation) -> Outcome
         ensures outcome { result ≡ outcome_without_content (judging self.old) observation }
         ensures next { judging self.new ≡ (record (judging self.old) {
-          checker = checker_with self.old.checker false observation }) }
+          checker = checker_with self.old.checker false observation;
+        }) }
     {
         if self.checker.passes_over(false, observation) {
             return Outcome::NotJudged(unjudged_by(self.checker.skips));

@@ -4,9 +4,7 @@ ghost use Rattle.fio_message.specs.Views.{answer_of, command_of, entries_of};
 ghost use Rattle.fio_check.specs.LogCounts.{counted_answer, counted_awaited, counted_block, counted_command, counted_entries, counted_lost, counted_poll, counted_reset, counted_sent, counts_above, counts_with, is_awaited, raised, raised_by, time_taken, time_to_answer, time_to_frame};
 
 use fio_message::types::ANSWER;
-use fio_message::{
-    AnswerView, BlockStatus, CommandView, EntriesView, read_answer, read_command,
-};
+use fio_message::{AnswerView, BlockStatus, CommandView, EntriesView, read_answer, read_command};
 
 /// P, bit 7 of the flags of a status answer: the module was reset. Flags with it are these or more.
 const RESET: u8 = 0x80;

@@ -231,7 +231,8 @@ impl LogJudge {
         requires { observation ≡ observation_in from_cpu octets.now }
         ensures outcome { result ≡ outcome_in_time (judging self.old.link) at from_cpu octets.now }
         ensures next { log_judging self.new ≡ (record (log_judging self.old) {
-          link = judging_in_time (judging self.old.link) at from_cpu octets.now }) }
+          link = judging_in_time (judging self.old.link) at from_cpu octets.now;
+        }) }
     {
         if from_cpu || matches!(observation, Observation::Block { .. }) {
             self.link.frame(at, from_cpu, octets)
@@ -263,7 +264,10 @@ impl LogJudge {
 fn ends_missing(observation: Observation) -> bool
     ensures { result ≡ ends_missing observation }
 {
-    matches!(observation, Observation::Poll { .. } | Observation::Block { .. })
+    matches!(
+        observation,
+        Observation::Poll { .. } | Observation::Block { .. }
+    )
 }
 
 /// Returns whether a frame that is lost can be the reason why one below it breaks this rule.
