@@ -1,6 +1,6 @@
 -- What is counted of the frames of a log, one frame at a time. Numbers are modulo 2^64.
-use Rattle.std.specs.Prelude.{ℕ, ◌+◌, ◌-◌, ◌%◌, ◌^◌, ◌==◌, ◌&&◌, Bool, true, false, not, nat_le, nat_lt, List, fold, length, replicate, slice_index_or, slice_set, Option, Some, None, is_some, option_and_then, unwrap_or, if◌then◌else◌}
-use Rattle.fio_message.specs.Bits.{bit_of, is_set}
+use Rattle.std.specs.Prelude.{ℕ, ◌+◌, ◌-◌, ◌%◌, ◌^◌, ◌==◌, ◌&&◌, Bool, not, nat_le, nat_lt, List, fold, length, replicate, slice_index_or, slice_set, Option, Some, None, is_some, option_and_then, unwrap_or, if◌then◌else◌}
+use Rattle.fio_message.specs.Bits.{bit_of}
 use Rattle.fio_message.specs.Commands.{command_code}
 use Rattle.fio_message.specs.Answers.{answer_code}
 use Rattle.fio_message.specs.Decoding.{answer_in, command_in}

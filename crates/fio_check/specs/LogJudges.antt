@@ -2,7 +2,7 @@
 --
 -- It is the judge of a link, which finds by itself where the log was taken, loses the place at lines that may have held a frame,
 -- and may leave out late answers.
-use Rattle.std.specs.Prelude.{ℕ, ◌==◌, ◌+◌, ◌&&◌, ◌||◌, Bool, List, [], ◌∷◌, ◌++◌, true, false, not, nat_lt, Option, Some, None, option_map, is_some, if◌then◌else◌}
+use Rattle.std.specs.Prelude.{ℕ, ◌+◌, ◌&&◌, Bool, List, [], ◌∷◌, ◌++◌, true, false, not, nat_lt, Option, Some, None, option_map, if◌then◌else◌}
 use Rattle.fio_check.specs.Checkers.{checker_with, found_by, passes_over}
 use Rattle.fio_check.specs.LateAnswers.{late_above, late_with, lateness_of}
 use Rattle.fio_check.specs.LinkJudges.{Judging, checking_again, judging_anywhere, judging_begun, judging_lost, judging_with, loads_left, outcome_found, outcome_in, unjudged_by}
@@ -18,14 +18,14 @@ use Rattle.fio_check.specs.declared.log_judge.LogJudge.{LogJudge}
 use Rattle.fio_check.specs.declared.log_judge.LogOutcome.{LogOutcome}
 use Rattle.fio_check.specs.declared.log_judge.LogOutcome.TheVariants.{Late, LateAbove, Link}
 use Rattle.fio_check.specs.declared.log_judge.LogStart.{LogStart}
-use Rattle.fio_check.specs.declared.log_judge.LogStart.TheVariants.{Anywhere, Begun, LateAnswers as StartLate}
+use Rattle.fio_check.specs.declared.log_judge.LogStart.TheVariants.{Begun, LateAnswers as StartLate}
 use Rattle.fio_check.specs.declared.observation.Observation.{Observation}
 use Rattle.fio_check.specs.declared.observation.Observation.TheVariants.{Block, Poll}
-use Rattle.fio_check.specs.declared.outcome.Excuse.TheVariants.{Load, Unheard}
+use Rattle.fio_check.specs.declared.outcome.Excuse.TheVariants.{Load}
 use Rattle.fio_check.specs.declared.outcome.LogPlace.{LogPlace}
 use Rattle.fio_check.specs.declared.outcome.LogPlace.TheVariants.{Bus, Cpu, Module}
 use Rattle.fio_check.specs.declared.outcome.Outcome.{Outcome}
-use Rattle.fio_check.specs.declared.outcome.Outcome.TheVariants.{Kept, Broken, BrokenContent, Excused, Restarted, NotJudged}
+use Rattle.fio_check.specs.declared.outcome.Outcome.TheVariants.{Broken, BrokenContent, Excused, Restarted, NotJudged}
 use Rattle.fio_check.specs.declared.rules.Rule.{Rule}
 use Rattle.fio_check.specs.declared.rules.Rule.TheVariants.{Pair, Number, Advance, Same, Refusal}
 

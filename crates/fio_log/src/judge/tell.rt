@@ -281,6 +281,7 @@ impl Judge {
 fn verdict_without_entry(line: u64, is_blank: bool) -> Verdict
     ensures none { HasFrames result.kind 0 }
     ensures reason { HasReason result.kind result.reason }
+    ensures words { (text : List ℕ) → SaysWords text result.reason }
     ensures blank { (result.kind ≡ Blank) ↔ (is_blank ≡ true) }
 {
     if is_blank {

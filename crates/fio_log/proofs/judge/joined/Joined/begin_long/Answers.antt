@@ -1,4 +1,4 @@
-use Rattle.std.proofs.Common.{◌≡◌, ◌≤◌, [], ◌∷◌, length, rules}
+use Rattle.std.proofs.Common.{◌≡◌, ◌≤◌, length, rules}
 use Rattle.std.specs.Prelude.{slice_range}
 use Rattle.fio_log.specs.Readings.{octets_of}
 use Rattle.fio_log.proofs.FrameLemmas.{AreJoined-long}
