@@ -3,9 +3,9 @@
  *
  * The field I/O transition link of the Model 2070: the header of fio2070.c.
  *
- * Sources: 9cfc9ca7d8350edb7918f96e9674da4291c8e7b5e6dd94778665a3cb07cef953 (SHA-256; packaging/release-files --sources)
+ * Sources: 3f073c9434901695b04ab17c149aa06eef2638c8edbc01c051f431ed6ca39738 (SHA-256; packaging/release-files --sources)
  * Kit: rattle-kit-13f logic dac8208d650f15bf
- * Proof: logic=proved functions=177 target=wasm64-unknown-unknown sum=dac8208d650f15bf native=nat,char,string
+ * Proof: logic=proved functions=215 target=wasm64-unknown-unknown sum=dac8208d650f15bf native=nat,char,string
  * Made by `make release-files`: do not edit.
  *
  * Proved is the module of which fio2070.c was made, for wasm64: each call does what fio2070.h says for all octets,
@@ -32,10 +32,11 @@
  *    argument without const points to. Such an argument overlaps no other. So threads may call at once, each with its
  *    own structs. A firmware that scans in a timer interrupt makes each other call on the module, getters too, with
  *    that interrupt held off.
- *  - The structs filters, counter, checker, content_checker, module, sized_module, wire, wire_bits and log_reader are
- *    written by the calls of this header alone, _start first, and so are the slots of a sized_module. Before _start they may
- *    hold any octets; _start sets each of those of a struct but a log_reader. They may be copied and moved by memcpy. A
- *    log_reader that other code wrote, or that was not started, is no reader: what a call then does is not promised at all.
+ *  - The structs filters, counter, checker, content_checker, judge, log_judge, log_counts, module, sized_module, wire, wire_bits
+ *    and log_reader are written by the calls of this header alone, _start first, and so are the slots of a sized_module. Before
+ *    _start they may hold any octets; _start sets each of those of a struct but a log_reader. They may be copied and moved by
+ *    memcpy. A log_reader that other code wrote, or that was not started, is no reader: what a call then does is not promised at
+ *    all.
  *
  * Sources: TEES 2009 is Caltrans TEES 2009. "Own profile" is a choice of this project if TEES
  * leaves one: 64 inputs, 64 outputs, and what docs/PROTOCOL.md marks so.
@@ -51,8 +52,8 @@
  * A text ends in a zero octet, which its count leaves out, as that of snprintf does: it was written if its count is less
  * than `room`. No message has more than FIO2070_LONGEST_FRAME octets.
  *
- * The calls are in groups, each with an example: numbers, decode, encode, wire, poller, checker, content, judge, log, parts,
- * module.
+ * The calls are in groups, each with an example: numbers, decode, encode, wire, poller, checker, content, judge, log, log_judge,
+ * log_counts, parts, module.
  */
 #ifndef FIO2070_H
 #define FIO2070_H
@@ -959,7 +960,9 @@ enum fio2070_why {
     FIO2070_WHY_LOAD = 1,          /**< excused: a load of the counter may have set its stamp back */
     FIO2070_WHY_UNHEARD = 2,       /**< excused: the CPU's end may not have heard the answer to the poll above */
     FIO2070_WHY_ABOVE_COMMAND = 3, /**< not judged: it is an answer above the first command */
-    FIO2070_WHY_PLACE_LOST = 4     /**< not judged: it is above the next poll below a place that is lost */
+    FIO2070_WHY_PLACE_LOST = 4,    /**< not judged: it is above the next poll below a place that is lost */
+    FIO2070_WHY_LATE = 5,          /**< excused, in a log alone: it is a late answer */
+    FIO2070_WHY_LATE_ABOVE = 6     /**< excused, in a log alone: a late answer above may be why it breaks a rule */
 };
 
 /** A judge of a link. Its fields are the library's own. */
@@ -1074,7 +1077,10 @@ enum fio2070_log_reason {
     FIO2070_LOG_TOO_LONG = 6,         /**< it is longer than a line, or than the octets of several lines, that are kept */
     FIO2070_LOG_BAD_LINE = 7,         /**< it is no line of the text that it is read as by order */
     FIO2070_LOG_EXCHANGED = 8,        /**< its octets spell a message with a count if those of each pair are exchanged */
-    FIO2070_LOG_TWO_MORE = 9          /**< its octets spell a message with a count but for two at one end */
+    FIO2070_LOG_TWO_MORE = 9,         /**< its octets spell a message with a count but for two at one end */
+    FIO2070_LOG_LOSS = 10,            /**< it has no octets, and its words speak of loss: an answer may be missing here */
+    FIO2070_LOG_HEADING = 11,         /**< it has no octets, and is the heading of a log or of a part of one */
+    FIO2070_LOG_ONE_LESS = 12         /**< its octets spell a message with a count but for one missing at their end */
 };
 
 /** Who sent the octets of a line, as the line says: by its last word or arrow before them that says it. */
@@ -1156,14 +1162,238 @@ void fio2070_log_start(struct fio2070_log_reader *reader, uint8_t form);
  * whose lines are counted from 1.
  *
  * Proved are: which lines the octets make that it takes; that the verdicts in a batch are those of the next lines, each once
- * and in order, with all their frames and places; that each frame spells a message and is written at its places; and that a
- * new log begins as said. How many octets it takes, when a verdict is due and what it says are tested. */
+ * and in order, with all their frames and places; that each frame spells a message and is written at its places; that a line
+ * with the reason FIO2070_LOG_LOSS or FIO2070_LOG_HEADING has such words; and that a new log begins as said. How many octets it
+ * takes, when a verdict is due and what else it says are tested. */
 FIO2070_MUST_USE
 size_t fio2070_log_read(struct fio2070_log_reader *reader, const uint8_t *octets, size_t length,
                         struct fio2070_log_batch *batch);
 /** Ends the log: octets after the last line end are its last line. `fio2070_log_read` with no octets then gives the verdicts
  * that are left; call it until it gives none. A verdict that was due before stays as it was. */
 void fio2070_log_end(struct fio2070_log_reader *reader);
+#endif
+
+/** @} */
+
+/** @defgroup log_judge The judge of a log
+ * A struct fio2070_log_judge judges the frames that a reader of a log finds, by what it says of the lines between them too. It
+ * is a judge of a link (group judge), which finds by the directions of the log where it was taken. A line that may have held a
+ * frame loses the place; a remark of loss, which has no octets, excuses what a lost frame explains. Of a log that was taken at
+ * a CPU which waits for each answer only until a deadline, late answers can be left out (docs/CAPTURES.md, Late answers). A
+ * struct fio2070_log_signs says what kind of log it looks like, if it is not the log of one link in order. If FIO2070_NO_LOG is
+ * defined, there are no such calls.
+ * @code
+ * const uint8_t poll[] = {54, 0}, block[] = {182, 0, 0, 0, 0, 0, 0, 11}, next[] = {54, 1}, third[] = {54, 2};
+ * struct fio2070_log_judge judge;
+ * struct fio2070_judge_outcome outcome;
+ * const struct fio2070_limits limits = FIO2070_STANDARD_LIMITS;
+ * if (fio2070_log_judge_start(&judge, limits, FIO2070_LOG_TAKEN_AUTO, FIO2070_LOG_BEGINS_ANYWHERE) != 0) return 1;
+ * if (fio2070_log_judge_frame(&judge, 1, FIO2070_LOG_FROM_CPU, poll, sizeof poll, &outcome) != 0) return 1; // kept
+ * if (fio2070_log_judge_frame(&judge, 0, FIO2070_LOG_FROM_MODULE, block, sizeof block, &outcome) != 0) return 1; // kept
+ * if (fio2070_log_judge_frame(&judge, 1, FIO2070_LOG_FROM_CPU, next, sizeof next, &outcome) != 0) return 1; // kept
+ * fio2070_log_judge_miss(&judge); // a line such as "1 message lost"
+ * if (fio2070_log_judge_frame(&judge, 1, FIO2070_LOG_FROM_CPU, third, sizeof third, &outcome) == FIO2070_OUTCOME_KEPT)
+ *     printf("the block of poll 1 may be lost\n"); // the block of poll 1 may be lost
+ * @endcode
+ * @{ */
+
+#ifndef FIO2070_NO_LOG
+/** Where a log was taken. */
+enum fio2070_log_taken {
+    FIO2070_LOG_TAKEN_AUTO = 0,      /**< it is found by the directions of the frames */
+    FIO2070_LOG_TAKEN_AT_CPU = 1,    /**< at the CPU's end */
+    FIO2070_LOG_TAKEN_AT_MODULE = 2, /**< at the module */
+    FIO2070_LOG_TAKEN_ON_BUS = 3     /**< on the bus between them */
+};
+
+/** How a log begins, or that late answers are left out of it. */
+enum fio2070_log_begins {
+    FIO2070_LOG_BEGINS_ANYWHERE = 0,  /**< anywhere: what was heard above the first frame that was sent is not judged */
+    FIO2070_LOG_BEGINS_WITH_ENDS = 1, /**< with the start of both ends: more is found then */
+    FIO2070_LOG_LEAVES_OUT_LATE = 2   /**< anywhere, and late answers are left out */
+};
+
+/** A judge of a log. Its fields are the library's own. */
+struct fio2070_log_judge {
+    struct fio2070_judge link;
+    uint32_t agreeing;
+    uint32_t contrary;
+    uint8_t place;
+    uint8_t has_frames;
+    uint8_t missing;
+    uint8_t has_late;
+    uint8_t settled;
+    uint8_t has_awaited;
+    uint8_t awaited;
+    uint8_t has_polled;
+    uint8_t polled;
+    uint8_t first;
+    uint8_t answered;
+    uint8_t reserved[5];
+};
+
+/** Starts above the first line of a log of a module with these limits. `place` is one of enum fio2070_log_taken, where a greater
+ * number is FIO2070_LOG_TAKEN_ON_BUS; `start` is one of enum fio2070_log_begins, where a greater number is
+ * FIO2070_LOG_BEGINS_ANYWHERE. Returns 0; where a limit is out of its range 1, and nothing changes.
+ *
+ * FIO2070_LOG_TAKEN_AUTO finds the place of each frame: a frame whose line says no direction was logged on the bus; another one
+ * at the module, if down to it more directions contradict the types of their messages than agree, as they do where the module's
+ * driver writes `TX` for an answer; else at the CPU's end. FIO2070_LOG_BEGINS_WITH_ENDS can accuse a right link in a log that
+ * begins elsewhere. FIO2070_LOG_LEAVES_OUT_LATE is for a log that was taken at the CPU's end. */
+FIO2070_MUST_USE
+uint8_t fio2070_log_judge_start(struct fio2070_log_judge *judge, struct fio2070_limits limits, uint8_t place, uint8_t start);
+/** Takes a line that may have held a frame, such as a damaged one, or the heading of another part of the log: up to the next poll
+ * nothing is judged. */
+void fio2070_log_judge_lose(struct fio2070_log_judge *judge);
+/** Takes a line that says a message which nothing makes sure (FIO2070_LOG_POSSIBLE): below a frame it does what
+ * `fio2070_log_judge_lose` does; above the first frame nothing. */
+void fio2070_log_judge_possible(struct fio2070_log_judge *judge);
+/** Takes a line without octets that speaks of loss. If a frame down to and with the next poll or block answer breaks `pair`,
+ * `number` or `advance`, the place is lost above it instead. No other breach is excused, on content none. */
+void fio2070_log_judge_miss(struct fio2070_log_judge *judge);
+/** Takes a frame that the CPU's end sent if `from_cpu` is not 0, else the module. `said` is who sent it as its line says, one of
+ * enum fio2070_log_side. Writes what it is, as `fio2070_judge_sent` does, and returns its kind, one of enum fio2070_outcome. A
+ * late answer is excused, with FIO2070_WHY_LATE; with FIO2070_WHY_LATE_ABOVE a frame whose breach late answers may explain. */
+FIO2070_MUST_USE
+uint8_t fio2070_log_judge_frame(struct fio2070_log_judge *judge, uint8_t from_cpu, uint8_t said, const uint8_t *octets,
+                                size_t length, struct fio2070_judge_outcome *outcome);
+/** Takes the verdicts of a batch that fio2070_log_read wrote, in order, as the calls above take them: frames; possible and damaged
+ * lines; lines that speak of loss, and headings as damaged ones. Who sent a frame is said by its type; if `as_said` is not 0 by its
+ * line, if that says it, as in a transcript that is read by order. Writes what each frame of the batch is, in their order, and
+ * returns how many they are. The frame of a possible line is not judged, for no reason. */
+FIO2070_MUST_USE
+uint32_t fio2070_log_judge_batch(struct fio2070_log_judge *judge, uint8_t as_said, const struct fio2070_log_batch *batch,
+                                 struct fio2070_judge_outcome outcomes[20480]);
+
+/** What kind of log a log looks like (docs/CAPTURES.md, A log that is not what it seems). */
+enum fio2070_log_sign {
+    FIO2070_LOG_SIGN_NONE = 0,      /**< the log of one link in order, or too few frames to say */
+    FIO2070_LOG_SIGN_TWICE = 1,     /**< each frame is there twice */
+    FIO2070_LOG_SIGN_BOTH_ENDS = 2, /**< the logs of both ends are merged */
+    FIO2070_LOG_SIGN_REVERSED = 3,  /**< the last line is first */
+    FIO2070_LOG_SIGN_TWO_LINKS = 4  /**< it has two links */
+};
+
+/** Counts of the frames of a log. Its fields are the library's own. */
+struct fio2070_log_signs {
+    uint32_t answers;
+    uint32_t repeated;
+    uint32_t contrary;
+    uint32_t blocks;
+    uint32_t backward;
+    uint32_t changes;
+    uint32_t jumps;
+    uint32_t stamp;
+    uint16_t length;
+    uint8_t said;
+    uint8_t again;
+    uint8_t has_block;
+    uint8_t number;
+    uint8_t has_first;
+    uint8_t first;
+    uint8_t has_second;
+    uint8_t second;
+    uint8_t above[773];
+    uint8_t reserved;
+};
+
+/** Starts above the first frame of a log. */
+void fio2070_log_signs_start(struct fio2070_log_signs *signs);
+/** Takes a frame that the CPU's end sent if `from_cpu` is not 0, else the module. `said` is who sent it as its line says, one of
+ * enum fio2070_log_side. Give it each frame of the log, in order. It changes nothing of what a judge says of the frame. */
+void fio2070_log_signs_frame(struct fio2070_log_signs *signs, uint8_t from_cpu, uint8_t said, const uint8_t *octets,
+                             size_t length);
+/** Returns what kind of log it looks like by the frames down to here, one of enum fio2070_log_sign: the first of these that holds.
+ *
+ * FIO2070_LOG_SIGN_TWICE holds if of 8 or more answers at least two of five have the octets of the frame directly above, where
+ * that one has not those of the frame above it. If for at least half of those the two lines say different senders, it is
+ * FIO2070_LOG_SIGN_BOTH_ENDS. FIO2070_LOG_SIGN_REVERSED holds if of 8 or more block answers more than half have the number of
+ * the block answer above less one, and a stamp that is not later. FIO2070_LOG_SIGN_TWO_LINKS holds if of 8 or more block
+ * answers at least a quarter go on with the other of two rows of numbers than the block answer above, and at most one in ten
+ * starts a row in place of another one. A block answer goes on with a row by its latest number, by the next one, or late by the
+ * one above it. */
+uint8_t fio2070_log_signs_sign(const struct fio2070_log_signs *signs);
+#endif
+
+/** @} */
+
+/** @defgroup log_counts Counts of a log
+ * A struct fio2070_log_counts has what is counted of the frames of a log: of each type, polls and how often they are sent again
+ * or not answered, restarts, gap marks and entries. Its numbers are there to be read at any time. If FIO2070_NO_LOG is defined,
+ * there are no such calls.
+ * @code
+ * const uint8_t poll[] = {54, 5}, block[] = {182, 5, 1, 140, 3, 231, 0, 0, 0, 3, 232};
+ * struct fio2070_log_counts counts;
+ * uint64_t taken;
+ * fio2070_log_counts_start(&counts);
+ * if (fio2070_log_counts_frame(&counts, 1, 1000000, poll, sizeof poll, &taken) != 0) return 1; // it is no answer
+ * if (fio2070_log_counts_frame(&counts, 1, 1003200, block, sizeof block, &taken) == 1)
+ *     printf("after %d us, input 12: %d\n", (int)taken, (int)counts.inputs[12]); // after 3200 us, input 12: 1
+ * @endcode
+ * @{ */
+
+#ifndef FIO2070_NO_LOG
+/** What is counted of the frames of a log, modulo 2^64, and what of the frames above tells what the next one counts. A poll below
+ * which there is neither a command nor a block answer is not counted as unanswered yet: `waits` is 1 then. */
+struct fio2070_log_counts {
+    /** The frames. */
+    uint64_t frames;
+    /** The polls. */
+    uint64_t polls;
+    /** The polls with the number of the poll above. */
+    uint64_t repeats;
+    /** The polls below which a command comes before a block answer. */
+    uint64_t unanswered;
+    /** The gap marks. */
+    uint64_t marks;
+    /** The entries of blocks. */
+    uint64_t entries;
+    /** How often the module says that it was reset, and did not say so before. */
+    uint64_t restarts;
+    /** The messages of each type. */
+    uint64_t types[256];
+    /** The entries of each input. */
+    uint64_t inputs[128];
+    /** The blocks with each number of entries. */
+    uint64_t fills[256];
+    /** When the command above was sent, in microseconds. */
+    uint64_t sent_at;
+    /** 1 where that is known. */
+    uint8_t has_sent_at;
+    /** The type of the latest command, until it is answered. */
+    uint8_t command;
+    /** 1 where there is one. */
+    uint8_t has_command;
+    /** The number of the latest poll. */
+    uint8_t polled;
+    /** 1 where there is one. */
+    uint8_t has_polled;
+    /** 1 where that poll is not answered yet. */
+    uint8_t waits;
+    /** The number of the latest block answer. */
+    uint8_t block;
+    /** 1 where there is one. */
+    uint8_t has_block;
+    /** 1 where the latest status answer says that the module was reset. */
+    uint8_t reset;
+    /** 1 where the first one says so. */
+    uint8_t first_reset;
+    /** 1 where there is one. */
+    uint8_t has_reset;
+    /** 0 in each octet that the library writes. */
+    uint8_t reserved[5];
+};
+
+/** Begins with no frame: each octet is 0. */
+void fio2070_log_counts_start(struct fio2070_log_counts *counts);
+/** Takes a place where a frame may be lost: whether the latest poll and command were answered is not known. */
+void fio2070_log_counts_lose(struct fio2070_log_counts *counts);
+/** Counts a frame, sent at `time`, in microseconds, if `has_time` is not 0. If it is the answer that the latest command waits for,
+ * both have a time, and its time is not before the command's, it returns 1, and `taken` is how long the module took for the
+ * answer, in microseconds; else it returns 0, and `taken` is 0. A frame that spells no message is counted in `frames` alone. Of
+ * a block that is sent again below the same block neither entries nor a gap mark are counted. */
+uint8_t fio2070_log_counts_frame(struct fio2070_log_counts *counts, uint8_t has_time, uint64_t time, const uint8_t *octets,
+                                 size_t length, uint64_t *taken);
 #endif
 
 /** @} */
@@ -1572,6 +1802,10 @@ FIO2070_SAME(log_batch, sizeof(struct fio2070_log_batch) == 565264 &&
              offsetof(struct fio2070_log_batch, places) == 131088 &&
              offsetof(struct fio2070_log_batch, lengths) == 458768 &&
              offsetof(struct fio2070_log_batch, octets) == 499728);
+
+FIO2070_SAME(log_judge, sizeof(struct fio2070_log_judge) == 752);
+
+FIO2070_SAME(log_signs, sizeof(struct fio2070_log_signs) == 816);
 #endif
 
 FIO2070_SAME(limits, sizeof(struct fio2070_limits) == 4 &&
@@ -1601,6 +1835,32 @@ FIO2070_SAME(heard, sizeof(struct fio2070_heard) == 32 &&
              offsetof(struct fio2070_heard, entries) == 10 &&
              offsetof(struct fio2070_heard, reserved) == 11 &&
              offsetof(struct fio2070_heard, fault) == 16);
+
+#ifndef FIO2070_NO_LOG
+FIO2070_SAME(log_counts, sizeof(struct fio2070_log_counts) == 5200 &&
+             offsetof(struct fio2070_log_counts, polls) == 8 &&
+             offsetof(struct fio2070_log_counts, repeats) == 16 &&
+             offsetof(struct fio2070_log_counts, unanswered) == 24 &&
+             offsetof(struct fio2070_log_counts, marks) == 32 &&
+             offsetof(struct fio2070_log_counts, entries) == 40 &&
+             offsetof(struct fio2070_log_counts, restarts) == 48 &&
+             offsetof(struct fio2070_log_counts, types) == 56 &&
+             offsetof(struct fio2070_log_counts, inputs) == 2104 &&
+             offsetof(struct fio2070_log_counts, fills) == 3128 &&
+             offsetof(struct fio2070_log_counts, sent_at) == 5176 &&
+             offsetof(struct fio2070_log_counts, has_sent_at) == 5184 &&
+             offsetof(struct fio2070_log_counts, command) == 5185 &&
+             offsetof(struct fio2070_log_counts, has_command) == 5186 &&
+             offsetof(struct fio2070_log_counts, polled) == 5187 &&
+             offsetof(struct fio2070_log_counts, has_polled) == 5188 &&
+             offsetof(struct fio2070_log_counts, waits) == 5189 &&
+             offsetof(struct fio2070_log_counts, block) == 5190 &&
+             offsetof(struct fio2070_log_counts, has_block) == 5191 &&
+             offsetof(struct fio2070_log_counts, reset) == 5192 &&
+             offsetof(struct fio2070_log_counts, first_reset) == 5193 &&
+             offsetof(struct fio2070_log_counts, has_reset) == 5194 &&
+             offsetof(struct fio2070_log_counts, reserved) == 5195);
+#endif
 
 FIO2070_SAME(content_checker, sizeof(struct fio2070_content_checker) == 696);
 

@@ -3,9 +3,9 @@
  *
  * The field I/O transition link of the Model 2070: the header for C++17, above fio2070.h.
  *
- * Sources: 9cfc9ca7d8350edb7918f96e9674da4291c8e7b5e6dd94778665a3cb07cef953 (SHA-256; packaging/release-files --sources)
+ * Sources: 3f073c9434901695b04ab17c149aa06eef2638c8edbc01c051f431ed6ca39738 (SHA-256; packaging/release-files --sources)
  * Kit: rattle-kit-13f logic dac8208d650f15bf
- * Proof: logic=proved functions=177 target=wasm64-unknown-unknown sum=dac8208d650f15bf native=nat,char,string
+ * Proof: logic=proved functions=215 target=wasm64-unknown-unknown sum=dac8208d650f15bf native=nat,char,string
  * Made by `make release-files`: do not edit.
  *
  * Proved is the module of which fio2070.c was made, for wasm64: each call does what fio2070.h says for all octets,
@@ -493,6 +493,77 @@ public:
 
 private:
     ::fio2070_log_reader reader_;
+};
+
+/// The judge of a log: it says what each frame is that a reader finds, by what the log says of the lines between them too.
+class LogJudge {
+public:
+    /// A judge above the first line of a log of a module with these limits. None where one is out of its range.
+    static std::optional<LogJudge> start(::fio2070_log_taken place = FIO2070_LOG_TAKEN_AUTO,
+                                         ::fio2070_log_begins begins = FIO2070_LOG_BEGINS_ANYWHERE,
+                                         std::uint8_t per_block = FIO2070_MOST_ENTRIES,
+                                         std::uint16_t waiting = FIO2070_STANDARD_WAITING) {
+        std::optional<LogJudge> judge{LogJudge()};
+        if (::fio2070_log_judge_start(&judge->judge_, {waiting, per_block, 0}, static_cast<std::uint8_t>(place),
+                                      static_cast<std::uint8_t>(begins)) != FIO2070_STARTED) judge.reset();
+        return judge;
+    }
+    /// A line may have held a frame, such as a damaged one, or is the heading of another part of the log.
+    void lose() { ::fio2070_log_judge_lose(&judge_); }
+    /// A line says a message which nothing makes sure: below a frame it is as for `lose`.
+    void possible() { ::fio2070_log_judge_possible(&judge_); }
+    /// A line without octets speaks of loss: down to the next poll or block answer nobody is accused of what a lost frame explains.
+    void miss() { ::fio2070_log_judge_miss(&judge_); }
+    /// What a frame is that the CPU sent, or the module. `said` is who sent it as its line says.
+    ::fio2070_judge_outcome frame(Octets octets, bool from_cpu, ::fio2070_log_side said = FIO2070_LOG_NO_SIDE) {
+        ::fio2070_judge_outcome outcome;
+        outcome.kind = ::fio2070_log_judge_frame(&judge_, from_cpu, static_cast<std::uint8_t>(said), octets.data(), octets.size(),
+                                                 &outcome);
+        return outcome;
+    }
+
+private:
+    LogJudge() = default;
+    ::fio2070_log_judge judge_{};
+};
+
+/// Counts of the frames of a log, which tell whether it looks like another one than the log of one link in order. They change
+/// nothing of what a judge says of a frame.
+class LogSigns {
+public:
+    LogSigns() { ::fio2070_log_signs_start(&signs_); }
+    /// Takes a frame that the CPU sent, or the module. `said` is who sent it as its line says. Give it each frame, in the order of
+    /// the log.
+    void frame(Octets octets, bool from_cpu, ::fio2070_log_side said = FIO2070_LOG_NO_SIDE) {
+        ::fio2070_log_signs_frame(&signs_, from_cpu, static_cast<std::uint8_t>(said), octets.data(), octets.size());
+    }
+    /// What kind of log it looks like by the frames down to here.
+    ::fio2070_log_sign sign() const { return static_cast<::fio2070_log_sign>(::fio2070_log_signs_sign(&signs_)); }
+
+private:
+    ::fio2070_log_signs signs_{};
+};
+
+/// What is counted of the frames of a log.
+class LogCounts {
+public:
+    LogCounts() { ::fio2070_log_counts_start(&counts_); }
+    /// A frame may be lost here: whether the latest poll and command were answered is not known.
+    void lose() { ::fio2070_log_counts_lose(&counts_); }
+    /// Counts a frame, by its time in microseconds, if it has one. Returns how long the module took for its answer, in microseconds, if
+    /// that is known.
+    std::optional<std::uint64_t> frame(Octets octets, std::optional<std::uint64_t> time = std::nullopt) {
+        std::uint64_t taken;
+        const bool is_known = ::fio2070_log_counts_frame(&counts_, time.has_value(), time.value_or(0), octets.data(), octets.size(),
+                                                         &taken) != 0;
+        return is_known ? std::optional<std::uint64_t>(taken) : std::nullopt;
+    }
+    /// The numbers.
+    const ::fio2070_log_counts &operator*() const { return counts_; }
+    const ::fio2070_log_counts *operator->() const { return &counts_; }
+
+private:
+    ::fio2070_log_counts counts_;
 };
 #endif
 
