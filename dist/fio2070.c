@@ -8,7 +8,7 @@
  * access outside the arguments of a call, which the proof excludes, ends in FIO2070_TRAP(). FIO2070_UNCHECKED leaves
  * the tests of accesses out. FIO2070_FAST makes the code longer and faster.
  *
- * Sources: 3f073c9434901695b04ab17c149aa06eef2638c8edbc01c051f431ed6ca39738 (SHA-256; packaging/release-files --sources)
+ * Sources: c9064799331139e77a55aad62a399edd37e0c214c617314f79de0eb4627b4b40 (SHA-256; packaging/release-files --sources)
  * Kit: rattle-kit-13f logic dac8208d650f15bf
  * Proof: logic=proved functions=215 target=wasm64-unknown-unknown sum=dac8208d650f15bf native=nat,char,string
  * Made by `make release-files`: do not edit.
@@ -87653,11 +87653,11 @@ goto l12;
 case 1:
 goto l8;
 case 2:
-goto l11;
-case 3:
 goto l9;
-case 4:
+case 3:
 goto l10;
+case 4:
+goto l11;
 default:
 goto l8;
 }
@@ -87979,37 +87979,53 @@ i0 = (j0 != j1);
 if (i0) { goto l16; }
 goto l7;
 l11:;
+j0 = v4;
+j1 = UINT64_C(25);
+j0 = j0 + j1;
+p8 = read_at(j0, m, 1u);
+i0 = load8(p8 + 0);
+i1 = UINT32_C(4294967286);
+i0 = i0 + i1;
+switch (i0) {
+case 0:
+goto l27;
+case 1:
+goto l9;
+default:
+goto l8;
+}
+l27:;
 j0 = v5;
-i0 = load8(p1 + 2228);
 i1 = UINT32_C(1);
-i0 = (i0 != i1);
-if (i0) { goto l8; }
+store8(p1 + 2229, i1);
+goto l8;
+l10:;
 j0 = v5;
 i0 = load8(p1 + 1485);
 i1 = UINT32_C(1);
 i0 = (i0 == i1);
-if (i0) { goto l27; }
+if (i0) { goto l28; }
 j0 = v14;
 j1 = UINT64_C(0);
-p8 = write_at(j0, m, 9u);
-store64(p8 + 0, j1);
+p9 = write_at(j0, m, 9u);
+store64(p9 + 0, j1);
 j0 = v14;
 i1 = UINT32_C(0);
-store8(p8 + 8, i1);
+store8(p9 + 8, i1);
 j0 = v5;
 i1 = UINT32_C(0);
 store8(p1 + 1473, i1);
 j0 = v5;
 i1 = UINT32_C(2);
 store8(p1 + 1485, i1);
-l27:;
+l28:;
 j0 = v5;
 i0 = load8(p1 + 2160);
-if (i0) { goto l28; }
+if (i0) { goto l29; }
 j0 = v5;
 i1 = UINT32_C(1);
 store8(p1 + 2160, i1);
-l28:;
+l29:;
 j0 = v5;
 i1 = UINT32_C(1);
 store8(p1 + 2200, i1);
@@ -88022,28 +88038,12 @@ j0 = v5;
 i1 = UINT32_C(0);
 store8(p1 + 2209, i1);
 goto l8;
-l10:;
-j0 = v4;
-j1 = UINT64_C(25);
-j0 = j0 + j1;
-p9 = read_at(j0, m, 1u);
-i0 = load8(p9 + 0);
-i1 = UINT32_C(4294967286);
-i0 = i0 + i1;
-switch (i0) {
-case 0:
-goto l29;
-case 1:
-goto l9;
-default:
-goto l8;
-}
-l29:;
-j0 = v5;
-i1 = UINT32_C(1);
-store8(p1 + 2229, i1);
-goto l8;
 l9:;
+j0 = v5;
+i0 = load8(p1 + 2228);
+i1 = UINT32_C(1);
+i0 = (i0 != i1);
+if (i0) { goto l8; }
 j0 = v5;
 i0 = load8(p1 + 1485);
 i1 = UINT32_C(1);

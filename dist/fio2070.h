@@ -3,7 +3,7 @@
  *
  * The field I/O transition link of the Model 2070: the header of fio2070.c.
  *
- * Sources: 3f073c9434901695b04ab17c149aa06eef2638c8edbc01c051f431ed6ca39738 (SHA-256; packaging/release-files --sources)
+ * Sources: c9064799331139e77a55aad62a399edd37e0c214c617314f79de0eb4627b4b40 (SHA-256; packaging/release-files --sources)
  * Kit: rattle-kit-13f logic dac8208d650f15bf
  * Proof: logic=proved functions=215 target=wasm64-unknown-unknown sum=dac8208d650f15bf native=nat,char,string
  * Made by `make release-files`: do not edit.
@@ -1242,11 +1242,10 @@ struct fio2070_log_judge {
  * begins elsewhere. FIO2070_LOG_LEAVES_OUT_LATE is for a log that was taken at the CPU's end. */
 FIO2070_MUST_USE
 uint8_t fio2070_log_judge_start(struct fio2070_log_judge *judge, struct fio2070_limits limits, uint8_t place, uint8_t start);
-/** Takes a line that may have held a frame, such as a damaged one, or the heading of another part of the log: up to the next poll
- * nothing is judged. */
+/** Takes a line that may have held a frame, such as a damaged one: up to the next poll nothing is judged. */
 void fio2070_log_judge_lose(struct fio2070_log_judge *judge);
-/** Takes a line that says a message which nothing makes sure (FIO2070_LOG_POSSIBLE): below a frame it does what
- * `fio2070_log_judge_lose` does; above the first frame nothing. */
+/** Takes a line that says a message which nothing makes sure (FIO2070_LOG_POSSIBLE), or the heading of a part of the log
+ * (FIO2070_LOG_HEADING): below a frame it does what `fio2070_log_judge_lose` does; above the first frame nothing. */
 void fio2070_log_judge_possible(struct fio2070_log_judge *judge);
 /** Takes a line without octets that speaks of loss. If a frame down to and with the next poll or block answer breaks `pair`,
  * `number` or `advance`, the place is lost above it instead. No other breach is excused, on content none. */
@@ -1258,8 +1257,8 @@ FIO2070_MUST_USE
 uint8_t fio2070_log_judge_frame(struct fio2070_log_judge *judge, uint8_t from_cpu, uint8_t said, const uint8_t *octets,
                                 size_t length, struct fio2070_judge_outcome *outcome);
 /** Takes the verdicts of a batch that fio2070_log_read wrote, in order, as the calls above take them: frames; possible and damaged
- * lines; lines that speak of loss, and headings as damaged ones. Who sent a frame is said by its type; if `as_said` is not 0 by its
- * line, if that says it, as in a transcript that is read by order. Writes what each frame of the batch is, in their order, and
+ * lines; headings, and lines that speak of loss. Who sent a frame is said by its type; if `as_said` is not 0 by its line, if that
+ * says it, as in a transcript that is read by order. Writes what each frame of the batch is, in their order, and
  * returns how many they are. The frame of a possible line is not judged, for no reason. */
 FIO2070_MUST_USE
 uint32_t fio2070_log_judge_batch(struct fio2070_log_judge *judge, uint8_t as_said, const struct fio2070_log_batch *batch,

@@ -3,7 +3,7 @@
  *
  * The field I/O transition link of the Model 2070: the header for C++17, above fio2070.h.
  *
- * Sources: 3f073c9434901695b04ab17c149aa06eef2638c8edbc01c051f431ed6ca39738 (SHA-256; packaging/release-files --sources)
+ * Sources: c9064799331139e77a55aad62a399edd37e0c214c617314f79de0eb4627b4b40 (SHA-256; packaging/release-files --sources)
  * Kit: rattle-kit-13f logic dac8208d650f15bf
  * Proof: logic=proved functions=215 target=wasm64-unknown-unknown sum=dac8208d650f15bf native=nat,char,string
  * Made by `make release-files`: do not edit.
@@ -508,7 +508,7 @@ public:
                                       static_cast<std::uint8_t>(begins)) != FIO2070_STARTED) judge.reset();
         return judge;
     }
-    /// A line may have held a frame, such as a damaged one, or is the heading of another part of the log.
+    /// A line may have held a frame, such as a damaged one.
     void lose() { ::fio2070_log_judge_lose(&judge_); }
     /// A line says a message which nothing makes sure: below a frame it is as for `lose`.
     void possible() { ::fio2070_log_judge_possible(&judge_); }

@@ -493,7 +493,7 @@ public:
                                       static_cast<std::uint8_t>(begins)) != FIO2070_STARTED) judge.reset();
         return judge;
     }
-    /// A line may have held a frame, such as a damaged one, or is the heading of another part of the log.
+    /// A line may have held a frame, such as a damaged one.
     void lose() { ::fio2070_log_judge_lose(&judge_); }
     /// A line says a message which nothing makes sure: below a frame it is as for `lose`.
     void possible() { ::fio2070_log_judge_possible(&judge_); }

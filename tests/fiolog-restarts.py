@@ -195,7 +195,7 @@ REMARKS = {
     'no remark above such an answer': ([POLL, ANSWER, ANSWER], {'pair': 1}, 1),
     'a heading': ([POLL, ANSWER, HEADING, LATER], {}, 1),
     'a heading above an answer': ([POLL, ANSWER, HEADING, ANSWER], {}, 1),
-    'a heading above all': ([HEADING, POLL, ANSWER, LATER], {'advance': 1}, 2),
+    'a heading above all': ([HEADING, POLL, ANSWER, LATER], {'advance': 1}, 1),
 }
 
 

@@ -13,6 +13,7 @@ sys.dont_write_bytecode = True
 from support.check import Check
 from support.fiolog import fiolog, use_library
 from support.loggers import LOGGERS
+from support.tables import TOP
 
 COMMANDS = 'fiolog: this log has the commands alone: the answers were not logged, so no rule is judged (two files of one line: see --merge)'
 ANSWERS = 'fiolog: this log has the answers alone: the commands were not logged, so no rule is judged (two files of one line: see --merge)'
@@ -48,6 +49,27 @@ SIDES = {
     'answers that are cut': (''.join(polls(number) + 'RX B6 %02X 01 8C 03 ..\n' % number for number in range(5, 9)), [NOT_WHOLE], 0, 1),
     'few lines that are cut': (polls(*range(5, 25)) + 'RX B6 05 01 8C 03 ..\n', [COMMANDS], 0, 1),
 }
+
+
+with open(os.path.join(TOP, 'tools', 'log-words.json'), encoding='utf-8') as words_file:
+    SIGNS = json.load(words_file)['signs']
+EXCHANGES = [polls(number) + blocks(number) for number in range(5, 17)]
+# A log of another kind than that of one link in order, and what it looks like.
+KINDS = {
+    'one link in order': (EXCHANGES, ''),
+    'each frame twice': ([line * 2 for one in EXCHANGES for line in one.splitlines(True)], 'twice'),
+    'the last line first': ([line for one in EXCHANGES for line in one.splitlines(True)][::-1], 'reversed'),
+    'two links': ([line for number in range(5, 17) for line in (polls(number), blocks(number), polls(number + 90), blocks(number + 90))],
+                  'two links'),
+}
+
+
+def check_kinds(check):
+    """What a log looks like is said once, and counts for nothing."""
+    for name, (lines, sign) in KINDS.items():
+        done, last = fiolog('check', text=''.join(lines)), json.loads(fiolog('check', '--json', text=''.join(lines)).out.splitlines()[-1])
+        check.equal(name, [SIGNS[sign]] if sign else [], [words[8:] for words in done.err.splitlines() if words[8:] in SIGNS.values()])
+        check.equal(name + ', as an object', [sign] if sign else [], last['summary'].get('remarks', []))
 
 
 def check_sides(check):
@@ -189,6 +211,7 @@ def main():
     check = Check()
     use_library(check, 'logs of one direction')
     check_sides(check)
+    check_kinds(check)
     with tempfile.TemporaryDirectory() as folder:
         check_many(check, folder)
         for part in (check_merge, check_times, check_places):

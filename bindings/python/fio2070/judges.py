@@ -93,11 +93,11 @@ class LogJudge:
         return '<LogJudge>'
 
     def lose(self) -> None:
-        """A line may have held a frame, such as a damaged one, or is the heading of another part of the log."""
+        """A line may have held a frame, such as a damaged one."""
         c.library.fio2070_log_judge_lose(self._judge)
 
     def possible(self) -> None:
-        """A line says a message which nothing makes sure: below a frame it is as for `lose`."""
+        """A line says a message which nothing makes sure, or is a heading: below a frame it is as for `lose`."""
         c.library.fio2070_log_judge_possible(self._judge)
 
     def miss(self) -> None:

@@ -203,8 +203,9 @@ def end(option, read, counts, judgement, findings):
     late = {'late_answers': left_out['late_answers']} if option.late_answers else {}
     restarted = {'restarted': findings.restarts} if findings.restarts or option.json else {}
     numbers = {**counts.in_short(), **late, 'breaches': findings.count, **restarted}
+    sides.say_signs(read.judgements)
     if option.json:
-        remarks = [sides.IN_SHORT[one.verdict] for one in read.judgements if one.verdict]
+        remarks = [words for one in read.judgements for words in (sides.IN_SHORT.get(one.verdict), one.sign) if words]
         print(json.dumps({'summary': {**numbers, **({'remarks': remarks} if remarks else {}), 'not_judged': unjudged.numbers(left_out)}}))
     else:
         print(', '.join('%s %d' % (in_words(name), number) for name, number in numbers.items()))

@@ -231,6 +231,7 @@ class Station:
             self._say(words)
         self._write(', '.join('%s %d' % pair for pair in self.numbers().items()) + '\n')
         self._flush()
+        sides.say_signs([self.judgement])
         check.say_excused(self.judgement.rules.unjudged['frames_not_at_the_cpu'])
         is_fault = sides.say([self.judgement])
         log.say_others(self.source.reader.others, self.counts.frames)

@@ -6,7 +6,8 @@ from typing import NamedTuple
 
 import fio2070
 from fio2070.constants import CONTENT_IGNORED, OUTCOME_BROKEN, OUTCOME_BROKEN_CONTENT, OUTCOME_KEPT, OUTCOME_RESTARTED
-from fio2070.constants import TYPE_ANSWER, TYPE_WATCHDOG, WHY_ABOVE_COMMAND, WHY_LATE, WHY_LOAD, WHY_PLACE_LOST, WHY_UNHEARD
+from fio2070.constants import TYPE_ANSWER, TYPE_WATCHDOG, WHY_ABOVE_COMMAND, WHY_LATE, WHY_LATE_ABOVE, WHY_LOAD
+from fio2070.constants import WHY_PLACE_LOST, WHY_UNHEARD
 
 from .events import MISSING, PIECE
 from .judge import words_of
@@ -21,7 +22,8 @@ DUE = {'pair': 'an answer %d was due, %d came', 'number': 'block %d was asked fo
        'advance': 'block %d was due, %d came'}
 # Why a frame is not judged, as the library says it and as it is counted (unjudged.py).
 NOT_JUDGED = {WHY_LOAD: 'frames_below_loads', WHY_UNHEARD: 'frames_not_at_the_cpu', WHY_LATE: 'late_answers',
-              WHY_ABOVE_COMMAND: 'frames_above_a_command', WHY_PLACE_LOST: 'frames_at_lost_places'}
+              WHY_LATE_ABOVE: 'frames_below_late_answers', WHY_ABOVE_COMMAND: 'frames_above_a_command',
+              WHY_PLACE_LOST: 'frames_at_lost_places'}
 # What is said of a frame that shows a restart: by its stamp, or of an answer to a watchdog that was set before.
 WENT_BACK = 'the module restarted, or the stamp is wrong: its counter went back'
 FORGOTTEN = 'the module restarted, or forgot its watchdog: it says that none was set before'
@@ -72,7 +74,7 @@ class Rules:
         self.at, self.excepted, self.with_content = at, frozenset(excepted), with_content
         self.unjudged = Counter()   # what is not judged, by its reason
         self.has_polls = False      # whether there is a poll above
-        self._is_lost = False       # whether the place is lost, up to the next poll
+        self._has_frames = self._is_lost = False    # whether there is a frame above; whether the place is lost, up to the next poll
 
     def lose(self, event):
         """Takes a line that may have held a frame. One with a wrong check was not heard by the CPU, if the log was taken there."""
@@ -86,8 +88,9 @@ class Rules:
         if event.note == MISSING:
             self.judge.miss()
         else:
-            self.judge.lose()
-            self._lose_place()
+            self.judge.possible()
+            if self._has_frames:
+                self._lose_place()
 
     def _lose_place(self):
         """Counts where the place is lost, if it was known."""
@@ -99,7 +102,7 @@ class Rules:
         octets, is_sent, said = event.octets, event.direction == '>', event.said
         if said and said != event.direction and event.text[:2] in OWN:
             said = event.direction
-        outcome = self.judge.frame(octets, is_sent, said)
+        outcome, self._has_frames = self.judge.frame(octets, is_sent, said), True
         if is_sent and len(octets) == 2 and octets[0] == POLL:
             self.has_polls, self._is_lost = True, False
         return None if outcome.kind == OUTCOME_KEPT else self._of_outcome(octets, outcome)

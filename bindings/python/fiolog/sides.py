@@ -5,8 +5,10 @@ import pickle
 import tempfile
 from collections import Counter
 
+import fio2070
+
 from .events import FRAME, LOSSES, PIECE
-from .log_words import CURES, REASONS, SIDES
+from .log_words import CURES, REASONS, SIDES, SIGNS
 from .message import POLL
 from .terminal import say as _say
 
@@ -34,6 +36,12 @@ def say(judgements):
     for words in dict.fromkeys(one.words for one in judgements if one.verdict):
         _say(words)
     return any(is_fault(one.verdict) for one in judgements)
+
+
+def say_signs(judgements):
+    """Says what kinds of logs they look like, of those that do not look like the log of one link in order."""
+    for words in dict.fromkeys(SIGNS[one.sign] for one in judgements if one.sign):
+        _say(words)
 
 
 def is_fault(verdict):
@@ -95,7 +103,7 @@ class Judgement:
     """What rules find in a log: nothing, if it has one direction alone."""
 
     def __init__(self, rules):
-        self.rules, self.sides, self.held = rules, Sides(), Held()
+        self.rules, self.sides, self.held, self._signs = rules, Sides(), Held(), fio2070.LogSigns()
         self.frames = self.left_out = self.losses = self.pieces = 0
         self.verdict, self.words, self.found = '', '', None     # `found` is what is said of the latest frame
         self.is_above_polls = False     # whether the first breach is above the first poll
@@ -111,6 +119,7 @@ class Judgement:
             self._lose(event)
             return ()
         self.frames += 1
+        self._signs.frame(event.octets, event.direction == '>', event.said)
         self.found = found = self.rules.find(event)
         if found and self._is_first and not found.is_restart:
             self._is_first, self.is_above_polls = False, not self.rules.has_polls
@@ -144,6 +153,11 @@ class Judgement:
         self.words = WORDS.get(self.verdict, '').format(judged=judged, said=said)
         held = self.held.take()
         return () if self.verdict in ONE_SIDED else held
+
+    @property
+    def sign(self):
+        """What kind of log it looks like, a key of SIGNS; empty if it looks like the log of one link in order."""
+        return self._signs.sign
 
     @property
     def unjudged(self):

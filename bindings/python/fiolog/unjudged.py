@@ -13,6 +13,7 @@ REASONS = {
     'frames_above_a_command': ('frame above the first command', 'frames above the first command'),
     'frames_above_a_poll': ('frame above the first poll', 'frames above the first poll'),
     'frames_below_loads': ('frame whose stamp a load of the counter may explain', 'frames whose stamps a load of the counter may explain'),
+    'frames_below_late_answers': ('frame that a late answer above may explain', 'frames that late answers above may explain'),
     'frames_not_at_the_cpu': ('frame that the CPU may not have heard so', 'frames that the CPU may not have heard so'),
     'frames_of_one_direction': ('frame of a log of one direction', 'frames of a log of one direction'),
     'excepted_breaches': ('breach of a rule that is left out', 'breaches of rules that are left out'),

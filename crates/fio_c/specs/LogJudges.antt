@@ -79,8 +79,8 @@ event_of_frame as_said said octets = Found (is_sent_frame as_said said octets) s
 -- what a line says to the judge that gives no frame, by its kind and its reason: a message that nothing makes sure, damage, a
 -- remark that speaks of loss, or a heading
 abbrev pub event_of_line : ℕ → ℕ → List LogEvent
-event_of_line kind reason = if kind == 3 then Possible ∷ []
-    else if kind == 4 || kind == 5 && reason == 11 then Lost ∷ []
+event_of_line kind reason = if kind == 3 || kind == 5 && reason == 11 then Possible ∷ []
+    else if kind == 4 then Lost ∷ []
     else if kind == 5 && reason == 10 then Missing ∷ []
     else []
 

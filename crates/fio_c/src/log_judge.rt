@@ -68,7 +68,7 @@ pub extern "C" fn fio2070_log_judge_start(
     0
 }
 
-/// Takes a line that may have held a frame, or the heading of another part of the log: nothing is judged till the next poll.
+/// Takes a line that may have held a frame: nothing is judged till the next poll.
 #[unsafe(no_mangle)]
 pub extern "C" fn fio2070_log_judge_lose(judge: &mut LogJudge)
     ensures { log_judge_in judge.new ≡ log_lost (log_judge_in judge.old) }
@@ -78,7 +78,7 @@ pub extern "C" fn fio2070_log_judge_lose(judge: &mut LogJudge)
     *judge = log_flat_of(&kept);
 }
 
-/// Takes a line that says a message which nothing makes sure: below a frame it may have been one, and is as for
+/// Takes a line that says a message which nothing makes sure, or the heading of a part of the log: below a frame it is as for
 /// `fio2070_log_judge_lose`.
 #[unsafe(no_mangle)]
 pub extern "C" fn fio2070_log_judge_possible(judge: &mut LogJudge)

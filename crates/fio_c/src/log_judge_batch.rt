@@ -171,8 +171,8 @@ fn take_line(judge: &mut JudgeOfLog, kind: u8, reason: u8)
     ensures { log_judging judge.new ≡ log_below_events (log_judging judge.old) (event_of_line kind reason) }
 {
     match (kind, reason) {
-        (3, _) => judge.possible(),
-        (4, _) | (5, 11) => judge.lose(),
+        (3, _) | (5, 11) => judge.possible(),
+        (4, _) => judge.lose(),
         (5, 10) => judge.miss(),
         _ => {}
     }

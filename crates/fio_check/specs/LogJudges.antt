@@ -86,11 +86,11 @@ log_starting limits place start = record {
 abbrev pub unsettled : LateAnswers → LateAnswers
 unsettled late = record late { settled = false }
 
--- a line may have held a frame, or is the heading of another part of the log
+-- a line may have held a frame
 abbrev pub log_lost : LogJudging → LogJudging
 log_lost log = record log { link = judging_lost log.link; late = option_map unsettled log.late }
 
--- a line says a message which nothing makes sure: below a frame it may have been one
+-- a line says a message which nothing makes sure, or is a heading: below a frame the place is lost
 abbrev pub log_possible : LogJudging → LogJudging
 log_possible log = if log.has_frames then log_lost log else log
 
@@ -288,7 +288,7 @@ log_with log from_cpu said octets =
 -- ---- all lines
 
 -- what a reader finds in a log, in order: a frame, by whether the CPU sent it, and by whether its line says so, if it says who sent
--- it; a line that may have held a frame, or a heading; one that says a message which nothing makes sure; one that speaks of loss
+-- it; a line that may have held a frame; one that says a message which nothing makes sure, or a heading; one that speaks of loss
 pub data LogEvent : Type 0 where
   Found : (from_cpu : Bool) → (said : Option Bool) → (octets : List ℕ) → LogEvent
   Lost : LogEvent

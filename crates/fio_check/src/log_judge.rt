@@ -89,7 +89,7 @@ impl LogJudge {
         }
     }
 
-    /// Takes a line that may have held a frame, or the heading of another part of the log: the place is lost there.
+    /// Takes a line that may have held a frame: the place is lost there.
     pub fn lose(&mut self)
         ensures { log_judging self.new ≡ log_lost (log_judging self.old) }
     {
@@ -99,7 +99,8 @@ impl LogJudge {
         }
     }
 
-    /// Takes a line that says a message which nothing makes sure: below a frame it may have been one.
+    /// Takes a line at which the place is lost if there is a frame above: one that says a message which nothing makes sure, or the
+    /// heading of another part of the log.
     pub fn possible(&mut self)
         ensures { log_judging self.new ≡ log_possible (log_judging self.old) }
     {

@@ -34,7 +34,7 @@ export class Judging {
       this.takeMarks(log.marks[place]);
       // At the CPU, what has a wrong check was not heard.
       if (log.damaged.has(place) && !(taken === ENDS.cpu && log.damaged.get(place).hasWrongCheck)) this.lose(CAUSES.line);
-      if (log.isPossible[place]) this.takePossible();
+      if (log.isPossible[place]) this.takePossible(CAUSES.line);
       else if (!log.isBadLine(place)) this.takeMessage(place);
     }
     this.takeMarks(log.marks[log.count]);
@@ -42,7 +42,7 @@ export class Judging {
 
   takeMarks(marks) {
     if (marks & MARKS.loss) this.judge.miss();
-    if (marks & MARKS.heading) this.lose(CAUSES.heading);
+    if (marks & MARKS.heading) this.takePossible(CAUSES.heading);
   }
 
   lose(cause) {
@@ -50,10 +50,10 @@ export class Judging {
     this.noteLoss(cause);
   }
 
-  // Among messages that are sure it may have been one.
-  takePossible() {
+  // Below a message that is sure, a possible one may have been one, and a heading begins another part of the log.
+  takePossible(cause) {
     this.judge.possible();
-    if (this.isBegun) this.noteLoss(CAUSES.line);
+    if (this.isBegun) this.noteLoss(cause);
   }
 
   takeMessage(place) {

@@ -230,12 +230,12 @@ class LogJudge {
     calls.fio2070_log_judge_start(this.at, BigInt(limits), taken, LOG_BEGINS.anywhere);
   }
 
-  // Takes a line that may have held a message, or a heading.
+  // Takes a line that may have held a message.
   lose() {
     this.library.calls.fio2070_log_judge_lose(this.at);
   }
 
-  // Takes a line with a message that is only possible.
+  // Takes a line with a message that is only possible, or a heading.
   possible() {
     this.library.calls.fio2070_log_judge_possible(this.at);
   }

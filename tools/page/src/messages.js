@@ -37,7 +37,7 @@ const FACTS = [
 const pluralOf = (noun) => noun.endsWith('y') ? noun.slice(0, -1) + 'ies' : noun.endsWith('h') ? noun + 'es' : noun + 's';
 // What is said of a log by its form, after its name.
 const FORMS = ['', ', read as frames', ', read as a transcript'];
-const SIGNS = { good: '✓', partly: '✓', unjudged: '?', restarted: '!', broken: '✗', none: '?' };
+const SYMBOLS = { good: '✓', partly: '✓', unjudged: '?', restarted: '!', broken: '✗', none: '?' };
 const hasBit = (log, place, bit) => log.codes[place] === BLOCK && (log.status[place] & bit) !== 0;
 
 // What helps, by the reason why lines are skipped.
@@ -140,7 +140,7 @@ export class MessagesView {
     const { kind, text, more, first, notJudged } = this.log.verdict;
     const show = first < 0 ? null : element('button', { id: 'first-breach', onclick: () => this.goTo(first) }, `Show line ${this.log.lines[first]}`);
     this.verdict.dataset.kind = kind;
-    this.verdict.replaceChildren(element('p', { class: 'says' }, element('strong', { 'aria-hidden': 'true' }, SIGNS[kind]), ' ',
+    this.verdict.replaceChildren(element('p', { class: 'says' }, element('strong', { 'aria-hidden': 'true' }, SYMBOLS[kind]), ' ',
       element('span', { id: 'verdict-text' }, element('strong', {}, text), more), ...show ? [' ', show] : []),
     ...notJudged.length === 0 ? [] : [element('p', { class: 'soft', id: 'not-judged' }, notJudged.join(' '))]);
   }

@@ -93,7 +93,7 @@ impl LogJudge {
         }
     }
 
-    /// A line may have held a frame, such as a damaged one, or is the heading of another part of the log.
+    /// A line may have held a frame, such as a damaged one.
     pub fn lose(&mut self) {
         unsafe { raw::fio2070_log_judge_lose(&mut self.0) }
     }
