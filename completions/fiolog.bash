@@ -36,7 +36,7 @@ _fiolog() {
             plan) words='-h --help --inputs --filter --group --limits --block --waiting --outage --lost --every -v --verbose --json' ;;
             convert) words='-h --help --format --pattern --sdlc --no-check --line --address --merge -v --verbose -q --quiet --to -o --output --times' ;;
             record) words='-h --help --format --pattern --sdlc --no-check --line --address --merge -v --verbose -q --quiet --at --start-at-poll --whole --limits --text --json --csv --vcd --plot --hires --start --signal --on --channels' ;;
-            live) words='-h --help --exec --serial --udp --fifo --address --rate --host --transcript --pcapng --force --at --whole --limits --except --seconds -v --verbose -q --quiet' ;;
+            live) words='-h --help --exec --serial --udp --fifo --address --rate --host --transcript --pcapng --force --at --whole --limits --except --late-answers --seconds -v --verbose -q --quiet' ;;
             esac ;;
         esac ;;
     esac

@@ -146,10 +146,10 @@ _fiolog() {
             '--start-at-poll[leave out what comes before the first poll]' \
             '--whole[the log begins with the start of both ends, more is found]' \
             '--limits[of the module, the most entries of a block, and the most that wait (255 1024)]:entries::waiting:' \
-            '--text[as fio2070 record writes it, to the first breach]' \
-            '--json[one object a line, an item, or with breaks a breach]' \
-            '--csv[a table; an item or a breach a row]' \
-            '--vcd[a VCD file; breaches on standard error]' \
+            '--text[as fio2070 record writes it, to the first breach or restart]' \
+            '--json[one object a line, an item, with breaks a breach, or with outcome a restart]' \
+            '--csv[a table; an item, a breach or a restart a row]' \
+            '--vcd[a VCD file; breaches and restarts on standard error]' \
             '--plot[a picture of the inputs over time, as .png, .svg or .pdf (by matplotlib)]:file:_files' \
             '--hires[write the transitions as a high-resolution event log (CSV)]:file:_files' \
             '--start[when the first block was made, as 2026-03-01T07,00,00]:time:' \
@@ -175,6 +175,7 @@ _fiolog() {
             '--whole[the log begins with the start of both ends, more is found]' \
             '--limits[of the module, the most entries of a block, and the most that wait (255 1024)]:entries::waiting:' \
             '--except[leave out breaches of this rule, and count them; may be given again]:rule:(readable pair number advance same sequence limits rest refusal order fresh alternate apart ignored state clock done accepted cleared watchdog)' \
+            '--late-answers[leave out answers that came late or twice, and count them]' \
             '--seconds[end after so long]:n:' \
             '-v[name each line that is skipped, and why]' \
             '--verbose[name each line that is skipped, and why]' \

@@ -57,6 +57,10 @@ def check_forms(check, folder):
     check.holds('a poll of a transcript is shown as it comes', b'> poll block 5' in live.stdout.readline())
     live.terminate()
     live.communicate(timeout=20)
+    done = fiolog('live', '--seconds', '3', '--exec', "sh -c 'for second in 1 2 3 4; do echo 12:00:0$second.000 TX 36 05; done; exec sleep 20'")
+    check.equal('so is each of a log, once and as a possible one, while the module is silent',
+                ['%d:     12:00:0%d.000 > poll block 5  possible: nothing makes it sure' % (number, number) for number in range(1, 5)],
+                done.out.splitlines()[:-1])
     done = fiolog('live', '-q', '--exec', 'echo hello')
     check.equal('a process that writes no frame', (1, 1), (numbers_of(done.out)['skipped lines'], done.status))
 
@@ -266,7 +270,7 @@ def check_status_line(check, folder):
 def check_process_ends(check):
     """A process that fails is named; one that goes on is ended."""
     done = fiolog('live', '--exec', 'sh -c "echo \\> 3605; exit 3"', '--quiet')
-    check.equal('a process that fails', (0, True), (done.status, 'the process ended with status 3' in done.err))
+    check.equal('a process that fails', (1, True), (done.status, 'the process ended with status 3' in done.err))
     with tempfile.TemporaryDirectory() as folder:
         path = os.path.join(folder, 'number')
         done = fiolog('live', '--exec', "sh -c 'echo $$ > %s; exec sleep 60'" % path, '--seconds', '1')

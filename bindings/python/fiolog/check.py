@@ -47,6 +47,11 @@ def add_except(parser):
                         help='leave out breaches of this rule, and count them; may be given again')
 
 
+def add_late_answers(parser):
+    """The option of a log with late answers."""
+    parser.add_argument('--late-answers', action='store_true', help='leave out answers that came late or twice, and count them')
+
+
 class Explain(argparse.Action):
     """Says what a rule says, and ends."""
 
@@ -72,7 +77,7 @@ def add_arguments(parser):
     parser.add_argument('--rules', choices=('all', 'transcript'), default='all', help='transcript: the rules of transcripts alone')
     add_except(parser)
     parser.add_argument('--explain', action=Explain, choices=NAMES, metavar='RULE', help='say what this rule says, and read no log')
-    parser.add_argument('--late-answers', action='store_true', help='leave out answers that came late or twice, and count them')
+    add_late_answers(parser)
     many.add_arguments(parser)
     parser.add_argument('--json', action='store_true',
                         help='an object for each breach, with several logs for each log; and one for the summary')

@@ -18,6 +18,7 @@ class Found:
     def __init__(self, form, manners):
         self.form, self.manners = form, manners
         self.library, self.texts, self.has_frames = fio2070.LogReader(form), Texts(form != 'auto'), False
+        self.told = 0   # the last line with a verdict
 
     @property
     def count(self):
@@ -34,12 +35,17 @@ class Found:
         self.texts.end()
         return self._events(self.library.end())
 
+    def waiting(self):
+        """The lines that have no verdict yet, each with its number."""
+        return list(enumerate(self.texts.lines[self.told + 1 - self.texts.first:], self.told + 1))
+
     def _events(self, verdicts):
         events = []
         for verdict in verdicts:
             events += self._of_line(verdict)
         if verdicts:
-            self.texts.drop(verdicts[-1].line)
+            self.told = verdicts[-1].line
+            self.texts.drop(self.told)
         return events
 
     def _of_line(self, verdict):

@@ -23,6 +23,7 @@ from .pcapng import Writer
 from .reader import Reader
 from .rules import Rules
 from .shown import fault_words
+from .waiting import Waiting
 
 CHUNK = 1 << 16
 LONGEST_DATAGRAM = 1 << 16
@@ -39,7 +40,7 @@ PATIENCE = 0.2
 # What is said of datagrams that the system dropped before they were read.
 DROPPED = 'dropped by the system'
 # What of the frames that are not judged is named.
-SHOWN = 'frames_above_a_command', 'frames_below_loads', 'frames_of_one_direction'
+SHOWN = 'frames_above_a_command', 'frames_below_loads', 'late_answers', 'frames_below_late_answers', 'frames_of_one_direction'
 # After so many lines without a frame a process writes no transcript.
 MOST_UNDECIDED = 1 << 10
 # What the status line names where it is 0 too.
@@ -62,6 +63,7 @@ def add_arguments(parser):
     check.add_whole(parser)
     check.add_limits(parser)
     check.add_except(parser)
+    check.add_late_answers(parser)
     parser.add_argument('--seconds', type=float, metavar='N', help='end after so long')
     parser.add_argument('-v', '--verbose', action='store_true', help='name each line that is skipped, and why')
     parser.add_argument('-q', '--quiet', action='store_true', help='do not write the messages')
@@ -148,13 +150,13 @@ class Station:
         self.out = sys.stderr if option.pcapng == '-' else sys.stdout
         self.paint, self.status = terminal.painter('auto'), terminal.Status()
         self.line = as_text(self._write, self.paint)
-        self.judgement = sides.Judgement(Rules(option.at, option.whole, option.limits, option.excepted))
+        self.judgement = sides.Judgement(Rules(option.at, option.whole, option.limits, option.excepted, option.late_answers))
         self.transcript = output.recorded(option.transcript, option.force) if option.transcript else None
         self.capture = None
         if option.pcapng:
             self.file = sys.stdout.buffer if option.pcapng == '-' else output.recorded(option.pcapng, option.force, is_binary=True)
             self.capture = Writer(self.file)
-        self.last = time.monotonic()
+        self.last, self.waiting = time.monotonic(), Waiting(option.address)
 
     def add(self, event):
         """A frame, good or bad; other lines are passed over, and at a damaged one the place is lost."""
@@ -168,7 +170,7 @@ class Station:
                 self._say('line %d: %s: %s' % (event.number, event.why, event.text[:100]))
             return
         message = spoken(event)
-        if not self.option.quiet:
+        if not self.option.quiet and not self.waiting.was_shown(event):
             self.line(self.name, event, message)
         if event.kind == OTHER:
             return
@@ -198,7 +200,9 @@ class Station:
             self._write('line %d: %s: %s\n' % (event.number, self.paint('fault', found.rule), found.says))
 
     def flush(self):
-        """Writes out what is held, and the status line on a terminal."""
+        """Writes out what is held, and the status line on a terminal; and what lines would be that wait, if the log ended now."""
+        for event in () if self.option.quiet else self.waiting.due(self.source.reader.waiting()):
+            self.line(self.name, event, spoken(event))
         self._flush()
         silence = time.monotonic() - self.last
         numbers = self.numbers(silence > QUIET).items()
@@ -272,7 +276,7 @@ def datagram_socket(option):
 
 
 def end_of(process):
-    """Ends a process that goes on. Where it failed, its status is said."""
+    """Ends a process that goes on. If it failed, its status is said; returns whether it did."""
     for end in (process.terminate, process.kill):
         try:
             status = process.wait(PATIENCE)
@@ -281,8 +285,9 @@ def end_of(process):
             continue
         if status > 0:
             terminal.say('the process ended with status %d' % status)
-        return
+        return status > 0
     process.wait()
+    return False
 
 
 def serial_port(option):
@@ -307,6 +312,10 @@ def raw_port(name):
     return descriptor
 
 
+class LineEnded(Exception):
+    """The line ends with a fault, as a port does that is unplugged."""
+
+
 def chunks(file, read, is_ended):
     """What is read, piece by piece, and None where nothing came for a while; until the line ends, or `is_ended`."""
     with selectors.DefaultSelector() as ready:
@@ -324,15 +333,14 @@ def chunks(file, read, is_ended):
             except BlockingIOError:
                 continue
             except OSError as fault:
-                terminal.say('the line has ended: %s' % fault_words(fault))
-                return
+                raise LineEnded(fault_words(fault)) from None
             if not chunk and not isinstance(file, socket.socket):
                 return
             yield chunk
 
 
 def run(option):
-    """Hears the line until it ends."""
+    """Hears the line until it ends; status 1 also if it ends with a fault."""
     output.end_at_signals()
     for name in ('exec', 'serial', 'fifo'):
         given = getattr(option, name)
@@ -343,6 +351,7 @@ def run(option):
         file, read, source, end = opened(option)
     except ValueError as fault:
         raise OSError(str(fault)) from None
+    is_failed = False
     try:
         station, begun = Station(option, source), time.monotonic()
         try:
@@ -352,6 +361,10 @@ def run(option):
                 station.flush()
         except KeyboardInterrupt:
             pass
-        return station.end()
+        except LineEnded as fault:
+            is_failed = True
+            terminal.say('the line has ended: %s' % fault)
+        status = station.end()
     finally:
-        end()
+        is_failed = end() or is_failed
+    return 1 if is_failed else status

@@ -52,6 +52,10 @@ class Reader:
             self.way = Raw(form, self.address or OWN) if form else self.text
         return self.beginning.held
 
+    def waiting(self):
+        """The lines that have no verdict yet, each with its number, if the lines below can show what they are."""
+        return self.way.waiting() if isinstance(self.way, Found) else []
+
     def words(self):
         """Why a file of what a line carried has no frame; empty for any other."""
         return self.way.words() if isinstance(self.way, Raw) else ''
