@@ -168,12 +168,12 @@ fits() {
     "$1" -std=c99 -ffreestanding $strict -DFIO2070_PORTABLE -I "$top/include" -fsyntax-only header.c
 }
 
-# fits_not COMPILER: it is told that the archive has no code for its processor.
+# fits_not COMPILER: the header reports to it that the archive has no code for its processor.
 fits_not() {
     ! "$1" -ffreestanding -I "$top/include" -fsyntax-only header.c 2>said && grep -q '#error "libfio2070.a' said
 }
 
-# misused COMPILER: it takes the right uses of support/c/misuses.c, and tells of each other. Those from 51 on are of rings.
+# misused COMPILER: it takes the right uses of support/c/misuses.c, and warns of each other use. Those from 51 on are of rings.
 misused() {
     source=$top/tests/support/c/misuses.c
     most=50
@@ -189,7 +189,7 @@ misused() {
     done
 }
 
-# tells PROGRAM RUN..: run so, the header tells the program that the processor fits, in `main`, in its first constructor,
+# tells PROGRAM RUN..: run in this way, the header tells the program that the processor fits, in `main`, in its first constructor,
 # before all constructors, and where a call is bound.
 tells() {
     cat >fitting.c <<'end'
@@ -215,13 +215,13 @@ end
     "$@" "$program"
 }
 
-# tells_not PROGRAM RUN..: run so, it tells that it does not fit.
+# tells_not PROGRAM RUN..: run in this way, the header tells the program that the processor does not fit.
 tells_not() {
     tells "$@"
     [ "$?" = 1 ]
 }
 
-# names_variable: where the archive is not, cargo is told which variable names its folder.
+# names_variable: if the archive is missing, cargo prints which variable names its folder.
 names_variable() {
     env -C "$top/bindings/rust/fio2070" FIO2070_LIB_DIR="$room/none" CARGO_TARGET_DIR="$room/target" \
         cargo build --offline 2>said && return 1

@@ -68,7 +68,7 @@ def copy_sources():
 
 
 def list_sources():
-    """Whether dist/ is of the present sources is asked by tests/release-files.sh; here its list is made of those of the copy."""
+    """tests/release-files.sh checks that dist/ is of the present sources; here its list is made of the sources of the copy."""
     done = run('packaging/program', '--sources')
     with open(os.path.join(clone, 'dist/fio2070-x86_64-linux-gnu.sources'), 'w', encoding='utf-8') as file:
         file.write(done.stdout)
@@ -122,7 +122,7 @@ def with_few_commands():
         with open(path, 'w', encoding='utf-8') as file:
             file.write(after)
         done = run('./fio2070', 'show', text='3605\n', **few)
-        check.equal(name + ' is told', ('poll block 5\n', True, 1), (done.stdout, 'made of other sources' in done.stderr, done.stderr.count('\n')))
+        check.equal(name + ' is reported', ('poll block 5\n', True, 1), (done.stdout, 'made of other sources' in done.stderr, done.stderr.count('\n')))
         if before is None:
             os.remove(path)
         else:

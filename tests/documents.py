@@ -3,7 +3,7 @@
 `--help`, and compares what it prints.
 
 A line that begins with `$ ` is a command, run by sh at the top of the repository, with `fio2070` on the path; the lines
-after it, up to the next command or the end of the block, are what it prints on standard output. A line `...` stands for any
+after it, up to the next command or the end of the block, are what it prints on standard output. A line `...` matches any
 lines. A block marked `console NAME` needs the program of the Debian package NAME; if that program is missing, the block is
 skipped. Last line: `N passed, M failed`."""
 

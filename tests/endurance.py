@@ -1,7 +1,7 @@
 #!/usr/bin/env python3
 """What is tried for long and at random: both ends of the library in a soak beside an independent model; every call with random
 octets and structs, and the sums of what they return by several builds; both ends of examples/ on a hostile line, and the octets of one. Each row takes
-some seconds, and prints what it ran; `tests/endurance.py --all SECONDS` takes so many for each driver, as `./bench --soak SECONDS`
+some seconds, and prints what it ran; `tests/endurance.py --all SECONDS` runs each driver for that time, as `./bench --soak SECONDS`
 does. With `--all` the calls also run under a fuzzer with sanitizers, and on other processors. Last line: `N passed, M failed`."""
 
 import collections

@@ -17,7 +17,7 @@ FORMS = ('transcript', 'TX and RX', 'arrows', 'CPU and FIO', 'WRITE and READ', '
 CUTS = {'the end': lambda line, a, b: line[:a], 'the beginning': lambda line, a, b: line[a:],
         'the middle': lambda line, a, b: line[:min(a, b)] + line[max(a, b):], 'a character': lambda line, a, b: line[:a] + line[a + 1:],
         'a character, changed': lambda line, a, b: line[:a] + '?' + line[a + 1:], 'a blank more': lambda line, a, b: line[:a] + ' ' + line[a:]}
-# Of each so many answers one is cut.
+# One answer in this many is cut.
 EACH = 50
 WORDS = ['link', 'up', '9600', 'baud', 'error', '17', 'queue', 'ok', 'rate:', '--', 'COM3', 'at', '12:30:01', '192.168.1.7', '36', 'retries']
 

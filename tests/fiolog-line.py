@@ -31,7 +31,7 @@ def said_of(events):
 
 
 def due_of(said):
-    """What the model says, likewise."""
+    """What the model says, in the same words."""
     return [(one.kind, one.message) for one in said]
 
 
@@ -232,7 +232,7 @@ def check_others(check, folder):
 
 
 def check_sampled(check, folder):
-    """Bits that are several samples long are told so; so is another order of bits."""
+    """Bits that are several samples long are reported; so is another order of bits."""
     _, _, bits = stream(random.Random(5), 20)
     for samples in (2, 3, 4, 6, 8, 10):
         done = fiolog('check', written(folder, 'fast', ''.join(bit * samples for bit in bits).encode()))

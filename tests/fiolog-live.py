@@ -73,7 +73,7 @@ def fault_of_process():
 
 
 def on_serial(write, *words):
-    """What a run writes whose serial port is a pseudo-terminal to which this is written, and its status."""
+    """The output and the status of a run whose serial port is a pseudo-terminal that brings this text."""
     ours, theirs = pty.openpty()
     command = started('--serial', os.ttyname(theirs), '--quiet', '--seconds', '5', *words)
     for _ in range(200):
@@ -167,7 +167,7 @@ def fault_of_datagrams():
 
 
 def heard(folder, text, *words):
-    """What a run writes for a named pipe with this text, whose writer then goes away, and its status."""
+    """The output and the status of a run for a named pipe with this text, whose writer then goes away."""
     pipe = os.path.join(folder, 'pipe')
     if not os.path.exists(pipe):
         os.mkfifo(pipe)

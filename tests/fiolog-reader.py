@@ -1,7 +1,7 @@
 #!/usr/bin/env python3
 """What the reader of logs finds in logs of other tools, by `fio2070.LogReader`: each form of tests/support/loggers.py, with
 frames of the protocol's tables and with random ones; logs of strangers; forms of lines, one by one; damage, noise and other
-text; right ends, which no cut accuses. Where the library has no such class the model of the tests takes its place; else the
+text; right ends, which no cut accuses. If the library has no such class the model of the tests takes its place; else the
 two are compared. Last line: `N passed, M failed`."""
 
 import random
@@ -17,7 +17,7 @@ from support.other_text import BY_CHANCE, REMARKED, other_text
 from support.sessions import SESSION, random_session, timed
 from support.strangers import PASSED, READ
 
-# A line, which is the whole log, and the frame that is written there; None where none is, or several may be.
+# A line, which is the whole log, and the frame that is written there; None if there is none, or several are possible.
 LINES = [
     ('3605', '3605'), ('36 05', '3605'), ('  B6 00 00 00 00 00 00 01', 'b600000000000001'), ('0x36, 0x05,', '3605'),
     (r'\x36\x05', '3605'), ('{0x36, 0x05}', '3605'), ('[54, 5]', '3605'), ('36h 05h', '3605'), ('$36 $05', '3605'),
@@ -81,7 +81,7 @@ REASONS = {
 # Forms of which frames are lost: a loose type whose rows may go on is passed over; the others are none of the definition's.
 LOST = {'candump': 1.0, 'C arrays': 0.05, 'socat -x -v': 0.02}
 
-# Logs of strangers that are not read, or in part, and why. Of `possible` ones nothing in the log makes them sure.
+# Logs of strangers that are not read, or in part, and why. Nothing in the log makes the `possible` ones sure.
 POSSIBLE = {'strace -x': 'short messages alone', 'journalctl -o json': 'one short message', 'Docker': 'one short message',
             'Elixir': 'one short message', '\\u': 'one short message'}
 NOT_READ = {'tcpdump -X': 'a packet with its headers', 'plain text of Wireshark': 'a packet with its headers', 'jq': 'a number a line'}

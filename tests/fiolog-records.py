@@ -98,7 +98,7 @@ def transcript_of_run(folder, seed):
 
 
 def check_runs(check, folder):
-    """Runs of the link are not accused; of those in which something happened to an entry most are."""
+    """Runs of the link are not accused; most of those in which an entry was changed are."""
     draw, found = random.Random(32), dict.fromkeys(FAULTS, 0)
     for seed in range(SEEDS):
         text = transcript_of_run(folder, seed)

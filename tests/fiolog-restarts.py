@@ -46,7 +46,7 @@ def not_judged(lines, *words):
 
 
 def check_check(check):
-    """A restart is told where a breach is, and is none."""
+    """A restart is reported as a breach is, and is not counted as one."""
     done = fiolog('check', text=text_of(RESTART))
     check.equal('a restart', (['line 6: restarted: ' + WORDS, 'frames 10, polls 4, repeats 0, answers lost 0, gap marks 0, breaches 0, restarted 1',
                                'not judged: 1 loss of sync, 2 frames from a loss of sync to the next poll'],
@@ -116,7 +116,7 @@ def check_record(check):
     check.equal('the rows', [('2', ''), ('4', 'restarted'), ('4', '')], [(row[0], row[-1]) for row in rows])
 
 
-# A log, which rules or restarts are told in it and where, and what is not judged.
+# A log, which breaches or restarts are reported in it and where, and what is not judged.
 LOADS = {
     'a load that was sent': ([*ABOVE, *LOAD, *BACK], [], {'frames_below_loads': 1, 'lost_places': 1}),
     'it explains one stamp': ([*ABOVE, *LOAD, *BACK, *AGAIN], ['12: restarted'], {'frames_below_loads': 1, 'lost_places': 2}),
@@ -227,8 +227,8 @@ def check_remarks(check, folder):
 
 
 def fault_of_right_links(links):
-    """Logs of right links that restart, whole, from a command on and with damage, are accused of nothing, and no restart is told that
-    was none. Where nothing is damaged and no load is sent, each is told."""
+    """Logs of right links that restart, whole, from a command on and with damage, are accused of nothing, and only
+    real restarts are reported. If nothing is damaged and no load is sent, each is reported."""
     from support.restarting import damaged, fault_of, found_in, lines_of, restarting
     told = restarts = 0
     for seed in range(links):
@@ -243,7 +243,7 @@ def fault_of_right_links(links):
                 return 'seed %d, log %d from line %d: %s' % (seed, place, first + 1, fault)
             if place == 0 and not link.loads:
                 told, restarts = told + len(found), restarts + len(link.restarts)
-    return None if told == restarts >= links // 10 else '%d of %d restarts are told' % (told, restarts)
+    return None if told == restarts >= links // 10 else '%d of %d restarts are reported' % (told, restarts)
 
 
 def main():

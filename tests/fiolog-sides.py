@@ -106,7 +106,7 @@ def check_many(check, folder):
 
 
 def session(count, apart=0.05):
-    """The frames of the proved ends, each so many seconds below the one above."""
+    """The frames of the proved ends, `apart` seconds after each other."""
     from support.talking import rounds
     return [(round(apart * place, 3), direction, octets) for place, (direction, octets) in enumerate(rounds(count))]
 

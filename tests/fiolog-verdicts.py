@@ -1,5 +1,5 @@
 #!/usr/bin/env python3
-"""What `fiolog` judges and says of a log: where a log begins, which rules are left out, what is to be tried where a log is not
+"""What `fiolog` judges and says of a log: where a log begins, which rules are left out, what to try if a log is not
 read, and what is a fault. Last line: `N passed, M failed`."""
 
 import os
@@ -48,7 +48,7 @@ def check_explained(check):
 
 
 def check_cures(check):
-    """What helps is named: where a reason has a cure, where messages stand in two lines, and for a file that is no text."""
+    """`fiolog` says what helps: if a reason has a cure, if a message is in two lines, and if a file is no text."""
     swap, two = 'write the log with `xxd` or `hexdump -C`', 'try --sdlc --no-check if they are at the beginning, --pattern if they are at the end'
     pairs, cut = '0000000 05b6 8c01 e703 0000 0300 00e8\n0000013\n', 'RX B6 05 01 8C 03 E7 00 00 00 03 E8 A4 7C\n'
     for name, text, words in (('octets that are exchanged', pairs, [swap]), ('a check of another kind', cut, [two]),
@@ -83,7 +83,7 @@ def check_cures(check):
             file.write(octets)
             file.flush()
             done = fiolog('check', file.name)
-        check.equal('%s is told to come through xxd' % name, (1, is_binary), (done.status, 'this is a binary file: pass it through `xxd`' in done.err))
+        check.equal('%s needs xxd' % name, (1, is_binary), (done.status, 'this is a binary file: pass it through `xxd`' in done.err))
 
 
 def check_few(check):
@@ -168,7 +168,7 @@ def check_said(check):
 
 
 def check_hints(check):
-    """What is to be tried is said where it helps."""
+    """`fiolog` says what to try where that helps."""
     begin, late = 'try --start-at-poll', 'try --late-answers'
     good = '> 3605\n< b6050000000003e8\n'
     for name, text, hints in (

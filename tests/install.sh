@@ -48,7 +48,7 @@ is_gone() {
     [ ! -e "$1" ] || { find "$1"; return 1; }
 }
 
-# says_ldconfig WORD..: installing the library with these words of make says that ldconfig is to be run. The loader reads the
+# says_ldconfig WORD..: installing the library with these words of make asks to run ldconfig. The loader reads the
 # libraries of $room/loader/lib.
 says_ldconfig() {
     printf '#!/bin/sh\necho "%s: (from /etc/ld.so.conf.d/local.conf:1)"\n' "$room/loader/lib" >ldconfig && chmod +x ldconfig &&
@@ -240,11 +240,11 @@ first 'make uninstall where nothing is' run_make uninstall PREFIX="$prefix"
 holds 'what others installed is left' keeps_others
 
 if [ "$(id -u)" = 0 ]; then
-    holds 'root is told of ldconfig' says_ldconfig PREFIX="$room/loader"
+    holds 'root is asked to run ldconfig' says_ldconfig PREFIX="$room/loader"
     holds 'not of another folder' says_nothing PREFIX="$room/other"
     holds 'not for a package' says_nothing PREFIX="$room/loader" DESTDIR="$room/below"
 else
-    skip 'root is told of ldconfig' 'the check is not run by root'
+    skip 'root is asked to run ldconfig' 'the check is not run by root'
 fi
 
 # For a package, whose files are put below DESTDIR.

@@ -23,7 +23,7 @@ NUMBERS = ('frames', 'polls', 'repeats', 'unanswered', 'marks', 'entries', 'rest
 
 
 class Line(NamedTuple):
-    """A line of a log: its octets, None where a frame may be lost; and its time in microseconds."""
+    """A line of a log: its octets, None if a frame may be lost; and its time in microseconds."""
     octets: Optional[bytes]
     time: Optional[int] = None
 
@@ -40,7 +40,7 @@ def waits(log, place, end):
 
 
 def time_taken(log, place):
-    """How long the module took for the answer there, None where that is not known."""
+    """How long the module took for the answer there, None if that is not known."""
     answer = log[place]
     asked = next((at for at in reversed(range(place)) if log[at].octets is None or log[at].octets and spells(log[at].octets)
                   and (log[at].octets[0] < ANSWER or log[at].octets[0] == answer.octets[0])), None)

@@ -1,5 +1,5 @@
 #!/usr/bin/env python3
-"""What `fiolog` and the tools beside it do in a hard place: octets that are no UTF-8 in strict locales, control characters in a
+"""What `fiolog` and the tools beside it do in difficult cases: octets that are no UTF-8 in strict locales, control characters in a
 log or in a file's name, files that are read and written, recordings that are there already, full disks, long lines, processes
 that die, Ctrl-C. Last line: `N passed, M failed`."""
 

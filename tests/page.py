@@ -2,7 +2,7 @@
 """Drives the page that `make page` writes, in headless Chromium, with `--all` in Firefox too, as a person would: the examples give what
 `show`, `check` and `simulate` give, letter for letter; 100,000 messages open within two seconds and scroll; hostile files
 change nothing but the table; the views follow pointer and keys; the planning table is that of docs/PLANNING.md. With
-`--pictures` the pictures of tools/page/, and that of *Play* in docs/pictures/, are taken anew. Last line: `N passed, M failed`."""
+`--pictures` the pictures of tools/page/, and that of *Play* in docs/pictures/, are taken again. Last line: `N passed, M failed`."""
 
 import glob
 import os

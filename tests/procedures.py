@@ -1,8 +1,8 @@
 #!/usr/bin/env python3
 """Follows the lists of docs/ARCHITECTURE.md, *Where to make which change*. The files that it names exist. A rule of
 transcripts, a rule on content, a subcommand of `fiolog` and a message are added on a copy as far as the generators read
-them: these write the files that the list says, and no others. Each file that the list has by hand names what the new one
-stands beside, and no other file written by hand names all of its kind. Last line: `N passed, M failed`."""
+them: these write the files that the list says, and no others. Each file that the list has by hand names the neighbour of
+the new one, and no other file written by hand names all of its kind. Last line: `N passed, M failed`."""
 
 import glob
 import itertools

@@ -160,7 +160,7 @@ WORKED = [
      'record 2\n' + ONE + 'input 12 state 1 stamp 12 wide 12\n'),
     ('a later configuration of another input', configuration((12, 5, 3)) + configuration((13, 5, 3)) + block(0, 0) +
      block(1, 14, entry(12, 0, 10), entry(12, 1, 12)), 'record 1\n' + ONE + 'line 8 input 12 breaks apart\n'),
-    # Each load excuses one breach; then times are forgotten till the end of a clear block that is heard below.
+    # Each load excuses one breach; then times are forgotten until the end of a clear block that is heard below.
     ('a load excuses one breach alone', START + LOAD + block(1, 30, entry(12, 0, 10), entry(12, 1, 12), entry(13, 0, 11)) + block(2, 31) +
      block(3, 50, entry(12, 0, 40), entry(12, 1, 42)),
      'record 4\n' + ONE + 'input 12 state 1 stamp 12 wide 12\ninput 13 state 0 stamp 11 wide 11\n' +

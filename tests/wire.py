@@ -64,7 +64,7 @@ def fault_of_read(line, due, settings, is_bits, size):
 
 
 def fault_of_struck(is_bits, frame, flips):
-    """A frame with these bits turned says another message than it had, as the model does: no decoder can know."""
+    """A frame with these bits flipped says another message than it had, as the model does: no decoder can know."""
     sent = bytes.fromhex(frame)
     line = model.FLAG_BITS + (model.bit_stuffed(model.bits_of(sent)) if is_bits else model.bits_of(sent)) + model.FLAG_BITS
     line = ''.join(str(int(bit) ^ (place in flips)) for place, bit in enumerate(line))

@@ -250,7 +250,7 @@ def fault_of_wrong(folder, by_name, name, text, other, catcher):
     with open(DISSECTOR, encoding='utf-8') as file:
         source = file.read()
     if source.count(text) != 1:
-        return 'the text %r does not stand once in the dissector' % text
+        return 'the text %r is not exactly once in the dissector' % text
     path = os.path.join(folder, 'wrong.lua')
     os.makedirs(folder)
     with open(path, 'w', encoding='utf-8') as file:

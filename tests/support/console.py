@@ -4,7 +4,7 @@ import re
 
 
 def row(check, name, expected, text):
-    """A row of a check: a command printed the expected lines, where a line `...` stands for any lines."""
+    """A row of a check: a command printed the expected lines, where a line `...` matches any lines."""
     form = ''.join('(?:.*\n)*?' if line == '...' else re.escape(line + '\n') for line in expected)
     whole = ''.join(line + '\n' for line in expected)
     check.equal(name, whole, whole if re.fullmatch(form, text) else text)

@@ -185,7 +185,7 @@ class Record:
         return None
 
     def differs(self):
-        """The record has come to the states of the latest 181: an input has another one. What it says of each input is told of
+        """The record has come to the states of the latest 181: an input has another one. What the 181 says of each input is asked of
         its next entry."""
         states = {named: self.seen[1] >> named & 1 for named in ALL}
         others = [named for named in self.watched - self.shaded if self.levels[named] != states[named]]
@@ -202,7 +202,7 @@ class Record:
 
     def accuses(self, rule, named=None):
         """A rule on time is broken. Returns whether nothing excuses it. A load that was sent excuses one breach, since the counter
-        may have jumped: all that is known of times is forgotten, till the end of a clear block that is heard below. 255 excuses
+        may have jumped: all that is known of times is forgotten, until the end of a clear block that is heard below. 255 excuses
         are never used up."""
         if not self.excuses:
             self.breaks(rule, named)

@@ -43,7 +43,7 @@ def with_check(octets):
 
 
 def stuffed(octets):
-    """Each flag and each escape as an escape and the octet with bit 5 turned."""
+    """Each flag and each escape as an escape and the octet with bit 5 inverted."""
     return b''.join(bytes((ESCAPE, octet ^ TURNED)) if octet in (FLAG, ESCAPE) else bytes((octet,)) for octet in octets)
 
 

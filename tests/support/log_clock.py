@@ -64,8 +64,8 @@ def time_at(text, start, form):
     if text[place:place + 1] == '.' and text[place + 1:place + 2] in DIGITS and text[place + 1:place + 2] or UNIT.match(text, place):
         return None
     blanks = len(text[place:]) - len(text[place:].lstrip(' '))
-    half, behind = text[place + blanks:place + blanks + 2].upper(), text[place + blanks + 2:place + blanks + 3]
-    if half in ('AM', 'PM') and not is_word(behind):
+    half, after = text[place + blanks:place + blanks + 2].upper(), text[place + blanks + 2:place + blanks + 3]
+    if half in ('AM', 'PM') and not is_word(after):
         parts['h'] = parts.get('h', 0) % 12 + 12 * (half == 'PM')
         place += blanks + 2
     return (place, parts) if parts.get('h', 0) < 24 and parts.get('m', 0) < 60 and parts.get('M', 1) < 13 else None

@@ -9,10 +9,10 @@ from support.log_lines import HEARD, SENT, lines_of
 from support.log_octets import ANY_LENGTH, begins, is_pair, is_written_alike, said, words_of
 from support.log_rows import Entry, entries_of
 
-WAIT = 64               # after so many lines a short message is decided
-EARLIEST = 16           # before so many frames only the end or that wait decides
-VALUES = 8              # so many at most has a number that tells lines apart
-SIDES = 8               # so many frames show what the words for the direction mean
+WAIT = 64               # lines after which a short message is decided
+EARLIEST = 16           # frames before which only the end or that wait decides
+VALUES = 8              # values, at most, of a number that tells lines apart
+SIDES = 8               # frames that show what the words for the direction mean
 
 
 class Verdict(NamedTuple):

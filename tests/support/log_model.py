@@ -1,5 +1,5 @@
 """The reference model of the reader of logs, line by line, as docs/CAPTURES.md defines it. `LogReader` has the interface of
-`fio2070.LogReader`: the tests of the library compare the two, and `fiolog` runs on it where the library has no such class."""
+`fio2070.LogReader`: the tests of the library compare the two, and `fiolog` runs on it if the library has no such class."""
 
 import re
 from typing import NamedTuple, Optional, Tuple
@@ -84,7 +84,7 @@ def beginning(text, heads):
 
 
 def rest_of(text, octets):
-    """What stands behind octets, without a column of their characters, and without separators."""
+    """What comes after octets, without a column of their characters, and without separators."""
     if text[:2] in ('  ', ' |') or text[:1] in ('\t', '|'):
         shown, column = text.strip(' \t|'), ''.join(chr(one) if 32 <= one < 127 else '.' for one in octets.strip(b' |'))
         if shown == column or abs(len(shown) - len(octets)) <= 1 and not re.search('[0-9A-Za-z]{2}', text):
@@ -98,7 +98,7 @@ SAYING = re.compile('[a-z]+|[<>=-]+|[\u2190\u2192]', re.ASCII)
 
 
 def direction_of(shape):
-    """The direction that a shape ends with, where it has no other words."""
+    """The direction that a shape ends with, if it has no other words."""
     words = ''.join(char if char.isalnum() else ' > ' if char in '>\u2192' else ' < ' if char in '<\u2190' else ' '
                     for char in shape).split()
     letters = {word for word in words if word != '0'}
@@ -119,7 +119,7 @@ def said_in(text, start):
 
 
 class Said:
-    """A run with what stands around it."""
+    """A run with what surrounds it."""
     def __init__(self, run, line, number, text):
         self.run, self.octets, self.frames, self.sure, self.certain = run, run.octets, run.frames, run.sure, run.sure
         self.before, self.tail = masked(line[:run.start]), text[run.end:].strip(' \t,;')
@@ -139,7 +139,7 @@ class Said:
         return len(self.octets) > 1 or (not has_words or direction_of(self.before) != '') and not self.tail
 
     def is_bare(self):
-        """Whether a line is nothing but a message, perhaps behind a number, a time and its right direction."""
+        """Whether a line is nothing but a message, perhaps after a number, a time and its right direction."""
         first = self.frames[0]
         is_directed = not self.is_column and direction_of(self.before) == '<>'[first[0] < 128] and len(first) > 1 and first[0] not in LOOSE
         return (is_directed or not self.before) and not self.tail and (
@@ -162,7 +162,7 @@ class Line:
 # 2. The reader ------------------------------------------------------------------------------------------------------------
 
 class Entry:
-    """Lines that stand or fall together. `kind` is None while it waits."""
+    """Lines that are decided together. `kind` is None while they wait."""
     def __init__(self, line, said, join=None, heading=None):
         self.numbers, self.said, self.fits, self.join = [line.number], said, line.fits if said else [], join
         self.time, self.kind, self.reason, self.frames, self.until, self.places = line.time, None, '', [], None, []
@@ -217,8 +217,8 @@ class Reader:
         return self.certain()
 
     def give_up(self, entry):
-        """Ends a wait. A line that is nothing but a message is a frame, where each line of its shape so far was one; one
-        without a direction, where each line of the log was."""
+        """Ends a wait. A line that is nothing but a message is a frame if each line of its shape so far was one; one
+        without a direction if each line of the log was one."""
         if entry.kind is None:
             one = entry.fits[0]
             others = self.tallies.get(one.key, (0, 1))[1] if one.before else self.others or self.shapes
@@ -289,7 +289,7 @@ class Reader:
         return 'more' if row[1] else 'end'
 
     def wraps(self, join, line):
-        """Whether a line is the next row: nothing before its octets but blanks, or what stood in the row above."""
+        """Whether a line is the next row: nothing before its octets but blanks, or the text that the row above has there."""
         first = join.first
         rows = [one for one in line.said if one.run.mark == first.run.mark and not one.after and one.before in ('', first.before)
                 and (one.ways is None or first.ways is None or one.ways & first.ways) and join.last == join.width >= len(one.octets)]
@@ -363,7 +363,7 @@ class Reader:
         return True
 
     def close(self):
-        """Ends what is open: its octets are judged, and its lines stand or fall together."""
+        """Ends what is open: its octets are judged, and its lines are decided together."""
         entry, self.open = self.open, None
         join = entry.join
         one = join.first
@@ -430,7 +430,7 @@ class Reader:
             entry.settle('passed over', SEVERAL)
 
     def tally(self, said, place):
-        """Counts, for each shape, the lines whose octets spell messages, and those whose octets spell none."""
+        """Counts, for each shape, the lines with octets that spell messages, and those with octets that spell none."""
         for shape in {one.key for one in said if len(one.octets) > 1}:
             if shape in self.tallies or len(self.tallies) < SHAPES:
                 self.tallies.setdefault(shape, [0, 0])[place] += 1
@@ -445,7 +445,7 @@ class Reader:
             self.sources.is_another(one) or one.frames and self.sources.is_against(one))
 
     def is_mostly_good(self, one):
-        """Whether at least half of the lines that have before a run what this one has say messages."""
+        """Whether at least half of the lines with the same text before a run say messages."""
         good, bad = self.tallies.get(one.key, (1, 0))
         return self.sources.is_mostly_good(one, good >= bad)
 
@@ -480,7 +480,7 @@ class Reader:
         entry.settle('passed over', SHORT if entry.fits else remark if has_octets else without_octets(entry.whole))
 
     def ask(self, entry):
-        """Marks the one message that a line says, where no line of the log is a frame, as possible: one of two octets or more, or
+        """Marks the one message that a line says, if no line of the log is a frame, as possible: one of two octets or more, or
         one that is the whole line."""
         told = {tuple(one.frames) for one in entry.fits if len(one.octets) > 1 or not one.before and not one.tail}
         if entry.reason == SHORT and len(told) == 1:
@@ -539,7 +539,7 @@ def last_run(line):
 
 
 def offset_row(line):
-    """The values that the offset before a row may have, and the row's run; None where there is no offset."""
+    """The values that the offset before a row may have, and the row's run; None if there is no offset."""
     text = line.text
     start = len(text) - len(text.lstrip(' \t'))
     start += 2 if text[start:start + 2] in ('0x', '0X') else 0

@@ -115,7 +115,7 @@ def sequences(text, marks):
         yield found, separator
 
 
-def is_number_before(digits, is_behind_words):
+def is_number_before(digits, is_after_words):
     """Whether the first of these words is a number, and the octets of a message are after it."""
     if len(digits) < 2 or not digits[0].isdecimal():
         return False
@@ -123,17 +123,17 @@ def is_number_before(digits, is_behind_words):
         is_list = is_hex_list(digits[1:])
     else:
         width, last = len(digits[0]), len(digits[-1])
-        is_list = (is_behind_words and width in (2, 4, 8) and all(len(one) == width for one in digits[:-1])
+        is_list = (is_after_words and width in (2, 4, 8) and all(len(one) == width for one in digits[:-1])
                    and last % 2 == 0 and last <= width and len(octets_of(digits[1:])) > 1)
     return is_list and said(octets_of(digits[1:])) is not None and said(octets_of(digits)) is None
 
 
 def lists_of(words, text, has_marks):
     """The parts of a sequence of words that are octets: all, or those between words of other lengths. A number before octets is
-    none of them; one of several digits, behind other words, without marks and at the end of the line, may be."""
+    none of them; one of several digits, after other words, without marks and at the end of the line, may be."""
     digits = [one[1] for one in words]
-    is_behind_words = any(one.isalnum() or one == '_' for one in text[:words[0].start()]) and not text[words[-1].end():].strip(' \t,;')
-    if is_number_before(digits, is_behind_words and not has_marks):
+    is_after_words = any(one.isalnum() or one == '_' for one in text[:words[0].start()]) and not text[words[-1].end():].strip(' \t,;')
+    if is_number_before(digits, is_after_words and not has_marks):
         if len(digits[0]) > 1:
             yield words[1:]
         else:

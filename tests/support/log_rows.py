@@ -9,7 +9,7 @@ from support.log_wordings import without_octets
 from support.log_octets import ANY_LENGTH, Run, begins, column_of, is_written_alike, needed, said
 
 WIDTH = 8               # octets of a row, at least
-LONG = 780              # so many octets of a line, or more, are read by themselves
+LONG = 780              # octets of a line that is read by itself, at least
 MOST = 16_384           # octets that are read together, at most
 A_SECOND = 1_000_000
 EMPTY = Run(0, 0, b'', ('', '', ''), '')
@@ -140,8 +140,8 @@ def whole_of(line):
 
 
 def stream_at(lines, place):
-    """Rows of one width, the last one perhaps shorter, that are all of their lines: the first begins with a message, and is none.
-    A row that says a sure message is none. A single row has a message that confirms itself."""
+    """Rows of one width, the last one perhaps shorter, that fill their lines: the first begins with a message, but is not one.
+    A line that says a sure message is no row. A single row has a message that confirms itself."""
     first = whole_of(lines[place])
     length = first and needed(first.octets)
     if not length or len(first.octets) < max(WIDTH, length + 1) or said(first.octets) or not said(first.octets[:length]):
@@ -256,7 +256,7 @@ def numbers_of(line, run):
 
 
 def parts_at(lines, place):
-    """The octets of a message that stands in two lines, between which one may be blank; empty if there is none. Both have the same
+    """The octets of a message that is written in two lines, with at most a blank one between; empty if there is none. Both have the same
     words and numbers before their octets, which say one side, and times that are at most a second apart. The first begins a
     message, the second says none of this side, and both together confirm themselves."""
     above = lines[place]

@@ -7,7 +7,7 @@ from support.log_clock import DIGITS, HEX, is_word
 LENGTHS = {49: 2, 50: 5, 52: 1, 53: 1, 54: 2, 55: 17, 58: 2, 60: 1, 177: 8, 178: 2, 179: 2, 180: 13, 181: 13, 186: 2}
 LOOSE = {56, 57, 59, 183, 184, 185, 187, 188}
 LONGEST, ROW, MOST, HELD, LATER, YOUNG, SHAPES, LINE = 773, 8, 1 << 14, 64, 2, 16, 256, 1 << 16
-# A run of so many octets is a line by itself, to which no row is joined.
+# A run of this many octets is a line by itself, to which no row is joined.
 LONG = LONGEST + 7
 BLANK, WORD = ' \t\u00a0', '_.'
 
@@ -15,7 +15,7 @@ BLANK, WORD = ' \t\u00a0', '_.'
 # 1. Messages ------------------------------------------------------------------------------------------------------------
 
 def length_of(octets):
-    """The length of the message that octets begin: 0 for none, -1 for any, None where its count is missing."""
+    """The length of the message that octets begin: 0 for none, -1 for any, None if its count is missing."""
     if octets[0] in LENGTHS:
         return LENGTHS[octets[0]]
     if octets[0] in LOOSE:
@@ -125,7 +125,7 @@ def tokens(line, mark, begin):
 
 
 def separator(text, octets):
-    """The separator that a text is; None if it is none. A blank may be two behind eight octets."""
+    """The separator that a text is; None if it is none. After eight octets the blank may be double."""
     if text == '  ' and octets == 8:
         return ' '
     bare = text.strip(' ')

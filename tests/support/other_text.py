@@ -74,7 +74,7 @@ REMARKED = {
 
 
 def other_text(count, length=2000):
-    """Logs of this length with so many lines in all: the name of each, and its text."""
+    """Logs of `length` lines each, with `count` lines in all: the name of each, and its text."""
     names = list(KINDS)
     for number in range(count // length):
         name, draw = names[number % len(names)], random.Random(number)

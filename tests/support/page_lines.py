@@ -54,7 +54,7 @@ def check_files(check, browser, name, folder):
     with open(path, 'wb') as out:
         out.write(''.join(bit * 5 for bit in BITS).encode())
     opened(browser, path)
-    check.holds('bits of five samples are told in %s' % name, 'nearly all bits last 5 samples' in browser.run(SEEN, 'no-log-passed'))
+    check.holds('bits of five samples are reported in %s' % name, 'nearly all bits last 5 samples' in browser.run(SEEN, 'no-log-passed'))
     pasted(browser, 'TX 3605\nRX b605000000000001\n')
     check.equal('a log is none of these in %s' % name, ['3605', 'b605000000000001'], [row[1] for row in rows(browser)])
 

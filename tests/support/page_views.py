@@ -226,7 +226,7 @@ def check_ladder(check, browser, name):
     check.equal('the messages of an answer that is lost in %s' % name, [6, 2, 1], drawn[:3])
     for words in ('block 255 entries 1 status 02 stamp 1, E: sent again', 'waits for another block: records nothing', 'records 1 change', '1 scan: 1 change waits'):
         check.holds('the picture says %s in %s' % (words, name), words in drawn, drawn)
-    check.holds('the story is told in %s' % name, 'The answer to the first poll 255 is lost.' in browser.run('return document.getElementById("play-story").textContent'))
+    check.holds('the story is shown in %s' % name, 'The answer to the first poll 255 is lost.' in browser.run('return document.getElementById("play-story").textContent'))
     root = ElementTree.fromstring(saved(browser, 'save-ladder'))
     check.equal('the picture that is saved in %s' % name, '{http://www.w3.org/2000/svg}svg', root.tag)
     browser.click('[data-story="restart.script"]')

@@ -30,7 +30,7 @@ NAMED = {
     'blocks without entries have no gap mark': 'gap-mark', 'gap marks come with E': 'gap-mark',
     'trailing filter takes one sample more': 'trailing-filter', 'filters are 4 at the start': 'filters-at-start',
     'filters are 6 at the start': 'filters-at-start', 'inputs are reported at the start': 'filters-at-start',
-    'states of ignored inputs stand still': 'ignored-input', 'a poll starts samples anew': 'samples-anew',
+    'states of ignored inputs never change': 'ignored-input', 'a poll starts samples anew': 'samples-anew',
     'a configuration starts samples of all inputs anew': 'samples-anew',
     'a refused configuration starts samples anew': 'absent-input', 'line sync starts samples anew': 'samples-anew',
     'a load starts samples anew': 'samples-anew', 'samples before a configuration count': 'samples-anew',

@@ -93,10 +93,10 @@ READ = [
      ['-b6050a8c41218d41228e41238f412490412591412692412793412894412995412a000000416a']),
     ('colours', lines('\x1b[32mTX\x1b[0m', '\x1b[36mRX\x1b[0m'), BOTH),
     ('carriage returns alone', lines('TX', 'RX', '%s %s\r'), BOTH),
-    ('NUL behind each line', lines('TX', 'RX', '%s %s\0\n'), BOTH),
+    ('NUL after each line', lines('TX', 'RX', '%s %s\0\n'), BOTH),
     ('blanks that do not break', lines('TX', 'RX', '%s\u00a0%s\n', [row.replace(' ', '\u00a0') for row in ROWS]), BOTH),
     ('CSV without a header', '2026-11-22 07:15:02.1,TX,2,36 05\n2026-11-22 07:15:02.2,RX,11,B6 05 01 8C 41 21 00 00 00 41 6A\n', BOTH),
-    ('counts behind', 'TX 36 05 len=2\nRX B6 05 01 8C 41 21 00 00 00 41 6A len=11\n', BOTH),
+    ('counts after the octets', 'TX 36 05 len=2\nRX B6 05 01 8C 41 21 00 00 00 41 6A len=11\n', BOTH),
     ('sentences', '07:15:02: Wrote 2 bytes to FIO: 36 05\n07:15:02: Read 11 bytes from FIO: B6 05 01 8C 41 21 00 00 00 41 6A\n', BOTH),
     ('names of messages', lines('CMD POLL:', 'RSP BLOCK 5:'), BOTH),
     ('calls', lines('write() 2 bytes:', 'read() 11 bytes:'), BOTH),
@@ -108,13 +108,13 @@ READ = [
 PASSED = [
     ('question and answer on one line', '36 05 -> B3 00\n36 05 -> 34\n', []),
     ('a packet that is cut', '\t0x0000:  4500 0024 0001 4000 4011 3cc6 7f00 0001\n\t0x0010:  7f00 0002 0816 0817 0010 0000 b605\n', []),
-    ('what is no octets behind a direction', 'TX 36 05\nRX B3 00\nTX retries 36 00\nRX window 36:05\nCPU temperature 36,05\nTX to B3 00\n'
+    ('what is no octets after a direction', 'TX 36 05\nRX B3 00\nTX retries 36 00\nRX window 36:05\nCPU temperature 36,05\nTX to B3 00\n'
      'write() 34\nTX mac b3:00\nRX id: 36-05\n', ['>3605', '<b300']),
     ('two frames on one line', 'TX 36 05 RX B3 00\n', []),
     ('base64', 'TX NgU=\nRX tgUAAAAAAAE=\n', []),
     ('a list of octets in brackets, one damaged', '[b6] [0?] [05] [34]\n', []),
     ('milliseconds in brackets', 'I (3605) wifi: up\n[3605] up\n(36) up\n', []),
-    ('a count behind that does not fit', 'TX 36 05\nTX 36 06 (11 bytes)\n', ['>3605']),
+    ('a count after the octets that does not fit', 'TX 36 05\nTX 36 06 (11 bytes)\n', ['>3605']),
     ('a number without its 0x', 'tx []byte{0x36, 05}\n', []),
     ('a list that is cut', 'rx <<182,47,2,54,196\n', []),
     ('a buffer that is cut', 'rx <Buffer b6 05 00 ... 40 more bytes>\nrx <Buffer 54 05>\n', []),

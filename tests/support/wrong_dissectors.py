@@ -27,7 +27,7 @@ WRONG_DISSECTORS = (
     ('E in the place of G', '{ "E", 2,', '{ "E", 1,', 'frames'),
     ('a frame of 774 octets', 'LONGEST_FRAME = 773', 'LONGEST_FRAME = 774', 'labels'),
     ('a missing count taken as 1', 'tvb(offset, 1):uint() or 0', 'tvb(offset, 1):uint() or 1', 'SDLC'),
-    ('octets behind the last field passed over', 'if got ~= needed', 'if got < needed', 'SDLC'),
+    ('octets after the last field passed over', 'if got ~= needed', 'if got < needed', 'SDLC'),
     ('type 188 unknown', '  [188] = { "other 188 body", "body" },\n', '', 'SDLC'),
     ('unknown type before too long',
      'if got > LONGEST_FRAME then', 'if got > LONGEST_FRAME and messages[tvb(0, 1):uint()] then', 'labels'),

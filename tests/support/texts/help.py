@@ -31,13 +31,13 @@ def table(text, heading):
 def items(text, heading, form):
     """Returns the items after a heading of a help text, by their names: each is a line of this form, indented like the
     first, and the lines after it that begin in the column of its words."""
-    found, name, lead, behind = {}, None, None, None
+    found, name, lead, column = {}, None, None, None
     for line in text.partition(heading)[2].split('\n'):
         item = re.fullmatch(r'( +)(%s)( +)(.+)' % form, line)
         if item and lead in (None, item[1]):
-            name, lead, behind = item[2], item[1], item.start(4)
+            name, lead, column = item[2], item[1], item.start(4)
             found[name] = item[4]
-        elif name and len(line) - len(line.lstrip()) == behind:
+        elif name and len(line) - len(line.lstrip()) == column:
             found[name] += ' ' + line.strip()
         else:
             break

@@ -25,10 +25,10 @@ def page_rows():
 
 def length_words(message):
     """The length of a message as the page has it."""
-    behind = length_of(message)
-    if behind is None:
+    rest = length_of(message)
+    if rest is None:
         return '1–%d' % LONGEST_FRAME
-    return '%d + 3n' % (1 + behind) if is_counted(message) else str(1 + behind)
+    return '%d + 3n' % (1 + rest) if is_counted(message) else str(1 + rest)
 
 
 def places_of(message):
@@ -84,8 +84,8 @@ def check_program(check):
         pairs = [random_frame(draw, message) for _ in range(100)]
         check.equal('first lines of type %d' % message['type'], [line for _, line in pairs],
                     first_lines([octets for octets, _ in pairs]))
-        behind = length_of(message)
-        fits = range(LONGEST_FRAME) if behind is None else [behind]
+        rest = length_of(message)
+        fits = range(LONGEST_FRAME) if rest is None else [rest]
         frames = [bytes([message['type']]) + bytes(length) for length in range(40)]
         accepted = [length for length, line in enumerate(first_lines(frames)) if not line.startswith('wrong length')]
         check.equal('lengths of type %d' % message['type'], [length for length in range(40) if length in fits], accepted)

@@ -7,7 +7,7 @@
 static struct fio2070_log_reader reader;
 static struct fio2070_log_batch batch;
 
-/* The frames of a batch are messages, and so many as its verdicts say; lines are numbered without a gap. */
+/* The frames of a batch are messages, their number is what its verdicts say, and lines are numbered without a gap. */
 static void require_batch(uint64_t *line) {
     struct fio2070_command command;
     struct fio2070_answer answer;

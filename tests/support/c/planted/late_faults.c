@@ -22,7 +22,7 @@ static const struct fault OF_MODULE[] = {
 
 static const struct fault OF_CPU[] = {
     CPU("the 4,096th poll raises the number", POLLS_AFTER, 4096),
-    CPU("the number stands after 4,096 blocks", TAKEN_AFTER, 4096),
+    CPU("the number stops after 4,096 blocks", TAKEN_AFTER, 4096),
     CPU("the 2,000th block is not taken", LEFT_BLOCK, 2000),
     CPU("after 4,096 polls for a block there are none", TRIES_SILENT, 4096),
     CPU("after 1,000 polls for a block there is a gap mark", TRIES_GAP, 1000)};

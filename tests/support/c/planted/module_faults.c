@@ -7,7 +7,7 @@ static const struct fault FAULTS[] = {
     /* Counter */
     FAULT("counter is 1 at the start", COUNTER_AT_START, 1),
     FAULT("counter steps by two", COUNTER_STEP, 2),
-    FAULT("counter stands still", COUNTER_STEP, 0),
+    FAULT("counter never steps", COUNTER_STEP, 0),
     FAULT("counter has 31 bits", COUNTER_BITS, 31),
     FAULT("counter has 24 bits", COUNTER_BITS, 24),
     FAULT("counter has 16 bits", COUNTER_BITS, 16),
@@ -79,7 +79,7 @@ static const struct fault FAULTS[] = {
     FAULT("a sample of the other level takes one off", SAMPLES_COUNT_DOWN, 1),
     FAULT("a configuration sets the state to 1", CONFIGURED_STATE, 1),
     FAULT("a configuration sets the state to the level", CONFIGURED_STATE, 0),
-    FAULT("states of ignored inputs stand still", IGNORED_MOVES, 0),
+    FAULT("states of ignored inputs never change", IGNORED_MOVES, 0),
     FAULT("ignored inputs are reported", IGNORED_REPORTED, 1),
     FAULT("input 63 is not sampled", INPUTS, 63),
     FAULT("inputs from 32 on are not sampled", INPUTS, 32),

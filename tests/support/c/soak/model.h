@@ -29,7 +29,7 @@ struct model {
     uint32_t counter;
     size_t most_waiting, per_block;
     struct history history;
-    size_t waiting;  /* so many of the last transitions of the history wait */
+    size_t waiting;  /* how many of the last transitions of the history wait */
     int has_lost;    /* since the last block one was pushed out */
     unsigned long pushed_out;
     uint8_t sent[LONGEST_ANSWER]; /* the block that was sent last */
