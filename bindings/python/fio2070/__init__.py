@@ -47,13 +47,13 @@ def _fault(fault: c.CFault) -> Fault:
 
 
 def rule_text(rule: int) -> str:
-    """The name of a rule, such as 'advance'; empty for what is none."""
+    """The name of a rule, such as 'advance'; empty if there is no such rule."""
     encode.check_range(256, rule)
     return _text('rule_text', rule)
 
 
 def content_rule_text(rule: int) -> str:
-    """The name of a rule on content, such as 'order'; empty for what is none."""
+    """The name of a rule on content, such as 'order'; empty if there is no such rule."""
     encode.check_range(256, rule)
     return _text('content_rule_text', rule)
 
@@ -64,7 +64,7 @@ def version() -> int:
 
 
 def decode_command(octets: Octets) -> Command:
-    """The command that the octets spell. Raises Fault where they spell none."""
+    """The command that the octets spell. Raises Fault if they spell none."""
     octets = encode.octets_of(octets)
     read = c.CCommand()
     fault = c.library.fio2070_decode_command(octets, len(octets), read)
@@ -93,7 +93,7 @@ def show(octets: Octets) -> str:
 
 
 def decode_answer(octets: Octets) -> Answer:
-    """The answer that the octets spell. Raises Fault where they spell none."""
+    """The answer that the octets spell. Raises Fault if they spell none."""
     octets = encode.octets_of(octets)
     read = c.CAnswer()
     fault = c.library.fio2070_decode_answer(octets, len(octets), read)
@@ -162,7 +162,7 @@ class Poller:
 
     def __init__(self, number: int) -> None:
         """`number` is that of the first block to ask for, 0 to 255. A CPU that goes on with the number that it kept loses
-        nothing and records nothing twice; one that starts anew with that of the module's last poll records its block again."""
+        nothing and records nothing twice; one that starts again with that of the module's last poll records its block again."""
         encode.check_range(256, number)
         self._poller = c.CPoller()
         c.library.fio2070_poller_start(self._poller, number)
@@ -215,11 +215,11 @@ class Checker:
                       awaited=kept.awaited if kept.has_awaited else None, skips=bool(kept.skips))
 
     def sent(self, octets: Octets) -> Optional[Breach]:
-        """The breach of a frame that the CPU sent; None where it keeps the rules."""
+        """The breach of a frame that the CPU sent; None if it keeps the rules."""
         return self._breach_by(c.library.fio2070_checker_sent, octets)
 
     def heard(self, octets: Octets) -> Optional[Breach]:
-        """The breach of a frame that the CPU heard; None where it keeps the rules."""
+        """The breach of a frame that the CPU heard; None if it keeps the rules."""
         return self._breach_by(c.library.fio2070_checker_heard, octets)
 
     def _breach_by(self, take: Any, octets: Octets) -> Optional[Breach]:
@@ -247,7 +247,7 @@ class ContentChecker:
         c.library.fio2070_content_sent(self._content, octets, len(octets))
 
     def heard(self, octets: Octets) -> Optional[ContentBreach]:
-        """The first rule that a frame breaks which the CPU heard; None where it breaks none. All of the frame is taken."""
+        """The first rule that a frame breaks that the CPU heard; None if it breaks none. The whole frame is taken."""
         octets, found = encode.octets_of(octets), self._breach
         rule = c.library.fio2070_content_heard(self._content, octets, len(octets), found)
         named = None if found.input == constants.NO_INPUT else found.input
@@ -335,7 +335,7 @@ class Module:
         return _shown(self, counter=self.counter, waiting=self.waiting, flags='%02x' % self.flags)
 
     def restart(self) -> None:
-        """Starts anew with the same id and limits; both error counts are 0."""
+        """Starts again with the same id and limits; both error counts are 0."""
         self._call('restart')
 
     def scan(self, raw: int) -> None:

@@ -115,7 +115,7 @@ class LogJudge:
 
 class LogSigns:
     """Counts of the frames of a log, which tell whether it looks like another one than the log of one link in order. Give it each
-    frame, in the order of the log. They change nothing of what a judge says of a frame."""
+    frame, in the order of the log. They do not change what a judge says of a frame."""
 
     def __init__(self) -> None:
         self._signs = c.CLogSigns()
@@ -131,6 +131,6 @@ class LogSigns:
 
     @property
     def sign(self) -> str:
-        """What kind of log it looks like by the frames down to here: 'twice' each frame is there twice, 'both ends' the logs of both
+        """What kind of log it looks like by the frames down to here: 'twice' each frame is in it twice, 'both ends' the logs of both
         ends are merged, 'reversed' the last line is first, 'two links' it has two links; else it is empty."""
         return _SIGNS[c.library.fio2070_log_signs_sign(self._signs)]

@@ -22,7 +22,7 @@ class Entry(NamedTuple):
 
 
 class ConfigurationItem(NamedTuple):
-    """How one input is read; its transitions are not reported where `ignore` is true."""
+    """How one input is read; its transitions are not reported if `ignore` is true."""
     input: int
     ignore: bool
     leading: int
@@ -39,7 +39,7 @@ class RecordItem(NamedTuple):
 
 
 class Breach(NamedTuple):
-    """The first rule that a frame breaks, one of `constants.RULE_READABLE` and those after it. Where `has_due`, the number
+    """The first rule that a frame breaks, one of `constants.RULE_READABLE` and those after it. If `has_due`, the number
     or the type that was due, and the one that came."""
     rule: int
     has_due: bool

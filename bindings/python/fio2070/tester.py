@@ -1,4 +1,4 @@
-"""Holds another maker's module or CPU's end against the proved one, by random scripts (tools/conformance/conformance.h)."""
+"""Compares another maker's module or CPU's end with the proved one, by random scripts (tools/conformance/conformance.h)."""
 
 import ctypes
 from ctypes import CFUNCTYPE, POINTER, c_int, c_size_t, c_uint, c_uint8, c_uint64, c_ulong, c_void_p
@@ -46,7 +46,7 @@ class _Maker(ctypes.Structure):
 
 
 class Maker:
-    """The module under test: override the four calls, and `outputs` and `watchdog_ms` where they are to be compared."""
+    """The module under test: override the four calls, and `outputs` and `watchdog_ms` to compare them."""
     id = 2
     per_block = 255
 
@@ -82,7 +82,7 @@ class _Calls:
         self.raised: Optional[BaseException] = None
 
     def guarded(self, call: Callable[..., Optional[int]], failed: int = 0) -> Callable[..., int]:
-        """The call, or `failed` where it raises or one before it did."""
+        """The call, or `failed` if it raises or one before it did."""
         def guarded(_: object, *given: Any) -> int:
             if self.raised is not None:
                 return failed
@@ -181,7 +181,7 @@ def _options(seed: int, events: int, excepted: Sequence[str], goes_on: bool) -> 
 
 
 def _find(ends: _Ends, calls: _Calls, options: _Options) -> Optional[str]:
-    """What the tester writes, None where it finds no difference. Raises what a call of the maker raised."""
+    """What the tester writes, None if it finds no difference. Raises what a call of the maker raised."""
     libc = ctypes.CDLL(None)
     libc.open_memstream.restype = c_void_p
     libc.open_memstream.argtypes = [POINTER(c_void_p), POINTER(c_size_t)]

@@ -1,4 +1,4 @@
-"""Lines of which the caller says how they are written: an expression finds their octets; or they are at the end of a line, or in a
+"""Lines that are written as the caller says: an expression finds their octets; or their octets are at the end of a line, or in a
 row of a dump, and are frames of SDLC."""
 
 import re
@@ -23,7 +23,7 @@ NOTHING = None, ''
 END_OF_TIME = 253_402_300_800_000_000
 # The most characters of a line in which the caller's expression is sought: more than a frame and its remarks take.
 LONGEST_SOUGHT = 8192
-# The octets at the end of a line, from there on: so each of them is looked at once.
+# The octets at the end of a line, which is read backwards: so each octet is looked at once.
 _LAST_OCTETS = re.compile(r'(?:[ ,:;|-]*[0-9A-Fa-f]{2}(?:x0)?)+(?![0-9A-Za-z])')
 _NO_DIGIT = re.compile(r'0[xX]|\\x|[^0-9A-Fa-f]')
 # A time in front of octets: the digits below a point, or words such as 12:00:01 where those of the octets are not written so.

@@ -109,7 +109,7 @@ def _place(event):
 
 def frames_judged(read, option):
     """Each frame of a log, and each other line that is judged, with the breaches and restarts that are certain now and what judges
-    it, anew for each file; at the end of a file None with the others. With --start-at-poll from the first poll on."""
+    it, which is new for each file; at the end of a file None with the others. With --start-at-poll from the first poll on."""
     judgement, reader = None, None
     for event in read.events():
         if event.kind not in JUDGED and not event.is_remark:
@@ -174,7 +174,7 @@ def answers_what_was_sent(octets, counts):
 
 
 def run(option):
-    """Checks a log, or several side by side; status 1 if a rule is broken, the module restarted, or no frame is there."""
+    """Checks a log, or several side by side; status 1 if a rule is broken, the module restarted, or there is no frame."""
     if len(option.files) > 1 and not option.merge:
         return many.run(option)
     read, counts = log.Log(option, sys.stdout.flush, writes=option.json), Counts()

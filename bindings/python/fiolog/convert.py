@@ -45,7 +45,7 @@ def write(option, read, out):
 
 
 def run(option):
-    """Converts the logs; status 1 where no frame is there."""
+    """Converts the logs; status 1 if there is no frame."""
     is_binary = option.to == 'pcapng'
     standard = contextlib.nullcontext(sys.stdout.buffer if is_binary else sys.stdout)
     with made(option.output, is_binary) if option.output else standard as out:

@@ -36,7 +36,7 @@ class Sample:
         return both
 
     def at(self, part):
-        """The number below which this part of all lies; None where there is none."""
+        """The number below which this part of all lies; None if there is none."""
         if not self.kept:
             return None
         ordered = sorted(self.kept)

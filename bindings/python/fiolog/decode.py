@@ -74,7 +74,7 @@ def fault_in(event):
 
 
 def spoken(event):
-    """What a line says; None if it spells no message."""
+    """The message that a line says; None if it spells none."""
     return message_of(event.octets) if event.kind in SPOKEN or event.kind == OTHER and judge.spells(event.octets) else None
 
 
@@ -186,7 +186,7 @@ def unanswered(events):
 
 
 def run(option):
-    """Decodes the logs; status 1 where a frame is damaged or none is there."""
+    """Decodes the logs; status 1 if a frame is damaged or there is none."""
     write, taken = sys.stdout.write, Filter(option)
     if option.json or option.csv:
         line = (as_json if option.json else as_csv)(write, taken.takes_part)

@@ -9,14 +9,14 @@ from .shown import shown
 
 FRAME, BAD, OTHER, POSSIBLE, DOUBTFUL, DAMAGED, PIECE, PASSED, PART, BLANK = (
     'frame', 'bad', 'other', 'possible', 'doubtful', 'damaged', 'piece', 'passed', 'part', 'blank')
-# Where judges lose their place; and what they are given.
+# The kinds of lines at which judges lose their place, and the kinds that judges get.
 LOSSES = DAMAGED, DOUBTFUL, PIECE
 JUDGED = FRAME, BAD, *LOSSES
-# The notes of skipped lines of which judges are told: that frames are missing here, and that another part of the log begins.
+# The notes of skipped lines that judges get too: frames are missing here, or another part of the log begins.
 MISSING, HEADING = REMARKS = REASONS.get('loss', 'loss'), REASONS.get('heading', 'heading')
-# Of a text the beginning is kept.
+# The octets that are kept of a line, at most.
 LONGEST_TEXT = 1 << 16
-# Times from here on are of a date; earlier ones are of the day if the line has one, else seconds since some start.
+# Times from here on have a date; an earlier one is a time of day if the line has one, else seconds since some start.
 DATED = 1e8
 OF_DAY = re.compile(r'\d{1,2}:\d\d:\d\d(?:[.,]\d{1,9})?')
 _COLOURS = re.compile('\x1b\\[[^A-Za-z]*[A-Za-z]')
@@ -29,16 +29,16 @@ def text_of(line):
     text = line[:LONGEST_TEXT].rstrip(b'\r\n').decode('utf-8', 'surrogateescape')
     if text.isprintable():
         return text
-    # Each colour ends with a letter: none is sought where no letter follows, which would take the square of the time.
+    # Each colour ends with a letter, so the search ends at the last letter: beyond it, it would take quadratic time.
     end = max(map(text.rfind, _LETTERS)) + 1
     return (_COLOURS.sub('', text[:end]) + text[end:]).translate(_MARKS)
 
 
 class Line(NamedTuple):
-    """A line of a log, `raw` as it is there. `kind` is FRAME for octets that spell a message; BAD for those that are a frame by
+    """A line of a log, `raw` as it is in the log. `kind` is FRAME for octets that spell a message; BAD for those that are a frame by
     order or by their carrier, and spell none; OTHER for a frame with an address that is not judged; POSSIBLE for a message that
     nothing makes sure, DOUBTFUL for one below frames; DAMAGED for a line that may have held a frame, or frames that were lost on
-    their way here; PIECE for each of two lines in which one message stands; PART for a further line of the frame above, or of one that
+    their way here; PIECE for each of the two lines of one message; PART for a further line of the frame above, or of one that
     ends below; BLANK; PASSED for any other. `time` is in seconds, `direction` is `>` or `<`, `note` is the reason, `places` are those of the
     octets; `said` is what the log says of the direction, if it does; `balance` of how many more frames down to here it says the other
     direction than that of their type; `file` is the name of its file, if it is one of several that are read as one log."""
@@ -56,12 +56,12 @@ class Line(NamedTuple):
 
     @property
     def head(self):
-        """What is said before the number of the line: the name of its file if that has to be said."""
+        """What is written before the number of the line: the name of its file, if several are read as one log."""
         return shown(self.file) + ' ' if self.file else ''
 
     @property
     def is_remark(self):
-        """Whether judges are told of it, though it is skipped."""
+        """Whether judges get it, though it is skipped."""
         return self.kind == PASSED and self.note in REMARKS
 
     @property

@@ -2,7 +2,7 @@
 with its time, the signal, code 82 (detector on) or 81 (detector off), and the channel.
 
 The link has no time of day: the first block that the CPU took was made at `--start`, and the module's counter says how much
-later or earlier each transition was. Such a log has no row for what is missing, so each gap mark is said, and each step of the
+later or earlier each transition was. Such a log has no row for what is missing, so each gap mark is reported, and each step of the
 counter back, after which the times are not known."""
 
 import argparse

@@ -8,7 +8,7 @@ _decode_command, _decode_answer = c.library.fio2070_decode_command, c.library.fi
 
 
 def fault_of(octets):
-    """The library's fault; its kind is 0 where the octets spell a message."""
+    """The library's fault; its kind is 0 if the octets spell a message."""
     if octets and octets[0] >= TYPE_ANSWER:
         return _decode_answer(octets, len(octets), _answer)
     return _decode_command(octets, len(octets), _command)
@@ -24,7 +24,7 @@ def spells(octets):
     return fault_of(octets).kind == 0
 
 
-# The first octets after which any number of octets may come.
+# The types whose messages may have any length.
 _LOOSE = frozenset(octet for octet in range(256) if spells(bytes([octet])) and spells(bytes([octet, 0])))
 
 
@@ -34,7 +34,7 @@ def is_loose(octets):
 
 
 def words_of(octets):
-    """The words of the fault, as `show` writes them; empty where there is none."""
+    """The words of the fault, as `show` writes them; empty if there is none."""
     fault = fault_of(octets)
     if fault.kind == 0:
         return ''

@@ -18,7 +18,7 @@ OWN = WIRE_ADDRESS, WIRE_CONTROL
 WINDOW = 1 << 14
 # The octets that show whether bits are a text.
 SURE = 64
-# The octets of a line that shows a text; below one that is no text it has more.
+# The octets of a line that shows a text; after a line that is no text it has more.
 SHORT_TEXT, LONG_TEXT = 4, 16
 _PIECES = re.compile(rb'[^\r\n]*[\r\n]|[^\r\n]+')
 _CONTROLS = re.compile(rb'[\0-\x08\x0e-\x1a\x1c-\x1f]')
@@ -27,7 +27,7 @@ _BITS = re.compile(rb'[01\0\1,\s]*')
 _ANY_BIT = re.compile(rb'[01\1]')     # zeros alone may be anything
 _NO_BITS, _AS_TEXT = bytes(octet for octet in range(256) if octet not in b'01\0\1'), bytes.maketrans(b'\0\1', b'01')
 _RUNS = re.compile(rb'0+|1+')
-# The runs between those at the ends that show how long a bit is; one in so many may be noise.
+# How many runs, without the first and the last, show how long a bit is; and one run in how many may be noise.
 LEAST_RUNS, MOST_SHORT = 16, 20
 # The bits of each octet as a text, in the order in which they came.
 _IN_ORDER = {form: [format(octet, '08b')[::step].encode() for octet in range(256)] for form, step in ((BITS, -1), (HIGH_FIRST, 1))}

@@ -39,11 +39,11 @@ QUIET = 2.0
 PATIENCE = 0.2
 # What is said of datagrams that the system dropped before they were read.
 DROPPED = 'dropped by the system'
-# What of the frames that are not judged is named.
+# The reasons that are shown for frames that are not judged.
 SHOWN = 'frames_above_a_command', 'frames_below_loads', 'late_answers', 'frames_below_late_answers', 'frames_of_one_direction'
-# After so many lines without a frame a process writes no transcript.
+# The lines without a frame after which a process does not count as writing a transcript.
 MOST_UNDECIDED = 1 << 10
-# What the status line names where it is 0 too.
+# The counts that the status line shows even if they are 0.
 ALWAYS = ('frames', 'polls', 'breaches')
 
 
@@ -227,7 +227,7 @@ class Station:
                 **{words: count for words, count in self.source.losses().items() if count}}
 
     def end(self):
-        """The summary; status 1 where a rule is broken, the module restarted, or nothing came."""
+        """The summary; status 1 if a rule is broken, the module restarted, or nothing came."""
         for event in self.source.end():
             self.add(event)
         self._name(self.judgement.end(self.source.reader.reasons, self.source.reader.kinds[POSSIBLE]))
@@ -313,11 +313,11 @@ def raw_port(name):
 
 
 class LineEnded(Exception):
-    """The line ends with a fault, as a port does that is unplugged."""
+    """The line ends with a fault, for example because its port is unplugged."""
 
 
 def chunks(file, read, is_ended):
-    """What is read, piece by piece, and None where nothing came for a while; until the line ends, or `is_ended`."""
+    """What is read, piece by piece, and None if nothing came for a while; until the line ends, or `is_ended`."""
     with selectors.DefaultSelector() as ready:
         try:
             ready.register(file, selectors.EVENT_READ)

@@ -48,7 +48,7 @@ def settings_of(option):
 
 
 class Log:
-    """Goes through the events of the files. `idle` is called before each read that may wait. Where the command writes
+    """Goes through the events of the files. `idle` is called before each read that may wait. If the command writes
     as it reads, `writes` is true: then a terminal has no progress bar beside what is written."""
 
     def __init__(self, option, idle=lambda: None, writes=True):
@@ -79,7 +79,7 @@ class Log:
             self._note(self.reader)
 
     def _merged(self, readers):
-        """The events of all files as of one log, whose frames the first reader stands for."""
+        """The events of all files as of one log, with the first reader in place of all readers."""
         self.name, self.reader = self.option.files[0], readers[0]
         files = [merge.File(name, self._of_file(name, reader)) for name, reader in zip(self.option.files, readers)]
         both = merge.Merge(files)

@@ -1,5 +1,5 @@
-"""In which manners a log writes its frames. Its lines are alike but for their digits: what a manner shows is found once for all lines
-that have it, when it is asked for."""
+"""The manners in which a log writes its frames. Lines of one manner differ in digits alone: what a manner shows is found once for
+all of them, when it is asked for."""
 
 from collections import Counter
 

@@ -74,7 +74,7 @@ def write_json(rows, faults, total, counts_alone):
 
 
 def run(option, counts_alone=False):
-    """Reads the files; status 1 if no frame is there or, unless it `counts_alone`, a rule is broken or a module
+    """Reads the files; status 1 if there is no frame or, unless it `counts_alone`, a rule is broken or a module
     restarted; 3 if a file cannot be read; 130 if Ctrl-C ended it: then the rows are those of the files that were read."""
     work, count = partial(summary_or_fault, settings_of(option)), len(option.files)
     done = side_by_side.results(work, option.files, side_by_side.jobs_of(option.jobs, count))

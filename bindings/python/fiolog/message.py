@@ -83,7 +83,7 @@ def _parts(octets, code, count, stamp):
 
 
 def message_of(octets):
-    """The message that octets spell. Raises ValueError with the words of the fault where they spell none."""
+    """The message that octets spell. Raises ValueError with the words of the fault if they spell none."""
     return (_short_message if len(octets) < SHORT else _message)(octets)
 
 

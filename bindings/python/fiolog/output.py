@@ -1,4 +1,4 @@
-"""Where output goes. No file that is read is written to. What is made in one go is written beside its place, and takes it when
+"""Where output goes. No file that is read is written to. What is made in one go is written to another file, which is renamed when
 it is whole; what is recorded as it comes begins a new file. Pipes, devices and streams are written to as they are."""
 
 import contextlib

@@ -1,4 +1,4 @@
-"""Messages that stand in two lines, as terminal programs write what came in two reads: each of the lines has octets and gives no
+"""Messages in two lines, which terminal programs write if a message came in two reads: each of the lines has octets and gives no
 frame, and together they spell a message."""
 
 import re
@@ -6,18 +6,18 @@ import re
 from . import judge
 from .events import BLANK, DAMAGED, PASSED, PIECE
 
-# Hexadecimal octets at the end of a line, behind no digit, letter or mark of a time, as they are from there on: so a long line takes
-# no more time than it has characters.
+# Hexadecimal octets at the end of a line, after no digit, letter or mark of a time. The line is read backwards, so a long line
+# takes linear time.
 _OCTETS = re.compile(r'(?:[ ,\t]*[0-9A-Fa-f]{2}(?:x0)?)+(?![0-9A-Za-z.:])')
 _NO_DIGIT = re.compile(r'0x|[^0-9A-Fa-f]')
 # Why such a line gives no frame.
 NOTE = 'part of a message in two lines'
-# A line as all lines are that differ in digits alone.
+# Makes lines equal that differ in digits alone.
 _OF_NUMBERS = str.maketrans('123456789', '000000000')
 
 
 def octets_of(text):
-    """The octets at the end of a line, and what is before them but for its digits; None if it has no octets."""
+    """The octets at the end of a line, and what is before them, with its digits made equal; None if it has no octets."""
     text = text.rstrip()
     found = _OCTETS.match(text[::-1])
     if not found:

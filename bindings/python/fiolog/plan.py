@@ -13,7 +13,7 @@ COMPUTED = 'computed, not proved'
 # What limits the pace: what a block takes, or what may wait.
 PACES = {False: '`enough` of `FewChange`', True: '`room` of `IsPolledInTime`'}
 MOST_ROUNDS = 10_000
-# Of each so many rounds in a row at most so many are lost.
+# Of each `EACH` rounds in a row at most `LOST` are lost.
 EACH, LOST = 100, 5
 MOST_FILTER, MOST_SCANS = 255, 1 << 31
 
@@ -39,33 +39,33 @@ def add_arguments(parser):
 
 
 def logged_in(inputs, filter_length, scans):
-    """The most transitions in so many scans: all inputs change at the first, then whenever a filter lets them."""
+    """The most transitions in `scans` scans: all inputs change at the first, then whenever a filter lets them."""
     return inputs * -(-scans // filter_length)
 
 
-def most_exact(inputs, filter_length, per_block, every, behind):
-    """The most that wait and the most scans that one is late, with blocks and filters counted whole, where the blocks are so
-    many scans behind at most."""
-    waiting = max(inputs * -(-(j * every + behind) // filter_length) - per_block * j for j in range(filter_length + 1))
+def most_exact(inputs, filter_length, per_block, every, lag):
+    """The most entries that wait and the most scans that one is late, with blocks and filters counted whole, if the blocks lag
+    by `lag` scans at most."""
+    waiting = max(inputs * -(-(j * every + lag) // filter_length) - per_block * j for j in range(filter_length + 1))
     late = max(j * every - filter_length * (per_block * j // inputs) for j in range(inputs))
-    return waiting, behind - 1 + late
+    return waiting, lag - 1 + late
 
 
 def lossy_pace(longest, within):
-    """How far apart rounds may begin of which at most `LOST` of each `EACH` are lost, where a clean one makes up for
-    `longest` scans and the blocks may be `within` behind."""
+    """How far apart rounds may begin if at most `LOST` of each `EACH` are lost, a clean one makes up for `longest` scans, and
+    the blocks may lag by `within` scans."""
     return min((EACH - 1 - LOST) * longest // (EACH - 1), within // (LOST + 1))
 
 
 def most_reported(groups, scans):
-    """The most that the inputs of these groups report in so many scans: each reports once, and once more for each filter that
-    ends in them."""
+    """The most transitions that the inputs of these groups report in `scans` scans: each reports once, and once more for each
+    filter that ends in them."""
     return sum(count * (1 + (scans - 1) // max(length, 1)) for count, length in groups)
 
 
 def differing_pace(groups, per_block, waiting, rounds):
-    """The most scans in which these inputs report no more than a block takes, if what they report in as many for each of
-    these rounds may wait."""
+    """The most scans in which these inputs report no more than a block takes, and in `rounds` times as many no more than may
+    wait."""
     every = 0
     while (every < MOST_FILTER * per_block and most_reported(groups, every + 1) <= per_block
            and most_reported(groups, rounds * (every + 1)) <= waiting):
@@ -74,7 +74,7 @@ def differing_pace(groups, per_block, waiting, rounds):
 
 
 def differing(option, per_block, waiting):
-    """The rows where the filters of the open inputs differ."""
+    """The rows if the filters of the open inputs differ."""
     longest = differing_pace(option.group, per_block, waiting, 1)
     every_lost = differing_pace(option.group, per_block, waiting, 2)
     for rounds, every, name in ((1, longest, ''), (2, every_lost, ', answers lost')):
@@ -87,8 +87,8 @@ def differing(option, per_block, waiting):
 
 
 def paces(inputs, filter_length, per_block, waiting, left):
-    """How far apart rounds may begin so that the entries that wait get fewer and never too many, and after how many
-    of them all are caught up; the first makes its block before the next scan."""
+    """How far apart rounds may begin so that the waiting entries get fewer and are never too many, and after how many rounds
+    all are caught up; the first round makes its block before the next scan."""
     longest = per_block * filter_length // inputs
     for every in sorted({longest // 4, longest // 2, longest - filter_length}):
         rounds = scans = taken = most = 0
@@ -125,7 +125,7 @@ def row(option, per_block, waiting):
 
 
 def bounds(inputs, length, per_block, every, every_lost):
-    """What waits and how late it is, with polls so far apart, and so far apart where answers may be lost."""
+    """What waits and how late it is, with polls each `every` scans, or each `every_lost` if answers may be lost."""
     waits, late = most_exact(inputs, length, per_block, every, every)
     yield 'entries that wait, at most', waits, '`few_wait` of `KeepsUpExactly`'
     yield 'late, at most', '%d ms' % late, '`young` of `KeepsUpExactly`'

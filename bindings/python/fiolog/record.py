@@ -188,7 +188,7 @@ def write_text(record):
 
 
 def run(option):
-    """Writes the record; status 1 where a rule is broken, the module restarted, or no frame is there."""
+    """Writes the record; status 1 if a rule is broken, the module restarted, or there is no frame."""
     read = log.Log(option, sys.stdout.flush, writes=not option.plot)
     record = Record(read, option)
     if option.hires:

@@ -15,9 +15,9 @@ from .log_words import LINE
 from .message import BLOCK, LOST, MORE, POLL, message_of
 from .protocol import ADVANCE, CONTENT_RULES, INPUTS, RULES
 
-# What is said of what stands where a frame may be, and is none.
+# The note of what is in the place of a frame, and is none.
 WRONG_CHECK = LINE['damaged']
-# What was due and what came, by rule, where the library says both.
+# What was due and what came, by rule, if the library says both.
 DUE = {'pair': 'an answer %d was due, %d came', 'number': 'block %d was asked for, %d came',
        'advance': 'block %d was due, %d came'}
 # Why a frame is not judged, as the library says it and as it is counted (unjudged.py).
@@ -98,7 +98,7 @@ class Rules:
         self._is_lost = True
 
     def find(self, event):
-        """The breach of a frame, or that the module restarted above it; None where nothing is said of it."""
+        """The breach of a frame, or that the module restarted above it; None if nothing is said of it."""
         octets, is_sent, said = event.octets, event.direction == '>', event.said
         if said and said != event.direction and event.text[:2] in OWN:
             said = event.direction

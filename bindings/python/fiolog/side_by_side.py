@@ -11,12 +11,12 @@ from . import output, terminal
 # How many processes are begun at most; Windows waits for no more than 61.
 MOST_JOBS = 61 if sys.platform == 'win32' else 256
 DIED = 'the process that read it died'
-# What the system says that lets no process begin.
+# The errors of a system that lets no process begin.
 _NO_PROCESS = OSError, NotImplementedError, ImportError
 
 
 def jobs_of(wanted, count):
-    """How many processes read so many files: as many as there are processors, or as are wanted."""
+    """How many processes read `count` files: one for each processor, or as many as are wanted."""
     jobs = min(wanted or os.cpu_count() or 1, count)
     if jobs > MOST_JOBS:
         terminal.say('--jobs: %d at a time are the most' % MOST_JOBS)

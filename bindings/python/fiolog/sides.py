@@ -1,5 +1,5 @@
-"""Logs of which little can be judged. In one of one direction, commands whose answers were not logged, or answers without their
-commands, no rule is: what is found is held until an answer shows that the log has both."""
+"""Logs of which little can be judged. In a log of one direction (commands whose answers were not logged, or answers without their
+commands) no rule is judged: what is found is held until an answer shows that the log has both directions."""
 
 import pickle
 import tempfile
@@ -131,7 +131,7 @@ class Judgement:
         return ()
 
     def remark(self, event):
-        """Takes a skipped line of which judges are told."""
+        """Takes a skipped line that judges get too."""
         self.rules.remark(event)
 
     def _lose(self, event):

@@ -42,7 +42,7 @@ def is_binary(octets):
 
 
 def _unpacked(first, chunks):
-    """The octets that gzip packed, piece by piece; what is there of a stream that ends early or is damaged."""
+    """The octets that gzip packed, piece by piece; if the stream ends early or is damaged, what can be read of it."""
     stream, packed = zlib.decompressobj(zlib.MAX_WBITS | 16), first
     try:
         while packed or (packed := next(chunks, b'')):
@@ -59,7 +59,7 @@ def _unpacked(first, chunks):
 
 
 def chunks_of(descriptor, seen=lambda count: None, idle=lambda: None, name='-', is_text=True):
-    """The octets of a file descriptor, piece by piece, each as soon as it is there. `seen` is called with the number of octets
+    """The octets of a file descriptor, piece by piece, each as soon as it comes. `seen` is called with the number of octets
     that were read, `idle` before each read. A fault has the name."""
     def pieces():
         while True:

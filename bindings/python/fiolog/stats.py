@@ -49,7 +49,7 @@ def flat(one, above=''):
 
 
 def run(option):
-    """Counts a log, or several side by side; status 1 if no frame is there."""
+    """Counts a log, or several side by side; status 1 if there is no frame."""
     if len(option.files) > 1 and not option.merge:
         return many.run(option, counts_alone=True)
     read, counts = log.Log(option, writes=False), Counts()

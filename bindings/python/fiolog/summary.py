@@ -18,9 +18,9 @@ from .source import CHUNK, decoded
 
 
 class Summary:
-    """What was counted of logs. `a + b` is the summary of both; the parts of a log that is cut where each poll above is
-    answered, and the next one asks for a new block, count what the whole log counts. (The rules begin anew below a cut, so what
-    only both sides show together is not found.)"""
+    """What was counted of logs. `a + b` is the summary of both. If each cut of a log comes after an answered poll, and before a
+    poll for a new block, its parts count what the whole log counts. (The rules begin again after a cut, so what only both sides
+    show together is not found.)"""
 
     def __init__(self):
         self.counts, self.broken, self.first_breach = Counts(), Counter(), None

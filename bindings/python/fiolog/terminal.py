@@ -1,4 +1,4 @@
-"""What is said on standard error, colours, tables and the progress bar. `rich` draws the last two where it is there."""
+"""What is said on standard error, colours, tables and the progress bar. `rich` draws the last two, if it is installed."""
 
 import contextlib
 import os
@@ -69,13 +69,13 @@ def table(title, names, rows):
 
 
 class Status:
-    """A line below all that is written on a terminal. It goes before something is written, and is cut where it has no room."""
+    """A line below all that is written on a terminal. It is removed before something is written, and cut if it has no room."""
 
     def __init__(self):
         self.is_terminal, self.is_shown = sys.stderr.isatty(), False
 
     def show(self, words):
-        """Writes the line anew."""
+        """Writes the line again."""
         if not self.is_terminal:
             return
         try:
@@ -87,7 +87,7 @@ class Status:
         sys.stderr.flush()
 
     def clear(self):
-        """The line goes."""
+        """Removes the line."""
         if self.is_shown:
             self.is_shown = False
             sys.stderr.write('\r\x1b[K')
@@ -95,7 +95,7 @@ class Status:
 
 
 class Progress:
-    """A bar for a long file on a terminal. Where standard output is the terminal too, a command that `writes` as it
+    """A bar for a long file on a terminal. If standard output is the terminal too, a command that `writes` as it
     reads has none."""
 
     def __init__(self, descriptor, is_quiet=False, writes=True):
@@ -111,7 +111,7 @@ class Progress:
             return
         from rich.console import Console
         from rich.progress import Progress as Bar
-        # What is written to a file or a pipe stays there; what is written to the terminal stands above the bar.
+        # What goes to a file or a pipe is left alone; what goes to the terminal is written above the bar.
         self.bar = Bar(console=Console(stderr=True), transient=True, redirect_stdout=sys.stdout.isatty())
         self.task = self.bar.add_task('reading', total=size)
 
@@ -125,6 +125,6 @@ class Progress:
             self.bar.stop()
 
     def add(self, count):
-        """So many octets more were read."""
+        """Notes that `count` octets more were read."""
         if self.bar:
             self.bar.advance(self.task, count)

@@ -28,8 +28,8 @@ class Clock:
         self.stamp = self.time = None
 
     def go_on(self, stamp, ages, now):
-        """Sets the time of a block, whose entries are so much older; `now` is the latest time so far. Returns whether the
-        counter went back. The stamp says in which turn of the counter an entry stands, since no entry is a turn older."""
+        """Sets the time of a block, whose entries are older by `ages`; `now` is the latest time so far. Returns whether the
+        counter went back. The stamp says of which turn of the counter an entry is, since no entry is a turn older."""
         step = (stamp - (self.stamp or 0)) % TURN
         is_back = self.stamp is not None and step >= TURN // 2
         if self.stamp is None:
@@ -41,7 +41,7 @@ class Clock:
 
 
 def ages_of(block):
-    """How much older than their block its entries are; a zero where there is none."""
+    """How much older than their block its entries are; one zero if there are none."""
     return [(block.stamp - wide) % TURN for _, _, wide in block.entries] or [0]
 
 
@@ -54,7 +54,7 @@ class Wave:
         self.is_broken = False
 
     def go_to(self, time):
-        """Value changes that follow are at this time, or now where it has passed. Pulses end after 1 ms."""
+        """Value changes that follow are at this time, or now if it has passed. Pulses end after 1 ms."""
         if time > self.now and self.pulses:
             self.now += 1
             self.body.write('#%d\n' % self.now + ''.join('0%s\n' % name for name in self.pulses))
@@ -102,7 +102,7 @@ class Wave:
 
 
 def each_once(blocks):
-    """Yields each block, but none that is that before it again."""
+    """Yields each block, except one that repeats the block before it."""
     last = None
     for block in blocks:
         if (block.number, block.stamp, block.entries) != last:
