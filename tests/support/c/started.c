@@ -6,8 +6,6 @@
 
 #include <string.h>
 
-static unsigned char first[sizeof(struct fio2070_sized_module)], second[sizeof(struct fio2070_sized_module)];
-
 static void fill(void *one, void *other, size_t size) {
     memset(one, 0x5a, size);
     memset(other, 0xa5, size);
@@ -15,9 +13,7 @@ static void fill(void *one, void *other, size_t size) {
 
 /* Whether both have the same octets, of which some are 0. */
 static int same(const void *one, const void *other, size_t size) {
-    memcpy(first, one, size);
-    memcpy(second, other, size);
-    return memcmp(first, second, size) == 0 && memchr(first, 0, size) != NULL;
+    return memcmp(one, other, size) == 0 && memchr(one, 0, size) != NULL;
 }
 
 /* `fio2070_NAME` sets every octet of the struct. */
