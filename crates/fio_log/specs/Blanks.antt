@@ -29,7 +29,7 @@ abbrev pub AreBetween : ℕ → ℕ → List ℕ → Type 0
 AreBetween above last [] = Unit {0}
 AreBetween above last (line ∷ lines) = (above < line) × (line ≤ last) × AreBetween line last lines
 
--- of the lines of a log after one line and up to another, these are the blank ones
+-- these are the blank lines of a log after one line and up to another
 abbrev pub AreBlankLines : Texts → ℕ → ℕ → List ℕ → Type 0
 AreBlankLines texts above last lines =
     (line : ℕ) → above < line → line ≤ last → have_line lines line ≡ is_blank_line (texts line)

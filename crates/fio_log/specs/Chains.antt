@@ -11,7 +11,7 @@ part_of octets part = slice_range octets part.start part.end
 abbrev pub part_length : Part → ℕ
 part_length part = part.end - part.start
 
--- a part of octets spells a message
+-- a part of octets encodes a message
 pub record IsPart (octets : List ℕ) (part : Part) : Type 0 where
   pub spelled : spells (slice_range octets part.start part.end) ≡ true
   pub order : part.start ≤ part.end

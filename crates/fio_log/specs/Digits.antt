@@ -1,4 +1,4 @@
--- Characters of words, and the octets that hexadecimal digits spell.
+-- Characters of words, and the octets of hexadecimal digits.
 use Rattle.std.specs.Prelude.{ℕ, ◌+◌, ◌-◌, ◌*◌, ◌&&◌, ◌||◌, ◌==◌, Bool, nat_le, if◌then◌else◌, List, [], ◌∷◌, Option, Some, None, option_map, option_and_then}
 
 -- whether a character is between a first and a last one, both included
@@ -13,7 +13,7 @@ digit_of character =
     else if is_between 97 102 character then Some (character - 87)
     else None
 
--- the octet that two digits spell, or one alone
+-- the octet of two digits, or of one alone
 abbrev pub octet_of : List ℕ → Option ℕ
 octet_of (digit ∷ []) = digit_of digit
 octet_of (high ∷ low ∷ []) = option_and_then (λ h. option_map (λ l. h * 16 + l) (digit_of low)) (digit_of high)

@@ -46,7 +46,7 @@ abbrev pub row_place : ℕ → Notation → Row → Place
 row_place line notation row =
     record { line = line; start = row.start; end = row.start + row.length; notation = notation }
 
--- the places of rows, each in the line after that of the row above
+-- the places of rows, each in the line after the row above
 abbrev pub row_places : ℕ → Notation → List Row → List Place
 row_places line notation [] = []
 row_places line notation (row ∷ rows) = row_place line notation row ∷ row_places (line + 1) notation rows
@@ -81,12 +81,13 @@ IsMessageOf octets run = IsWithin octets (message_of run)
 abbrev pub IsRunOf : Log → ℕ → List Row → MessageRun → Type 0
 IsRunOf log from rows run = AreFramesAt log (message_of run ∷ []) (run_places from rows run)
 
--- What an entry keeps of a log: its messages are written where its runs are, and what it keeps of the words of its first line is so.
+-- What an entry keeps of a log is right: its messages are written where its runs are, and its first line says what the entry
+-- keeps of its words.
 pub record IsEntryOf (log : Log) (entry : Entry) : Type 0 where
   pub written : All (IsRunOf log entry.from entry.rows.items) entry.runs.items
   pub words : SaysWords (log entry.from) entry.without_octets
 
--- what all entries keep of a log is so
+-- what each entry keeps of a log is right
 abbrev pub AreEntriesOf : Log → Entries → Type 0
 AreEntriesOf log entries = All (IsEntryOf log) entries.slots.all.items
 
@@ -95,11 +96,11 @@ pub record IsJudgeOf (log : Log) (judge : Judge) : Type 0 where
   pub entries : AreEntriesOf log judge.entries
   pub joined : AreJoined log judge.join.lines
 
--- the messages of a verdict that are no chain are written at its places
+-- the messages of a verdict, if they are not a chain, are written at its places
 abbrev pub AreFramesOf : Log → Frames → Type 0
 AreFramesOf log frames = AreFramesAt log (map octets_in frames.messages.items) frames.places.items
 
--- the frames of a verdict: those of the chain of the joined lines, or its messages
+-- the frames of a verdict: the messages of the chain of the joined lines, or its own
 abbrev pub frames_told : Joined → Frames → List (List ℕ)
 frames_told joined frames =
     if frames.are_chain

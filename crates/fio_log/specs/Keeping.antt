@@ -17,7 +17,8 @@ use Rattle.fio_log.specs.declared.sayings.Saying.TheVariants.{Says}
 abbrev pub IsSame : MessageRun → MessageRun → Type 0
 IsSame run other = (message_of other ≡ message_of run) × (other.around.whole ≡ run.around.whole)
 
--- A run is given to some that are kept: it is appended, unless one of its octets and shape is there or there is no room.
+-- A run is given to the runs that are kept: it is appended, unless one with its octets and shape is kept already, or there is
+-- no room.
 abbrev pub AreWith : List MessageRun → MessageRun → List MessageRun → Type 0
 AreWith runs run after =
     (after ≡ runs ++ run ∷ []) ⊎ ((after ≡ runs) × (Any (IsSame run) runs ⊎ (ENTRY_RUNS ≤ length runs)))
@@ -42,11 +43,11 @@ abbrev pub HaveMessage : List MessageRun → List ℕ → ℕ → Type 0
 HaveMessage runs octets shape =
     Any (λ run. (message_of run ≡ octets) × (run.around.whole ≡ shape)) runs ⊎ (ENTRY_RUNS ≤ length runs)
 
--- the runs of the entry in a slot do
+-- the runs of the entry in a slot say a message in a shape, or there is no room for more
 abbrev pub HasMessage : Entries → Slot → List ℕ → ℕ → Type 0
 HasMessage entries slot octets shape = (none : Entry) → HaveMessage (entry_in entries slot none).runs.items octets shape
 
--- The entry in a slot, of a line alone, stays so, and what it has of messages stays in it.
+-- The entry in a slot stays an entry of this line alone, and keeps the messages that it has.
 pub record KeepsMessages (before : Entries) (slot : Slot) (number : ℕ) (after : Entries) : Type 0 where
   pub line : IsOfLine before slot number → IsOfLine after slot number
   pub messages : IsOfLine before slot number → (octets : List ℕ) (shape : ℕ) → HasMessage before slot octets shape
@@ -62,19 +63,19 @@ abbrev pub SayLonger : List LineRun → LineRun → Type 0
 SayLonger runs run = Any (λ other. (length run.octets.items < length other.octets.items)
     × IsSome (message_said other.octets.items other.saying)) runs
 
--- A run of a line says a message to its entry: it is no octet beside a longer message and, if the line has more runs than are
--- kept, the message is sure by itself.
+-- The message of a run goes into the entry of its line: the run is not a single octet beside a longer message and, if the
+-- line has more runs than are kept, the message is sure by itself.
 pub record IsGiven (runs : LineRuns) (run : LineRun) (octets : List ℕ) : Type 0 where
   pub said : message_said run.octets.items run.saying ≡ Some octets
   pub apart : length run.octets.items ≡ 1 → ¬ SayLonger runs.all.items run
   pub sure : runs.is_over ≡ true → says_sure run.saying ≡ true
 
--- the entry in a slot has each message that some runs of a line say to it
+-- the entry in a slot has each message that these runs of a line give to it
 abbrev pub HasEach : Entries → Slot → LineRuns → List LineRun → Type 0
 HasEach entries slot runs some =
     All (λ run. (octets : List ℕ) → IsGiven runs run octets → HasMessage entries slot octets run.around.whole) some
 
--- an entry is of a line alone, and has each message that the line's runs say to it
+-- an entry is of a line alone, and has each message that the line's runs give to it
 pub record HasLine (entries : Entries) (line : ℕ) (runs : LineRuns) : Type 0 where
   pub slot : Slot
   pub of_line : IsOfLine entries slot line

@@ -14,7 +14,7 @@ IsWrittenAt line Literal start end octets = IsLiteral line start octets end
 IsWrittenAt line Long start end octets = AreLongWords line start end octets
 
 -- A run is in a line: its octets are written there, and they say what the run says. So it says a message only if its octets
--- spell one.
+-- encode one.
 pub record IsLineRun (line : List ℕ) (run : LineRun) : Type 0 where
   pub written : IsWrittenAt line run.notation run.start run.end run.octets.items
   pub saying : IsSaying run.octets.items run.saying

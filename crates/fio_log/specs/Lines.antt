@@ -64,7 +64,7 @@ abbrev pub held_first : ℕ → Held
 held_first octet =
     if octet == 27 then Escape else (if octet == 194 then NoBreak else (if octet == 239 then Mark else Nothing))
 
--- whether an octet is printable: it adds itself to a line, and neither ends it nor begins what may be taken out
+-- whether an octet is printable: it adds itself to a line, does not end it, and begins nothing that may be taken out
 abbrev pub is_plain : ℕ → Bool
 is_plain octet = is_between 32 126 octet
 
@@ -78,7 +78,7 @@ pub record Making : Type 0 where
   pub held : Held
   pub ending : Ending
 
--- a line that has not ended, and of which nothing is held
+-- a line that has not ended and holds no octets back
 abbrev pub open_line : Text → Making
 open_line text = record { text = text; held = Nothing; ending = Open }
 

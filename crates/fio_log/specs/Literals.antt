@@ -11,7 +11,7 @@ octal_digit character = if is_between 48 55 character then Some (character - 48)
 abbrev pub with_octal : ℕ → ℕ → Option ℕ
 with_octal number character = option_and_then (λ digit. Some (8 * number + digit)) (octal_digit character)
 
--- The octet that one character after a backslash spells: an octal digit, or one of `n r t \ " ' a b f v /`.
+-- The octet of the character after a backslash: an octal digit, or one of `n r t \ " ' a b f v /`.
 abbrev pub escape_of : ℕ → Option ℕ
 escape_of character =
     if is_between 48 55 character then Some (character - 48)
@@ -25,8 +25,8 @@ escape_of character =
     else if character == 92 || character == 34 || character == 39 || character == 47 then Some character
     else None
 
--- The octet that a character spells: itself within ASCII, or after a backslash one to three octal digits, `x` and two
--- digits, `u00` and two digits, or another escape. A backslash is 92.
+-- The octet of a character: itself within ASCII, or after a backslash one to three octal digits, `x` and two digits, `u00` and
+-- two digits, or another escape. A backslash is 92.
 abbrev pub character_of : List ℕ → Option ℕ
 character_of (itself ∷ []) = if itself == 92 || nat_le 128 itself then None else Some itself
 character_of (backslash ∷ escape ∷ []) = if backslash == 92 then escape_of escape else None
@@ -50,12 +50,12 @@ is_itself text = length text == 1
 abbrev pub is_hexadecimal : List ℕ → Bool
 is_hexadecimal text = slice_index text 0 == 92 && (slice_index text 1 == 120 || slice_index text 1 == 117)
 
--- whether an octet could be written as itself: printable, and no quote and no backslash
+-- whether an octet could be written as itself: printable, but not a quote or a backslash
 abbrev pub is_printable : ℕ → Bool
 is_printable octet = is_between 32 126 octet && not (octet == 34 || octet == 39 || octet == 92)
 
--- The octet that a character of a literal spells. In a plain literal no octet that could be written as itself is a hexadecimal
--- escape; in others no character is written as itself.
+-- The octet of a character of a literal. In a plain literal no octet that could be written as itself is a hexadecimal escape;
+-- in others no character is written as itself.
 abbrev pub octet_in : Bool → List ℕ → Option ℕ
 octet_in is_plain text =
     option_and_then
@@ -73,7 +73,7 @@ is_short_octal (backslash ∷ a ∷ b ∷ []) = true
 is_short_octal other = false
 
 -- The characters of a literal are in a line from a place to another, one after another, up to its quote. Each is all that is
--- written from its own place to its own end; an octal escape has three digits if there are so many.
+-- written from its own place to its own end; an octal escape takes three digits if three follow.
 abbrev pub AreCharacters : Bool → ℕ → List ℕ → ℕ → List ℕ → ℕ → Type 0
 AreCharacters is_plain quote line from [] to = from ≡ to
 AreCharacters is_plain quote line from (octet ∷ octets) to =
@@ -100,7 +100,7 @@ abbrev pub IsMarked : List ℕ → ℕ → ℕ → Type 0
 IsMarked line place last =
     (is_bytes line place ≡ true) ⊎ ((k : ℕ) × (place < k) × (k < last) × (slice_index line k ≡ 92))
 
--- how many characters of a line a character of a literal has that begins with these
+-- how many characters of a line a character of a literal takes, by its first characters
 abbrev pub length_with : ℕ → ℕ → ℕ → ℕ → ℕ
 length_with first second third fourth =
     if first == 92

@@ -14,7 +14,7 @@ decimal_digit character = if is_between 48 57 character then Some (character - 4
 abbrev pub with_digit : ℕ → ℕ → Option ℕ
 with_digit number character = option_and_then (λ digit. Some (10 * number + digit)) (decimal_digit character)
 
--- the number that one to three digits spell, of which the first is 0 only if it is alone
+-- the number with these one to three digits; only 0 itself begins with 0
 abbrev pub decimal_of : List ℕ → Option ℕ
 decimal_of (a ∷ []) = decimal_digit a
 decimal_of (a ∷ b ∷ []) =
@@ -24,7 +24,7 @@ decimal_of (a ∷ b ∷ c ∷ []) =
     else option_and_then (λ number. option_and_then (λ tens. with_digit tens c) (with_digit number b)) (decimal_digit a)
 decimal_of other = None
 
--- The octet that a number spells. Signed numbers are from -128 to 127, others from 0 to 255, and -0 is 0; `-` is 45.
+-- The octet of a number. Signed numbers are from -128 to 127, others from 0 to 255, and -0 is 0; `-` is 45.
 abbrev pub number_of : Bool → List ℕ → Option ℕ
 number_of is_signed text =
     if slice_index text 0 == 45
@@ -47,7 +47,7 @@ closing_of Square = 93 ∷ []
 closing_of Curly = 125 ∷ []
 closing_of Angles = 62 ∷ 62 ∷ []
 
--- how many numbers a bracket has at least
+-- the fewest numbers that a bracket may contain
 abbrev pub least_in : Bracket → ℕ
 least_in Round = 2
 least_in other = 1
@@ -75,7 +75,7 @@ bracket_of character =
     else if character == 60 then Some Angles
     else None
 
--- whether numbers below 0, or above 127, are no numbers of a list: of a signed one those above 127, else those below 0
+-- whether a list must not contain a number: a signed list none above 127, any other list none below 0
 abbrev pub are_outside : Bool → Bool → Bool → Bool
 are_outside is_signed is_negative is_high = if is_signed then is_high else is_negative
 

@@ -23,7 +23,8 @@ own_frame Transcript line = option_or
     (option_and_then (frame_with (Some true)) (after_prefix (codes "> ") line))
     (option_and_then (frame_with (Some false)) (after_prefix (codes "< ") line))
 
--- whether octets spell a message: of the end that sent them, if the text says that, else of that of their first octet
+-- whether octets encode a message of the end that sent them; if the text does not say which, of the end that their first octet
+-- names
 abbrev pub spells_from : Option Bool → List ℕ → Bool
 spells_from None octets = spells octets
 spells_from (Some from_cpu) octets = if from_cpu then is_some (command_in octets) else is_some (answer_in octets)
@@ -35,7 +36,7 @@ pub record IsReadFrame (form : OwnForm) (line : List ℕ) (from_cpu : Option Boo
   pub counted : count ≡ length octets
   pub read : count ≤ FRAME_OCTETS → octets ≡ take count room
 
--- A line is a frame with `count` octets, which spells a message if `spells` is true, else none.
+-- A line is a frame with `count` octets, which encode a message exactly if `spells` is true.
 pub record IsOwnFrame (form : OwnForm) (line room : List ℕ) (count : ℕ) (spells : Bool) : Type 0 where
   pub said : is_skipped line ≡ false
   pub from_cpu : Option Bool

@@ -23,8 +23,8 @@ own_form_of forms.Auto = None
 own_form_of forms.Frames = Some texts.Frames
 own_form_of forms.Transcript = Some texts.Transcript
 
--- The verdict on a line, by what it is, whether it is too long, and what room for the longest frame has of it. A skipped
--- line is blank. One that is too long, has no form of its text or spells no message is damaged. A frame is told alone.
+-- The verdict on a line, by what it is, whether it is too long, and what room for the longest frame has of it. A skipped line
+-- is blank. One that is too long, is not a line of its text or encodes no message is damaged. A frame is returned alone.
 abbrev pub TellsOwn : OwnLine → Bool → List ℕ → Kind → Reason → List (List ℕ) → Type 0
 TellsOwn lines.Skipped is_long room kind reason frames =
     (kind ≡ kinds.Blank) × (reason ≡ reasons.None) × (frames ≡ [])
@@ -44,7 +44,7 @@ pub record IsOwnVerdict (form : OwnForm) (text : Text) (kind : Kind) (reason : R
   pub read : IsOwnLine form text.octets room line
   pub told : TellsOwn line text.is_long room kind reason frames
 
--- The line that is made is whole, and what a reader is to tell of it, by its number, is its verdict; the frames are no chain.
+-- The line that is made is whole, and what the reader will return of it is its verdict; the frames are not a chain.
 pub record IsToldByOrder (form : OwnForm) (line : ℕ) (making : Making) (told : Verdict) (frames : Frames) : Type 0 where
   pub whole : is_whole making.ending ≡ true
   pub apart : frames.are_chain ≡ false

@@ -1,4 +1,4 @@
--- The octets that a text of hexadecimal words spells, whatever marks and separators it has.
+-- The octets of a text of hexadecimal words, whatever marks and separators it has.
 use Rattle.std.specs.Prelude.{ℕ, ◌+◌, ◌*◌, ◌||◌, ◌==◌, if◌then◌else◌, List, [], ◌++◌, Option, Some, None, fold, option_to_list}
 use Rattle.fio_log.specs.Digits.{digit_of}
 
@@ -18,7 +18,7 @@ made_whole None digit character = None
 made_whole (Some high) (Some low) character = Some (16 * high + low)
 made_whole (Some alone) None character = if character == 120 || character == 88 then None else Some alone
 
--- the octet that two digits spell
+-- the octet of two digits
 abbrev pub paired : Option ℕ → Option ℕ → Option ℕ
 paired (Some high) (Some low) = Some (16 * high + low)
 paired high low = None
@@ -39,6 +39,6 @@ with_reading reading character = record {
 abbrev pub reading_of : List ℕ → Reading
 reading_of text = fold with_reading no_reading text
 
--- All octets that a text spells: two digits each, or one alone.
+-- All octets of a text: two digits each, or one alone.
 abbrev pub octets_of : List ℕ → List ℕ
 octets_of text = (reading_of text).octets ++ option_to_list (reading_of text).waiting

@@ -19,15 +19,15 @@ pub record IsBehind (line : List ℕ) (place : ℕ) (word : Word) : Type 0 where
   pub order : word.stop ≤ word.end
   pub within : word.end ≤ length line
 
--- Octets are written as hexadecimal words in a line from a place to an end: they are all that the characters there spell,
--- up to the most that are kept.
+-- Octets are written as hexadecimal words in a line from a place to an end: they are all octets of the characters there, up to
+-- the most that are kept.
 pub record AreWords (line : List ℕ) (start end : ℕ) (octets : List ℕ) : Type 0 where
   pub order : start ≤ end
   pub within : end ≤ length line
   pub all : octets ≡ take RUN_OCTETS (octets_of (slice_range line start end))
 
--- Octets are written as hexadecimal words in a line from a place to an end: they are all that the characters there spell,
--- however many.
+-- Octets are written as hexadecimal words in a line from a place to an end: they are all octets of the characters there,
+-- without a limit.
 pub record AreLongWords (line : List ℕ) (start end : ℕ) (octets : List ℕ) : Type 0 where
   pub order : start ≤ end
   pub within : end ≤ length line
@@ -71,7 +71,7 @@ pub record IsOfWords (line opening closing : List ℕ) (is_short : Bool) (run : 
   pub first : may_begin line opening run.start ≡ true
   pub words : AreOctetWords line opening closing is_short run.start run.end
 
--- All words with a mark that may begin in a line, from a place to another, have an odd number of digits: none spells octets
+-- All words with a mark that may begin in a line, from a place to another, have an odd number of digits: none of them is octets
 -- of two digits each.
 abbrev pub AreOdd : List ℕ → List ℕ → List ℕ → ℕ → ℕ → Type 0
 AreOdd line opening closing from to =
@@ -105,7 +105,7 @@ pub record IsLiteral (line : List ℕ) (place : ℕ) (octets : List ℕ) (end : 
   pub fits : length octets ≤ RUN_OCTETS
 
 -- Numbers in brackets are in a line from a place to an end: a bracket, the numbers, all of them signed or none, and the bracket
--- that closes it. One number in round brackets is none. The octets are all the numbers, no more than are kept.
+-- that closes it. A single number in round brackets does not count. The octets are all the numbers, no more than are kept.
 pub record IsNumbers (line : List ℕ) (place : ℕ) (octets : List ℕ) (end : ℕ) : Type 0 where
   pub bracket : Bracket
   pub is_signed : Bool

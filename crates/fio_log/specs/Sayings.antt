@@ -18,7 +18,7 @@ use Rattle.fio_log.specs.declared.sayings.TheConstants.{FLAG}
 abbrev pub is_answer : List ℕ → Bool
 is_answer octets = nat_lt 127 (slice_index octets 0)
 
--- whether octets spell a message: the decoder of its direction takes them
+-- whether octets encode a message: the decoder of its direction accepts them
 abbrev pub spells : List ℕ → Bool
 spells octets = if is_answer octets then is_some (answer_in octets) else is_some (command_in octets)
 
@@ -27,16 +27,16 @@ abbrev pub octets_kept_as : List ℕ → List ℕ
 octets_kept_as [] = RAW_INPUTS ∷ []
 octets_kept_as (code ∷ octets) = code ∷ octets
 
--- how many octets a message has that begins with these, by its type and count
+-- how many octets the message that begins with these has, by its type and count
 abbrev pub length_of : List ℕ → Option ℕ
 length_of octets = if is_answer octets then answer_length octets else command_length octets
 
--- the length that a message needs, by the fault of octets that have another; 0 for any other fault
+-- the length that the message needs, if the fault of the octets is another length; 0 for any other fault
 abbrev pub needed_of : DecodeError → ℕ
 needed_of (WrongLength needed got) = needed
 needed_of other = 0
 
--- whether a count in a message confirms its length: that of entries in a block, or of items that are not none
+-- whether a count in a message confirms its length: a count of entries in a block, or of items if it is not 0
 abbrev pub is_counted : List ℕ → Bool
 is_counted octets =
     slice_index octets 0 == BLOCK_ANSWER || slice_index octets 0 == CONFIGURE_INPUTS && nat_lt 2 (length octets)
@@ -55,7 +55,7 @@ is_checked octets start end =
     && (slice_index octets (end - 2) + 256 * slice_index octets (end - 1)
     == frame_check_of (slice_range octets start (end - 2)))
 
--- Where a frame ends that begins at a place, if only flags stand from there to another place.
+-- where the frame that begins at a place ends, if only flags follow it up to another place
 abbrev pub frame_end : List ℕ → ℕ → ℕ → Option ℕ
 frame_end octets start zero = None
 frame_end octets start (suc end) =
@@ -66,12 +66,12 @@ frame_end octets start (suc end) =
 abbrev pub flags_before : List ℕ → ℕ
 flags_before octets = prefix_len (λ octet. octet == FLAG) octets
 
--- where the frame ends that octets are, with or without flags before it and after it
+-- where the frame ends, if octets are one, with or without flags around it
 abbrev pub framed : List ℕ → Option ℕ
 framed octets = frame_end octets (flags_before octets) (length octets)
 
--- Octets say the message that they spell from a place to another: in a frame that is what is between header and
--- check, and sure; else it is all of them, and sure if it is counted.
+-- Octets say the message that they encode between two places: in a frame the part between header and check, which is
+-- sure; otherwise all of them, which is sure if a count confirms it.
 pub record IsSaid (octets : List ℕ) (from to : ℕ) (is_sure : Bool) : Type 0 where
   pub spelled : spells (slice_range octets from to) ≡ true
   pub order : from ≤ to
@@ -80,7 +80,7 @@ pub record IsSaid (octets : List ℕ) (from to : ℕ) (is_sure : Bool) : Type 0 
       ((from ≡ 0) × (to ≡ length octets) × (is_sure ≡ is_counted octets))
       (λ end. (from ≡ flags_before octets + 2) × (to + 2 ≡ end) × (is_sure ≡ true))
 
--- a message that octets say is a part of them, which spells it
+-- a message that octets say is encoded by a part of them
 abbrev pub SaysPart : List ℕ → Saying → Type 0
 SaysPart octets saying =
     (from to : ℕ) (is_sure : Bool) → saying ≡ Says from to is_sure
@@ -91,7 +91,7 @@ abbrev pub message_said : List ℕ → Saying → Option (List ℕ)
 message_said octets (Says from to is_sure) = Some (slice_range octets from to)
 message_said octets other = None
 
--- octets are no frame, and spell no message
+-- octets are not a frame, and encode no message
 pub record SaysNone (octets : List ℕ) : Type 0 where
   pub framed : framed octets ≡ None
   pub spelled : spells octets ≡ false

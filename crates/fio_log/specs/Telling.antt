@@ -49,7 +49,7 @@ IsLineOf log telling = is_whole telling.making.ending ≡ true → telling.makin
 abbrev pub IsTextOf : Texts → Telling → Type 0
 IsTextOf texts telling = is_whole telling.making.ending ≡ true → telling.making.text ≡ texts telling.read
 
--- A reader of a log with these lines knows which of them are blank, of those that have no verdict yet.
+-- A reader of a log with these lines knows which of the lines without a verdict are blank.
 pub record KnowsBlanks (texts : Texts) (telling : Telling) : Type 0 where
   pub text : IsTextOf texts telling
   pub blanks : telling.form ≡ Auto → AreBlankLines texts telling.told telling.read telling.blanks

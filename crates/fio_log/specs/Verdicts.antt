@@ -15,7 +15,7 @@ HasFrames kinds.Part count = count ≡ 0
 HasFrames kinds.Damaged count = count ≡ 0
 HasFrames kinds.PassedOver count = count ≡ 0
 
--- the kind of lines that alone have a reason, if one kind alone has it
+-- the only kind of line that may have a reason, if there is just one
 abbrev pub only_kind : Reason → Option Kind
 only_kind reasons.Exchanged = Some kinds.PassedOver
 only_kind reasons.TwoMore = Some kinds.PassedOver
@@ -24,7 +24,7 @@ only_kind reasons.Heading = Some kinds.PassedOver
 only_kind reasons.OneLess = Some kinds.Damaged
 only_kind other = None
 
--- whether a reason is one why a line of a kind gave no frame: not one that only another kind has
+-- whether a line of a kind may have a reason: not one that only another kind has
 abbrev pub IsReasonFor : Kind → Reason → Type 0
 IsReasonFor kind reason = ¬ (reason ≡ reasons.None) × ((only : Kind) → only_kind reason ≡ Some only → kind ≡ only)
 
@@ -37,17 +37,17 @@ HasReason kinds.Part reason = reason ≡ reasons.None
 HasReason kinds.Damaged reason = IsReasonFor kinds.Damaged reason
 HasReason kinds.PassedOver reason = IsReasonFor kinds.PassedOver reason
 
--- a place is behind another: in a later line, or in the same one at its end or after it
+-- a place is after another: in a later line, or in the same one at its end or after it
 abbrev pub IsPast : Place → Place → Type 0
 IsPast above place =
     ((above.line < place.line) ⊎ ((above.line ≡ place.line) × (above.end ≤ place.start))) × (place.start ≤ place.end)
 
--- places are behind another, each behind the one before it, so no octet of the log is at two of them
+-- places are after another, each after the one before it, so no octet of the log is at two of them
 abbrev pub ArePast : Place → List Place → Type 0
 ArePast above [] = Unit {0}
 ArePast above (place ∷ places) = IsPast above place × ArePast place places
 
--- places are those of a line: the first is in it, and each next one is behind the one before it
+-- places are those of a line: the first is in it, and each next one is after the one before it
 abbrev pub AreOfLine : ℕ → List Place → Type 0
 AreOfLine line [] = Unit {0}
 AreOfLine line (place ∷ places) = (place.line ≡ line) × (place.start ≤ place.end) × ArePast place places

@@ -6,11 +6,11 @@ use Rattle.std.specs.Str.{str_eq_ignore_ascii_case}
 use Rattle.fio_log.specs.declared.verdict.Reason.{Reason}
 use Rattle.fio_log.specs.declared.verdict.Reason.TheVariants as reasons
 
--- whether a character is no letter of ASCII
+-- whether a character is not a letter of ASCII
 abbrev pub is_no_letter : ℕ → Bool
 is_no_letter character = not (is_ascii_alphabetic character)
 
--- the words of a line: what is between characters that are no letters
+-- the words of a line: the letters between other characters
 abbrev pub words_of : List ℕ → List (List ℕ)
 words_of line = slice_split is_no_letter line
 
@@ -46,12 +46,12 @@ start_words =
     ∷ codes "begun" ∷ codes "opened" ∷ codes "open" ∷ codes "new" ∷ codes "rotated" ∷ codes "rotating" ∷ codes "resumed"
     ∷ codes "continued" ∷ codes "created" ∷ codes "reopened" ∷ codes "restarted" ∷ codes "restart" ∷ []
 
--- the words for what logs alone are
+-- the words that name logs and nothing else
 abbrev pub capture_words : List (List ℕ)
 capture_words =
     codes "logfile" ∷ codes "logging" ∷ codes "capture" ∷ codes "capturing" ∷ codes "snapshot" ∷ []
 
--- the words that say of these that they begin
+-- the words that say that one of these begins
 abbrev pub turn_words : List (List ℕ)
 turn_words = codes "enabled" ∷ codes "enabling" ∷ codes "listening" ∷ codes "turned" ∷ []
 
@@ -82,7 +82,7 @@ is_heading line =
     || has_one_of log_words line && has_one_of start_words line
     || has_one_of capture_words line && has_one_of turn_words line || has_one_of welcome_words line
 
--- what a reason says of the words of a line is so: that it speaks of loss and is no heading, or that it is one
+-- what a reason says of the words of a line is true: that the line speaks of loss and is not a heading, or that it is one
 abbrev pub SaysWords : List ℕ → Reason → Type 0
 SaysWords line reasons.Loss = (is_heading line ≡ false) × (speaks_of_loss line ≡ true)
 SaysWords line reasons.Heading = is_heading line ≡ true

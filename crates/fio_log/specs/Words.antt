@@ -20,7 +20,7 @@ goes_on line place =
     is_letter (slice_index line place)
     || (slice_index line place == 46 && is_between 48 57 (slice_index line (place + 1)))
 
--- A word is in a line at a place: a mark, all the digits that follow, the mark's end, and nothing that continues it.
+-- A word is in a line at a place: a mark, all the digits that follow, the mark's end, and nothing that continues the word.
 pub record IsWord (line opening closing : List ℕ) (place : ℕ) (word : Word) : Type 0 where
   pub here : word.place ≡ place
   pub opened : StandsAt line opening place word.start

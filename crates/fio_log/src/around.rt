@@ -12,34 +12,34 @@ pub(crate) const LITERAL_MARK: u8 = MARK_COUNT as u8;
 /// The mark of decimal numbers in brackets.
 pub(crate) const NUMBERS_MARK: u8 = LITERAL_MARK + 1;
 
-/// What surrounds a run, without what differs between the lines of a log, and how the run is written.
+/// What surrounds a run, without the parts that differ from line to line, and how the run is written.
 ///
-/// In the sums each word that has a digit counts as `0`, capitals as small letters, and several blanks as one.
+/// In the sums each word with a digit counts as `0`, a capital as a small letter, and several blanks as one.
 #[derive(Clone, Copy, Debug, Default)]
 pub(crate) struct Around {
-    /// The sum of the line before it.
+    /// The sum of the text before the run.
     pub before: u64,
-    /// The same, in which each word without a digit counts as `a`.
+    /// The sum of the text before the run in which each word without a digit counts as `a`.
     pub letters: u64,
-    /// The key of its mark and of what is before it.
+    /// The key of the run's mark and of the text before it.
     pub front: u64,
-    /// The key of its front and of what is after it, without a column of its characters and without separators.
+    /// The key of the front and of the text after the run, without separators and without a column of its characters.
     pub whole: u64,
-    /// The numbers before it.
+    /// The numbers before the run.
     pub numbers: Numbers,
-    /// The index of its mark in `MARKS`; or `LITERAL_MARK` or `NUMBERS_MARK`, which are no index there.
+    /// The index of the run's mark in `MARKS`; or `LITERAL_MARK` or `NUMBERS_MARK`, which are past its end.
     pub mark: u8,
-    /// The ways of writing that it can be of.
+    /// The ways of writing that the run may have.
     pub ways: Ways,
-    /// The direction of the words before it, if there are no words of another meaning.
+    /// The direction that the words before the run say, if none of them means anything else.
     pub direction: Option<Direction>,
-    /// The direction of the last word before it that says one, or of the sign at the line's beginning.
+    /// The direction of the last word before the run that says one, or of the sign that begins the line.
     pub said: Option<Direction>,
-    /// Whether there is more than blanks before it.
+    /// Whether the text before the run is more than blanks.
     pub has_before: bool,
-    /// Whether there is more than separators after it.
+    /// Whether the text after the run is more than separators.
     pub has_tail: bool,
-    /// Whether there are only separators, or a column of its characters, after it.
+    /// Whether only separators, or a column of its characters, come after the run.
     pub is_last: bool,
 }
 
@@ -63,7 +63,8 @@ impl Around {
         }
     }
 
-    /// Returns whether a line is nothing but these octets, perhaps after numbers, a time and the direction of their type.
+    /// Returns whether the line has nothing else than these octets, but perhaps numbers, a time and the right direction
+    /// before them.
     pub(crate) fn is_bare(&self, octets: &[u8]) -> bool {
         let [code, ..] = *octets else {
             return false;

@@ -8,7 +8,7 @@ use crate::judge::slots::ENTRIES;
 use arrayvec::ArrayVec;
 
 /// The most blank lines without a verdict: one in each entry that is kept, one that is held, and one that the end completes.
-/// With one line less a verdict is due.
+/// If there is room for only one more, a verdict is due.
 pub(crate) const BLANKS: usize = ENTRIES + 4;
 
 /// Returns whether a text has nothing but blanks.
@@ -46,7 +46,7 @@ impl Blanks {
         self.lines.clear();
     }
 
-    /// Returns whether there is room for one more line alone, or none.
+    /// Returns whether there is room for at most one more line.
     pub(crate) fn are_many(&self) -> bool
         ensures { result ≡ false → length self.now.lines.items + 2 ≤ BLANKS }
     {

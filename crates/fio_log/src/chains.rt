@@ -22,9 +22,9 @@ pub(crate) const CHAIN_FRAMES: usize = 2_048;
 /// Where a message is in the octets.
 #[derive(Clone, Copy, Debug, Default, PartialEq, Eq)]
 pub(crate) struct Part {
-    /// Where it begins.
+    /// Where the message begins.
     pub start: u16,
-    /// Where it ends.
+    /// Where the message ends.
     pub end: u16,
 }
 
@@ -64,7 +64,7 @@ impl Chain {
         self.octets.as_slice()
     }
 
-    /// Appends octets, of which the messages are not known yet. Returns whether there was room; if not, none is appended.
+    /// Appends octets whose messages are not known yet, and returns whether there was room. If not, none is appended.
     pub(crate) fn extend(&mut self, octets: &[u8]) -> bool
         ensures more { result ≡ true → self.new.octets.items ≡ self.old.octets.items ++ octets.now }
         ensures same { result ≡ false → self.new.octets.items ≡ self.old.octets.items }
@@ -73,7 +73,7 @@ impl Chain {
         self.octets.try_extend_from_slice(octets).is_ok()
     }
 
-    /// Reads the octets that a text of hexadecimal words spells in place of those that it has, and returns whether it keeps all.
+    /// Replaces the octets by those of a text of hexadecimal words, and returns whether all are kept.
     pub(crate) fn read(&mut self, text: &[u8]) -> bool
         ensures { result ≡ true → self.new.octets.items ≡ octets_of text.now }
     {
@@ -82,7 +82,7 @@ impl Chain {
         !self.octets.is_full()
     }
 
-    /// Takes the octets out that come after the first ones.
+    /// Keeps only the first `count` octets.
     pub(crate) fn truncate(&mut self, count: usize)
         ensures { self.new.octets.items ≡ take count self.old.octets.items }
     {
@@ -130,8 +130,8 @@ impl Chain {
         true
     }
 
-    /// Finds the messages of the octets, if they are a chain of them, and returns whether one is sure by itself. If they
-    /// are none, no message is known.
+    /// Finds the messages of the octets, if these are a chain, and returns whether one message is sure by itself. If they are
+    /// not a chain, no message is known.
     pub(crate) fn split(&mut self) -> Option<bool>
         ensures { self.new.octets ≡ self.old.octets }
     {
@@ -162,11 +162,11 @@ impl Chain {
 /// What is next in a chain.
 #[derive(Clone, Copy)]
 struct Next {
-    /// Its message; `None` for a flag.
+    /// The message; `None` for a flag.
     part: Option<Part>,
-    /// Whether it is sure by itself.
+    /// Whether the message is sure by itself.
     is_sure: bool,
-    /// Where what comes after it begins.
+    /// Where the next one begins.
     end: usize,
 }
 
@@ -225,7 +225,7 @@ fn framed_in(octets: &[u8], place: usize) -> Option<(Part, usize)>
     None
 }
 
-/// Returns the part of octets from a place to another, if it spells a message.
+/// Returns the part of octets between two places, if it encodes a message.
 fn part_in(octets: &[u8], start: usize, end: usize) -> Option<Part>
     ensures part { IfSome result (IsPart octets.now) }
     ensures length { IfSome result (λ part. part_length part ≡ end - start) }
@@ -241,7 +241,7 @@ pub(crate) fn begins_with_message(octets: &[u8]) -> bool {
     message_length(octets).is_some()
 }
 
-/// Returns how many octets the message has that octets begin with, if its length is known by its type and count.
+/// Returns how many octets the message at the beginning of octets has, if its type and count say its length.
 fn message_length(octets: &[u8]) -> Option<usize>
     ensures some { IfSome result (λ count. 0 < count) }
     ensures within { IfSome result (λ count. count ≤ length octets.now) }

@@ -8,11 +8,11 @@ use crate::parts::Parts;
 /// A time in a line.
 #[derive(Clone, Copy, Debug, PartialEq, Eq)]
 pub struct Time {
-    /// Where it begins.
+    /// Where the time begins.
     pub start: usize,
-    /// Where it ends.
+    /// Where the time ends.
     pub end: usize,
-    /// How late it is, in microseconds since 1970, or since midnight or a start if it has no date.
+    /// The time in microseconds since 1970; without a date since midnight, or since a start.
     pub microseconds: u64,
 }
 
@@ -111,8 +111,8 @@ fn time_at(line: &[u8], start: usize, form: &[u8]) -> Option<Time>
     })
 }
 
-/// Sets the parts of a date and time that begin at `start` as in `2026-11-22 07:15:02`, and returns where they end: at once
-/// what the signs of the first form give.
+/// Sets the parts of a date and time like `2026-11-22 07:15:02` at `start`, and returns where they end. It is a faster way for
+/// the first form.
 fn usual_end(line: &[u8], start: usize, parts: &mut Parts) -> Option<usize>
     requires { start ≤ length line.now }
     ensures order { IfSome result (λ end. start ≤ end) }
@@ -161,7 +161,7 @@ fn usual_end(line: &[u8], start: usize, parts: &mut Parts) -> Option<usize>
     Some(start + 19)
 }
 
-/// Returns the number that two decimal digits spell.
+/// Returns the number of two decimal digits.
 fn two(high: u8, low: u8) -> Option<u64>
     ensures { IfSome result (λ number. number < 100) }
 {
@@ -302,7 +302,7 @@ fn fraction_end(line: &[u8], place: usize, parts: &mut Parts) -> usize
     end
 }
 
-/// Returns the microseconds of a fraction of a second that has so many digits, at most nine. Those after the sixth do not count.
+/// Returns the microseconds of a fraction of a second with `digits` digits, at most nine. Digits after the sixth do not count.
 fn microseconds_of(fraction: u64, digits: usize) -> u64 {
     match digits {
         1 => fraction.wrapping_mul(100_000),
@@ -317,8 +317,8 @@ fn microseconds_of(fraction: u64, digits: usize) -> u64 {
     }
 }
 
-/// Returns whether the characters at `place` continue a word, a number with colons or one with points, or are a unit other
-/// than seconds.
+/// Returns whether the characters at `place` continue a word or a number with colons or points, or are a unit shorter than a
+/// second.
 fn goes_on(line: &[u8], place: usize) -> bool
     requires { place ≤ length line.now }
 {
@@ -343,7 +343,7 @@ fn is_unit(text: &[u8]) -> bool {
     }
 }
 
-/// Sets the hour by the half of a day, `AM` or `PM`, if one comes after blanks at `place`, and returns where it ends; else
+/// Corrects the hour by `AM` or `PM`, if one comes after blanks at `place`, and returns where it ends; otherwise returns
 /// `place`.
 fn half_end(line: &[u8], place: usize, parts: &mut Parts) -> usize
     requires { place ≤ length line.now }

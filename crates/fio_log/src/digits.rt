@@ -1,4 +1,4 @@
-//! Characters of words, and the octets that hexadecimal digits spell.
+//! Characters of words, and the octets of hexadecimal digits.
 ghost use Rattle.std.specs.Prelude.{◌≡◌, ◌<◌, IfSome};
 ghost use Rattle.fio_log.specs.Digits.{digit_of, is_between, is_letter, is_separator, octet_of};
 
@@ -15,7 +15,7 @@ pub fn digit(character: u8) -> Option<u8>
     }
 }
 
-/// Returns the octet that two hexadecimal digits spell, or one alone; `None` for any other text.
+/// Returns the octet of two hexadecimal digits, or of one alone; `None` for any other text.
 pub fn octet(text: &[u8]) -> Option<u8>
     ensures { result ≡ octet_of text.now }
 {

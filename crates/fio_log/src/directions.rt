@@ -34,10 +34,10 @@ static WORDS: [(&[u8], Direction); 19] = [
     (b"\xe2\x86\x90", Direction::Answer),
 ];
 
-/// How many frames are needed before the words of a log for the direction count against a message.
+/// How many frames must agree before the direction that a line says counts against its message.
 const AGREED: u32 = 8;
 
-/// How many frames had the direction that their lines say, and how many the other one.
+/// How many frames had the direction that their lines say, and how many had the other one.
 #[derive(Clone, Copy, Debug, Default)]
 pub(crate) struct Agreement {
     same: u32,
@@ -54,8 +54,9 @@ impl Agreement {
         }
     }
 
-    /// Returns whether the words of a line count against a message: all frames so far, eight or more, agreed with theirs, and
-    /// this one does not. In a log that was taken at the module all words are turned.
+    /// Returns whether the direction that a line says counts against its message. It does if all frames so far, eight or
+    /// more, had the direction of their lines and this message has the other one; or if all had the other one, as in a log
+    /// taken at the module, and this message has that of its line.
     pub(crate) fn is_against(self, said: Option<Direction>, own: Direction) -> bool {
         match said {
             Some(said) if said == own => self.turned >= AGREED && self.same == 0,
@@ -65,7 +66,7 @@ impl Agreement {
     }
 }
 
-/// The words of a text, as far as it was read.
+/// The words of a text, as far as they were read.
 #[derive(Clone, Copy)]
 struct Words {
     /// The index of the word for a direction.
@@ -113,8 +114,8 @@ pub(crate) fn direction_of_word(word: &[u8]) -> Option<Direction> {
     direction_at(index_of(word)?)
 }
 
-/// Returns the direction that a text says, if it has one word for it, perhaps several times, no other word
-/// but numbers, and no number after it. The gap is a time.
+/// Returns the direction that a text says: it has one word for it, perhaps several times, no other words but numbers, and no
+/// number after that word. The time in `gap` does not count.
 pub(crate) fn direction_of(text: &[u8], gap: Gap) -> Option<Direction> {
     let mut words = Words {
         index: None,

@@ -16,30 +16,31 @@ use crate::ways::Ways;
 /// A run that is found.
 #[derive(Clone, Copy)]
 pub(crate) struct Found {
-    /// Where it begins.
+    /// Where the run begins.
     pub start: usize,
-    /// Where it ends.
+    /// Where the run ends.
     pub end: usize,
-    /// Where the next one may begin.
+    /// Where the next run may begin.
     pub next: usize,
-    /// How its octets are written.
+    /// How the run's octets are written.
     pub notation: Notation,
-    /// The mark of its shape.
+    /// The mark of the run's shape.
     pub mark: u8,
-    /// Whether its words have one or two digits.
+    /// Whether the run's words have one or two digits.
     pub is_short: bool,
-    /// The ways of writing that it can be of.
+    /// The ways of writing that the run may have.
     pub ways: Ways,
 }
 
 impl Found {
-    /// Returns whether it ends after another run, or ends with that run and begins before it.
+    /// Returns whether the run ends after another run, or ends with that run and begins before it.
     pub(crate) fn is_later(self, start: usize, end: usize) -> bool {
         self.end > end || self.end == end && self.start < start
     }
 }
 
-/// Returns the first run of words with a mark at or after a place, before the time of the line or else after it.
+/// Returns the first run of words with a mark at or after a place: one before the time of the line or, if none
+/// is, one after it.
 pub(crate) fn next_words(
     line: &[u8],
     place: usize,
@@ -59,7 +60,7 @@ pub(crate) fn next_words(
     Some(found_words(run, mark, is_short))
 }
 
-/// Returns the first run of words with a mark at or after a place of a line, in the line before another place.
+/// Returns the first run of words with a mark between two places of a line.
 fn run_before(
     line: &[u8],
     place: usize,

@@ -1,4 +1,4 @@
-//! One look at a line: which characters it has, so that no search looks for marks and words that it cannot have.
+//! One look at a line: which characters it has, so that marks and words that it cannot have are not searched for.
 ghost use Rattle.std.specs.Prelude.{◌<◌, length};
 
 use crate::digits::{digit, is_letter};
@@ -14,7 +14,7 @@ struct Characters {
 }
 
 impl Characters {
-    /// Returns the character `character` alone; none outside ASCII.
+    /// Returns the set of `character` alone; the empty set outside ASCII.
     fn only(character: u8) -> Characters {
         let (low, high) = match character {
             0..64 => (1 << character, 0),
@@ -24,7 +24,7 @@ impl Characters {
         Characters { low, high }
     }
 
-    /// Returns whether one of these is among others.
+    /// Returns whether a character is in both sets.
     fn is_among(self, others: Characters) -> bool {
         (self.low & others.low) | (self.high & others.high) != 0
     }
@@ -33,9 +33,9 @@ impl Characters {
 /// What is seen of a line.
 #[derive(Clone, Copy, Debug)]
 pub(crate) struct Glance {
-    /// The characters that it has.
+    /// The characters that the line has.
     seen: Characters,
-    /// Whether it may have a word of one digit.
+    /// Whether the line may have a word of one digit.
     pub has_single: bool,
 }
 

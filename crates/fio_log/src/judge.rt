@@ -1,8 +1,8 @@
-//! The judge of a log's lines: which of their messages are frames.
+//! The judge of a log's lines decides which of their messages are frames.
 //!
 //! Each line becomes an entry in a slot of a ring (`entries`, `queue`, `slots`), unless it continues lines that are open
-//! (`open`, `join`, `close`). An entry is decided, or waits (`decide`, `pair`, `wait`), and then its verdict is told (`tell`,
-//! `damage`).
+//! (`open`, `join`, `close`). An entry is decided at once or waits (`decide`, `pair`, `wait`); then its verdict is returned
+//! (`tell`, `damage`).
 ghost use Rattle.std.specs.Prelude.{◌≡◌, ◌+◌, ◌<◌, ◌&&◌, not, ℕ, List, IfSome, false, length};
 ghost use Rattle.fio_log.specs.declared.judge.slots.TheConstants.{ENTRIES};
 ghost use Rattle.std.specs.List.{All};
@@ -49,24 +49,24 @@ use crate::wordings::reason_without_octets;
 /// A line that is read.
 #[derive(Clone, Copy)]
 pub(crate) struct Line<'a> {
-    /// Its number.
+    /// The line's number.
     pub number: u64,
-    /// Its characters.
+    /// The line's characters.
     pub text: &'a [u8],
-    /// Whether it has more than are kept.
+    /// Whether the line has more characters than are kept.
     pub is_long: bool,
 }
 
 impl Line<'_> {
-    /// Returns whether it has nothing but blanks.
+    /// Returns whether the line has nothing but blanks.
     pub(crate) fn is_blank(self) -> bool
         ensures { result ≡ (not self.entry.is_long && are_blanks self.entry.text.now) }
     {
         !self.is_long && are_blanks(self.text)
     }
 
-    /// Returns why it gives no frame if it has no octets; `None` if a run of it has two octets or more, or it is too long: then its
-    /// words are not read.
+    /// Returns why the line gives no frame if it has no octets; `None` if one of its runs has two octets or more. The words of
+    /// a line that is too long are not read.
     fn without_octets(&self, runs: &LineRuns) -> Reason
         ensures { SaysWords self.now.text.now result }
     {
@@ -123,7 +123,7 @@ impl Judge {
         self.heading = None;
     }
 
-    /// Reads a line as one more of those that are open, and returns whether it is. If not, they are closed.
+    /// Reads a line as a continuation of the open lines, and returns whether it is one. If not, these are closed.
     pub(crate) fn goes_on(&mut self, line: Line, runs: &LineRuns) -> bool
         ensures { (log : Log) → IsJudgeOf log self.old → line.entry.text.now ≡ log line.entry.number
             → All (IsLineRun (log line.entry.number)) runs.now.all.items → IsJudgeOf log self.new }
@@ -144,7 +144,7 @@ impl Judge {
         true
     }
 
-    /// Reads a line as one more of those that are open, if it is the next one.
+    /// Reads a line as a continuation of the open lines, if it is the next line.
     fn join_line(&mut self, line: Line, runs: &LineRuns) -> Going
         ensures { (log : Log) → IsJudgeOf log self.old → line.entry.text.now ≡ log line.entry.number
             → All (IsLineRun (log line.entry.number)) runs.now.all.items → IsJudgeOf log self.new }
@@ -162,7 +162,7 @@ impl Judge {
         going
     }
 
-    /// Reads the next line as a row of those that are open. A blank line ends the rows.
+    /// Reads the next line as a row of the open lines. A blank line ends the rows.
     fn join_row(&mut self, line: Line, runs: &LineRuns) -> Going
         requires { line.number ≡ self.old.join.lines.from + length self.old.join.lines.rows.items }
         ensures { (log : Log) → IsJudgeOf log self.old → line.entry.text.now ≡ log line.entry.number
@@ -256,7 +256,7 @@ impl Judge {
         };
     }
 
-    /// Keeps a run of a line in its entry, if it says a message and is no number beside a longer one.
+    /// Keeps a run of a line in its entry, if it says a message and is not a number beside a longer message.
     fn keep_message(&mut self, slot: Slot, line: u64, run: &LineRun, runs: &LineRuns)
         ensures written { (log : Log) → IsJudgeOf log self.old → IsLineRun (log line) run.now → IsJudgeOf log self.new }
         ensures kept { KeepsMessages self.old.entries slot line self.new.entries }
@@ -293,8 +293,8 @@ impl Judge {
         self.join.begin(joining, line, row, runs.time)
     }
 
-    /// Begins with the first row of a dump, unless it is known that the line is none. Returns whether it has octets; `None` if
-    /// the line is no such row.
+    /// Begins with the first row of a dump, unless the line is known to be none. Returns whether the row has octets; `None` if
+    /// the line is not such a row.
     fn begin_dump(&mut self, line: Line, runs: &LineRuns) -> Option<bool>
         ensures written { (log : Log) → IsJudgeOf log self.old → line.entry.text.now ≡ log line.entry.number
             → IsJudgeOf log self.new }

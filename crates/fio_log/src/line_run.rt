@@ -17,28 +17,28 @@ pub(crate) const LINE_SINGLES: usize = 4;
 /// A run of octets in a line, and what it says.
 #[derive(Debug, Drop)]
 pub(crate) struct LineRun {
-    /// Where it begins in the line.
+    /// Where the run begins in the line.
     pub start: usize,
-    /// Where it ends.
+    /// Where the run ends.
     pub end: usize,
-    /// How its octets are written.
+    /// How the run's octets are written.
     pub notation: Notation,
-    /// Its octets.
+    /// The run's octets.
     pub octets: Octets,
-    /// What surrounds it.
+    /// What surrounds the run.
     pub around: Around,
-    /// What its octets say. It is the last field, so that a reader is made in its place, and not on the stack.
+    /// What its octets say. It is the last field, so that a reader can be made in place instead of on the stack.
     pub saying: Saying,
     ghost says: { SaysPart octets.items saying },
 }
 
 impl LineRun {
-    /// Returns whether it has two octets or more.
+    /// Returns whether the run has two octets or more.
     pub(crate) fn is_long(&self) -> bool {
         self.octets.len() > 1
     }
 
-    /// Returns whether it says a message.
+    /// Returns whether the run says a message.
     pub(crate) fn says(&self) -> bool
         ensures { result ≡ true → IsSome (message_said self.now.octets.items self.now.saying) }
     {
@@ -62,14 +62,14 @@ impl Default for LineRun {
 /// The runs of a line.
 #[derive(Debug, Drop)]
 pub(crate) struct LineRuns {
-    /// Those that are kept: all of two octets or more, and of one octet the last and the first few that say a message. The
-    /// same octets are there once for each place.
+    /// The runs that are kept: all of two octets or more; of the runs of one octet the last one and the first few that say
+    /// a message. Equal octets are kept once for each place.
     pub all: ArrayVec<LineRun, LINE_RUNS>,
-    /// Whether it has more runs than are kept.
+    /// Whether the line has more runs than are kept.
     pub is_over: bool,
     /// The first time in the line, in microseconds; `None` if it is within octets.
     pub time: Option<u64>,
-    /// Whether it is known that the line is no first row of a dump.
+    /// Whether the line is known not to be the first row of a dump.
     pub is_no_dump: bool,
 }
 

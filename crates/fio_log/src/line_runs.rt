@@ -32,7 +32,8 @@ struct Finder {
     lone: Option<Found>,
 }
 
-/// Finds the runs of a line: at once if it is written like one of the last lines. It is no longer than `LINE_OCTETS`.
+/// Finds the runs of a line of at most `LINE_OCTETS` characters; a line that is written like one of the last lines is read at
+/// once.
 pub(crate) fn read_line(line: &[u8], patterns: &mut Patterns, runs: &mut LineRuns)
     ensures { All (IsLineRun line.now) runs.new.all.items }
 {
@@ -118,8 +119,8 @@ fn find_marked(
     }
 }
 
-/// Returns whether a run may be octets behind a number: it is behind other words and ends its line, has several words without
-/// marks, of which the first is decimal, and says no message.
+/// Returns whether a run may be a number and then octets: it comes after other words and ends its line, has several words
+/// without marks, the first of them decimal, and says no message.
 fn may_begin_with_number(line: &[u8], run: Found, octets: &[u8]) -> bool {
     let (Some(before), Some(text), Some(after)) = (
         line.get(..run.start),
@@ -241,7 +242,7 @@ fn keep_run(
     });
 }
 
-/// Returns what surrounds a run, up to which the line is read.
+/// Returns what surrounds a run. The line is read up to the run.
 fn around(line: &[u8], found: Found, octets: &[u8], finder: &Finder) -> Around
     requires start { found.start ≤ length line.now }
     requires end { found.end ≤ length line.now }

@@ -5,13 +5,13 @@ ghost use Rattle.fio_log.specs.Lines.{ended, finished, goes_on_held, held_first,
 use arrayvec::ArrayVec;
 use std::marker::Model;
 
-/// The most octets of a line that are kept. A line with more is passed over.
+/// The most octets of a line that are kept. A longer line is skipped.
 pub const LINE_OCTETS: usize = 65_536;
 
 /// Octets that may be the beginning of something that is taken out.
 #[derive(Clone, Copy, Debug, PartialEq, Eq)]
 enum Held {
-    /// None.
+    /// Nothing is held.
     Nothing,
     /// An escape.
     Escape,
@@ -21,12 +21,12 @@ enum Held {
     NoBreak,
     /// The first octet of a byte order mark.
     Mark,
-    /// Its first two octets.
+    /// The first two octets of a byte order mark.
     SecondMark,
 }
 
 impl Held {
-    /// Returns its octets, if they stay in the line.
+    /// Returns the octets, if they stay in the line.
     fn octets(self) -> &'static [u8]
         ensures { result.now ≡ held_octets self }
     {
@@ -39,7 +39,7 @@ impl Held {
         }
     }
 
-    /// Returns what the line gets in its place, if an octet continues it.
+    /// Returns what the line gets in place of the octets, if another octet continues them.
     fn text(self) -> &'static [u8]
         ensures { result.now ≡ held_text self }
     {
@@ -49,7 +49,7 @@ impl Held {
         }
     }
 
-    /// Returns whether an octet continues it.
+    /// Returns whether an octet continues the octets that are held.
     fn goes_on(self, octet: u8) -> bool
         ensures { result ≡ goes_on_held self octet }
     {
@@ -63,7 +63,7 @@ impl Held {
         }
     }
 
-    /// Returns what is held after an octet that continues it.
+    /// Returns what is held after an octet that continues the octets.
     fn next(self, octet: u8) -> Held
         ensures { result ≡ held_next self octet }
     {
@@ -91,11 +91,11 @@ impl Held {
 /// How a line ends.
 #[derive(Clone, Copy, Debug, PartialEq, Eq)]
 enum Ending {
-    /// It has not ended.
+    /// The line has not ended.
     Open,
-    /// It ends with LF, or with the text.
+    /// The line ends with LF, or with the text.
     Feed,
-    /// It ends with CR.
+    /// The line ends with CR.
     Return,
 }
 
@@ -134,7 +134,7 @@ impl LineText {
         }
     }
 
-    /// Appends octets, as many as the line has room for.
+    /// Appends octets until the line is full.
     fn push_all(&mut self, octets: &[u8])
         ensures { self.new ≡ with_all self.old octets.now }
     {
@@ -333,7 +333,7 @@ fn plain_count(text: &[u8]) -> usize
     count
 }
 
-/// Returns whether the eight octets from a place of a text on are printable: all are looked at, without a branch.
+/// Returns whether the eight octets from a place of a text on are printable. It looks at all of them without a branch.
 fn are_eight_plain(text: &[u8], place: usize) -> bool
     requires { place + 8 ≤ length text.now }
     ensures { result ≡ true → (at : ℕ) → place ≤ at → at < place + 8 → is_plain (slice_index text.now at) ≡ true }
@@ -359,7 +359,7 @@ fn others_of_two(text: &[u8], place: usize) -> u32
     u32::from(!is_plain(text[place])) + u32::from(!is_plain(text[place + 1]))
 }
 
-/// Returns whether an octet is printable: it neither ends a line nor begins what may be taken out.
+/// Returns whether an octet is printable: it does not end a line, and begins nothing that may be taken out.
 fn is_plain(octet: u8) -> bool
     ensures { result ≡ is_plain octet }
 {

@@ -10,22 +10,22 @@ use crate::octets::Octets;
 /// A string literal in a line.
 #[derive(Clone, Copy, Debug, PartialEq, Eq)]
 pub struct Literal {
-    /// Where its quote ends.
+    /// Where the literal's quote ends.
     pub end: usize,
     /// Whether some of its characters are written as themselves.
     pub is_plain: bool,
-    /// Whether some that could be are written as hexadecimal escapes.
+    /// Whether some of its characters are hexadecimal escapes, though they could be written as themselves.
     pub is_escaped: bool,
 }
 
 /// A character of a string literal.
 #[derive(Clone, Copy, Debug, PartialEq, Eq)]
 pub(crate) struct LiteralCharacter {
-    /// The octet that it spells.
+    /// The octet that the character stands for.
     pub octet: u8,
-    /// Whether it is written as itself.
+    /// Whether the character is written as itself.
     pub is_itself: bool,
-    /// Whether it could be, and is written as a hexadecimal escape.
+    /// Whether the character is written as a hexadecimal escape, though it could be written as itself.
     pub is_escaped: bool,
 }
 
@@ -111,7 +111,7 @@ fn character_length(line: &[u8], place: usize) -> usize
     }
 }
 
-/// Returns how many octets an escape has, with its backslash, if these characters come after that: 2 to 6.
+/// Returns how many octets an escape has, with its backslash, by the three characters after that: 2 to 6.
 fn escape_length(first: u8, second: u8, third: u8) -> usize
     ensures { result ≡ length_with 92 first second third }
 {
@@ -130,7 +130,7 @@ fn is_octal(character: u8) -> bool
     matches!(character, b'0'..=b'7')
 }
 
-/// Returns the character of a literal that a text is.
+/// Reads a text as one character of a literal.
 fn read_character(text: &[u8]) -> Option<LiteralCharacter>
     ensures { (is_plain : Bool) → octet_in is_plain text.now ≡ option_and_then (kept_in is_plain) result }
 {
@@ -142,7 +142,7 @@ fn read_character(text: &[u8]) -> Option<LiteralCharacter>
     })
 }
 
-/// Returns the octet that a character spells.
+/// Returns the octet of a character.
 fn character(text: &[u8]) -> Option<u8>
     ensures { result ≡ character_of text.now }
 {
@@ -156,7 +156,7 @@ fn character(text: &[u8]) -> Option<u8>
     }
 }
 
-/// Returns the octet that one character after a backslash spells.
+/// Returns the octet of the character after a backslash.
 fn escape_octet(escape: u8) -> Option<u8>
     ensures { result ≡ escape_of escape }
 {

@@ -15,7 +15,7 @@ pub struct Mark {
     pub after: &'static [u8],
 }
 
-/// How many marks words may have.
+/// The number of marks that words may have.
 pub(crate) const MARK_COUNT: usize = 9;
 
 /// The marks that words may have: none, prefixes, a suffix, brackets, and a prefix in quotes.
@@ -61,13 +61,13 @@ pub static MARKS: [Mark; MARK_COUNT] = [
 /// A word of hexadecimal digits in a line, by the indexes of its characters.
 #[derive(Clone, Copy, Debug, PartialEq, Eq)]
 pub struct Word {
-    /// Where its mark begins.
+    /// Where the word's mark begins.
     pub place: usize,
-    /// Where its digits begin.
+    /// Where the word's digits begin.
     pub start: usize,
-    /// Where its digits end.
+    /// Where the word's digits end.
     pub stop: usize,
-    /// Where its mark ends.
+    /// Where the word's mark ends.
     pub end: usize,
 }
 

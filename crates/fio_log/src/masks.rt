@@ -1,4 +1,4 @@
-//! Sums of the text around runs, which show that lines have one shape.
+//! Sums of the text around runs: lines with equal sums have one shape.
 use crate::digits::{is_decimal, is_letter};
 
 /// The sum of no text, and the factor of each character (FNV-1a, 64 bits).
@@ -32,15 +32,15 @@ pub(crate) fn is_in_word(character: u8) -> bool {
 /// blanks as one, and those at the ends as none.
 #[derive(Clone, Copy)]
 pub(crate) struct Mask {
-    /// The sum without the word that is read.
+    /// The sum without the word that is being read.
     sum: u64,
-    /// The same in which each word without a digit counts as `a`.
+    /// The sum without that word in which each word without a digit counts as `a`.
     letters: u64,
-    /// The sum with the word that is read.
+    /// The sum with the word that is being read.
     word: u64,
-    /// Whether a word is read.
+    /// Whether a word is being read.
     is_word: bool,
-    /// Whether it has a digit.
+    /// Whether the word has a digit.
     has_digit: bool,
     /// Whether a blank is due before the next character.
     has_blank: bool,

@@ -13,17 +13,17 @@ use fio_message::types::{
 /// The octets of the default message.
 const DEFAULT: &[u8] = &[RAW_INPUTS];
 
-/// Octets that spell a message.
+/// Octets that encode a message.
 #[derive(Debug, Drop)]
 pub(crate) struct Message {
-    /// The octets; none of the default one. So a default message is nothing but zeros, of which a reader can be made in its
-    /// place, and not on the stack.
+    /// The octets; none for the default message. So the default is all zeros, and a reader can be made in place instead of
+    /// on the stack.
     kept: ArrayVec<u8, FRAME_OCTETS>,
     ghost spelled: { spells (octets_kept_as kept.items) ≡ true },
 }
 
 impl Message {
-    /// Returns the message that octets spell.
+    /// Returns the message that octets encode.
     #[tactic(auto, using(crate::proofs::OwnTextLemmas::spelled_short, crate::proofs::OwnTextLemmas::kept_as_spelled))]
     pub(crate) fn of(octets: &[u8]) -> Message
         requires { spells octets.now ≡ true }
@@ -66,8 +66,8 @@ impl Message {
         self.octets() == other.octets()
     }
 
-    /// Returns whether this is a command, and another message its answer: by their types, and for a poll and its block
-    /// by their number. Commands of open length have none, and one octet has none of open length.
+    /// Returns whether this is a command and `answer` its answer: by their types, and for a poll and its block by their
+    /// number. A command of open length has no answer, nor has a command of one octet an answer of open length.
     pub(crate) fn is_answered_by(&self, answer: &Message) -> bool {
         let ([command, number @ ..], [code, numbers @ ..]) = (self.octets(), answer.octets()) else {
             return false;
@@ -88,7 +88,7 @@ impl Default for Message {
     }
 }
 
-/// Returns whether messages of a type have any length.
+/// Returns whether messages of a type may have any length.
 pub(crate) fn has_open_length(code: u8) -> bool {
     matches!(
         code,

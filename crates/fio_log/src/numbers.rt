@@ -26,17 +26,18 @@ pub(crate) enum Bracket {
 /// A decimal number from -128 to 255.
 #[derive(Clone, Copy, Debug, PartialEq, Eq)]
 pub(crate) struct Number {
-    /// The octet that it spells.
+    /// The octet of the number.
     pub octet: u8,
-    /// Whether it is below 0.
+    /// Whether the number is below 0.
     pub is_negative: bool,
-    /// Whether it is above 127.
+    /// Whether the number is above 127.
     pub is_high: bool,
 }
 
 /// Returns where the brackets that open at `place` end, if they contain decimal numbers that are octets, and
-/// writes these to `octets`. They are all from -128 to 127 or all from 0 to 255, without zeros before them, and
-/// a comma, a blank or both between. One number in round brackets is none, and more than the most are none.
+/// writes these to `octets`. The numbers are all from -128 to 127 or all from 0 to 255, have no leading zeros,
+/// and have a comma, a blank or both between them. A single number in round brackets does not count, nor do
+/// more than `RUN_OCTETS` numbers.
 pub fn numbers_at(line: &[u8], place: usize, octets: &mut Octets) -> Option<usize>
     ensures numbers { IfSome result (IsNumbers line.now place octets.new.items) }
     ensures only { (numbers : List ℕ) → (end : ℕ) → IsNumbers line.now place numbers end
@@ -73,7 +74,7 @@ fn opened_at(line: &[u8], place: usize) -> Option<(Bracket, usize)>
     Some((bracket, end))
 }
 
-/// Returns the bracket that a character begins.
+/// Returns the bracket that a character opens.
 fn bracket_of(character: u8) -> Option<Bracket>
     ensures { result ≡ bracket_of character }
 {
@@ -110,7 +111,7 @@ fn closing(bracket: Bracket) -> &'static [u8]
     }
 }
 
-/// Returns how many numbers a bracket has at least.
+/// Returns the fewest numbers that a bracket may contain.
 fn least_in(bracket: Bracket) -> usize
     ensures { result ≡ least_in bracket }
 {
@@ -174,7 +175,7 @@ fn number_end(line: &[u8], place: usize) -> usize
     end
 }
 
-/// Returns the number from -128 to 255 that a text spells.
+/// Reads a text as a number from -128 to 255.
 fn read_number(text: &[u8]) -> Option<Number>
     ensures { (is_signed : Bool) → number_of is_signed text.now ≡ option_and_then (octet_in is_signed) result }
 {
@@ -195,7 +196,7 @@ fn read_number(text: &[u8]) -> Option<Number>
     }
 }
 
-/// Returns the number that one to three decimal digits spell, of which the first is 0 only if it is alone.
+/// Reads one to three decimal digits as a number. Only 0 itself begins with 0.
 fn decimal(text: &[u8]) -> Option<u16>
     ensures value { result ≡ decimal_of text.now }
     ensures small { IfSome result (λ number. number < 1000) }

@@ -14,7 +14,7 @@ pub const RUN_OCTETS: usize = FRAME_OCTETS + 7;
 /// The octets of a run.
 pub type Octets = ArrayVec<u8, RUN_OCTETS>;
 
-/// Reads the octets that a text of hexadecimal words spells. Those above the most, `MOST`, are not kept.
+/// Reads the octets of a text of hexadecimal words, and keeps the first `MOST`.
 pub(crate) fn read_words<const MOST: usize>(text: &[u8], octets: &mut ArrayVec<u8, MOST>)
     ensures { octets.new.items ≡ take MOST (octets_of text.now) }
 {
@@ -28,8 +28,8 @@ pub(crate) fn read_words<const MOST: usize>(text: &[u8], octets: &mut ArrayVec<u
     add_some(octets, waiting);
 }
 
-/// Reads the octets that a text spells, if it is words of two digits with a blank between or, without blanks, one word of an
-/// even number of digits; returns whether it is. Those above the most are not kept.
+/// Reads the octets of a text, if it is words of two digits with one blank between them or, without blanks, one word of an even
+/// number of digits, and returns whether it is. Octets past the limit are not kept.
 pub(crate) fn read_pairs(text: &[u8], has_blanks: bool, octets: &mut Octets) -> bool
     ensures { result ≡ true → octets.new.items ≡ take RUN_OCTETS (octets_of text.now) }
 {
@@ -48,8 +48,8 @@ pub(crate) fn read_pairs(text: &[u8], has_blanks: bool, octets: &mut Octets) -> 
     place == text.len()
 }
 
-/// Returns where the blank ends that is at a place of a text, if words have blanks between and the text does not end there; else
-/// the place. `None` if another character is there.
+/// Returns where the blank at a place of a text ends, if words are separated by blanks and the text does not end there;
+/// otherwise the place. `None` if another character is there.
 fn blank_end(text: &[u8], place: usize, has_blanks: bool) -> Option<usize>
     requires { place ≤ length text.now }
     ensures order { IfSome result (λ end. (place ≤ end) × (end ≤ length text.now)) }
@@ -66,7 +66,7 @@ fn blank_end(text: &[u8], place: usize, has_blanks: bool) -> Option<usize>
     }
 }
 
-/// Returns the octet that two digits spell.
+/// Returns the octet of two digits.
 fn pair(high: u8, low: u8) -> Option<u8>
     ensures { result ≡ paired (digit_of high) (digit_of low) }
 {
@@ -101,7 +101,7 @@ fn waits_then(waiting: Option<u8>, digit: Option<u8>) -> Option<u8>
     }
 }
 
-/// Appends an octet if there is one; one above the most is not kept.
+/// Appends an octet, if there is one. An octet past the limit is not kept.
 fn add_some<const MOST: usize>(octets: &mut ArrayVec<u8, MOST>, octet: Option<u8>)
     ensures { MatchOption octet (octets.new.items ≡ octets.old.items)
         (λ one. octets.new.items ≡ take MOST (octets.old.items ++ one ∷ [])) }
@@ -111,7 +111,7 @@ fn add_some<const MOST: usize>(octets: &mut ArrayVec<u8, MOST>, octet: Option<u8
     }
 }
 
-/// Appends an octet; one above the most is not kept.
+/// Appends an octet. An octet past the limit is not kept.
 fn add_one<const MOST: usize>(octets: &mut ArrayVec<u8, MOST>, octet: u8)
     ensures { octets.new.items ≡ take MOST (octets.old.items ++ octet ∷ []) }
 {

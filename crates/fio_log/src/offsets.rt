@@ -24,7 +24,7 @@ pub(crate) struct Offset {
 }
 
 impl Offset {
-    /// Returns whether it may be the number of octets above it.
+    /// Returns whether the offset may be the number of octets before it.
     pub(crate) fn may_be(self, count: u64) -> bool {
         self.hexadecimal == count || self.decimal == Some(count) || self.octal == Some(count)
     }
@@ -42,21 +42,21 @@ impl Offset {
 /// A row of a dump.
 #[derive(Clone, Copy, Debug, Default, PartialEq, Eq)]
 pub(crate) struct OffsetRow {
-    /// The offset at its begin.
+    /// The offset at its beginning.
     pub offset: Offset,
-    /// Whether it has octets. The last row of a dump may have none.
+    /// Whether the row has octets. The last row of a dump may have none.
     pub has_octets: bool,
-    /// Where they begin, and where they end.
+    /// Where the octets begin, and where they end.
     pub start: usize,
     pub end: usize,
-    /// The sum of the line before them. What is after them does not count.
+    /// The sum of the text before the octets. The text after them does not count.
     pub before: u64,
-    /// Their mark.
+    /// The mark of the octets.
     pub mark: u8,
 }
 
-/// Returns the row of a dump that a line is, and writes its octets to `octets`: an offset of 4 to 16 digits, perhaps with
-/// `0x` before it and `:` after it, and octets after a blank or `:`, or nothing. Words may come before an offset with `:`.
+/// Reads a line as a row of a dump, and writes its octets to `octets`. A row is an offset of 4 to 16 digits, perhaps with `0x`
+/// before it and `:` after it, and then octets after a blank or `:`, or nothing. Words may come before an offset with `:`.
 pub(crate) fn offset_row(line: &[u8], octets: &mut Octets) -> Option<OffsetRow>
     ensures order { IfSome result (λ row. row.start ≤ row.end) }
     ensures within { IfSome result (λ row. row.end ≤ length line.now) }
@@ -90,8 +90,8 @@ pub(crate) fn offset_row(line: &[u8], octets: &mut Octets) -> Option<OffsetRow>
     })
 }
 
-/// Returns where the digits of an offset begin: those of the first word after a blank that can be an offset and has `:` after
-/// it, unless the line begins with such a one; else at the beginning of the line.
+/// Returns where the digits of an offset begin: at the beginning of the line, unless that is no offset with `:` after it and a
+/// later word is one.
 fn offset_start(line: &[u8]) -> usize
     ensures { result ≤ length line.now }
 {
@@ -141,7 +141,7 @@ fn blanks_end(line: &[u8], start: usize) -> usize
     end
 }
 
-/// Returns where an offset ends with its `:` and blanks; `None` if it has neither, but at the end of a line.
+/// Returns where an offset ends with its `:` and blanks; `None` if it has neither and the line goes on.
 fn offset_end(line: &[u8], end: usize) -> Option<usize>
     requires { end ≤ length line.now }
     ensures { IfSome result (λ place. place ≤ length line.now) }
@@ -154,8 +154,8 @@ fn offset_end(line: &[u8], end: usize) -> Option<usize>
     }
 }
 
-/// Returns the longest run of words without single digits that begins at a place of a line, and its mark, and writes its octets.
-/// `None` if a word of one digit goes on with it: a digit may be lost there.
+/// Returns the longest run of words without single digits that begins at a place of a line, and its mark, and writes its
+/// octets. `None` if a word of one digit continues it: a digit may be lost there.
 fn longest_run(line: &[u8], place: usize, octets: &mut Octets) -> Option<(u8, Run)>
     ensures { IfSome result (λ found. IsRun line.now place octets.new.items found.1) }
 {

@@ -1,4 +1,4 @@
-//! Lines of the texts that the program's own tools read, by order.
+//! Lines of the texts that the program's own tools read, for a caller who says that a log is such a text.
 ghost use Rattle.std.specs.Prelude.{◌≡◌, IfNone, IfSome, None};
 ghost use Rattle.fio_log.specs.OwnTexts.{IsOwnLine, IsReadFrame, frame_with, own_frame, spells_from};
 
@@ -6,7 +6,7 @@ use crate::sayings::spelled;
 use fio_message::{FRAME_OCTETS, read_answer, read_command};
 use fio_text::{after_prefix, is_skipped, read_octets_to};
 
-/// Which of these texts it is.
+/// Which of the texts it is.
 #[derive(Clone, Copy, Debug, PartialEq, Eq)]
 pub enum OwnForm {
     /// Frames, one HEX a line, as `show` reads them.
@@ -18,24 +18,24 @@ pub enum OwnForm {
 /// What a line is.
 #[derive(Clone, Copy, Debug, PartialEq, Eq)]
 pub enum OwnLine {
-    /// It is empty, or begins with `#`.
+    /// The line is empty, or begins with `#`.
     Skipped,
-    /// It has no form that the text allows.
+    /// The line has no form that the text allows.
     Bad,
-    /// It is a frame that spells no message of the end that sent it.
+    /// The line is a frame that encodes no message of the end that sent it.
     Faulty {
         /// How many octets the frame has.
         count: usize,
     },
-    /// It is a frame that spells a message.
+    /// The line is a frame that encodes a message.
     Frame {
         /// How many octets the frame has, at most 773.
         count: usize,
     },
 }
 
-/// Reads a line, without its line feed, as `show` or `check` does. Up to 773 octets of its frame, the longest, are written to
-/// the front of `room`; a frame with more spells no message.
+/// Reads a line, without its line feed, as `show` or `check` does. The first 773 octets of its frame are written to the front
+/// of `room`; a longer frame encodes no message.
 pub fn read_own_line(form: OwnForm, line: &[u8], room: &mut [u8; FRAME_OCTETS]) -> OwnLine
     ensures { IsOwnLine form line.now room.new result }
 {
@@ -84,7 +84,8 @@ fn frame_word(form: OwnForm, line: &[u8]) -> Option<(Option<bool>, &[u8])>
     }
 }
 
-/// Returns whether octets spell a message of the end that sent them, or of that of their first octet.
+/// Returns whether octets encode a message of the end that sent them; if the text does not say which, of the end that their
+/// first octet names.
 fn spells_from(from_cpu: Option<bool>, octets: &[u8]) -> bool
     ensures { result ≡ spells_from from_cpu octets.now }
 {

@@ -1,4 +1,4 @@
-//! Verdicts of lines that are read by order as those of the program's own texts.
+//! Verdicts on lines of the program's own texts, which are read in the form that the caller gives.
 ghost use Rattle.std.specs.Prelude.{◌≡◌, [], ◌∷◌, false, length, map, true};
 ghost use Rattle.fio_log.specs.Frames.{octets_in};
 ghost use Rattle.fio_log.specs.OwnVerdicts.{IsOwnVerdict, own_form_of};
@@ -16,7 +16,7 @@ use crate::verdict::{Form, Kind, Reason, Verdict};
 use fio_message::FRAME_OCTETS;
 
 impl Form {
-    /// Returns the text whose lines are read by order.
+    /// Returns the text whose lines are read, if the form names one.
     pub(crate) fn own(self) -> Option<OwnForm>
         ensures { result ≡ own_form_of self }
     {
@@ -39,7 +39,7 @@ impl OwnForm {
 }
 
 impl Frames {
-    /// Tells what a line of an own text is, and takes its frame.
+    /// Returns the verdict on a line of an own text, and takes its frame.
     pub(crate) fn tell_own(&mut self, form: OwnForm, line: Line) -> Verdict
         ensures own { IsOwnVerdict form (record { octets = line.entry.text.now; is_long = line.entry.is_long }) result.kind result.reason
             (map octets_in self.new.messages.items) }

@@ -1,9 +1,10 @@
-//! The parts of a time, and how late it is.
+//! The parts of a time, and their sum in microseconds.
 
 /// The days from 1 March of the year 0 to 1970.
 const DAYS_TO_1970: u64 = 719_468;
 
-/// The parts of a time. A day of 0 says that it has no date. None has more than 14 digits, so no product below wraps.
+/// The parts of a time. A day of 0 says that it has no date. No part has more than 14 digits, so no product below
+/// overflows.
 #[derive(Clone, Copy)]
 pub(crate) struct Parts {
     pub year: u64,
@@ -28,7 +29,7 @@ impl Parts {
         }
     }
 
-    /// Returns the days since 1970, 0 without a date. A year begins with March here.
+    /// Returns the days since 1970, 0 without a date. Here a year begins in March.
     fn days(&self) -> u64 {
         if self.day == 0 {
             return 0;

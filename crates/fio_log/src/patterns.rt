@@ -1,9 +1,9 @@
 //! Patterns: how the last lines with octets were written, so that a line that is written like one of them is read at once.
 //!
 //! A pattern is the text of a line before its octets, without its time, and what was found of that text. The octets fill the
-//! rest of the line: one word of an even number of digits, or words of two digits with a blank between. Such a line has no
-//! other run that is kept, whatever its time and its octets are: each word before the octets has a character that is in no
-//! word of octets and in none of their marks, no `$` is before the octets, and there are no quotes.
+//! rest of the line: one word of an even number of digits, or words of two digits with a blank between. Whatever its time and
+//! octets are, such a line has no other run that is kept: each word before the octets has a character that occurs in no word
+//! of octets and in no mark, no `$` comes before the octets, and the line has no quotes.
 ghost use Rattle.std.specs.Prelude.{◌≡◌, ◌≤◌, [], false, IfSome, length, take};
 ghost use Rattle.std.specs.List.{All};
 ghost use Rattle.fio_log.specs.LineRuns.{IsLineRun};
@@ -30,7 +30,7 @@ const PATTERNS: usize = 4;
 /// How a line was written up to its octets.
 #[derive(Default, Drop)]
 struct Pattern {
-    /// Whether it has a time.
+    /// Whether the line has a time.
     has_time: bool,
     /// What is before the time, or before the octets if it has no time.
     first: ArrayVec<u8, PATTERN_TEXT>,
@@ -178,8 +178,8 @@ impl Patterns {
     }
 }
 
-/// Returns whether each word of a text has a character that is in no word of octets and in none of their marks, and the text
-/// has no quotes and does not end with `$`.
+/// Returns whether each word of a text has a character that occurs in no word of octets and in no mark, and the text has no
+/// quotes and does not end with `$`.
 fn is_without_octets(text: &[u8]) -> bool {
     let (mut is_word, mut has_other) = (false, true);
     for character in text {
@@ -199,13 +199,13 @@ fn is_without_octets(text: &[u8]) -> bool {
     has_other && !matches!(text, [.., b'$'])
 }
 
-/// Returns whether a letter may be of a word of octets or of its mark.
+/// Returns whether a letter may belong to a word of octets or to its mark.
 fn may_be_of_octets(letter: u8) -> bool {
     digit(letter).is_some() || matches!(letter, b'x' | b'X' | b'h' | b'H')
 }
 
-/// Reads octets that fill a text, if it is one word of an even number of digits that is no time, or words of two digits with a
-/// blank between, and returns the ways of writing that it can be of.
+/// Reads octets that fill a text, if it is one word of an even number of digits that is not a time, or words of two digits
+/// with a blank between, and returns the ways that it may be written in.
 fn read_plain(text: &[u8], octets: &mut Octets) -> Option<Ways>
     ensures { IfSome result (λ ways. octets.new.items ≡ take RUN_OCTETS (octets_of text.now)) }
 {
@@ -235,7 +235,7 @@ fn may_be_time(text: &[u8]) -> bool {
     text.len() == 10 && text[0] == b'1'
 }
 
-/// Returns whether no word begins with 0 of a text that is words of two digits with a blank between.
+/// Returns whether no word of a text begins with 0, if it is words of two digits with a blank between.
 fn are_bare(text: &[u8]) -> bool {
     for word in 0..text.len() / 3 + 1 {
         if 3 * word < text.len() && text[3 * word] == b'0' {

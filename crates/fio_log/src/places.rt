@@ -16,7 +16,8 @@ pub enum Notation {
     Long,
 }
 
-/// Where octets are written in a log. Colour sequences, NUL and byte order marks are no characters of a line.
+/// Where octets are written in a log. Colour sequences, NUL and byte order marks do not count as characters
+/// of a line.
 #[derive(Clone, Copy, Debug, Default, PartialEq, Eq)]
 pub struct Place {
     /// The number of the line, from 1.
@@ -29,7 +30,7 @@ pub struct Place {
     pub notation: Notation,
 }
 
-/// Returns whether the first place is in a line, and each next one behind the one above it.
+/// Returns whether the first place is in a line, and each next one after the one before it.
 pub(crate) fn are_of_line(places: &[Place], line: u64) -> bool
     ensures { result ≡ true → AreOfLine line places.now }
 {
@@ -41,7 +42,7 @@ pub(crate) fn are_of_line(places: &[Place], line: u64) -> bool
     }
 }
 
-/// Returns whether places are behind another, each behind the one above it.
+/// Returns whether places come after another, each after the one before it.
 fn are_past(above: Place, places: &[Place]) -> bool
     ensures { result ≡ true → ArePast above places.now }
 {
@@ -55,7 +56,7 @@ fn are_past(above: Place, places: &[Place]) -> bool
     true
 }
 
-/// Returns whether a place is behind another.
+/// Returns whether a place is after another.
 fn is_past(above: Place, place: Place) -> bool
     ensures { result ≡ true → IsPast above place }
 {

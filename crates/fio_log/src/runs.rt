@@ -11,7 +11,7 @@ use crate::octets::{Octets, read_words};
 /// What is between two words.
 #[derive(Clone, Copy, Debug, PartialEq, Eq)]
 pub struct Separator {
-    /// Its sign: a blank, a tab, one of `,;:-`, or 0 for none.
+    /// The separator's sign: a blank, a tab, one of `,;:-`, or 0 for none.
     pub sign: u8,
     /// Whether a blank is before the sign.
     pub before: bool,
@@ -29,18 +29,18 @@ pub(crate) const BLANK: Separator = Separator {
 /// A run of hexadecimal words.
 #[derive(Clone, Copy, Debug, PartialEq, Eq)]
 pub struct Run {
-    /// Where its first word begins.
+    /// Where the run's first word begins.
     pub start: usize,
-    /// Where its last word ends.
+    /// Where the run's last word ends.
     pub end: usize,
     /// Where the next run may begin: at its end, or at its last word if that has fewer digits or another separator comes
     /// after it.
     pub next: usize,
-    /// How many digits its words have: the last one perhaps fewer; 0 if all have one or two.
+    /// How many digits the run's words have, perhaps but the last one; 0 if all have one or two.
     pub width: usize,
-    /// How many words it has.
+    /// How many words the run has.
     pub words: usize,
-    /// What is between its words; `None` for a single word.
+    /// What is between the run's words; `None` for a single word.
     pub separator: Option<Separator>,
     /// Whether none of its words begins with 0.
     pub is_bare: bool,
@@ -49,8 +49,8 @@ pub struct Run {
 }
 
 /// Returns the first run from `from` on whose words have the mark `mark`, and writes its octets to `octets`. With
-/// `is_short` its words have one or two digits, one of them one, and none begins with 0 before another digit; else they
-/// have 2, 4 or 8, or it is one word of any even number. At most `RUN_OCTETS` octets are kept.
+/// `is_short` its words have one or two digits, one of them one, and none begins with 0 before another digit; otherwise
+/// they have 2, 4 or 8 digits, or the run is one word of any even number of digits. At most `RUN_OCTETS` octets are kept.
 pub fn next_run(
     line: &[u8],
     from: usize,

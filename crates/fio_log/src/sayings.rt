@@ -17,27 +17,27 @@ const FRAMED_OCTETS: usize = FRAME_OCTETS + 6;
 /// What octets say.
 #[derive(Clone, Copy, Debug, Default, PartialEq, Eq)]
 pub enum Saying {
-    /// They spell no message and begin none.
+    /// The octets encode no message and begin none.
     #[default]
     NoMessage,
-    /// They begin a message or a frame.
+    /// The octets begin a message or a frame.
     Begins {
-        /// How many octets it needs: more than these, and for a frame at least.
+        /// How many octets the message needs, more than these; for a frame the least number.
         needed: usize,
     },
-    /// They say a message.
+    /// The octets say a message.
     Says {
-        /// Where it begins.
+        /// Where the message begins.
         from: usize,
-        /// Where it ends.
+        /// Where the message ends.
         to: usize,
-        /// Whether it is sure by itself: its check is right, or a count in it confirms its length.
+        /// Whether the message is sure by itself: its check is right, or a count in it confirms its length.
         is_sure: bool,
     },
 }
 
-/// Returns what octets say. In a frame of SDLC with its check (CRC-16/X-25), with flags or without, that is the message
-/// between header and check; else it is all of them.
+/// Returns what octets say. If they are an SDLC frame with its check (CRC-16/X-25), with or without flags, it is the
+/// message between header and check; otherwise they must be the message themselves.
 pub fn read_saying(octets: &[u8]) -> Saying
     ensures { IsSaying octets.now result }
 {
@@ -109,7 +109,7 @@ fn is_checked(octets: &[u8], start: usize, end: usize) -> bool
     check == frame_check(&octets[start..end - 2])
 }
 
-/// Returns `Ok` if octets spell a message, else why they spell none.
+/// Returns `Ok` if octets encode a message, else why they do not.
 pub(crate) fn spelled(octets: &[u8]) -> Result<(), DecodeError>
     ensures ok { is_ok result ≡ spells octets.now }
     ensures refused { (fault : DecodeError)
@@ -123,7 +123,7 @@ pub(crate) fn spelled(octets: &[u8]) -> Result<(), DecodeError>
     Ok(())
 }
 
-/// Returns the length that a message needs, by the fault of octets that have another; 0 for any other fault.
+/// Returns the length that the message needs, if the fault of the octets is another length; 0 for any other fault.
 pub(crate) fn needed_of(fault: DecodeError) -> usize
     ensures { result ≡ needed_of fault }
 {

@@ -22,7 +22,7 @@ enum Part {
     Signs,
     /// Octets outside ASCII.
     Wide,
-    /// Characters of no word.
+    /// Characters that belong to no word.
     Other,
 }
 
@@ -51,7 +51,7 @@ fn last_said(text: &[u8]) -> Option<Direction> {
     said
 }
 
-/// Returns where the word ends that begins at a place of a text. Each arrow of one character is a word.
+/// Returns where the word that begins at a place of a text ends. Each arrow of one character is a word.
 fn word_end(text: &[u8], start: usize, part: Part) -> usize
     requires { start < length text.now }
     ensures forward { start < result }

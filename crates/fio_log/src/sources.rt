@@ -1,4 +1,4 @@
-//! The sources of lines: numbers before octets, such as that of a port, which tell lines of one shape apart.
+//! The sources of lines: numbers before octets, such as a port number, that distinguish lines of one shape.
 ghost use Rattle.std.specs.Prelude.{◌<◌, IfSome};
 
 use crate::digits::is_decimal;
@@ -6,22 +6,22 @@ use crate::masks::{NO_SUM, is_in_word, with_character};
 use crate::offsets::value_of;
 use crate::surroundings::Gap;
 
-/// The most numbers before octets that are kept. Further ones tell nothing.
+/// The most numbers before octets that are kept. Any further number is ignored.
 pub(crate) const NUMBERS: usize = 4;
 
-/// The most values of a number that tells lines apart. One with more is a counter.
+/// The most values of a number that distinguishes lines. A number with more is a counter.
 const VALUES: usize = 8;
 
-/// The most numbers of which values are kept. Further ones tell nothing.
+/// The most numbers whose values are kept. Any further number is ignored.
 const ROWS: usize = 64;
 
-/// The number of how many octets there are.
+/// The value of a number that is the count of the octets.
 const COUNT: u64 = 1;
 
-/// The words with digits before octets, each as a sum: 0 for none, 1 for the number of the octets.
+/// The words with digits before octets, each as a sum: 0 for none, 1 for the count of the octets.
 pub(crate) type Numbers = [u64; NUMBERS];
 
-/// Returns the words with digits of a text before octets, of which there are `octets`. The gap is a time.
+/// Returns the words with digits in the text before `octets` octets. The time in `gap` does not count.
 pub(crate) fn numbers_in(text: &[u8], gap: Gap, octets: usize) -> Numbers {
     let mut numbers = [0; NUMBERS];
     let mut found = 0;
@@ -87,12 +87,13 @@ struct SourceRow {
     count: usize,
     /// How many lines had them.
     lines: usize,
-    /// Whether it has more values, or is the number of the octets.
+    /// Whether the number has more values, or is the count of the octets.
     is_counter: bool,
 }
 
 impl SourceRow {
-    /// Returns whether it tells lines apart: it has few values, each in two lines or more on the average.
+    /// Returns whether the number distinguishes lines: it has few values, each in two lines or more on
+    /// average.
     fn tells(&self) -> bool {
         !self.is_counter && self.lines >= self.count.saturating_mul(2)
     }
@@ -117,7 +118,7 @@ impl SourceRow {
         Some(self.values[self.index_of(number)?])
     }
 
-    /// Counts a line that says a message, and returns whether the number is found to be a counter by it.
+    /// Counts a line that says a message, and returns whether this shows the number to be a counter.
     fn add(&mut self, number: u64) -> bool {
         if self.is_counter {
             return false;
@@ -142,7 +143,7 @@ impl SourceRow {
         self.is_counter
     }
 
-    /// Counts a line that says no message, if its number was in one that says a message.
+    /// Counts a line that says no message, if a line that says one had its number.
     fn add_bad(&mut self, number: u64) {
         if let Some(index) = self.index_of(number) {
             let value = self.values[index];
@@ -203,7 +204,7 @@ impl Sources {
         None
     }
 
-    /// Returns the row of a number of a front, if it tells lines apart.
+    /// Returns the row of a number of a front, if it distinguishes lines.
     fn telling(&self, front: u64, position: usize, number: u64) -> Option<SourceRow> {
         if number == 0 {
             return None;
@@ -213,7 +214,7 @@ impl Sources {
         row.tells().then_some(row)
     }
 
-    /// Returns whether a number tells that no sure message with this front was of this source.
+    /// Returns whether a number shows that no sure message with this front came from this source.
     pub(crate) fn is_another(&self, front: u64, numbers: &Numbers) -> bool {
         if self.count == 0 {
             return false;
@@ -262,7 +263,7 @@ impl Sources {
         false
     }
 
-    /// Counts a line that says a message, and returns whether a number is found to be a counter by it.
+    /// Counts a line that says a message, and returns whether this shows a number to be a counter.
     pub(crate) fn add_good(&mut self, front: u64, numbers: &Numbers) -> bool {
         let mut is_new = false;
         for (position, number) in numbers.iter().enumerate() {

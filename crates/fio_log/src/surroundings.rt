@@ -6,14 +6,14 @@ use crate::masks::{Mask, sum_of};
 /// The part of a line that is its time; empty at its end if it has none.
 #[derive(Clone, Copy, Debug)]
 pub(crate) struct Gap {
-    /// Where it begins.
+    /// Where the time begins.
     pub start: usize,
-    /// Where it ends.
+    /// Where the time ends.
     pub end: usize,
 }
 
 impl Gap {
-    /// Returns that of a line without a time.
+    /// Returns the empty part of a line without a time.
     pub(crate) fn none(line: &[u8]) -> Gap {
         Gap {
             start: line.len(),
@@ -26,7 +26,7 @@ impl Gap {
         self.start < self.end
     }
 
-    /// Returns whether a place is in it.
+    /// Returns whether a place is within the time.
     pub(crate) fn has(self, place: usize) -> bool
         ensures { result ≡ true → place < self.end }
     {
@@ -76,11 +76,12 @@ impl Before {
 /// What is after a run.
 #[derive(Clone, Copy)]
 pub(crate) struct After {
-    /// The sum of it, without separators at its ends; of nothing for a column of the characters of the run.
+    /// The sum of the text after the run, without separators at its ends; for a column of the run's characters the sum of no
+    /// text.
     pub sum: u64,
-    /// Whether there is more than separators.
+    /// Whether the text is more than separators.
     pub has_tail: bool,
-    /// Whether there are only separators, or a column of its characters.
+    /// Whether the text is only separators, or a column of the run's characters.
     pub is_last: bool,
 }
 
@@ -124,15 +125,15 @@ fn within<'a>(text: &'a [u8], edges: &[u8]) -> &'a [u8] {
     rest
 }
 
-/// Returns whether a text is a column of the characters of octets: apart from them, and either just these, or about as many
-/// characters, of which no two are of one word. Damage may have changed them.
+/// Returns whether a text is a column of the characters of octets, separate from them: either exactly these characters, or
+/// about as many without a word among them, since damage may have changed them.
 fn is_column(text: &[u8], octets: &[u8]) -> bool {
     let is_apart = matches!(text, [b'\t' | b'|', ..] | [b' ', b' ' | b'|', ..]);
     is_apart
         && (shows(text, octets) || is_near(column_length(text), octets.len()) && !has_word(text))
 }
 
-/// Returns whether a column, which has a character at least, has about as many characters as there are octets.
+/// Returns whether a column of one character or more has about the length of `octets`.
 fn is_near(characters: usize, octets: usize) -> bool {
     characters > 0 && characters.abs_diff(octets) <= 1
 }
@@ -166,8 +167,8 @@ fn has_word(text: &[u8]) -> bool {
     false
 }
 
-/// Returns whether a text has the characters of octets, and no others but blanks and bars at its ends. A point stands for an
-/// octet that cannot be printed.
+/// Returns whether a text has the characters of octets, and no others but blanks and bars at its ends. A point is the
+/// character of an octet that cannot be printed.
 fn shows(text: &[u8], octets: &[u8]) -> bool {
     let mut rest = within(text, b" \t|");
     for octet in within(octets, b" |") {

@@ -1,63 +1,63 @@
 //! What a reader says of the lines of a log.
 use crate::directions::Direction;
 
-/// How lines are read. By order each line is read as `show` or `check` reads it, with two differences: colour sequences,
-/// NUL and byte order marks are taken out, and a line also ends at CR.
+/// How lines are read. As `Frames` or `Transcript` they are read as `show` or `check` reads them, with two differences:
+/// colour sequences, NUL and byte order marks are removed, and a line also ends at CR.
 #[derive(Clone, Copy, Debug, PartialEq, Eq)]
 pub enum Form {
-    /// By the definition: what octets of a line say, and what makes that sure.
+    /// As lines of any log: frames are found by what the octets of a line say, and by what makes that sure.
     Auto,
-    /// As the lines of `show` are.
+    /// As frames, one a line, like the input of `show`.
     Frames,
-    /// As the lines of `check` are.
+    /// As a transcript, like the input of `check`.
     Transcript,
 }
 
 /// What a line is.
 #[derive(Clone, Copy, Debug, PartialEq, Eq)]
 pub enum Kind {
-    /// It has nothing but blanks.
+    /// The line is blank.
     Blank,
-    /// It says one or more frames, or their first octets.
+    /// The line has one frame or more, or the first octets of one.
     Frames,
-    /// It has octets of the frames of a line above.
+    /// The line has further octets of the frames of a line above.
     Part,
-    /// It says a message, and nothing makes that sure.
+    /// The line says a message, but nothing confirms that it is a frame.
     Possible,
-    /// It may have held a frame, and gave none.
+    /// The line may have held a frame, but gave none.
     Damaged,
-    /// It is none of these.
+    /// The line is none of these.
     PassedOver,
 }
 
 /// Why a line gave no frame.
 #[derive(Clone, Copy, Debug, PartialEq, Eq)]
 pub enum Reason {
-    /// It did, or it is blank.
+    /// The line gave a frame, or is blank.
     None,
-    /// It has no octets.
+    /// The line has no octets.
     NoOctets,
-    /// Its octets spell no message.
+    /// The line's octets encode no message.
     NoMessage,
-    /// It says a short message, and is unlike the lines of other messages.
+    /// The line says a short message, but is unlike the lines of other messages.
     ShortMessage,
-    /// It says more than one message.
+    /// The line says more than one message.
     SeveralMessages,
-    /// It may be one message with the line below or above, or one by itself.
+    /// The line may be a message by itself, or part of one with the line above or below.
     MayBeLonger,
-    /// It is longer than a line, or than the octets of several lines, that are kept.
+    /// The line is longer than a line that is kept, or its octets are more than are kept of joined lines.
     TooLong,
-    /// It is no line of the text that it is read as by order.
+    /// The line is not one of the text that it is read as.
     BadLine,
-    /// Its octets spell a message that has a count if those of each pair are exchanged.
+    /// The line's octets encode a message that has a count, if the two octets of each pair are exchanged.
     Exchanged,
-    /// Its octets spell a message that has a count, but for two at their beginning or at their end.
+    /// The line's octets encode a message that has a count, with two octets more at the beginning or at the end.
     TwoMore,
-    /// It has no octets, and speaks of loss.
+    /// The line has no octets, and speaks of loss.
     Loss,
-    /// It has no octets, and is the heading of a log or of a part of one.
+    /// The line has no octets, and is the heading of a log or of a part of one.
     Heading,
-    /// Its octets spell a message that has a count, but for one that is missing at their end.
+    /// The line's octets encode a message that has a count, but the last octet is missing.
     OneLess,
 }
 
@@ -66,17 +66,17 @@ pub enum Reason {
 pub struct Verdict {
     /// The number of the line, from 1.
     pub line: u64,
-    /// What it is.
+    /// What the line is.
     pub kind: Kind,
-    /// Why it gave no frame.
+    /// Why the line gave no frame.
     pub reason: Reason,
-    /// How many frames it gives, with those of the lines below that continue it.
+    /// How many frames the line gives, with those of the lines below that continue it.
     pub frames: usize,
-    /// At how many places their octets are written.
+    /// At how many places the octets of the frames are written.
     pub places: usize,
-    /// Its time, in microseconds since 1970, or since midnight or a start if it has no date.
+    /// The line's time, in microseconds since 1970; without a date since midnight, or since a start.
     pub time: Option<u64>,
-    /// Who sent the octets of its frames, as the words before them say; `None` if they do not. A transcript that is read by
-    /// order says it in each line.
+    /// Who sent the octets of its frames, as the line says by the words before them; `None` if it does not. A transcript
+    /// says it in each line.
     pub said: Option<Direction>,
 }

@@ -4,7 +4,7 @@ ghost use Rattle.std.specs.Prelude.{◌<◌};
 use crate::literals::Literal;
 use crate::runs::{BLANK, Run, Separator};
 
-/// A set of ways of writing, a bit each. Without any it is that of one word, which can be of all ways.
+/// A set of ways of writing, a bit each. The empty set is that of one word, which fits all ways.
 ///
 /// Four bits belong to each separator, for words of 2, 4, 8, and of one or two digits.
 #[derive(Clone, Copy, Debug, Default, PartialEq, Eq)]
@@ -31,7 +31,7 @@ const ESCAPED: u64 = 1 << 58;
 const NUMBERS: u64 = 1 << 59;
 
 impl Ways {
-    /// Returns the ways that a run of hexadecimal words can be of.
+    /// Returns the ways that a run of hexadecimal words may be written in.
     pub(crate) fn of_run(run: Run) -> Ways {
         let Some(separator) = run.separator else {
             let bits = if run.width > 2 { ONE_WORD } else { 0 };
@@ -49,8 +49,8 @@ impl Ways {
         }
     }
 
-    /// Returns the ways that words of two digits with a blank between can be of, or one word without blanks, by how many
-    /// characters these are and whether no word begins with 0.
+    /// Returns the ways for words of two digits with a blank between, or for one word without blanks, by the number of
+    /// characters and whether no word begins with 0.
     pub(crate) fn of_pairs(length: usize, has_blanks: bool, is_bare: bool) -> Ways {
         Ways::of_run(Run {
             start: 0,
@@ -64,7 +64,7 @@ impl Ways {
         })
     }
 
-    /// Returns the ways that a string literal can be of.
+    /// Returns the ways that a string literal may be written in.
     pub(crate) fn of_literal(literal: Literal) -> Ways {
         Ways {
             bits: match (literal.is_plain, literal.is_escaped) {
@@ -75,14 +75,14 @@ impl Ways {
         }
     }
 
-    /// Returns the ways that decimal numbers in brackets can be of.
+    /// Returns the ways that decimal numbers in brackets may be written in.
     pub(crate) fn of_numbers(count: usize) -> Ways {
         Ways {
             bits: if count > 1 { NUMBERS } else { 0 },
         }
     }
 
-    /// Returns whether a run with these ways can be of all ways.
+    /// Returns whether a run with these ways fits all ways.
     pub(crate) fn is_any(self) -> bool {
         self.bits == 0
     }
@@ -97,12 +97,12 @@ impl Ways {
         self.is_any() || self.bits & known.bits != 0
     }
 
-    /// Returns whether all its words are of one or two digits, and one has one.
+    /// Returns whether all words have one or two digits, and one has one.
     pub(crate) fn is_one_digit(self) -> bool {
         !self.is_any() && self.bits & !ONE_DIGIT == 0
     }
 
-    /// Returns whether its words are of two digits, and one begins with 0.
+    /// Returns whether all words have two digits, and one begins with 0.
     pub(crate) fn is_filled(self) -> bool {
         ((self.bits & TWO_DIGITS) << 3) & !self.bits != 0
     }

@@ -66,7 +66,7 @@ const STARTS: [&[u8]; 19] = [
     b"restart",
 ];
 
-/// The words for what logs alone are.
+/// The words that name logs and nothing else.
 const CAPTURES: [&[u8]; 5] = [
     b"logfile",
     b"logging",
@@ -75,7 +75,7 @@ const CAPTURES: [&[u8]; 5] = [
     b"snapshot",
 ];
 
-/// The words that say of these that they begin.
+/// The words that say that one of these begins.
 const TURNS: [&[u8]; 4] = [b"enabled", b"enabling", b"listening", b"turned"];
 
 /// The words with which a program begins what it writes.
@@ -100,7 +100,7 @@ fn first_word(text: &[u8]) -> &[u8]
     &text[..letters_before(text)]
 }
 
-/// Returns what of a text comes from a place on.
+/// Returns the rest of a text from a place on.
 fn text_from(text: &[u8], place: usize) -> &[u8]
     requires { place ≤ length text.now }
     ensures { result.now ≡ drop place text.now }

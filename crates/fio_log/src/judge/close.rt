@@ -67,8 +67,8 @@ impl Judge {
         }
     }
 
-    /// Decides on an entry whose octets may be a chain of messages. A chain in one line is one only if it is sure. If it is a
-    /// chain, all that wait above it are decided first.
+    /// Decides on an entry whose octets may be a chain of messages. In one line they are a chain only if it is sure. Before a
+    /// chain, all entries that wait above it are decided.
     fn decide_chain(&mut self, slot: Slot)
         ensures { (log : Log) → IsJudgeOf log self.old → IsJudgeOf log self.new }
     {
@@ -86,7 +86,7 @@ impl Judge {
 }
 
 impl Join {
-    /// Returns whether the lines are nothing but messages, by the first of them.
+    /// Returns whether the lines have nothing but messages, judged by the first line.
     fn is_bare(&self, around: &Around) -> bool {
         match self.lines.chain.message(0) {
             Some(first) => around.is_bare(first),
@@ -108,7 +108,7 @@ impl Join {
 }
 
 impl Decider {
-    /// Counts joined lines as one, and learns how wide the rows of a message are.
+    /// Counts joined lines as one, and learns how many octets the rows of a message have.
     fn see_joined(&mut self, join: &Join, around: &Around, saying: Saying) {
         let octets = join.lines.chain.octets();
         self.keys.clear();
@@ -129,7 +129,7 @@ impl Decider {
         }
     }
 
-    /// Decides on an entry that is a chain of messages, and on all that wait above it.
+    /// Decides on an entry that is a chain of messages, and on all entries that wait above it.
     fn decide_chain(
         &mut self,
         entries: &Entries,

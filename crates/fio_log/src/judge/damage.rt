@@ -8,8 +8,8 @@ use crate::verdict::{Kind, Reason};
 
 impl Decider {
     /// Finds whether an entry that gives no frame may have held one: it says a message that is written as frames are, or
-    /// its text may be the remains of a cut line. In a log that has frames no message is possible: it is damaged or passed
-    /// over.
+    /// its text may be the remains of a cut line. Once a log has frames, such a line is damaged or skipped, and no
+    /// longer only possible.
     pub(crate) fn find_damage(&mut self, entries: &Entries, slot: Slot) {
         let decision = self.queue.get(slot);
         let State::Passed(kind, reason) = decision.state else {
@@ -34,7 +34,7 @@ impl Decider {
         self.settle(slot, State::Passed(kind, reason));
     }
 
-    /// Returns whether an entry says a message that is written as frames are, and is not strange.
+    /// Returns whether an entry says a message that is written as the frames of the log are, and is not strange.
     fn says_in_style(&self, entry: &Entry) -> bool {
         let shapes = &self.shapes;
         for run in entry.runs.as_slice() {
@@ -47,7 +47,7 @@ impl Decider {
         false
     }
 
-    /// Returns whether both the number of a run and the words for its direction are others than those of frames.
+    /// Returns whether both the number and the direction before a run differ from what the lines of frames have.
     fn is_strange(&self, run: &MessageRun) -> bool {
         run.is_against(&self.shapes) && self.shapes.are_of_others(&run.around)
     }

@@ -1,4 +1,4 @@
-//! Decisions of the judge: which entries are frames, and which are passed over.
+//! Decisions of the judge: which entries are frames, and which are skipped.
 use crate::around::Around;
 use crate::judge::decision::State;
 use crate::judge::entries::{Entries, Entry};
@@ -21,16 +21,16 @@ const YOUNG: u64 = 16;
 /// What is kept of a run of a line, or of joined lines, until it is decided.
 #[derive(Clone, Copy, Debug, Default)]
 pub(crate) struct RunKey {
-    /// What surrounds it.
+    /// What surrounds the run.
     pub around: Around,
-    /// Whether it has two octets or more.
+    /// Whether the run has two octets or more.
     pub is_long: bool,
-    /// Whether it begins a message.
+    /// Whether the run begins a message.
     pub is_begun: bool,
 }
 
 impl RunKey {
-    /// Returns what is kept of octets.
+    /// Returns what is kept of a run.
     pub(crate) fn of(around: &Around, octets: &[u8], saying: Saying) -> RunKey {
         RunKey {
             around: *around,
@@ -40,7 +40,7 @@ impl RunKey {
     }
 }
 
-/// What is decided of the entries, and what is known of the log. It does not change what is read of the entries.
+/// What is decided on the entries, and what is known of the log. The entries themselves do not change.
 #[derive(Drop)]
 pub(crate) struct Decider {
     pub shapes: Shapes,
@@ -49,7 +49,7 @@ pub(crate) struct Decider {
     pub above: Above,
     /// The runs of the line that is decided, or of the first one of those that are open.
     pub keys: ArrayVec<RunKey, LINE_RUNS>,
-    /// How their octets would spell a message, if they spell none.
+    /// How their octets would encode a message, if they encode none.
     pub remark: Option<Reason>,
     /// The slot of the entry that further lines may continue.
     pub open: Option<Slot>,
@@ -57,7 +57,7 @@ pub(crate) struct Decider {
     pub chain: Option<Slot>,
     /// How many frames were taken.
     pub count: u64,
-    /// Whether there was a line that is not a bare message.
+    /// Whether a line was anything else than a bare message.
     pub has_others: bool,
     /// Whether a shape became known after the waiting entries were judged.
     pub is_news: bool,
@@ -146,7 +146,7 @@ impl Decider {
     }
 
     /// Returns whether an entry is decided at once: its only run is right by itself, the entry above does not wait for it, and
-    /// nothing is to be learnt of it. Then whether it pairs with the entry above makes no difference.
+    /// there is nothing to learn from it. Then it makes no difference whether it pairs with the entry above.
     fn is_usual(&self, entry: &Entry, slot: Slot) -> bool {
         let [run] = entry.runs.as_slice() else {
             return false;
@@ -158,7 +158,7 @@ impl Decider {
             && run.is_right(false, &self.shapes)
     }
 
-    /// Takes the only run of an entry, of which nothing is to be learnt.
+    /// Takes the only run of an entry from which there is nothing to learn.
     fn take_usual(&mut self, entry: &Entry, slot: Slot) {
         self.settle(slot, State::Taken(0));
         self.count = self.count.saturating_add(1);
@@ -172,8 +172,8 @@ impl Decider {
         }
     }
 
-    /// Keeps what surrounds the last run of two octets or more of the line that is decided; of a line without such a run and
-    /// without a message, its last run.
+    /// Keeps what surrounds the last run of two octets or more of the line that is decided; if it has no such run and no
+    /// message, the last run.
     fn keep_around(&mut self, slot: Slot, says_none: bool) {
         let decision = self.queue.get_mut(slot);
         let mut has_long = !says_none;
@@ -185,7 +185,7 @@ impl Decider {
         }
     }
 
-    /// Counts a line that says no message, for each front of its runs.
+    /// Counts a line that says no message, for the front of each run.
     fn tally_keys(&mut self) {
         let keys = self.keys.as_slice();
         for (index, key) in keys.iter().enumerate() {
@@ -197,7 +197,7 @@ impl Decider {
         }
     }
 
-    /// Counts a line that says a message, for each front of its runs that do.
+    /// Counts a line that says a message, for the front of each run that says one.
     fn tally_runs(&mut self, entry: &Entry) {
         let runs = entry.runs.as_slice();
         for (index, run) in runs.iter().enumerate() {
@@ -209,7 +209,7 @@ impl Decider {
         }
     }
 
-    /// Judges an entry that waits; if a shape becomes known by it, judges all others that wait.
+    /// Judges an entry that waits. If it makes a shape known, judges all others that wait.
     pub(crate) fn judge(&mut self, entries: &Entries, slot: Slot) {
         self.judge_one(entries.get(slot), slot);
         for _ in 0..ENTRIES {
@@ -238,7 +238,7 @@ impl Decider {
         }
     }
 
-    /// Counts the frame of an entry, and learns the shapes of its sure runs that say it.
+    /// Counts the frame of an entry, and learns the shapes of the sure runs that say it.
     pub(crate) fn take(&mut self, entry: &Entry, slot: Slot) {
         self.count = self.count.saturating_add(1);
         let decision = self.queue.get(slot);
@@ -261,7 +261,7 @@ impl Decider {
         }
     }
 
-    /// Passes an entry over.
+    /// Skips an entry.
     pub(crate) fn pass_over(&mut self, entry: &Entry, slot: Slot) {
         let (kind, reason) = if entry.possible().is_some() {
             (Kind::Possible, Reason::ShortMessage)

@@ -1,4 +1,4 @@
-//! Decisions: what is decided of each entry.
+//! Decisions: what is decided on each entry.
 ghost use Rattle.std.specs.Prelude.{◌≡◌, ◌↔◌, true};
 ghost use Rattle.fio_log.specs.declared.verdict.Kind.TheVariants.{Blank};
 
@@ -7,33 +7,33 @@ use crate::judge::entries::{ENTRY_RUNS, Entry};
 use crate::judge::shapes::Shapes;
 use crate::verdict::{Kind, Reason};
 
-/// What is decided of an entry.
+/// What is decided on an entry.
 #[derive(Clone, Copy, Debug, PartialEq, Eq)]
 pub(crate) enum State {
-    /// Nothing: more octets decide on it.
+    /// Nothing yet: later lines decide on it.
     Waiting,
-    /// A kept run is its message.
+    /// The run with this index is its message.
     Taken(usize),
-    /// A command and its answer are, in this order.
+    /// The runs with these indexes are a command and its answer, in this order.
     Both(usize, usize),
-    /// The frames of a chain are its messages.
+    /// Its messages are the frames of a chain.
     Chain,
     /// It gives no frame.
     Passed(Kind, Reason),
 }
 
-/// What is decided of an entry, and what that rests on.
+/// What is decided on an entry, and what the decision rests on.
 #[derive(Clone, Copy, Debug)]
 pub(crate) struct Decision {
     /// The last line of the entry.
     pub until: u64,
     /// What is decided.
     pub state: State,
-    /// Up to how many frames it waits.
+    /// The entry waits until the log has this many frames.
     pub waits: u64,
-    /// What surrounds its last run of two octets or more, or else, if it says no message, its last run.
+    /// What surrounds its last run of two octets or more; if it has none and says no message, its last run.
     pub around: Option<Around>,
-    /// Which of its runs are made sure by other lines.
+    /// Which of its runs other lines make sure.
     sure: [bool; ENTRY_RUNS],
 }
 
@@ -66,7 +66,7 @@ impl Decision {
         }
     }
 
-    /// Returns whether more octets decide on it.
+    /// Returns whether the entry is still undecided.
     pub(crate) fn is_waiting(&self) -> bool {
         self.state == State::Waiting
     }
@@ -153,7 +153,7 @@ impl Decision {
         }
     }
 
-    /// Returns the run that pairs with messages of lines below, if one of its runs is taken: the answer of a pair.
+    /// Returns the run that may pair with messages of later lines, if a run is taken: of a pair the answer.
     pub(crate) fn chosen(&self) -> Option<usize> {
         match self.state {
             State::Taken(index) | State::Both(_, index) => Some(index),

@@ -15,7 +15,8 @@ use crate::sides::said_at;
 const DUMP: u64 = 0x9e37_79b9_7f4a_7c15;
 
 impl Join {
-    /// Begins with the first row of a dump. Returns whether it has octets; `None` if the line is no such row.
+    /// Begins with the first row of a dump. Returns whether the row has octets; `None` if the line is not
+    /// such a row.
     pub(crate) fn begin_dump(&mut self, line: Line) -> Option<bool>
         ensures { (log : Log) → AreJoined log self.old.lines → line.entry.text.now ≡ log line.entry.number
             → AreJoined log self.new.lines }

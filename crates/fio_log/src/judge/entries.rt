@@ -21,14 +21,14 @@ pub(crate) const ENTRY_ROWS: usize = 98;
 /// Lines that have one decision. What is read of them does not change until the verdict of the entry is returned.
 #[derive(Debug, Drop)]
 pub(crate) struct Entry {
-    /// Its first line.
+    /// The entry's first line.
     pub from: u64,
-    /// Its time, in microseconds.
+    /// The entry's time, in microseconds.
     pub time: Option<u64>,
-    /// Why its first line gives no frame if it has no octets, by the words of the line; `None` if these are not read. So the
-    /// default is nothing but zeros, of which a reader can be made in its place, and not on the stack.
+    /// Why its first line gives no frame if it has no octets, by the words of the line; `None` if these are not read. The
+    /// default is all zeros, so that a reader can be made in place instead of on the stack.
     pub without_octets: Reason,
-    /// The runs that say messages, without those of the same octets and shape.
+    /// The runs that say messages, each combination of octets and shape once.
     pub runs: ArrayVec<MessageRun, ENTRY_RUNS>,
     /// Where the octets of its only run are written, if it has several lines.
     pub rows: ArrayVec<Row, ENTRY_ROWS>,
@@ -73,7 +73,7 @@ impl Entry {
         mem::replace(&mut self.runs, ArrayVec::new())
     }
 
-    /// Keeps a run that says a message, if none of the same octets and shape is kept and there is room.
+    /// Keeps a run that says a message, unless one with the same octets and shape is kept, or there is no room.
     #[tactic(auto, using(crate::proofs::MessageRunLemmas::run_pushed))]
     fn keep(&mut self, run: MessageRun)
         ensures written { (log : Log) → IsEntryOf log self.old → IsRunOf log self.old.from self.old.rows.items run
@@ -150,8 +150,8 @@ impl Entry {
         say_same(self.runs.as_slice(), one, other)
     }
 
-    /// Returns the run whose message is possible: the first of those that have two octets or more, or are all of their line,
-    /// if these say one message.
+    /// Returns the run whose message is possible: the first run that has two octets or more or is all of its line, if all such
+    /// runs say one message.
     pub(crate) fn possible(&self) -> Option<usize> {
         let mut found: Option<usize> = None;
         for (index, run) in self.runs.as_slice().iter().enumerate() {
@@ -198,7 +198,7 @@ impl Entry {
         }
     }
 
-    /// Returns whether it is nothing but one message.
+    /// Returns whether the entry is nothing but one message.
     pub(crate) fn is_bare(&self) -> bool {
         match self.runs.as_slice() {
             [only] => only.is_bare,

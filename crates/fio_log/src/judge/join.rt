@@ -1,4 +1,5 @@
-//! Octets on several lines: a dump, the rows of a message, or rows of one octet.
+//! Octets on several lines: a dump, the rows of a message or of a stream of messages, rows of one octet, or a message in two
+//! parts.
 ghost use Rattle.std.specs.Prelude.{◌≡◌, ◌+◌, length};
 ghost use Rattle.std.specs.List.{All};
 ghost use Rattle.fio_log.specs.Frames.{AreJoined, Log};
@@ -16,35 +17,35 @@ use crate::sayings::Saying;
 /// Why lines are one run.
 #[derive(Clone, Copy, Debug, PartialEq, Eq)]
 pub(crate) enum Joining {
-    /// They are rows of one message.
+    /// The lines are rows of one message.
     Rows,
-    /// They are rows of messages, one after another.
+    /// The lines are rows of a stream of messages.
     Stream,
-    /// They begin with the offset of their octets.
+    /// Each line begins with the offset of its octets.
     Dump,
-    /// Each has one octet.
+    /// Each line has one octet.
     Octets,
-    /// They are the two parts of one message.
+    /// The lines are the two parts of one message.
     Parts,
 }
 
 /// Whether a line continues those above it.
 #[derive(Clone, Copy, Debug, PartialEq, Eq)]
 pub(crate) enum Going {
-    /// It does not.
+    /// It does not continue them.
     No,
-    /// It does, and more lines may.
+    /// It continues them, and more lines may follow.
     On,
-    /// It is blank, and the next line may.
+    /// It is blank, and the next line may continue them.
     Blank,
-    /// It does, as the last one.
+    /// It continues them, as the last line.
     Over,
 }
 
 /// Lines whose octets are one run.
 #[derive(Debug, Drop)]
 pub(crate) struct Join {
-    /// Why they are.
+    /// Why their octets are one run.
     pub joining: Joining,
     /// Their octets, and where they are written.
     pub lines: Joined,
@@ -52,9 +53,9 @@ pub(crate) struct Join {
     pub around: Around,
     /// How many octets the first row has.
     pub width: usize,
-    /// Whether the octets are to be passed over: they may be one message or several.
+    /// Whether the octets are to be skipped: they may be one message or several.
     pub is_bad: bool,
-    /// Whether a later row has the same before it as the first one.
+    /// Whether a later row has the same text before it as the first one.
     pub is_same: bool,
     /// Whether the line below the first one is blank; its row is empty.
     pub is_spaced: bool,
@@ -95,7 +96,7 @@ impl Join {
         self.is_begun = false;
     }
 
-    /// Begins with the first row, and returns whether there was room for it. Of a stream all octets of its line are kept.
+    /// Begins with the first row, and returns whether there was room for it. The row of a stream is kept whole, however long.
     pub(crate) fn begin(
         &mut self,
         joining: Joining,
@@ -141,8 +142,8 @@ impl Join {
             && self.lines.push(run.octets.as_slice(), run.start, run.end)
     }
 
-    /// Returns what surrounds the lines: as the first row, but of octet rows only the words before it, which say no direction if
-    /// the octets have no marks: they may be numbers.
+    /// Returns what surrounds the lines: what surrounds the first row, but for octet rows only the words before it. These say
+    /// no direction if the octets have no marks, since such octets may be numbers.
     pub(crate) fn surroundings(&self) -> Around {
         match self.joining {
             Joining::Rows | Joining::Stream | Joining::Dump | Joining::Parts => self.around,
@@ -197,8 +198,8 @@ impl Join {
         }
     }
 
-    /// Reads the next line as a row of messages, one after another: it is all of the line, and says no sure message by itself. A
-    /// shorter one is the last.
+    /// Reads the next line as a row of messages, one after another: it is all of the line, and says no sure message by itself.
+    /// A shorter row is the last one.
     pub(crate) fn flow(&mut self, runs: &LineRuns) -> Going
         ensures { (log : Log) → AreJoined log self.old.lines
             → All (IsLineRun (log (self.old.lines.from + length self.old.lines.rows.items))) runs.now.all.items
@@ -220,8 +221,8 @@ impl Join {
         }
     }
 
-    /// Returns whether a row may be a message by itself, and so no row of this one, which says something with it. If that is
-    /// not known, all rows are to be passed over.
+    /// Returns whether a row may be a message by itself, and so not a row of this message, though the octets say something with
+    /// it. If that is not known, all rows are to be skipped.
     fn is_other(&mut self, row: &LineRun, whole: Saying, shapes: &Shapes) -> bool
         ensures { self.new.lines ≡ self.old.lines }
     {
@@ -307,7 +308,7 @@ fn is_sure(saying: Saying) -> bool {
 /// The number that sets the shapes of octet rows apart from those of lines.
 const OCTETS: u64 = 0xc2b2_ae3d_27d4_eb4f;
 
-/// Returns whether a time is at most two and a half times the shortest step after another; keeps the shortest step.
+/// Returns whether a time comes after another by at most two and a half times the shortest step, and keeps the shortest step.
 fn is_in_step(above: u64, time: u64, step: &mut Option<u64>) -> bool {
     let Some(passed) = time.checked_sub(above) else {
         return true;

@@ -10,16 +10,16 @@ use arrayvec::ArrayVec;
 /// Where a row is written in its line.
 #[derive(Clone, Copy, Debug, Default, PartialEq, Eq)]
 pub(crate) struct Row {
-    /// The index of its first character.
+    /// The index of the row's first character.
     pub start: u16,
-    /// How many characters it has.
+    /// How many characters the row has.
     pub length: u16,
 }
 
 impl Row {
     ghost use Rattle.fio_log.specs.Frames.{row_place};
 
-    /// Returns the row between two indexes of a line; `None` if a row cannot have these.
+    /// Returns the row between two indexes of a line; `None` if they do not fit into a row.
     fn between(start: usize, end: usize) -> Option<Row>
         ensures start { IfSome result (λ row. row.start ≡ start) }
         ensures end { IfSome result (λ row. row.start + row.length ≡ end) }

@@ -17,19 +17,19 @@ use crate::sayings::Saying;
 pub(crate) struct MessageRun {
     /// The message.
     pub message: Message,
-    /// Where it is written in its line.
+    /// Where the run is written in its line.
     pub start: usize,
-    /// Where that ends.
+    /// Where the run ends.
     pub end: usize,
-    /// How it is written.
+    /// How the run is written.
     pub notation: Notation,
-    /// What surrounds it.
+    /// What surrounds the run.
     pub around: Around,
-    /// Whether it is sure by itself.
+    /// Whether the run is sure by itself.
     pub is_sure: bool,
     /// Whether the run has two octets or more.
     pub is_long: bool,
-    /// Whether its line is nothing but the message.
+    /// Whether the run's line is nothing but the message.
     pub is_bare: bool,
 }
 
@@ -84,39 +84,40 @@ impl MessageRun {
         })
     }
 
-    /// Returns whether it may be of a pair: one octet beside words that are not for the direction may be any number.
+    /// Returns whether the run may be of a pair: a single octet beside words that say no direction may be any
+    /// number.
     pub(crate) fn may_pair(&self) -> bool {
         let around = &self.around;
         let has_words = around.before != around.letters;
         self.is_long || (around.direction.is_some() || !has_words) && !around.has_tail
     }
 
-    /// Returns whether it has the octets and the shape of another run.
+    /// Returns whether the run has the octets and the shape of another run.
     pub(crate) fn is_same(&self, other: &MessageRun) -> bool
         ensures { IsTrue result ↔ IsSame other.now self.now }
     {
         self.message.is_same(&other.message) && self.around.whole == other.around.whole
     }
 
-    /// Returns whether it is known, and its line does not say the other direction.
+    /// Returns whether the run is known, and the direction of its line does not count against it.
     pub(crate) fn is_known(&self, shapes: &Shapes) -> bool {
         shapes.know(&self.around) && !self.is_against(shapes)
     }
 
-    /// Returns whether its line says the other direction, and those of frames do not.
+    /// Returns whether the direction that the run's line says counts against the message.
     pub(crate) fn is_against(&self, shapes: &Shapes) -> bool {
         shapes
             .agreement
             .is_against(self.around.said, self.message.direction())
     }
 
-    /// Returns whether it is sure by itself or known or, if other lines make it sure, lacks no digit.
+    /// Returns whether the run is sure by itself or known or, if other lines make it sure, lacks no digit.
     pub(crate) fn is_right(&self, is_sure: bool, shapes: &Shapes) -> bool {
         self.is_sure || is_sure && !shapes.have_lost_a_digit(&self.around) || self.is_known(shapes)
     }
 }
 
-/// Returns the message that octets spell from a place to an end.
+/// Returns the message that octets encode from a place to an end.
 fn part_of(octets: &[u8], from: usize, to: usize) -> Message
     requires spelled { spells (slice_range octets.now from to) ≡ true }
     requires order { from ≤ to }

@@ -13,8 +13,8 @@ use crate::sayings::Saying;
 /// The least number of octets in a row that the next line may continue.
 const ROW_OCTETS: usize = 8;
 
-/// Returns the run that the next line may continue: it is the last of its line, has at least eight octets, and begins a
-/// message or says one of open length. There is none if this is true of runs of different octets, or a run is sure by itself.
+/// Returns the run that the next line may continue: the last run of the line, with at least eight octets that begin a message
+/// or say one of open length. There is none if this holds for runs of different octets, or a run is sure by itself.
 pub(crate) fn first_row(runs: &LineRuns) -> Option<&LineRun>
     ensures { (line : List ℕ) → All (IsLineRun line) runs.now.all.items → IfSome result (λ row. IsLineRun line row.now) }
 {
@@ -50,8 +50,8 @@ fn may_go_on(run: &LineRun) -> bool {
         }
 }
 
-/// Returns the run that the next line may continue as a stream of messages: it is all of its line, and has at least eight octets,
-/// which begin with a message of known length but are none.
+/// Returns the run that the next line may continue as a stream of messages: it is all of its line, and has at least eight
+/// octets, which begin with a message of known length but are not one message.
 pub(crate) fn first_of_stream(runs: &LineRuns) -> Option<&LineRun>
     ensures { (line : List ℕ) → All (IsLineRun line) runs.now.all.items → IfSome result (λ row. IsLineRun line row.now) }
 {

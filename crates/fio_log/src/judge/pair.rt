@@ -10,12 +10,12 @@ use crate::judge::queue::Queue;
 use crate::judge::slots::Slot;
 use arrayvec::ArrayVec;
 
-/// The nearest entry above that says a message which may be of a pair.
+/// The nearest entry above with a message that may be one of a pair.
 #[derive(Drop)]
 pub(crate) struct Above {
-    /// Its slot, while it is kept.
+    /// The slot of the entry, while it is kept.
     slot: Option<Slot>,
-    /// Its runs, once it is not.
+    /// The runs of the entry, once it is no longer kept.
     runs: ArrayVec<MessageRun, ENTRY_RUNS>,
     /// Which of them is its frame, as far as that is known.
     chosen: Option<usize>,
@@ -72,8 +72,8 @@ impl Decider {
         Some(slot)
     }
 
-    /// Makes an entry and the one above sure, if they say a command and its answer; then the entry is the one above, if it may
-    /// be of a pair.
+    /// Makes an entry and the one above sure, if they say a command and its answer. Then the entry becomes the one above, if
+    /// its message may be one of a pair.
     pub(crate) fn pair_with_above(&mut self, entries: &Entries, slot: Slot) {
         if let Some((command, answer)) = self.pair_above(entries, slot) {
             self.queue
@@ -127,8 +127,8 @@ impl Decider {
         pair
     }
 
-    /// Returns whether a run says a command, and another one its answer, of the lines with the front of each at least half
-    /// say messages, and no words for the direction are against it.
+    /// Returns whether one run says a command and the other one its answer, at least half of the lines with the front of each
+    /// say messages, and no direction that their lines say is against it.
     fn is_pair(&self, command: &MessageRun, answer: &MessageRun) -> bool {
         command.message.is_answered_by(&answer.message)
             && command.may_pair()

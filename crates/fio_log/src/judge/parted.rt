@@ -1,4 +1,4 @@
-//! A message that stands in two lines, as terminal programs write what came in two reads.
+//! A message in two lines, as terminal programs write what came in two reads.
 ghost use Rattle.std.specs.Prelude.{◌≡◌, ◌+◌, length};
 ghost use Rattle.std.specs.List.{All};
 ghost use Rattle.fio_log.specs.Frames.{AreJoined, Log};
@@ -13,8 +13,8 @@ use crate::sayings::Saying;
 /// The longest time between the lines of a message, in microseconds.
 const LONGEST_PAUSE: u64 = 1_000_000;
 
-/// Returns whether a run may be the first part of a message: it begins one and is the last of its line, which says a side, has
-/// a time, and says no message.
+/// Returns whether a run may be the first part of a message: it begins a message and is the last run of its line, which says a
+/// side, has a time, and says no message.
 pub(crate) fn is_first_part(run: &LineRun, runs: &LineRuns) -> bool {
     matches!(run.saying, Saying::Begins { .. })
         && run.around.is_last
@@ -34,7 +34,7 @@ impl Join {
         self.is_one_row() && self.is_begun && self.around.said.is_some() && self.time.is_some()
     }
 
-    /// Reads a blank line, below which the other part of the message may be. Its row is empty.
+    /// Reads a blank line, after which the other part of the message may follow. Its row is empty.
     #[tactic(auto, using(crate::proofs::FrameLemmas::empty_row))]
     pub(crate) fn pass_blank(&mut self) -> Going
         ensures { (log : Log) → AreJoined log self.old.lines → AreJoined log self.new.lines }
@@ -49,7 +49,7 @@ impl Join {
         Going::Blank
     }
 
-    /// Reads the next line as the other part of the message: both together confirm themselves.
+    /// Reads the next line as the other part of the message, if the two parts together confirm themselves.
     pub(crate) fn complete(&mut self, runs: &LineRuns) -> Going
         ensures { (log : Log) → AreJoined log self.old.lines
             → All (IsLineRun (log (self.old.lines.from + length self.old.lines.rows.items))) runs.now.all.items
@@ -101,7 +101,7 @@ impl Join {
             && !self.is_of_this_side(run)
     }
 
-    /// Returns whether a run says a message by itself that is sure, or is of the side that sent the first part.
+    /// Returns whether a run says a message by itself that is sure, or that the side of the first part sends.
     fn is_of_this_side(&self, run: &LineRun) -> bool {
         match (run.saying, run.octets.as_slice(), self.lines.chain.octets()) {
             (Saying::Says { is_sure: true, .. }, _, _) => true,

@@ -1,4 +1,4 @@
-//! The entries that wait for their verdict, oldest first: what is decided of each, and the text of its first line.
+//! The entries that wait for their verdict, oldest first: what is decided on each, and the text of its first line.
 ghost use Rattle.std.specs.Prelude.{◌<◌, IsSome};
 ghost use Rattle.fio_log.specs.declared.judge.slots.TheConstants.{ENTRIES};
 
@@ -60,7 +60,7 @@ impl Queue {
         self.texts.get(slot).as_slice()
     }
 
-    /// Returns the slot of the entry that a next line would have; `None` if there is no room.
+    /// Returns the slot for the entry of the next line; `None` if there is no room.
     pub(crate) fn next_slot(&self) -> Option<Slot>
         ensures { self.now.count < ENTRIES → IsSome result }
     {

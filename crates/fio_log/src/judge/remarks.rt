@@ -1,4 +1,4 @@
-//! Remarks on octets that spell no message: what would make one of them.
+//! Remarks on octets that encode no message: what would make them one.
 ghost use Rattle.std.specs.Prelude.{◌↔◌, IsTrue};
 ghost use Rattle.fio_log.specs.Sayings.{LacksLast};
 
@@ -12,8 +12,8 @@ use fio_message::types::{BLOCK_ANSWER, CONFIGURE_INPUTS};
 /// How many octets more a line may have than a message: a header or a check of another kind.
 const MORE: usize = 2;
 
-/// Returns what is remarked of the runs of a line: by the first that would spell a message if it were written otherwise, else by
-/// one that lacks an octet.
+/// Returns the remark on the runs of a line: that of the first run which would encode a message if it were written otherwise,
+/// else that of a run which lacks an octet.
 pub(crate) fn remark_on(runs: &LineRuns) -> Option<Reason> {
     let mut remark = None;
     for run in runs.all.as_slice() {
@@ -28,8 +28,8 @@ pub(crate) fn remark_on(runs: &LineRuns) -> Option<Reason> {
     remark
 }
 
-/// Returns what is remarked of octets that spell no message: how they would spell one that has a count. That they are written
-/// otherwise comes before that one is missing.
+/// Returns the remark on octets that encode no message: how they would encode one that has a count. Another way of writing is
+/// tried before a missing octet.
 pub(crate) fn remark_of(octets: &[u8]) -> Option<Reason> {
     if is_exchanged(octets) {
         Some(Reason::Exchanged)
@@ -42,13 +42,13 @@ pub(crate) fn remark_of(octets: &[u8]) -> Option<Reason> {
     }
 }
 
-/// Returns whether octets spell a message in which a count confirms the length.
+/// Returns whether octets encode a message in which a count confirms the length.
 fn spells_counted(octets: &[u8]) -> bool {
     is_counted(octets) && spelled(octets).is_ok()
 }
 
-/// Returns whether octets spell a message that has a count once those of each pair are exchanged, and perhaps a 0 at the end is
-/// left out, which fills the last pair.
+/// Returns whether octets encode a message that has a count once the two octets of each pair are exchanged; a 0 at the end may
+/// only fill the last pair.
 fn is_exchanged(octets: &[u8]) -> bool {
     if !matches!(octets, [_, BLOCK_ANSWER | CONFIGURE_INPUTS, ..]) {
         return false;
@@ -68,7 +68,7 @@ fn is_exchanged(octets: &[u8]) -> bool {
     exchanged.pop() == Some(0) && spells_counted(exchanged.as_slice())
 }
 
-/// Returns whether octets, without two at their beginning or at their end, spell a message that has a count.
+/// Returns whether octets, without two at their beginning or at their end, encode a message that has a count.
 fn has_two_more(octets: &[u8]) -> bool {
     let Some(end) = octets.len().checked_sub(MORE) else {
         return false;
@@ -76,7 +76,7 @@ fn has_two_more(octets: &[u8]) -> bool {
     spells_counted(&octets[MORE..]) || spells_counted(&octets[..end])
 }
 
-/// Returns whether octets spell a message with any one octet more at the end, and a count in them says so.
+/// Returns whether octets encode a message with any one octet more at the end, and a count in them says so.
 fn lacks_last(octets: &[u8]) -> bool
     ensures { IsTrue result ↔ LacksLast octets.now }
 {

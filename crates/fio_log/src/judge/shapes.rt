@@ -1,5 +1,5 @@
-//! The shapes of a log: in which ways a sure message was written in each, and what its lines said; and how its frames are
-//! written.
+//! The shapes of a log: in which ways sure messages of each shape were written, what its lines said, and how the frames of the
+//! log are written.
 ghost use Rattle.std.specs.Prelude.{◌<◌, IfSome};
 
 use crate::around::{Around, NUMBERS_MARK};
@@ -7,13 +7,13 @@ use crate::directions::Agreement;
 use crate::sources::Sources;
 use crate::ways::Ways;
 
-/// The most shapes that are kept. Lines of further shapes are as those of unknown ones.
+/// The most shapes that are kept. Any further shape stays unknown.
 pub(crate) const SHAPES: usize = 512;
 
-/// How many marks there are, with those of literals and numbers.
+/// How many marks exist, with those of literals and numbers.
 const MARKS: usize = NUMBERS_MARK as usize + 1;
 
-/// How many rows a key can be in.
+/// How many rows of the table are searched for a key.
 const STEPS: usize = 32;
 
 /// What is known of a shape.
@@ -31,12 +31,12 @@ struct ShapeRow {
     width: usize,
 }
 
-/// The shapes of a log. What is known of a shape is known of each of its sources too.
+/// The shapes of a log. Each shape is also kept by source.
 #[derive(Debug, Drop)]
 pub(crate) struct Shapes {
     rows: [ShapeRow; SHAPES],
     sources: Sources,
-    /// How far the words of the log for the direction agree with its frames.
+    /// How far the directions that lines say agree with their frames.
     pub agreement: Agreement,
     has_known: bool,
     /// In which ways frames were written with each mark.
@@ -70,7 +70,7 @@ impl Shapes {
         self.are_filled = [false; MARKS];
     }
 
-    /// Returns the index of the row that a key has or would get; `None` if all are taken.
+    /// Returns the index of the row that a key has or would get; `None` if no row is free.
     fn index_of(&self, key: u64) -> Option<usize>
         ensures { IfSome result (λ index. index < SHAPES) }
     {
@@ -115,12 +115,12 @@ impl Shapes {
         is_known.then_some(row.ways)
     }
 
-    /// Returns whether sure messages had a run's whole shape, and none was of its source.
+    /// Returns whether sure messages had a run's whole shape, but none of them came from its source.
     pub(crate) fn are_of_others(&self, around: &Around) -> bool {
         self.row(around.whole).is_known && self.sources.is_another(around.front, &around.numbers)
     }
 
-    /// Learns in which ways a sure message was written, and returns whether that is new of its whole shape or source.
+    /// Learns in which ways a sure message was written, and returns whether that is new for its whole shape or source.
     pub(crate) fn learn(&mut self, around: &Around) -> bool {
         let mark = usize::from(around.mark);
         if mark < MARKS {
@@ -130,8 +130,8 @@ impl Shapes {
         self.learn_ways(around.whole, around.ways) || is_new
     }
 
-    /// Returns whether nothing would be learnt of a sure message: sure messages of its whole shape were written in all its ways,
-    /// and no numbers are before it.
+    /// Returns whether a sure message would teach nothing: sure messages of its whole shape were written in all its ways, and
+    /// no numbers are before it.
     pub(crate) fn have_nothing_new(&self, around: &Around) -> bool {
         let mark = usize::from(around.mark);
         let row = self.row(around.whole);
@@ -161,7 +161,7 @@ impl Shapes {
         is_new
     }
 
-    /// Counts a line whose run with this front says a message, and returns whether a number is found to be a counter by it.
+    /// Counts a line whose run with this front says a message, and returns whether this shows a number to be a counter.
     pub(crate) fn add_good(&mut self, around: &Around) -> bool {
         self.count(around.front, true);
         if around.ways.is_filled() {
@@ -198,8 +198,8 @@ impl Shapes {
         }
     }
 
-    /// Returns whether a sure message had a run's whole shape and was written so, the run lacks no digit, and at least half of
-    /// the lines with its front say messages.
+    /// Returns whether a run is known: a sure message had its whole shape and was written like it, the run lacks no digit, and
+    /// at least half of the lines with its front say messages.
     pub(crate) fn know(&self, around: &Around) -> bool {
         self.is_mostly_good(around)
             && !self.have_lost_a_digit(around)
@@ -208,7 +208,7 @@ impl Shapes {
                 .is_some_and(|known| around.ways.is_known_in(known))
     }
 
-    /// Returns whether a run is written as frames are; of one word that is not known.
+    /// Returns whether a run is written as frames are. A run of one word never counts.
     pub(crate) fn have_style(&self, around: &Around) -> bool {
         let mark = usize::from(around.mark);
         mark < MARKS && !around.ways.is_any() && around.ways.is_known_in(self.styles[mark])
@@ -232,7 +232,7 @@ impl Shapes {
         row.good > 0 && row.bad == 0
     }
 
-    /// Returns whether at least half of the lines with a run's front said a message, or of those of its source.
+    /// Returns whether at least half of the lines with a run's front said a message, or half of those of its source.
     pub(crate) fn is_mostly_good(&self, around: &Around) -> bool {
         let row = self.row(around.front);
         if row.good >= row.bad {

@@ -45,7 +45,7 @@ impl Slot {
     }
 }
 
-/// A value for each slot. They are made where they stay: an array of this length would first be made on the stack.
+/// A value for each slot. The values are made in place: an array of this length would first be made on the stack.
 #[derive(Drop)]
 pub(crate) struct Slots<T> {
     /// The values, in the order of their slots' indices.

@@ -25,11 +25,11 @@ pub(crate) const LINE_FRAMES: usize = 2;
 /// The frames of the last verdict.
 #[derive(Drop)]
 pub(crate) struct Frames {
-    /// Its messages, if they are no chain.
+    /// The messages, if they are not a chain.
     pub messages: ArrayVec<Message, LINE_FRAMES>,
     /// The places where they are written.
     pub places: ArrayVec<Place, ENTRY_ROWS>,
-    /// Whether they are those of the chain of the lines that were joined last.
+    /// Whether the frames are the chain of the lines that were joined last.
     pub are_chain: bool,
 }
 
@@ -57,7 +57,7 @@ impl Frames {
         self.are_chain = false;
     }
 
-    /// Returns how many frames there are. The chain is that of the lines that were joined last.
+    /// Returns the number of frames. A chain is the one of the lines that were joined last.
     #[tactic(auto, using(crate::proofs::RoomLemmas::messages_short))]
     pub(crate) fn count(&self, lines: &Joined) -> usize
         ensures count { result ≡ length (frames_told lines.now self.now) }
@@ -71,7 +71,7 @@ impl Frames {
         }
     }
 
-    /// Returns at how many places they are written.
+    /// Returns the number of places where the frames are written.
     #[tactic(auto, using(crate::proofs::FrameLemmas::length_row_places))]
     pub(crate) fn place_count(&self, lines: &Joined) -> usize
         ensures count { result ≡ length (places_told lines.now self.now) }
@@ -84,7 +84,7 @@ impl Frames {
         }
     }
 
-    /// Returns whether they are written from a line on, each place behind the one above it.
+    /// Returns whether the frames are written from a line on, each place after the one before it.
     fn are_in(&self, line: u64, lines: &Joined) -> bool
         ensures { result ≡ true → AreOfLine line (places_told lines.now self.now) }
     {
@@ -95,8 +95,8 @@ impl Frames {
         }
     }
 
-    /// Returns the kind of a line that has these frames: the one that is decided, unless that has other frames or these are
-    /// written elsewhere. Then it has none, and is passed over.
+    /// Returns the kind of a line with these frames: the kind that is decided, unless lines of that kind have another number of
+    /// frames, or the frames are written elsewhere. Then all frames are dropped, and the line is skipped.
     fn agree(&mut self, kind: Kind, line: u64, lines: &Joined) -> Kind
         ensures frames { HasFrames result (length (frames_told lines.now self.new)) }
         ensures placed { (length (frames_told lines.now self.new) ≡ 0) ↔ (length (places_told lines.now self.new) ≡ 0) }
@@ -219,7 +219,7 @@ impl Judge {
         }
     }
 
-    /// Returns what a line is, and takes its messages. Removes the entries before it.
+    /// Returns the verdict on a line, and takes its messages. Removes the entries before it.
     pub(crate) fn tell(&mut self, line: u64, is_blank: bool, frames: &mut Frames) -> Verdict
         ensures judge { (log : Log) → IsJudgeOf log self.old → IsJudgeOf log self.new }
         ensures frames { (log : Log) → IsJudgeOf log self.old → AreFramesOf log frames.new }
@@ -277,7 +277,7 @@ impl Judge {
     }
 }
 
-/// Returns the verdict on a line of which nothing is kept.
+/// Returns the verdict on a line that has no entry.
 fn verdict_without_entry(line: u64, is_blank: bool) -> Verdict
     ensures none { HasFrames result.kind 0 }
     ensures reason { HasReason result.kind result.reason }
@@ -299,7 +299,7 @@ fn gives_octets(kind: Kind) -> bool
     matches!(kind, Kind::Frames | Kind::Possible)
 }
 
-/// Returns whether a line of a kind has so many frames: some, exactly one, or none.
+/// Returns whether a line of a kind has `count` frames: one or more, exactly one, or none.
 fn has_frames(kind: Kind, count: usize) -> bool
     ensures { result ≡ true → HasFrames kind count }
 {
@@ -310,8 +310,8 @@ fn has_frames(kind: Kind, count: usize) -> bool
     }
 }
 
-/// Returns the reason why a line of a kind gave no frame: the one that is decided, if lines of its kind have it. Without that it
-/// has no octets, or these spell no message.
+/// Returns why a line of a kind gave no frame: for the reason that is decided, if lines of its kind may have it; otherwise
+/// because it has no octets, or these encode no message.
 fn reason_for(kind: Kind, reason: Reason) -> Reason
     ensures has { HasReason kind result }
     ensures words { (line : List ℕ) → SaysWords line reason → SaysWords line result }

@@ -1,4 +1,4 @@
-//! The words of a log around its frames, and lines that are what a cut left of a frame's line.
+//! The words around the frames of a log, by which the remains of a frame's line that was cut are recognised.
 use crate::digits::{digit, is_decimal, is_letter};
 use crate::masks::{Mask, NO_SUM, with_character};
 use crate::surroundings::read_after;
@@ -6,14 +6,13 @@ use crate::surroundings::read_after;
 /// The sum of no word after octets.
 const NO_WORD: u64 = !NO_SUM;
 
-/// The most beginnings that are kept. Further ones are not known.
+/// The most beginnings that are kept. Any further one stays unknown.
 const BEGINNINGS: usize = 1024;
 
-/// How many rows a beginning can be in.
+/// How many rows of the table are searched for a beginning.
 const STEPS: usize = 32;
 
-/// The sums of all beginnings of what is before the octets of frames, and of the words after them; 0 in rows that are
-/// free.
+/// The sums of all beginnings of the texts before the octets of frames, and of the words after them; 0 in free rows.
 #[derive(Clone, Copy, Debug)]
 pub(crate) struct Vocabulary {
     sums: [u64; BEGINNINGS],
@@ -69,8 +68,9 @@ impl Vocabulary {
         }
     }
 
-    /// Returns whether a text may be left of the line of a frame: it has words, and after a beginning of what is
-    /// before octets, perhaps nothing, each is the beginning of one after octets, perhaps nothing, and then digits.
+    /// Returns whether a text may be what is left of the line of a frame. It has words: first a beginning of a text
+    /// before octets, perhaps an empty one; then each word begins like one after octets, perhaps with digits at its
+    /// end.
     pub(crate) fn may_be_left(&self, text: &[u8]) -> bool {
         let (mut mask, mut is_before) = (Mask::new(), true);
         let (mut sum, mut is_known, mut has_words) = (NO_WORD, true, false);

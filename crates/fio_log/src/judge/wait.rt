@@ -6,8 +6,7 @@ use crate::judge::slots::{ENTRIES, Slot, WAITING};
 
 impl Decider {
     /// Ends the wait of an entry. A line that is nothing but a message is a frame if each line of its shape so far said
-    /// one, its numbers are those of frames, and its word for the direction means what those of frames do; without such a
-    /// word, if each line of the log did.
+    /// one, its numbers are those of frames, and its direction does not count against it.
     pub(crate) fn give_up(&mut self, entries: &Entries, slot: Slot) {
         let entry = entries.get(slot);
         if !self.queue.get(slot).is_waiting() {
@@ -31,8 +30,8 @@ impl Decider {
         }
     }
 
-    /// Returns whether each line so far with the front of a run said a message; if there is nothing before the run, whether
-    /// each line of the log did.
+    /// Returns whether each line so far with the front of a run said a message. If nothing is before the run: whether no
+    /// line of the log was anything else than a bare message, and no shape is known.
     pub(crate) fn is_alone(&self, around: &Around) -> bool {
         if around.has_before {
             self.shapes.is_always_good(around.front)
@@ -51,7 +50,7 @@ impl Decider {
         }
     }
 
-    /// Ends the wait of those that have waited long enough.
+    /// Ends the wait of the entries that have waited long enough.
     pub(crate) fn give_up_old(&mut self, entries: &Entries) {
         let count = self.queue.len().min(ENTRIES);
         for position in 0..count {
