@@ -1341,13 +1341,13 @@ struct fio2070_log_counts {
     uint64_t polls;
     /** The polls with the number of the poll above. */
     uint64_t repeats;
-    /** The polls below which a command comes before a block answer. */
+    /** The polls after which a command comes before a block answer. */
     uint64_t unanswered;
     /** The gap marks. */
     uint64_t marks;
     /** The entries of blocks. */
     uint64_t entries;
-    /** How often the module says that it was reset, and did not say so before. */
+    /** How often the module says that it was reset, though it did not say so before. */
     uint64_t restarts;
     /** The messages of each type. */
     uint64_t types[256];
@@ -1357,27 +1357,27 @@ struct fio2070_log_counts {
     uint64_t fills[256];
     /** When the command above was sent, in microseconds. */
     uint64_t sent_at;
-    /** 1 where that is known. */
+    /** 1 if that is known. */
     uint8_t has_sent_at;
     /** The type of the latest command, until it is answered. */
     uint8_t command;
-    /** 1 where there is one. */
+    /** 1 if there is one. */
     uint8_t has_command;
     /** The number of the latest poll. */
     uint8_t polled;
-    /** 1 where there is one. */
+    /** 1 if there is one. */
     uint8_t has_polled;
-    /** 1 where that poll is not answered yet. */
+    /** 1 if that poll is not answered yet. */
     uint8_t waits;
     /** The number of the latest block answer. */
     uint8_t block;
-    /** 1 where there is one. */
+    /** 1 if there is one. */
     uint8_t has_block;
-    /** 1 where the latest status answer says that the module was reset. */
+    /** 1 if the latest status answer says that the module was reset. */
     uint8_t reset;
-    /** 1 where the first one says so. */
+    /** 1 if the first one says so. */
     uint8_t first_reset;
-    /** 1 where there is one. */
+    /** 1 if there is one. */
     uint8_t has_reset;
     /** 0 in each octet that the library writes. */
     uint8_t reserved[5];

@@ -22,12 +22,12 @@ use Rattle.fio_check.specs.declared.verdict.Verdict.TheVariants.{Good, Broken}
 
 -- ---- one line
 
--- what was due, where anything was, and what the line has
+-- what was due, if anything was, and what the line has instead
 abbrev pub instead_of : Option ℕ → ℕ → Option Due
 instead_of due actual = option_map (λ expected. record { expected = expected; actual = actual }) due
 
--- what was due by a rule, below lines of which these facts hold: the type of an answer below a
--- command, the number of a block answer or of a poll
+-- what was due by a rule, given the facts above: the type of an answer below a command, the number of a block answer or
+-- of a poll
 abbrev pub due_in : Facts → Observation → Rule → Option Due
 due_in facts (Answer code accepted) Pair = instead_of facts.awaited code
 due_in facts (Block number status entries absent) Pair = instead_of facts.awaited BLOCK_ANSWER
@@ -35,13 +35,13 @@ due_in facts (Block number status entries absent) Number = instead_of facts.poll
 due_in facts (Poll number) Advance = instead_of (number_due facts) number
 due_in facts observation rule = None
 
--- the first rule that a line breaks which says this, with these limits, and what was due
+-- the first rule that a line with this observation breaks, with these limits, and what was due
 abbrev pub breach_of : Limits → Facts → Observation → Option Breach
 breach_of limits facts observation =
     option_map (λ rule. record { rule = rule; due = due_in facts observation rule })
     (first_broken_within limits facts observation)
 
--- a checker of a module with these limits that passes over these frames, and knows nothing of what is above
+-- a checker of a module with these limits that skips these frames, and knows nothing of the lines above
 abbrev pub checker_skipping : Skips → Limits → Checker
 checker_skipping skips limits = record { limits = limits; facts = no_facts; skips = skips }
 
@@ -49,7 +49,7 @@ checker_skipping skips limits = record { limits = limits; facts = no_facts; skip
 abbrev pub checker_within : Limits → Checker
 checker_within limits = checker_skipping Nothing limits
 
--- the same with the limits of TEES 2009
+-- a checker above the first line, with the limits of TEES 2009
 abbrev pub new_checker : Checker
 new_checker = checker_within standard_limits
 
@@ -61,18 +61,19 @@ checker_anywhere limits = checker_skipping ToCommand limits
 abbrev pub checker_below_breach : Limits → Checker
 checker_below_breach limits = checker_skipping ToPoll limits
 
--- what it passes over, by whether the CPU sent it: what is heard above the first command, or all above the next poll
+-- whether a checker skips a frame that the CPU sent or heard: frames heard above the first command, or all frames above
+-- the next poll
 abbrev pub skips_frame : Skips → Bool → Bool
 skips_frame Nothing from_cpu = false
 skips_frame ToCommand from_cpu = not from_cpu
 skips_frame ToPoll from_cpu = true
 
--- it passes over no poll
+-- whether a checker skips a line: it skips no poll
 abbrev pub passes_over : Checker → Bool → Observation → Bool
 passes_over checker from_cpu (Poll number) = false
 passes_over checker from_cpu observation = skips_frame checker.skips from_cpu
 
--- what it finds in a line that says this, by whether the CPU sent it
+-- what a checker finds in a line with this observation that the CPU sent or heard
 abbrev pub found_by : Checker → Bool → Observation → Option Breach
 found_by checker from_cpu observation =
     if passes_over checker from_cpu observation then None else breach_of checker.limits checker.facts observation
@@ -86,26 +87,26 @@ checker_with checker from_cpu observation =
 
 -- ---- all lines
 
--- the checker that took the lines above a place, by what it was above the first
+-- a checker, given as it was above the first line, after the lines above a place
 abbrev pub checker_from : Checker → List TranscriptLine → ℕ → Checker
 checker_from checker lines zero = checker
 checker_from checker lines (suc place) =
     checker_with (checker_from checker lines place) (is_sent_at lines place) (observation_at lines place)
 
--- what it finds in the line at the place
+-- what that checker finds in the line at the place
 abbrev pub found_from : Checker → List TranscriptLine → ℕ → Option Breach
 found_from checker lines place =
     found_by (checker_from checker lines place) (is_sent_at lines place) (observation_at lines place)
 
--- the checker above a place that starts above the first line, of a module with these limits
+-- the checker at a place, started above the first line, of a module with these limits
 abbrev pub checker_at : Limits → List TranscriptLine → ℕ → Checker
 checker_at limits = checker_from (checker_within limits)
 
--- what that one finds in the line at the place
+-- what the checker started above the first line finds in the line at the place
 abbrev pub found_at : Limits → List TranscriptLine → ℕ → Option Breach
 found_at limits = found_from (checker_within limits)
 
--- the same as a verdict, with the limits of TEES 2009
+-- that finding as a verdict, with the limits of TEES 2009
 abbrev pub verdict_found_at : List TranscriptLine → ℕ → Option Verdict
 verdict_found_at lines place =
     option_and_then (λ line. option_map (λ breach. Broken line.number breach.rule) (found_at standard_limits lines place))
@@ -121,8 +122,8 @@ abbrev pub HasNoPollBetween : List TranscriptLine → ℕ → ℕ → Type 0
 HasNoPollBetween lines above below = (between : ℕ) → above < between → between < below
     → number_polled (observation_at lines between) ≡ None
 
--- below a breach nothing is found above the next poll, and from that poll on a checker finds what
--- one finds that starts there
+-- Below a breach nothing is found above the next poll. From that poll on, a checker finds what a checker started there
+-- finds.
 pub record GoesOn (limits : Limits) (lines : List TranscriptLine) : Type 0 where
   pub passes : (breach place : ℕ) → is_some (found_at limits lines breach) ≡ true → breach < place
       → HasNoPollBetween lines breach (suc place) → found_at limits lines place ≡ None
@@ -131,8 +132,8 @@ pub record GoesOn (limits : Limits) (lines : List TranscriptLine) : Type 0 where
       → HasNoPollBetween lines breach poll
       → found_at limits lines (poll + further) ≡ found_at limits (drop poll lines) further
 
--- Of a log that begins anywhere a checker finds nothing above the first command, and from that command on what one finds
--- that starts there.
+-- In a log that begins anywhere a checker finds nothing above the first command. From that command on, it finds what a
+-- checker started there finds.
 pub record BeginsAnywhere (limits : Limits) (lines : List TranscriptLine) : Type 0 where
   pub passes : (place : ℕ) → place + length (from_first_command lines) < length lines
       → found_from (checker_anywhere limits) lines place ≡ None

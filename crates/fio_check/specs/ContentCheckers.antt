@@ -13,20 +13,20 @@ use Rattle.fio_check.specs.declared.content.ContentBreach.{ContentBreach}
 use Rattle.fio_check.specs.declared.content_rules.BrokenRule.{BrokenRule}
 use Rattle.fio_check.specs.declared.content_rules.ContentRule.{ContentRule}
 
--- what the checker keeps: the CPU's number, if there is a poll above, and what is above
+-- what the checker keeps: the CPU's number, if a poll is above, and the facts above
 pub record ContentKept : Type 0 where
   pub number : Option ℕ
   pub facts : ContentFacts
 
--- above the first frame, by whether the frames begin with both ends
+-- what is kept above the first frame, by whether the log begins with both ends
 abbrev pub kept_at_start : Bool → ContentKept
 kept_at_start begun = record { number = None; facts = fold content_with no_content (events_above begun) }
 
--- a rule that is broken, below this many items of its frame
+-- a broken rule, below this number of items of its frame
 abbrev pub breach_below : ℕ → BrokenRule → ContentBreach
 breach_below items broken = record { items = items; input = broken.input; rule = broken.rule }
 
--- the breach of an event, below this many items
+-- the breach of an event, below this number of items
 abbrev pub breach_found : ContentFacts → ℕ → ContentEvent → Option ContentBreach
 breach_found facts items event = option_map (breach_below items) (rule_broken_by facts event)
 
@@ -34,7 +34,7 @@ breach_found facts items event = option_map (breach_below items) (rule_broken_by
 abbrev pub items_below : ℕ → ContentEvent → ℕ
 items_below items event = items + length (item_of_event event)
 
--- the first breach of events, below this many items
+-- the first breach of events, below this number of items
 abbrev pub breach_among : ContentFacts → ℕ → List ContentEvent → Option ContentBreach
 breach_among facts items [] = None
 breach_among facts items (event ∷ events) = option_or (breach_found facts items event)
@@ -45,7 +45,7 @@ abbrev pub content_found : ContentKept → Bool → List ℕ → Option ContentB
 content_found kept from_cpu octets =
     breach_among kept.facts 0 (events_in kept.number from_cpu octets)
 
--- what is kept below these events, where the number is this one
+-- what is kept below these events, with this number of the CPU
 abbrev pub kept_below : ContentKept → Option ℕ → List ContentEvent → ContentKept
 kept_below kept number events =
     record { number = number; facts = fold content_with kept.facts events }
@@ -57,13 +57,13 @@ kept_with kept from_cpu octets = kept_below kept (number_below kept.number from_
 
 -- ---- from the first command on
 
--- a checker: whether it judges, and what it keeps. Above the first command of a log that begins later than both ends it
--- passes over what is heard.
+-- a checker: whether it judges, and what it keeps. In a log that begins later than both ends it skips what is heard
+-- above the first command.
 pub record ContentChecking : Type 0 where
   pub begun : Bool
   pub kept : ContentKept
 
--- above the first frame
+-- a checker above the first frame
 abbrev pub checking_at_start : Bool → ContentChecking
 checking_at_start begun = record { begun = begun; kept = kept_at_start begun }
 

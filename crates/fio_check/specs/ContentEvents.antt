@@ -16,8 +16,8 @@ use Rattle.fio_cpu.specs.declared.record.Item.{Item}
 use Rattle.fio_check.specs.Lines.{TranscriptLine, command_from, answer_from, from_first_command}
 use Rattle.fio_check.specs.Places.{is_some_and}
 
--- what the CPU's end does: it sends a command; it hears an answer, of the block answers those that it takes; it records an
--- item of a block; or it has recorded all items of a block with this status and stamp
+-- what the CPU's end does: it sends a command; it hears an answer, but of the block answers only those that it takes; it
+-- records an item of a block; or it has recorded all items of a block with this status and stamp
 pub data ContentEvent : Type 0 where
   Sent : (command : Command) → ContentEvent
   Heard : (answer : Answer) → ContentEvent
@@ -57,13 +57,13 @@ events_of_answer number (answers.Block block entries status stamp) = if is_taken
     else []
 events_of_answer number answer = Heard answer ∷ []
 
--- by the command that a frame sends, or the answer that it has
+-- the number after a frame, by its command or its answer
 abbrev pub number_after : Option ℕ → Option Command → Option Answer → Option ℕ
 number_after number (Some command) heard = number_with_command number command
 number_after number None (Some answer) = number_with_answer number answer
 number_after number None None = number
 
--- the same of the events
+-- the events of a frame, by its command or its answer
 abbrev pub content_events : Option ℕ → Option Command → Option Answer → List ContentEvent
 content_events number (Some command) heard = Sent command ∷ []
 content_events number None (Some answer) = events_of_answer number answer
@@ -103,7 +103,7 @@ events_of_lines lines = events_below None lines
 
 -- ---- a log that begins with both ends
 
--- an item as an input stands at the start of a module: ignored, with the filters of the start
+-- the configuration of an input at the start of a module: ignored, with the initial filters
 abbrev pub item_at_start : ℕ → InputItem
 item_at_start input =
     record { input = input; ignore = true; leading = DEFAULT_FILTER; trailing = DEFAULT_FILTER }
@@ -113,18 +113,18 @@ unfoldable pub items_at_start : ℕ → List InputItem
 items_at_start zero = []
 items_at_start (suc input) = items_at_start input ++ (item_at_start input ∷ [])
 
--- what stands above the first line for the start of both ends: each input is configured as it is at the start of a module,
--- and that is taken; and a clear block without entries is taken, at the time 0
+-- the events that represent the start of both ends above the first line: each input is configured as at the start of a
+-- module, and that is accepted; then a clear block without entries is taken, at time 0
 abbrev pub events_at_start : List ContentEvent
 events_at_start = Sent (commands.ConfigureInputs (record { items = items_at_start INPUTS }))
     ∷ (Heard (answers.ConfigureInputs 0)
     ∷ events_of_block (record { number = 0; entries = []; status = 0; stamp = 0 }))
 
--- the events above the first line: none where a log begins later than both ends
+-- the events above the first line: none if a log begins later than both ends
 abbrev pub events_above : Bool → List ContentEvent
 events_above begun = if begun then events_at_start else []
 
--- the lines that are judged: all of a log that begins with both ends, of any other those from the first command on
+-- the lines that are judged: all if a log begins with both ends, else those from the first command on
 abbrev pub judged_lines : Bool → List TranscriptLine → List TranscriptLine
 judged_lines begun lines = if begun then lines else from_first_command lines
 
@@ -133,7 +133,7 @@ abbrev pub events_of_log : Bool → List TranscriptLine → List LineEvent
 events_of_log begun lines =
     map (λ event. record { line = 0; event = event }) (events_above begun) ++ events_of_lines (judged_lines begun lines)
 
--- the event at a place, where there is one; the first has place 0
+-- the event at a place, if there is one; the first has place 0
 abbrev pub content_event_at : List LineEvent → ℕ → Option ContentEvent
 content_event_at events place = option_map (λ found. found.event) (slice_get events place)
 

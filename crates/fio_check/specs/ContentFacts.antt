@@ -1,4 +1,4 @@
--- What is above an event, kept event by event. By the law `laws::content_is_kept` this is what `ContentAbove` defines by
+-- What is above an event, updated event by event. By the law `laws::content_is_kept` this is what `ContentAbove` defines by
 -- places.
 use Rattle.std.specs.Prelude.{ℕ, ◌==◌, Bool, ◌&&◌, ◌||◌, true, false, List, Option, Some, None, is_some, not, nat_lt, option_and_then, option_map, unwrap_or, if◌then◌else◌}
 use Rattle.std.specs.Option.{option_or}
@@ -15,7 +15,7 @@ use Rattle.fio_check.specs.ContentEvents.{ContentEvent, Sent, Heard, Recorded, E
 use Rattle.fio_check.specs.Observations.{names_absent}
 use Rattle.fio_check.specs.Places.{is_some_and}
 
--- nothing is above of an input
+-- an input of which nothing is above
 abbrev pub no_input : InputAbove
 no_input = record {
   named = false;
@@ -54,11 +54,11 @@ no_content = record {
 
 -- ---- a command
 
--- an entry that is watched, below an item that ignores its input
+-- a watched entry, below an item that ignores its input
 abbrev pub shaded : WatchedState → WatchedState
 shaded watched = record watched { shaded = true }
 
--- and below one that opens it
+-- a watched entry below an item that opens its input: it is no longer watched if it was shaded
 abbrev pub unless_shaded : WatchedState → Option WatchedState
 unless_shaded watched = if watched.shaded then None else Some watched
 
@@ -110,14 +110,15 @@ with_command facts command = record facts {
   inputs = λ input. unnamed (facts.inputs input);
 }
 
--- the facts with a command whose items are known: each is sent since the first poll for the block that is due, if that is above
+-- the facts with a command whose items are known: each counts as sent since the first poll for the block that is due, if that
+-- poll is above
 abbrev pub with_since_poll : ContentFacts → ContentFacts
 with_since_poll facts =
     record facts { since_poll = λ input. (facts.polled && (facts.inputs input).named) || facts.since_poll input }
 
 -- ---- an answer
 
--- an input below the answer that a configuration was taken or not
+-- an input below the answer that its configuration was taken, or that it was not
 abbrev pub input_with_answer : Bool → InputAbove → InputAbove
 input_with_answer accepted above =
     record above { named = false; taken = (accepted && above.named) || above.taken }
@@ -127,11 +128,11 @@ abbrev pub seen_with : ContentFacts → Option Seen → Option Seen
 seen_with facts None = facts.seen
 seen_with facts (Some seen) = if facts.timely then Some seen else None
 
--- a block with this stamp, if any is heard, was made long after the latest block without C
+-- a block with this stamp, if one is heard, was made long after the latest block without C
 abbrev pub is_aging : ContentFacts → Option ℕ → Bool
 is_aging facts stamp = is_some_and stamp (λ now. is_some_and facts.full (λ full. is_far full now))
 
--- the facts below an answer, as far as any answer changes them
+-- the facts below an answer, as far as every answer changes them
 abbrev pub below_answer : ContentFacts → Answer → ContentFacts
 below_answer facts answer = record facts {
   clearing = 0;
@@ -189,7 +190,7 @@ input_below_clear above None = record above { hidden = false; reopened = false; 
 input_below_clear above (Some item) =
     record above { hidden = false; reopened = false; touched = false; shut = item.ignore; least = item.filters }
 
--- that item: the last one, if it was taken
+-- the item that is settled: the last one, if it was taken
 abbrev pub settled_now : InputAbove → Option SentItem
 settled_now above = if above.taken then above.item else None
 
@@ -242,7 +243,7 @@ content_step facts (Ended status stamp) =
     } in
     if is_clear_end (Ended status stamp) then below_clear ended stamp else ended
 
--- an input, by whether all that is known of times is forgotten
+-- an input, after forgetting all times if that is asked
 abbrev pub forgetting_input : Bool → InputAbove → InputAbove
 forgetting_input forgets above = record above {
   timed = if forgets then None else above.timed;
@@ -250,7 +251,7 @@ forgetting_input forgets above = record above {
   unlogged = not forgets && above.unlogged;
 }
 
--- the facts, by whether an event is excused: then one excuse is used, and all that is known of times is forgotten
+-- the facts, after using one excuse and forgetting all times if an event is excused
 abbrev pub forgetting : Bool → ContentFacts → ContentFacts
 forgetting forgets facts = record facts {
   excuses = if forgets then one_excuse_less facts.excuses else facts.excuses;
@@ -279,7 +280,7 @@ input_begun = record no_input {
   least = filters_of (item_at_start 0);
 }
 
--- what is above the first line where both ends begin
+-- what is above the first line if both ends begin there
 abbrev pub content_begun : ContentFacts
 content_begun = record no_content {
   clear = true;

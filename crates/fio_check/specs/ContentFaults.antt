@@ -9,8 +9,8 @@ use Rattle.fio_check.specs.Places.{earliest_above}
 use Rattle.fio_check.specs.declared.content_rules.BrokenRule.{BrokenRule}
 use Rattle.fio_check.specs.declared.content_rules.ContentRule.{ContentRule}
 
--- where a rule on content is broken: the number of the line, the input if there is one, the rule, and the items of the
--- record above
+-- where a rule on content is broken: the number of the line, the input if one is involved, the rule, and the items of
+-- the record above
 pub record ContentFault : Type 0 where
   pub line : ℕ
   pub input : Option ℕ

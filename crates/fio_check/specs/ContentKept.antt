@@ -1,5 +1,5 @@
--- What the fields of the checker of the rules on content stand for. A flag is an octet: 0 is no. In a set of inputs, bit i
--- is input i.
+-- What the fields of the checker of the rules on content mean. A flag is an octet: 0 is false. In a set of inputs, bit i is
+-- input i.
 use Rattle.std.specs.Prelude.{ℕ, ◌==◌, Bool, not, List, Option, Some, None, slice_index_or, if◌then◌else◌}
 use Rattle.fio_message.specs.Bits.{is_set}
 use Rattle.fio_check.specs.ContentKnown.{ContentFacts, InputAbove}
@@ -13,11 +13,11 @@ use Rattle.fio_check.specs.declared.content.ContentChecker.{ContentChecker}
 abbrev pub is_flagged : ℕ → Bool
 is_flagged octet = not (octet == 0)
 
--- a number that there is where a flag says so
+-- a number, if its flag is set
 abbrev pub flagged_number : ℕ → ℕ → Option ℕ
 flagged_number has number = if has == 0 then None else Some number
 
--- what is where an input is in a set
+-- a value, if an input is in a set
 abbrev pub some_in : {A : Type 0} → ℕ → ℕ → A → Option A
 some_in set input value = if is_set set input then Some value else None
 
@@ -35,8 +35,8 @@ item_in inputs input = record {
   filters = filters_in inputs.leading inputs.trailing input;
 }
 
--- what is above of an input, as far as it is kept: where its last item is settled, no other was sent since, and its filters
--- are the least ones
+-- what is kept of the events above for an input: if its last item is settled, no other was sent since, and its filters are
+-- the lowest ones
 abbrev pub input_kept : ContentInputs → ℕ → InputAbove
 input_kept inputs input = record {
   named = is_set inputs.named input;
@@ -55,8 +55,7 @@ input_kept inputs input = record {
       else filters_in inputs.least_leading inputs.least_trailing input;
 }
 
--- the floor of later entries, by octets: the first is 0 where there is none, 1 where it is an entry, else the end of a
--- block
+-- the floor of later entries, by its octets: the first is 0 for none, 1 for an entry, else the end of a block
 abbrev pub floor_in : ℕ → ℕ → ℕ → Option Floor
 floor_in kind time input = if kind == 0
     then None
@@ -66,7 +65,7 @@ floor_in kind time input = if kind == 0
 abbrev pub seen_kept : ContentAbove → Seen
 seen_kept above = record { stamp = above.seen; levels = above.seen_levels }
 
--- what is above, as far as it is kept
+-- the facts that are kept of the events above
 abbrev pub facts_kept : ContentAbove → ContentFacts
 facts_kept above = record {
   excuses = above.excuses;

@@ -1,8 +1,8 @@
 -- What the rules on content read of what is above an event, and how states that were asked for change it.
 --
--- A clear block is a block answer with neither C nor E. Without E it was made at the poll directly above it, so each
--- command above was received or is lost. Without C it took all entries that waited, so each entry below was logged later. A
--- clear block settles each input; so can a block that is sent again.
+-- A clear block is a block answer with neither C nor E. Without E it was made at the poll directly above it, so each command
+-- above was received or is lost. Without C it took all waiting entries, so each entry below was logged later. A clear block
+-- settles each input; so can a block that is sent again.
 use Rattle.std.specs.Prelude.{ℕ, Bool, ◌&&◌, ◌||◌, Option, Some, None, nat_lt, not, if◌then◌else◌}
 use Rattle.std.specs.Bool.{beq}
 use Rattle.fio_message.specs.Bits.{is_set}
@@ -29,7 +29,7 @@ pub record InputAbove : Type 0 where
   pub taken : Bool
   -- an item that ignores it was sent since the latest block that settles it
   pub hidden : Bool
-  -- and below that one an item that opens it
+  -- below that one an item was sent that opens it
   pub reopened : Bool
   -- its latest entry, if it is watched
   pub watched : Option WatchedState
@@ -37,14 +37,14 @@ pub record InputAbove : Type 0 where
   pub timed : Option ℕ
   -- an item of it was sent since the latest block that settles it
   pub touched : Bool
-  -- its state in the latest 181 that the record has come to, if no item of it was sent since the block above that settles it, and
-  -- neither an entry of it nor a gap mark is recorded since
+  -- its state in the latest 181 that the record has come to, if since then neither an entry of it nor a gap mark is recorded,
+  -- and no item of it was sent since the block above that settles it
   pub told : Option Bool
   -- the record came to a 181 with the other state: its changes are not logged, and no item of it was sent since
   pub unlogged : Bool
   -- it is ignored for each entry that is logged from now on
   pub shut : Bool
-  -- the least filters that can be in force for it
+  -- the lowest filters that can be in force for it
   pub least : FilterPair
 
 -- what the rules on content read
@@ -61,23 +61,23 @@ pub record ContentFacts : Type 0 where
   pub clear : Bool
   -- a poll was sent since the latest block
   pub polled : Bool
-  -- of each input: an item of it was sent below such a poll
+  -- for each input: an item of it was sent below a poll for the block that is due
   pub since_poll : ℕ → Bool
-  -- the latest stamp, but of a block that is sent again; like all that is said of times below, if it is not forgotten
+  -- the latest stamp, but not that of a repeated block; like all that follows about times, unless it is forgotten
   pub clock : Option ℕ
   -- a block was heard since times were forgotten
   pub block_heard : Bool
-  -- and the end of a clear one is above: so times are known
+  -- times are known: since then the end of a clear block that was heard is above
   pub timely : Bool
   -- the stamp of the latest block without C, if times are known: what is recorded below was logged later
   pub full : Option ℕ
-  -- the latest block was made so long after that one that 16 bits do not tell the times of its entries
+  -- the latest block was made so long after that one that 16 bits do not determine the times of its entries
   pub aged : Bool
   -- what the next entry is compared with
   pub floor : Option Floor
   -- the latest states that were asked for, if the record has not come to them
   pub seen : Option Seen
-  -- of each input
+  -- what is kept for each input
   pub inputs : ℕ → InputAbove
 
 -- ---- the states that were asked for
@@ -90,24 +90,24 @@ if_comes event seen = if comes_to seen event then Some seen else None
 abbrev pub told_by : ℕ → Bool → Seen → Option Bool
 told_by input touched seen = if touched then None else Some (is_set seen.levels input)
 
--- states have another state of this input than the one that is told
+-- the states contradict the known state of this input
 abbrev pub tells_other : ℕ → Bool → Option Bool → Seen → Bool
 tells_other input touched told seen =
     not touched && is_some_and told (λ level. not (beq level (is_set seen.levels input)))
 
--- the state of an input that is told where the record comes to these states, if it does
+-- the known state of an input after the record comes to these states, if it does
 abbrev pub told_after : ℕ → Option Seen → InputAbove → Option Bool
 told_after input None above = above.told
 told_after input (Some seen) above =
     if nat_lt input INPUTS then told_by input above.touched seen else above.told
 
--- and whether its changes are not logged
+-- whether the changes of an input are not logged, after the record comes to these states, if it does
 abbrev pub unlogged_after : ℕ → Option Seen → InputAbove → Bool
 unlogged_after input None above = above.unlogged
 unlogged_after input (Some seen) above =
     (nat_lt input INPUTS && tells_other input above.touched above.told seen) || above.unlogged
 
--- an input where the record comes to these states, if it does
+-- an input after the record comes to these states, if it does
 abbrev pub input_coming : ℕ → Option Seen → InputAbove → InputAbove
 input_coming input seen above =
     record above { told = told_after input seen above; unlogged = unlogged_after input seen above }

@@ -1,4 +1,4 @@
--- The rules on content: what an answer, an entry or the end of a block may break, of a transcript that keeps the rules of
+-- The rules on content: what an answer, an entry or the end of a block may break in a transcript that keeps the rules of
 -- `Rules`.
 --
 -- Each rule is stated once, by what is above an event and what the event says.
@@ -23,11 +23,11 @@ use Rattle.fio_check.specs.declared.content_rules.ContentRule.TheVariants.{Order
 
 -- ---- an entry
 
--- an entry of this input comes behind one of that input: it is later, or of the same time and a higher input
+-- an entry of one input comes after an entry of another: it is later, or it has the same time and a higher input
 abbrev pub comes_behind : ℕ → ℕ → ℕ → ℕ → Bool
 comes_behind input wide above time = is_later wide time || (wide == time && nat_lt above input)
 
--- an entry does not come behind the entry above it
+-- an entry does not come after the entry above it
 abbrev pub is_out_of_order : ℕ → ℕ → Floor → Bool
 is_out_of_order input wide floor =
     is_some_and floor.input (λ above. not (comes_behind input wide above floor.time))
@@ -49,9 +49,9 @@ is_too_near entry filters earlier =
 abbrev pub is_judged : ContentFacts → Bool
 is_judged facts = facts.excuses == 0
 
--- the times of entries that are recorded now are known and judged: they are not forgotten since the latest clear block, no
--- load excuses a breach, and the block was made soon after the latest one without C, so that its entries waited for less than
--- 16 bits say
+-- the times of entries that are recorded now are known and judged: they were not forgotten since the latest clear block, no
+-- load excuses a breach, and the block was made so soon after the latest one without C that 16 bits determine the times of its
+-- entries
 abbrev pub are_times_judged : ContentFacts → Bool
 are_times_judged facts = is_judged facts && (facts.timely && not facts.aged)
 
@@ -60,14 +60,14 @@ abbrev pub coming_with : ContentFacts → ℕ → Option Seen
 coming_with facts wide =
     option_and_then (λ seen. if is_later wide seen.stamp then Some seen else None) facts.seen
 
--- what the states of a 181 tell of an input: an entry of this state is none of its changes, if it is the state that was told;
--- or its changes are not logged
+-- an entry of this state contradicts what a 181 shows of an input: it repeats the known state, or the input's changes are not
+-- logged
 abbrev pub is_told_otherwise : Bool → InputAbove → Bool
 is_told_otherwise level above = is_some_and above.told (beq level) || above.unlogged
 
 -- An entry of this input breaks a rule:
 abbrev pub breaks_entry : ContentFacts → ℕ → TimedState → ContentRule → Bool
--- Order: it does not come behind the entry above it, and times are known and judged.
+-- Order: it does not come after the entry above it, and times are known and judged.
 breaks_entry facts input entry Order =
     are_times_judged facts && is_some_and facts.floor (is_out_of_order input entry.wide)
 -- Fresh: it is not later than the block without C above it, and times are known and judged.
@@ -76,7 +76,7 @@ breaks_entry facts input entry Fresh =
 -- Alternate: it has the state of its input's latest entry, and no change between them can have been hidden.
 breaks_entry facts input entry Alternate =
     is_some_and (facts.inputs input).watched (λ watched. beq entry.level watched.level)
--- Apart: it is nearer to its input's latest entry than the least filter that can be in force for the change, and the times of
+-- Apart: it is nearer to its input's latest entry than the lowest filter that can be in force for the change, and the times of
 -- both are known and judged.
 breaks_entry facts input entry Apart = are_times_judged facts
     && is_some_and (facts.inputs input).timed (is_too_near entry (facts.inputs input).least)
@@ -104,7 +104,7 @@ abbrev pub differs : Seen → ℕ → InputAbove → Bool
 differs seen input above =
     is_some_and (steady_state above.watched) (λ level. not (beq level (is_set seen.levels input)))
 
--- the same as the input
+-- an input, if it differs
 abbrev pub differing : ContentFacts → Seen → ℕ → Option ℕ
 differing facts seen input = if differs seen input (facts.inputs input) then Some input else None
 
@@ -118,16 +118,16 @@ first_differing facts seen = earliest_above (differing facts seen) INPUTS
 abbrev pub breaks_answer : ContentFacts → Answer → ContentRule → Bool
 -- Done: it says that a load of the counter is refused.
 breaks_answer facts (answers.LoadCounter status) Done = says_error status
--- Accepted: it says that a configuration is refused, and its command names no input above 63.
+-- Accepted: it says that a configuration is refused, though its command names no input above 63.
 breaks_answer facts (answers.ConfigureInputs status) Accepted =
     says_error status && not facts.absent_named
 -- Cleared: it has a flag that its command clears.
 breaks_answer facts (answers.Status flags receive transmit stamp) Cleared =
     not (bit_and flags facts.clearing == 0)
--- Watchdog: it says that the watchdog had not been set, and one was answered above.
+-- Watchdog: it says that the watchdog had not been set, though a watchdog command was answered above.
 breaks_answer facts (answers.Watchdog status) Watchdog =
     not (says_set_before status) && facts.watchdog_set
--- Clock: its stamp is before the latest one above, it is no block that is sent again, and times are judged.
+-- Clock: its stamp is before the latest one above, it is not a repeated block, and times are judged.
 breaks_answer facts answer Clock = is_judged facts
     && is_some_and (stamp_of answer) (λ stamp. is_some_and facts.clock (is_before stamp))
 breaks_answer facts answer rule = false
@@ -162,7 +162,7 @@ rule_broken_by facts event = None
 
 -- ---- what a load of the counter excuses
 
--- the facts where no load excuses anything
+-- the facts without excuses
 abbrev pub without_excuse : ContentFacts → ContentFacts
 without_excuse facts = record facts { excuses = 0 }
 
@@ -175,8 +175,8 @@ breaks_time facts (Recorded (Entry input level stamp wide)) =
 breaks_time facts (Ended status stamp) = is_some (broken_state facts (Ended status stamp) facts.seen)
 breaks_time facts event = false
 
--- An event is excused: it would break a rule on time, but a load of the counter was sent that has excused no breach yet. It may
--- have taken effect since times were forgotten last. No more loads take effect than were sent, so each excuses one breach.
+-- An event is excused: it would break a rule on time, but a load of the counter was sent that has excused no breach yet, and
+-- may have taken effect since times were last forgotten. No more loads take effect than were sent, so each excuses one breach.
 unfoldable pub is_excused : ContentFacts → ContentEvent → Bool
 is_excused facts event = breaks_time (without_excuse facts) event && not (is_judged facts)
 
@@ -196,7 +196,7 @@ content_rule_name Accepted = codes "accepted"
 content_rule_name Cleared = codes "cleared"
 content_rule_name Watchdog = codes "watchdog"
 
--- its number, from 1
+-- the number of a rule on content, from 1
 abbrev pub content_rule_number : ContentRule → ℕ
 content_rule_number Order = 1
 content_rule_number Fresh = 2

@@ -1,5 +1,5 @@
 -- What one event says to the rules on content: the items of a command, the stamp of an answer, an entry, the end of a
--- block; and how far times are apart.
+-- block; and the distance of times.
 use Rattle.std.specs.Prelude.{ℕ, ◌^◌, ◌-◌, ◌+◌, ◌%◌, ◌==◌, Bool, ◌&&◌, ◌||◌, true, false, List, [], Option, Some, None, is_some, not, nat_le, nat_lt, option_map, if◌then◌else◌}
 use Rattle.std.specs.Option.{option_map_or}
 use Rattle.fio_message.specs.Status.{says_again, says_error, says_more}
@@ -16,19 +16,19 @@ use Rattle.fio_check.specs.ContentEvents.{ContentEvent, Sent, Heard, Recorded, E
 
 -- ---- times
 
--- how far the later of two times is from the earlier one, modulo 2 ^ 32
+-- the time from an earlier moment to a later one, modulo 2 ^ 32
 abbrev pub milliseconds_between : ℕ → ℕ → ℕ
 milliseconds_between earlier later = (later + 2 ^ 32 - earlier) % 2 ^ 32
 
--- a time is before another: it is not less than 2 ^ 31 ahead of it
+-- a time is before another: the distance from the other to it is 2 ^ 31 or more
 abbrev pub is_before : ℕ → ℕ → Bool
 is_before time other = nat_le (2 ^ 31) (milliseconds_between other time)
 
--- a time is so far from an earlier one that 16 bits do not tell it
+-- a time is so far after an earlier one that 16 bits do not determine it
 abbrev pub is_far : ℕ → ℕ → Bool
 is_far earlier later = nat_le (2 ^ 16) (milliseconds_between earlier later)
 
--- a time is neither another nor before it
+-- a time is after another
 abbrev pub is_later : ℕ → ℕ → Bool
 is_later time other = not (time == other) && not (is_before time other)
 
@@ -44,8 +44,8 @@ pub record TimedState : Type 0 where
   pub level : Bool
   pub wide : ℕ
 
--- what each later entry is compared with: the wide time of an entry of this input, or the stamp of a block without C, which
--- has none
+-- what each later entry is compared with: the wide time of an entry of this input, or the stamp of a block without C,
+-- without an input
 pub record Floor : Type 0 where
   pub time : ℕ
   pub input : Option ℕ
@@ -62,7 +62,7 @@ pub record SentItem : Type 0 where
 
 -- ---- what an event says
 
--- the last item of this input among items, which alone counts; inputs above 63 have none
+-- the last item of this input among items: only that one counts; inputs above 63 have none
 abbrev pub item_for : ℕ → List InputItem → Option InputItem
 item_for input items = if nat_lt input INPUTS then last_item_of input items else None
 
@@ -76,7 +76,7 @@ abbrev pub item_of_input : ℕ → ContentEvent → Option InputItem
 item_of_input input (Sent command) = item_for input (items_sent command)
 item_of_input input event = None
 
--- both filters of an item, as they are in force
+-- both filters of an item, as they take effect
 abbrev pub filters_of : InputItem → FilterPair
 filters_of item =
     record { leading = filter_in_force item.leading; trailing = filter_in_force item.trailing }
@@ -85,15 +85,15 @@ filters_of item =
 abbrev pub item_kept : InputItem → SentItem
 item_kept item = record { ignore = item.ignore; filters = filters_of item }
 
--- an item is there that ignores its input
+-- an item exists and ignores its input
 abbrev pub ignores : Option InputItem → Bool
 ignores item = option_map_or (λ found. found.ignore) item false
 
--- an item is there that does not ignore it
+-- an item exists and does not ignore its input
 abbrev pub opens : Option InputItem → Bool
 opens item = option_map_or (λ found. not found.ignore) item false
 
--- an event says so where this holds
+-- an event says true, if this holds
 abbrev pub said_if : Bool → Option Bool
 said_if holds = if holds then Some true else None
 
@@ -119,7 +119,7 @@ abbrev pub is_set_dog : ContentEvent → Option Bool
 is_set_dog (Heard (answers.Watchdog status)) = Some true
 is_set_dog event = None
 
--- of a command and an answer: whether it is the command, which awaits its answer
+-- for a command, the command that awaits its answer; for an answer, none
 abbrev pub awaiting : ContentEvent → Option (Option Command)
 awaiting (Sent command) = Some (Some command)
 awaiting (Heard answer) = Some None
@@ -130,12 +130,12 @@ abbrev pub accepts_items : Answer → Bool
 accepts_items (answers.ConfigureInputs status) = not (says_error status)
 accepts_items answer = false
 
--- such an answer is heard
+-- an answer that a configuration was taken is heard
 abbrev pub is_accepting : ContentEvent → Bool
 is_accepting (Heard answer) = accepts_items answer
 is_accepting event = false
 
--- the stamp of an answer, but of a block that is sent again
+-- the stamp of an answer, unless it is a repeated block
 abbrev pub stamp_of : Answer → Option ℕ
 stamp_of (answers.Status flags receive transmit stamp) = Some stamp
 stamp_of (answers.RawInputs inputs stamp) = Some stamp
@@ -143,7 +143,7 @@ stamp_of (answers.FilteredInputs inputs stamp) = Some stamp
 stamp_of (answers.Block block entries status stamp) = if says_again status then None else Some stamp
 stamp_of answer = None
 
--- that of an answer that is heard
+-- the stamp of an answer that is heard, unless it is a repeated block
 abbrev pub stamp_heard : ContentEvent → Option ℕ
 stamp_heard (Heard answer) = stamp_of answer
 stamp_heard event = None
@@ -158,12 +158,12 @@ abbrev pub is_end : ContentEvent → Bool
 is_end (Ended status stamp) = true
 is_end event = false
 
--- the end of a block that is sent again, without C
+-- the end of a repeated block without C
 abbrev pub is_again_end : ContentEvent → Bool
 is_again_end (Ended status stamp) = not (says_more status) && says_again status
 is_again_end event = false
 
--- of a poll and the end of a block: whether it is the poll
+-- for a poll, true; for the end of a block, false
 abbrev pub polling : ContentEvent → Option Bool
 polling (Sent (commands.Poll number)) = Some true
 polling (Ended status stamp) = Some false
@@ -197,7 +197,7 @@ abbrev pub is_gap : ContentEvent → Option Bool
 is_gap (Recorded Gap) = Some true
 is_gap event = None
 
--- what ends that the states of a 181 tell of this input: an item or an entry of it, or a gap mark
+-- what makes the state of this input in a 181 outdated: an item or an entry of it, or a gap mark
 abbrev pub ends_told : ℕ → ContentEvent → Bool
 ends_told input event = (is_some (item_of_input input event) || is_some (entry_recorded input event))
     || is_some (is_gap event)

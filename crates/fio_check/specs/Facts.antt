@@ -32,7 +32,7 @@ abbrev pub status_of_block : Observation → Option ℕ
 status_of_block (Block number status entries absent) = Some status
 status_of_block observation = None
 
--- of a poll or a block answer: whether it is the answer
+-- for a block answer, true; for a poll, false
 abbrev pub is_answering : Observation → Option Bool
 is_answering (Poll number) = Some false
 is_answering (Block number status entries absent) = Some true
@@ -100,7 +100,7 @@ facts_with facts (Block number status entries absent) = record facts {
 }
 facts_with facts observation = record facts { awaited = None; absent_named = false }
 
--- the number that a poll must have below these lines, if a poll is there
+-- the number that the next poll must have, if a poll is above
 abbrev pub number_due : Facts → Option ℕ
 number_due facts =
     option_map (λ polled. if facts.answered then (polled + 1) % 256 else polled) facts.polled

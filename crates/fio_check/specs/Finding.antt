@@ -1,4 +1,4 @@
--- What the rules on content always find of a log in which a block has other entries than it was sent with, and by which line.
+-- What the rules on content always find in a log in which a block has other entries than it was sent with, and by which line.
 -- A log may be cut below any of its lines: a fault is found by the last line of a log that has it.
 use Rattle.std.specs.Prelude.{◌≡◌, ℕ, ◌+◌, Bool, ◌&&◌, ◌||◌, true, false, not, List, [], ◌∷◌, ◌++◌, Option, Some, None, fold, if◌then◌else◌, is_some, length, option_map, replicate}
 use Rattle.fio_message.specs.Blocks.{Block}
@@ -41,7 +41,7 @@ with_entries block entries = record block { entries = entries }
 abbrev pub with_octets : TranscriptLine → List ℕ → TranscriptLine
 with_octets line octets = record line { octets = octets }
 
--- a line's block has these entries; these octets spell the same block with other entries
+-- a line's block has these entries; these octets encode the same block with other entries
 pub record ChangesEntries (above : List TranscriptLine) (line : TranscriptLine) (octets : List ℕ) (block : Block)
     (entries others : List Entry) : Type 0 where
   pub was : TakesBlock above line (with_entries block entries)
@@ -64,9 +64,8 @@ pub record ComparesTimes (begun : Bool) (lines : List TranscriptLine) (stamp : �
   pub judged : (content_below begun lines).excuses ≡ 0
   pub soon : is_aging (content_below begun lines) (Some stamp) ≡ false
 
--- an event tells the state of an input, whose latest entry is watched: it is an entry of that input, or the record comes
--- there to states that were asked for, and no item that ignores the input was sent since the clear block above its latest
--- entry
+-- an event shows the state of an input whose latest entry is watched: it is an entry of that input, or the record comes there
+-- to states that were asked for, and no item that ignores the input was sent since the clear block above its latest entry
 abbrev pub tells_of : Option Seen → ℕ → ContentEvent → WatchedState → Bool
 tells_of seen input event watched =
     is_some (entry_recorded input event) || (not watched.shaded && is_some_and seen (λ states. comes_to states event))
@@ -76,8 +75,8 @@ abbrev pub seen_unloaded : List LineEvent → ℕ → Option Seen
 seen_unloaded events place =
     if is_some (latest_said is_loading events place) then None else (content_at events place).seen
 
--- at a place the latest entry of an input is compared with what tells the state of the input: no change since can have been
--- hidden
+-- at a place the latest entry of an input is compared with an event that shows the state of the input: no change since can
+-- have been hidden
 abbrev pub is_compared : List LineEvent → ℕ → ℕ → Bool
 is_compared events input place = is_at
     (λ event. is_some_and ((content_at events place).inputs input).watched (tells_of (seen_unloaded events place) input event))
@@ -93,7 +92,7 @@ abbrev pub place_of_latest : List LineEvent → ℕ → ℕ → Option ℕ
 place_of_latest events input place =
     option_map (λ found. found.place) (latest_said (entry_recorded input) events place)
 
--- the entry of this input that is compared at a place is that at an earlier place
+-- the entry of this input that is compared at a place is the one at an earlier place
 pub record IsComparedAt (events : List LineEvent) (input earlier place : ℕ) : Type 0 where
   pub latest : place_of_latest events input place ≡ Some earlier
   pub compared : is_compared events input place ≡ true
@@ -105,8 +104,8 @@ place_of_entry begun above block front =
 
 -- ---- what is found
 
--- Doubled: where times are compared, an entry is in a block twice in succession. It is found by that block, whatever else is
--- in the log.
+-- Doubled: where times are compared, an entry is in a block twice in succession. The fault is found by that block, whatever
+-- else is in the log.
 abbrev pub FindsDoubled : Bool → Type 0
 FindsDoubled begun =
     (above : List TranscriptLine) (line : TranscriptLine) (block : Block) (front back : List Entry) (entry : Entry)
@@ -114,8 +113,8 @@ FindsDoubled begun =
     → TakesBlock above line (with_entries block (front ++ (replicate 2 entry ++ back)))
     → IsFoundBy begun (above ++ (line ∷ []))
 
--- Swapped: where times are compared, two neighbours in a block are exchanged, in a log that had no fault. It is found by that
--- block.
+-- Swapped: where times are compared, two neighbours in a block are exchanged, in a log that had no fault. The fault is found
+-- by that block.
 abbrev pub FindsSwapped : Bool → Type 0
 FindsSwapped begun =
     (above : List TranscriptLine) (line : TranscriptLine) (octets : List ℕ) (block : Block) (front back : List Entry)
@@ -125,8 +124,8 @@ FindsSwapped begun =
     → ChangesEntries above line octets block (front ++ (entry ∷ (other ∷ back))) (front ++ (other ∷ (entry ∷ back)))
     → IsFoundBy begun (above ++ (with_octets line octets ∷ []))
 
--- Turned: an entry has the other state, in a log that had no fault. It is found by its block if an earlier entry of its input
--- is compared with it.
+-- Turned: the state of an entry is inverted, in a log that had no fault. The fault is found by its block if an earlier entry
+-- of its input is compared with it.
 abbrev pub FindsTurned : Bool → Type 0
 FindsTurned begun =
     (above : List TranscriptLine) (line : TranscriptLine) (octets : List ℕ) (block : Block) (front back : List Entry)
@@ -136,7 +135,7 @@ FindsTurned begun =
     → is_compared (events_of_log begun (above ++ (line ∷ []))) entry.input (place_of_entry begun above block front) ≡ true
     → IsFoundBy begun (above ++ (with_octets line octets ∷ []))
 
--- It is found by the line at which it is compared, if it is.
+-- Turned: the fault is found by the line at which the entry is compared, if it is compared later.
 abbrev pub FindsTurnedLater : Bool → Type 0
 FindsTurnedLater begun =
     (above below : List TranscriptLine) (line : TranscriptLine) (octets : List ℕ) (block : Block) (front back : List Entry)
@@ -146,8 +145,8 @@ FindsTurnedLater begun =
     → IsComparedAt (events_of_log begun (above ++ (line ∷ below))) entry.input (place_of_entry begun above block front) place
     → IsFoundBy begun (above ++ (with_octets line octets ∷ below))
 
--- Dropped: an entry is left out of its block, in a log that had no fault. It is found by the line at which the entry was
--- compared, if an earlier entry of its input was compared with it, and no item that ignores the input was sent since the
+-- Dropped: an entry is left out of its block, in a log that had no fault. The fault is found by the line at which the entry
+-- was compared, if an earlier entry of its input was compared with it, and no item that ignores the input was sent since the
 -- clear block above that one.
 abbrev pub FindsDropped : Bool → Type 0
 FindsDropped begun =

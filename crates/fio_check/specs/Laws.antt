@@ -7,7 +7,7 @@ use Rattle.fio_check.specs.Places.{Placed, latest_above}
 use Rattle.fio_check.specs.Verdicts.{IsVerdict, verdict_on}
 use Rattle.fio_check.specs.declared.verdict.Verdict.{Verdict}
 
--- it is said at its place, above this one, and not again between the two
+-- it is said at its place above this one, and not again between the two
 pub record IsLatestAbove {A : Type 0} (at : ℕ → Option A) (place : ℕ) (found : Placed A)
     : Type 0 where
   pub above : found.place < place
@@ -20,11 +20,11 @@ IsTheLatest {A} at =
     (place : ℕ) (found : Placed A)
     → (latest_above at place ≡ Some found) ↔ IsLatestAbove at place found
 
--- exactly this is the verdict on a transcript
+-- a transcript has exactly one verdict, which is this one
 abbrev pub HasOneVerdict : List TranscriptLine → Type 0
 HasOneVerdict lines = (verdict : Verdict) → IsVerdict lines verdict ↔ (verdict ≡ verdict_on lines)
 
--- what is kept line by line is what is above
+-- what is updated line by line equals what is defined by the lines above
 pub record KeepsFacts (lines : List TranscriptLine) : Type 0 where
   pub first : facts_at lines 0 ≡ no_facts
   pub next : (place : ℕ) (line : TranscriptLine) → slice_get lines place ≡ Some line

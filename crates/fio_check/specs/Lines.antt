@@ -11,15 +11,15 @@ pub record TranscriptLine : Type 0 where
   pub from_cpu : Bool
   pub octets : List ℕ
 
--- the lines from the first that the CPU's end sent on; those above it, all heard, are passed over
+-- the lines from the first one that the CPU's end sent on; those above it, all heard, are skipped
 abbrev pub from_first_command : List TranscriptLine → List TranscriptLine
 from_first_command [] = []
 from_first_command (line ∷ lines) = if line.from_cpu then line ∷ lines else from_first_command lines
 
--- the command in octets that were sent, where they spell one
+-- the command in octets that were sent, if they encode one
 abbrev pub command_from : Bool → List ℕ → Option Command
 command_from from_cpu octets = if from_cpu then command_in octets else None
 
--- the answer in octets that were heard, where they spell one
+-- the answer in octets that were heard, if they encode one
 abbrev pub answer_from : Bool → List ℕ → Option Answer
 answer_from from_cpu octets = if from_cpu then None else answer_in octets

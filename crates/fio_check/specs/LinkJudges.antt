@@ -1,8 +1,9 @@
--- The judge of a link: what it says of each frame of a log in which lines may be lost, of a module that may be restarted and
--- whose counter may be loaded.
+-- The judge of a link: its outcome for each frame of a log. Lines of the log may be lost, the module may be restarted, and its
+-- counter may be loaded.
 --
--- It is both checkers of such a log. The place is *lost* below a line that is lost, a restart, a load that took effect, and a
--- breach of a rule on transcripts: nothing is judged till the next poll, at which both checkers begin anew.
+-- It runs the checker of the rules of transcripts and that of the rules on content. The place is *lost* below a lost line, a
+-- restart, a load that took effect, and a breach of a rule of transcripts: nothing is judged until the next poll, at which both
+-- checkers begin anew.
 use Rattle.std.specs.Prelude.{ℕ, ◌==◌, Bool, ◌&&◌, ◌||◌, true, false, List, [], ◌∷◌, ◌++◌, Option, Some, None, max, nat_lt, not, option_and_then, if◌then◌else◌}
 use Rattle.fio_message.specs.Status.{says_again}
 use Rattle.fio_message.specs.declared.answers.Answer.{Answer}
@@ -37,16 +38,16 @@ use Rattle.fio_check.specs.declared.outcome.Unjudged.TheVariants.{AboveCommand, 
 pub record Judging : Type 0 where
   pub checker : Checker
   pub content : ContentChecking
-  -- the latest stamp that was judged, but of a block that is sent again
+  -- the latest stamp that was judged, but not that of a repeated block
   pub latest : Option ℕ
-  -- what was the latest stamp at the first poll for the block that is due, if that poll was judged below another
+  -- the latest stamp at the time of the first poll for the block that is due, if that poll was judged and another is above it
   pub asked : Option ℕ
-  -- lines are lost below it
+  -- lines are lost below the latest stamp
   pub lost : Bool
 
 -- ---- where it begins
 
--- above the first line of a log that begins anywhere, of a module with these limits
+-- a judge above the first line of a log that begins anywhere, of a module with these limits
 abbrev pub judging_anywhere : Limits → Judging
 judging_anywhere limits = record {
   checker = checker_anywhere limits;
@@ -56,7 +57,7 @@ judging_anywhere limits = record {
   lost = false;
 }
 
--- above the first line of a log that begins with both ends
+-- a judge above the first line of a log that begins with both ends
 abbrev pub judging_begun : Limits → Judging
 judging_begun limits = record {
   checker = checker_within limits;
@@ -68,25 +69,25 @@ judging_begun limits = record {
 
 -- ---- where the place is lost
 
--- a checker of the rules on content that knows nothing of what is above but this many loads of the counter, which may still take
--- effect
+-- a checker of the rules on content that knows nothing of the events above, except the number of loads of the counter that may
+-- still take effect
 abbrev pub checking_again : ℕ → ContentChecking
 checking_again loads = record {
   begun = false;
   kept = record { number = None; facts = record no_content { excuses = loads } };
 }
 
--- the loads of the counter that may still take effect: those that were sent and have excused no breach yet
+-- the number of loads of the counter that may still take effect: that were sent and have excused no breach yet
 abbrev pub loads_left : Judging → ℕ
 loads_left judging = judging.content.kept.facts.excuses
 
--- the checker of the rules on content where this many loads may still take effect
+-- the checker of the rules on content with another number of loads that may still take effect
 abbrev pub with_loads : ℕ → ContentChecking → ContentChecking
 with_loads loads content =
     record content { kept = record content.kept { facts = record content.kept.facts { excuses = loads } } }
 
--- The place is lost below a stamp, if there is one, that is taken for the time of a counter that was set anew. This many loads
--- may still take effect.
+-- the judge after losing the place: the stamp, if given, is the time of a counter that was set anew, and this number of loads
+-- may still take effect
 abbrev pub place_lost : Judging → ℕ → Option ℕ → Judging
 place_lost judging loads stamp = record {
   checker = checker_below_breach judging.checker.limits;
@@ -96,12 +97,13 @@ place_lost judging loads stamp = record {
   lost = false;
 }
 
--- the checker of transcripts below lines that are lost: above the first command it passes over what it passes over anyway
+-- the checker of transcripts below lost lines: above the first command it goes on skipping what is heard
 abbrev pub checker_below_lines : Checker → Skips → Checker
 checker_below_lines checker ToCommand = checker
 checker_below_lines checker skips = checker_below_breach checker.limits
 
--- Lines are lost here, also where a part of a log ends and another begins. One of them may have been a load of the counter.
+-- the judge where lines are lost, or where a part of a log ends and another begins: one of the lines may have been a load of
+-- the counter
 abbrev pub judging_lost : Judging → Judging
 judging_lost judging = record judging {
   checker = checker_below_lines judging.checker judging.checker.skips;
@@ -111,35 +113,34 @@ judging_lost judging = record judging {
 
 -- ---- what a frame is
 
--- the stamp of a frame that is heard, but of a block that is sent again
+-- the stamp of a frame that is heard, unless it is a repeated block
 abbrev pub stamp_in : Bool → List ℕ → Option ℕ
 stamp_in from_cpu octets = option_and_then stamp_of (answer_from from_cpu octets)
 
--- the stamp of an answer, also of a block that is sent again
+-- the stamp of an answer, also of a repeated block
 abbrev pub any_stamp_of : Answer → Option ℕ
 any_stamp_of (Block block entries status stamp) = Some stamp
 any_stamp_of answer = stamp_of answer
 
--- that of a frame that is heard
+-- the stamp of a frame that is heard, also of a repeated block
 abbrev pub any_stamp_in : Bool → List ℕ → Option ℕ
 any_stamp_in from_cpu octets = option_and_then any_stamp_of (answer_from from_cpu octets)
 
--- The stamp before which that of an answer is not, as long as the counter runs on. A block that is sent again was made below the
--- first poll for it.
+-- The earliest stamp that an answer may have if the counter runs on. A repeated block was made after the first poll for it.
 abbrev pub stamp_above : Judging → Answer → Option ℕ
 stamp_above judging (Block block entries status stamp) = if says_again status then judging.asked else judging.latest
 stamp_above judging answer = judging.latest
 
--- an answer has a stamp before that one
+-- an answer has an earlier stamp than that
 abbrev pub is_answer_set_back : Judging → Answer → Bool
 is_answer_set_back judging answer =
     is_some_and (any_stamp_of answer) (λ stamp. is_some_and (stamp_above judging answer) (is_before stamp))
 
--- a frame is such an answer
+-- a frame is an answer with an earlier stamp than it may have
 abbrev pub is_set_back : Judging → Bool → List ℕ → Bool
 is_set_back judging from_cpu octets = is_some_and (answer_from from_cpu octets) (is_answer_set_back judging)
 
--- A poll has the number of the latest poll: if that was answered, the CPU's end may not have heard the answer.
+-- A poll has the number of the latest poll. If that was answered, the CPU's end may not have heard the answer.
 abbrev pub is_asked_again : Facts → Observation → Bool
 is_asked_again facts (Poll number) = is_some_and facts.polled (λ polled. number == polled)
 is_asked_again facts observation = false
@@ -149,21 +150,21 @@ abbrev pub is_at_cpu : LogPlace → Bool
 is_at_cpu Cpu = true
 is_at_cpu at = false
 
--- a poll may be right by an answer above that the CPU's end did not hear
+-- a poll may be right, because the CPU's end did not hear an answer above
 abbrev pub is_unheard : Judging → LogPlace → Observation → Bool
 is_unheard judging at observation = not (is_at_cpu at) && is_asked_again judging.checker.facts observation
 
--- the checker of the rules on content above a frame that is judged, by what the other one passes over: a poll below which the
--- place is known again is judged by one that begins anew
+-- the checker of the rules on content above a frame that is judged, by what the checker of transcripts skips: at the poll that
+-- ends a lost place it begins anew
 abbrev pub content_above : Judging → Skips → ContentChecking
 content_above judging ToPoll = checking_again (loads_left judging)
 content_above judging skips = judging.content
 
--- the same by the judge
+-- the checker of the rules on content above a frame that the judge judges
 abbrev pub content_here : Judging → ContentChecking
 content_here judging = content_above judging judging.checker.skips
 
--- why a frame is not judged, by what is passed over
+-- why a frame is not judged, by what is skipped
 abbrev pub unjudged_by : Skips → Unjudged
 unjudged_by ToCommand = AboveCommand
 unjudged_by skips = PlaceLost
@@ -172,25 +173,25 @@ unjudged_by skips = PlaceLost
 abbrev pub outcome_set_back : Judging → Outcome
 outcome_set_back judging = if judging.lost || nat_lt 0 (loads_left judging) then Excused Load else Restarted
 
--- A rule on content is broken: by the rule on the watchdog the module was restarted.
+-- A rule on content is broken. A breach of the rule on the watchdog means that the module was restarted.
 abbrev pub outcome_of_content : ContentBreach → ContentRule → Outcome
 outcome_of_content breach Watchdog = Restarted
 outcome_of_content breach rule = BrokenContent breach
 
--- what a frame is in which these breaches are found, by whether it may be right by an answer that was not heard
+-- the outcome of a frame with these breaches, by whether it may be right because an answer was not heard
 abbrev pub outcome_found : Bool → Option Breach → Option ContentBreach → Outcome
 outcome_found true (Some breach) content = Excused Unheard
 outcome_found false (Some breach) content = Broken breach
 outcome_found unheard None (Some breach) = outcome_of_content breach breach.rule
 outcome_found unheard None None = Kept
 
--- what a frame is that is judged, but for its stamp
+-- the outcome of a frame that is judged, without a look at its stamp
 abbrev pub outcome_judged : Judging → LogPlace → Bool → List ℕ → Outcome
 outcome_judged judging at from_cpu octets = outcome_found (is_unheard judging at (observation_in from_cpu octets))
     (found_by judging.checker from_cpu (observation_in from_cpu octets))
     (found_in_frame (content_here judging) from_cpu octets)
 
--- what a frame is, logged there, by whether the CPU sent it
+-- the outcome of a frame logged at this place that the CPU sent or heard
 abbrev pub outcome_in : Judging → LogPlace → Bool → List ℕ → Outcome
 outcome_in judging at from_cpu octets = if passes_over judging.checker from_cpu (observation_in from_cpu octets)
     then NotJudged (unjudged_by judging.checker.skips)
@@ -200,23 +201,24 @@ outcome_in judging at from_cpu octets = if passes_over judging.checker from_cpu 
 
 -- ---- the judge with a frame more
 
--- with a frame that is not judged: a command counts as a load, if it is one
+-- the judge after a frame that is not judged: a load of the counter still counts
 abbrev pub judging_passed : Judging → Bool → List ℕ → Judging
 judging_passed judging true octets = record judging { content = checking_with judging.content true octets }
 judging_passed judging false octets = judging
 
--- the loads that are left below a frame: the checker of the rules on content uses one up if it excuses what the frame breaks
+-- the number of loads that are left after a frame: the checker of the rules on content uses one if it excuses what the frame
+-- breaks
 abbrev pub loads_below : Judging → Bool → List ℕ → ℕ
 loads_below judging from_cpu octets = (checking_with judging.content from_cpu octets).kept.facts.excuses
 
--- The latest stamp at the first poll for the block that is due, below a frame: a poll with another number than the one above is the
--- first for its block. Of a poll that has none above it is not known whether it is.
+-- The latest stamp at the first poll for the block that is due, after a frame: a poll with another number than the poll above
+-- is the first for its block. For a poll without a poll above that is not known.
 abbrev pub asked_below : Judging → Observation → Option ℕ
 asked_below judging (Poll number) =
     option_and_then (λ polled. if number == polled then judging.asked else judging.latest) judging.checker.facts.polled
 asked_below judging observation = judging.asked
 
--- with a frame in which this checker of transcripts finds no breach
+-- the judge after a frame in which this checker of transcripts finds no breach
 abbrev pub judging_taken : Judging → Checker → Bool → List ℕ → Judging
 judging_taken judging checker from_cpu octets = record judging {
   checker = checker_with checker from_cpu (observation_in from_cpu octets);
@@ -224,17 +226,17 @@ judging_taken judging checker from_cpu octets = record judging {
   asked = asked_below judging (observation_in from_cpu octets);
 }
 
--- with a stamp, if there is one, that is not set back
+-- the judge after a stamp, if there is one, that is not set back
 abbrev pub judging_at : Judging → Option ℕ → Judging
 judging_at judging None = judging
 judging_at judging (Some stamp) = record judging { latest = Some stamp; lost = false }
 
--- with a frame that keeps the rules of transcripts
+-- the judge after a frame that keeps the rules of transcripts
 abbrev pub judging_kept : Judging → Bool → List ℕ → Judging
 judging_kept judging from_cpu octets =
     judging_at (judging_taken judging judging.checker from_cpu octets) (stamp_in from_cpu octets)
 
--- with a frame that is this
+-- the judge after a frame with this outcome
 abbrev pub judging_below_outcome : Outcome → Judging → Bool → List ℕ → Judging
 judging_below_outcome Kept judging from_cpu octets = judging_kept judging from_cpu octets
 judging_below_outcome (BrokenContent breach) judging from_cpu octets = judging_kept judging from_cpu octets
@@ -242,22 +244,22 @@ judging_below_outcome (Broken breach) judging from_cpu octets =
     record judging { checker = checker_with judging.checker from_cpu (observation_in from_cpu octets) }
 judging_below_outcome (Excused Load) judging from_cpu octets =
     place_lost judging (loads_below judging from_cpu octets) (any_stamp_in from_cpu octets)
--- the poll is taken by a checker of transcripts that begins anew
+-- A checker of transcripts that begins anew takes the poll.
 judging_below_outcome (Excused Unheard) judging from_cpu octets =
     judging_taken judging (checker_within judging.checker.limits) from_cpu octets
--- an answer to a watchdog has no stamp: so there is no latest one below
+-- An answer to a watchdog has no stamp, so no latest one is known after it.
 judging_below_outcome Restarted judging from_cpu octets =
     place_lost judging (loads_below judging from_cpu octets) (any_stamp_in from_cpu octets)
 judging_below_outcome (NotJudged reason) judging from_cpu octets = judging_passed judging from_cpu octets
 
--- with a frame more
+-- the judge after a frame
 abbrev pub judging_with : Judging → LogPlace → Bool → List ℕ → Judging
 judging_with judging at from_cpu octets =
     judging_below_outcome (outcome_in judging at from_cpu octets) judging from_cpu octets
 
 -- ---- all lines
 
--- a line: a frame, logged there, by whether the CPU sent it; or a mark that lines are lost here
+-- a line: a frame, where it was logged and whether the CPU sent it; or a mark that lines are lost here
 pub data LogLine : Type 0 where
   Frame : (at : LogPlace) → (from_cpu : Bool) → (octets : List ℕ) → LogLine
   Lost : LogLine
@@ -272,12 +274,12 @@ abbrev pub judging_below : Judging → List LogLine → Judging
 judging_below judging [] = judging
 judging_below judging (line ∷ lines) = judging_below (judging_with_line judging line) lines
 
--- what a line is, if it is a frame
+-- the outcome of a line, if it is a frame
 abbrev pub outcome_on : Judging → LogLine → List Outcome
 outcome_on judging (Frame at from_cpu octets) = outcome_in judging at from_cpu octets ∷ []
 outcome_on judging Lost = []
 
--- what the frames of lines are, in order
+-- the outcomes of the frames among lines, in order
 abbrev pub outcomes_of : Judging → List LogLine → List Outcome
 outcomes_of judging [] = []
 outcomes_of judging (line ∷ lines) =

@@ -1,4 +1,4 @@
--- What the fields of the judge of a link stand for.
+-- What the fields of the judge of a link mean.
 use Rattle.fio_check.specs.ContentKept.{content_checking}
 use Rattle.fio_check.specs.LinkJudges.{Judging}
 use Rattle.fio_check.specs.declared.link_judge.LinkJudge.{LinkJudge}

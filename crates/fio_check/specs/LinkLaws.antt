@@ -28,7 +28,7 @@ use Rattle.fio_check.specs.declared.outcome.Unjudged.TheVariants.{PlaceLost}
 
 -- ---- each frame
 
--- a line is a frame, and no mark
+-- a line is a frame, not a mark
 abbrev pub is_frame : LogLine → Bool
 is_frame (Frame at from_cpu octets) = true
 is_frame Lost = false
@@ -39,11 +39,11 @@ HasOutcomes judging lines = length (outcomes_of judging lines) ≡ length (filte
 
 -- ---- a place that is lost
 
--- the place is lost: all is passed over till the next poll
+-- the place is lost: everything is skipped until the next poll
 abbrev pub IsLost : Judging → Type 0
 IsLost judging = judging.checker ≡ checker_below_breach judging.checker.limits
 
--- below a frame that is this the place is lost
+-- the place is lost after a frame with this outcome
 abbrev pub loses_place : Outcome → Bool
 loses_place (Broken breach) = true
 loses_place Restarted = true
@@ -63,12 +63,12 @@ is_poll_line Lost = false
 abbrev pub is_load : Bool → List ℕ → Bool
 is_load from_cpu octets = is_some_and (command_from from_cpu octets) (λ command. is_some (is_loading (Sent command)))
 
--- so many loads may take effect below a line: one more below a load, and at least one where lines are lost
+-- the number of loads that may take effect after a line: one more after a load, and at least one where lines are lost
 abbrev pub loads_with : ℕ → LogLine → ℕ
 loads_with loads (Frame at from_cpu octets) = if is_load from_cpu octets then one_excuse_more loads else loads
 loads_with loads Lost = max 1 loads
 
--- and below lines
+-- the number of loads that may take effect after lines
 abbrev pub loads_below_lines : ℕ → List LogLine → ℕ
 loads_below_lines loads [] = loads
 loads_below_lines loads (line ∷ lines) = loads_below_lines (loads_with loads line) lines
@@ -79,7 +79,7 @@ are_lost lost [] = lost
 are_lost lost (Frame at from_cpu octets ∷ lines) = are_lost lost lines
 are_lost lost (Lost ∷ lines) = are_lost true lines
 
--- a judge that begins at a poll where so many loads may take effect, below this stamp
+-- a judge that begins at a poll, with this number of loads that may take effect, after this stamp
 abbrev pub judging_again : Judging → ℕ → Bool → Judging
 judging_again judging loads lost = record judging {
   checker = checker_within judging.checker.limits;
@@ -88,8 +88,8 @@ judging_again judging loads lost = record judging {
   lost = lost;
 }
 
--- Below a place that is lost nothing is judged above the next poll; and from that poll on the judge says what one says that begins
--- there with as many loads as may take effect.
+-- Where the place is lost nothing is judged above the next poll. From that poll on, the judge says what a judge says that
+-- begins there with the number of loads that may still take effect.
 pub record LinkGoesOn (judging : Judging) (above : List LogLine) : Type 0 where
   pub passes : IsLost judging → list_any is_poll_line above ≡ false
       → outcomes_of judging above ≡ map (λ line. NotJudged PlaceLost) (filter is_frame above)
@@ -113,7 +113,7 @@ pub record Accused : Type 0 where
   pub line : ℕ
   pub outcome : Outcome
 
--- an outcome accuses an end
+-- the breach of which an outcome accuses an end
 abbrev pub accused : ℕ → Outcome → Option Accused
 accused line (Broken breach) = Some (record { line = line; outcome = Broken breach })
 accused line (BrokenContent breach) = Some (record { line = line; outcome = BrokenContent breach })
@@ -130,11 +130,11 @@ accused_first judging (line ∷ lines) =
 abbrev pub broken_on : ℕ → Breach → Accused
 broken_on line breach = record { line = line; outcome = Broken breach }
 
--- one that the checker of the rules on content finds
+-- a breach that the checker of the rules on content finds in a line
 abbrev pub content_on : ℕ → ContentBreach → Accused
 content_on line breach = record { line = line; outcome = BrokenContent breach }
 
--- what two checkers find first: of one line what that of transcripts finds, if it finds anything
+-- what two checkers find first: in one line the breach of a rule of transcripts comes before that of a rule on content
 abbrev pub both_find_first : Checker → ContentChecking → List TranscriptLine → Option Accused
 both_find_first checker content [] = None
 both_find_first checker content (line ∷ lines) =
@@ -148,7 +148,7 @@ abbrev pub fault_in : ℕ → Outcome → Option FoundFault
 fault_in line (BrokenContent breach) = Some (found_on line breach)
 fault_in line outcome = None
 
--- the same of what is accused
+-- the breach of a rule on content that is accused
 abbrev pub fault_accused : Accused → Option FoundFault
 fault_accused accused = fault_in accused.line accused.outcome
 
@@ -157,11 +157,11 @@ abbrev pub broken_at : Checker → List TranscriptLine → ℕ → Option Accuse
 broken_at checker lines place = option_and_then
     (λ line. option_map (broken_on line.number) (found_from checker lines place)) (slice_get lines place)
 
--- the first of it
+-- the first breach that the checker of transcripts finds
 abbrev pub broken_first : Checker → List TranscriptLine → Option Accused
 broken_first checker lines = earliest_above (broken_at checker lines) (length lines)
 
--- What two checkers find first is what either finds first by itself, if the other one finds nothing.
+-- If one checker finds nothing, the two together find first what the other one finds first.
 pub record FindFirst (checker : Checker) (content : ContentChecking) (lines : List TranscriptLine) : Type 0 where
   pub by_content : broken_first checker lines ≡ None
       → option_and_then fault_accused (both_find_first checker content lines) ≡ found_first content lines
@@ -172,15 +172,16 @@ abbrev pub is_of_watchdog : ContentRule → Bool
 is_of_watchdog Watchdog = true
 is_of_watchdog rule = false
 
--- by no line the module was restarted, and no load took effect: no stamp is set back, and the rule on the watchdog is not broken
+-- no line shows a restart of the module or a load that took effect: no stamp is set back, and the rule on the watchdog is not
+-- broken
 abbrev pub RunsOn : Judging → List TranscriptLine → Type 0
 RunsOn judging [] = Unit {0}
 RunsOn judging (line ∷ lines) = (is_set_back judging line.from_cpu line.octets ≡ false)
     × (is_some_and (found_in_frame judging.content line.from_cpu line.octets) (λ breach. is_of_watchdog breach.rule) ≡ false)
     × RunsOn (judging_with judging Cpu line.from_cpu line.octets) lines
 
--- Of a whole log at the CPU's end, by which the counter runs on, the judge accuses first what two checkers find first: that of
--- transcripts, and that of the rules on content.
+-- In a whole log at the CPU's end in which the counter runs on, the judge accuses first what the checker of transcripts and
+-- that of the rules on content find first.
 pub record SaysTheSame (limits : Limits) (lines : List TranscriptLine) : Type 0 where
   pub anywhere : RunsOn (judging_anywhere limits) lines → accused_first (judging_anywhere limits) lines
       ≡ both_find_first (checker_anywhere limits) (checking_at_start false) lines

@@ -18,17 +18,17 @@ use Rattle.fio_check.specs.declared.log_counts.TheConstants.{INPUT_NUMBERS, RESE
 abbrev pub more : ℕ → ℕ
 more count = (count + 1) % 2 ^ 64
 
--- a table of counts with one more of this number, if it has a place in it
+-- a table of counts with one more at this number, if the table has a place for it
 abbrev pub raised : List ℕ → ℕ → List ℕ
 raised counts number = if nat_lt number (length counts)
     then slice_set counts number (more (slice_index_or counts number 0))
     else counts
 
--- the same with one more of the input of each entry
+-- a table of counts with one more at the input of each entry
 abbrev pub raised_by : List ℕ → List Entry → List ℕ
 raised_by counts entries = fold (λ inputs entry. raised inputs entry.input) counts entries
 
--- no frame is counted
+-- the counts before any frame
 abbrev pub counts_above : LogCounts
 counts_above = record {
   frames = 0;
@@ -56,17 +56,17 @@ counts_above = record {
   reserved = replicate 5 0;
 }
 
--- a frame may be lost here
+-- the counts where a frame may be lost
 abbrev pub counted_lost : LogCounts → LogCounts
 counted_lost counts = record counts { waits = 0; has_command = 0 }
 
 -- ---- commands
 
--- a command was sent then, if that is known
+-- the counts after a command that was sent at this time, if it is known
 abbrev pub counted_sent : LogCounts → Option ℕ → LogCounts
 counted_sent counts time = record counts { sent_at = unwrap_or time 0; has_sent_at = bit_of (is_some time) }
 
--- a poll with this number
+-- the counts after a poll with this number
 abbrev pub counted_poll : LogCounts → ℕ → LogCounts
 counted_poll counts number = record counts {
   polls = more counts.polls;
@@ -76,7 +76,7 @@ counted_poll counts number = record counts {
   waits = 1;
 }
 
--- A command of this type: a poll that waits for its answer is unanswered.
+-- The counts after a command of this type: a poll that still waits for its answer counts as unanswered.
 abbrev pub counted_code : LogCounts → Option ℕ → ℕ → LogCounts
 counted_code counts time code = counted_sent (record counts {
   types = raised counts.types code;
@@ -86,12 +86,12 @@ counted_code counts time code = counted_sent (record counts {
   has_command = 1;
 }) time
 
--- what a poll is more than another command
+-- the counts after what a poll has beyond other commands
 abbrev pub counted_poll_of : LogCounts → Command → LogCounts
 counted_poll_of counts (commands.Poll number) = counted_poll counts number
 counted_poll_of counts command = counts
 
--- a command
+-- the counts after a command
 abbrev pub counted_command : LogCounts → Option ℕ → Command → LogCounts
 counted_command counts time command = counted_poll_of (counted_code counts time (command_code command)) command
 
@@ -107,7 +107,7 @@ time_taken counts time code = option_and_then (λ now.
     if is_awaited counts code && not (counts.has_sent_at == 0) && nat_le counts.sent_at now
     then Some (now - counts.sent_at) else None) time
 
--- an answer of this type ends that the latest command waits, if it waits for that type
+-- the latest command no longer waits after an answer of the type that it waits for
 abbrev pub counted_awaited : LogCounts → ℕ → LogCounts
 counted_awaited counts code = if is_awaited counts code then record counts { has_command = 0 } else counts
 
@@ -136,13 +136,13 @@ counted_block counts number entries status =
     if says_again status && not (counts.has_block == 0) && counts.block == number then below
     else counted_entries below entries status
 
--- what a status answer or a block answer is more than another answer
+-- the counts after what a status answer or a block answer has beyond other answers
 abbrev pub counted_answer_of : LogCounts → Answer → LogCounts
 counted_answer_of counts (answers.Status flags receive_errors transmit_errors stamp) = counted_reset counts (nat_le RESET flags)
 counted_answer_of counts (answers.Block block entries status stamp) = counted_block counts block entries.items status
 counted_answer_of counts answer = counts
 
--- an answer
+-- the counts after an answer
 abbrev pub counted_answer : LogCounts → Option ℕ → Answer → LogCounts
 counted_answer counts time answer = counted_answer_of (counted_awaited
     (record counts { types = raised counts.types (answer_code answer) }) (answer_code answer)) answer
@@ -153,18 +153,18 @@ time_to_answer counts time answer = time_taken counts time (answer_code answer)
 
 -- ---- a frame
 
--- a message: a command or an answer; what is neither counts no further
+-- the counts after a command or an answer; octets that are neither count only as a frame
 abbrev pub counted_message : LogCounts → Option ℕ → Option Command → Option Answer → LogCounts
 counted_message counts time (Some command) answer = counted_command counts time command
 counted_message counts time None (Some answer) = counted_answer counts time answer
 counted_message counts time None None = counts
 
--- with a frame more: as a command if it is one, else as an answer
+-- the counts after a frame: as a command if it is one, else as an answer
 abbrev pub counts_with : LogCounts → Option ℕ → List ℕ → LogCounts
 counts_with counts time octets =
     counted_message (record counts { frames = more counts.frames }) time (command_in octets) (answer_in octets)
 
--- the same of a message
+-- how long the module took for the answer that a message is, if that is known
 abbrev pub time_to_message : LogCounts → Option ℕ → Option Command → Option Answer → Option ℕ
 time_to_message counts time None (Some answer) = time_to_answer counts time answer
 time_to_message counts time command answer = None

@@ -1,7 +1,7 @@
--- The judge of a log: what it says of each frame, by the frames and by what is known of the lines between them.
+-- The judge of a log: its outcome for each frame, from the frames and from what is known of the lines between them.
 --
--- It is the judge of a link, which finds by itself where the log was taken, loses the place at lines that may have held a frame,
--- and may leave out late answers.
+-- It is the judge of a link that also finds out where the log was taken, loses the place at lines that may have held a frame,
+-- and can leave out late answers.
 use Rattle.std.specs.Prelude.{ℕ, ◌+◌, ◌&&◌, Bool, List, [], ◌∷◌, ◌++◌, true, false, not, nat_lt, Option, Some, None, option_map, if◌then◌else◌}
 use Rattle.fio_check.specs.Checkers.{checker_with, found_by, passes_over}
 use Rattle.fio_check.specs.LateAnswers.{late_above, late_with, lateness_of}
@@ -36,10 +36,10 @@ pub record LogJudging : Type 0 where
   pub late : Option LateAnswers
   -- where the log was taken, if that is known
   pub place : Option LogPlace
-  -- how many frames were sent by the end that the log says, and how many by the other one
+  -- how many frames were sent by the end that the log names, and how many by the other end
   pub agreeing : ℕ
   pub contrary : ℕ
-  -- there is a frame above
+  -- a frame is above
   pub has_frames : Bool
   -- a line below the latest poll and the latest block answer speaks of loss
   pub missing : Bool
@@ -68,7 +68,7 @@ abbrev pub late_starting : LogStart → Option LateAnswers
 late_starting StartLate = Some late_above
 late_starting start = None
 
--- above the first line of a log of a module with these limits
+-- a judge above the first line of a log of a module with these limits
 abbrev pub log_starting : Limits → Option LogPlace → LogStart → LogJudging
 log_starting limits place start = record {
   link = link_starting limits start;
@@ -86,15 +86,15 @@ log_starting limits place start = record {
 abbrev pub unsettled : LateAnswers → LateAnswers
 unsettled late = record late { settled = false }
 
--- a line may have held a frame
+-- the judge after a line that may have held a frame
 abbrev pub log_lost : LogJudging → LogJudging
 log_lost log = record log { link = judging_lost log.link; late = option_map unsettled log.late }
 
--- a line says a message which nothing makes sure, or is a heading: below a frame the place is lost
+-- the judge after a line that says a message which nothing confirms, or is a heading: if a frame is above, the place is lost
 abbrev pub log_possible : LogJudging → LogJudging
 log_possible log = if log.has_frames then log_lost log else log
 
--- a line without octets speaks of loss
+-- the judge after a line without octets that speaks of loss
 abbrev pub log_missing : LogJudging → LogJudging
 log_missing log = record log { missing = true }
 
@@ -104,86 +104,87 @@ log_missing log = record log { missing = true }
 abbrev pub one_more : ℕ → ℕ
 one_more count = if nat_lt count 4294967295 then count + 1 else 4294967295
 
--- this end is that end, each by whether it is the CPU's
+-- two ends are the same, each given by whether it is the CPU's
 abbrev pub is_same_end : Bool → Bool → Bool
 is_same_end true by_cpu = by_cpu
 is_same_end false by_cpu = not by_cpu
 
--- the log says, or does not say, that this end sent a frame
+-- the counts of directions after a frame, by who sent it and by whom the log names, if it names one
 abbrev pub log_counting : LogJudging → Bool → Option Bool → LogJudging
 log_counting log from_cpu None = log
 log_counting log from_cpu (Some by_cpu) = if is_same_end by_cpu from_cpu
     then record log { agreeing = one_more log.agreeing }
     else record log { contrary = one_more log.contrary }
 
--- a rule that a frame may break since one above it is not in the log
+-- a rule that a frame may break because a frame above it is missing in the log
 abbrev pub is_of_lost : Rule → Bool
 is_of_lost Pair = true
 is_of_lost Number = true
 is_of_lost Advance = true
 is_of_lost rule = false
 
--- a frame that says this breaks such a rule
+-- a frame with this observation breaks such a rule
 abbrev pub is_explained : LogJudging → Bool → Observation → Bool
 is_explained log from_cpu observation =
     is_some_and (found_by log.link.checker from_cpu observation) (λ breach. is_of_lost breach.rule)
 
--- a poll or a block answer: what a line above it says of loss is of no frame below it
+-- a poll or a block answer: a remark of loss above it explains nothing below it
 abbrev pub ends_missing : Observation → Bool
 ends_missing (Poll number) = true
 ends_missing (Block number status entries absent) = true
 ends_missing observation = false
 
--- the judge directly above a frame that says this: if a frame that is lost explains what it breaks, the place is lost
+-- the judge directly above a frame with this observation: if a lost frame explains what it breaks, the place is lost
 abbrev pub log_above : LogJudging → Bool → Observation → LogJudging
 log_above log from_cpu observation =
     if log.missing && is_explained log from_cpu observation then log_lost log else log
 
--- that judge, where the directions of this frame are counted, and it may end what a line above says of loss
+-- that judge after counting the directions of this frame, which may end what a remark of loss explains
 abbrev pub log_reaching : LogJudging → Bool → Option Bool → Observation → LogJudging
 log_reaching log from_cpu said observation = record (log_above (log_counting log from_cpu said) from_cpu observation) {
   has_frames = true;
   missing = log.missing && not (ends_missing observation);
 }
 
--- where a frame was logged that has a direction: at the module, if more directions contradict the types of the messages than agree
+-- where a frame with a direction was logged: at the module, if more directions contradict the types of the messages than agree,
+-- else at the CPU's end
 abbrev pub end_of : LogJudging → LogPlace
 end_of log = if nat_lt log.agreeing log.contrary then Module else Cpu
 
--- where one was logged of which this is said
+-- where a frame with this direction, or none, was logged
 abbrev pub place_found : LogJudging → Option Bool → LogPlace
 place_found log None = Bus
 place_found log (Some by_cpu) = end_of log
 
--- the same if it is known where the log was taken
+-- where a frame was logged, if the place of the log may be known
 abbrev pub place_by : LogJudging → Option LogPlace → Option Bool → LogPlace
 place_by log (Some place) said = place
 place_by log None said = place_found log said
 
--- where a frame was logged, of which this is said
+-- where a frame with this direction, or none, was logged, by what the judge knows
 abbrev pub place_of : LogJudging → Option Bool → LogPlace
 place_of log said = place_by log log.place said
 
 -- ---- late answers
 
--- a judge of a link that knows nothing of content and of stamps above, but for the loads of the counter
+-- a judge of a link that has forgotten content and stamps, except the loads of the counter
 abbrev pub without_content : Judging → Judging
 without_content judging =
     record judging { content = checking_again (loads_left judging); latest = None; asked = None }
 
--- what an answer is of which the rules on content are told nothing
+-- the outcome of an answer that is kept from the rules on content
 abbrev pub outcome_without_content : Judging → Observation → Outcome
 outcome_without_content judging observation = if passes_over judging.checker false observation
     then NotJudged (unjudged_by judging.checker.skips)
     else outcome_found false (found_by judging.checker false observation) None
 
--- the rules on content are told of commands and block answers alone
+-- the rules on content get commands and block answers only
 abbrev pub is_told : Bool → Observation → Bool
 is_told true observation = true
 is_told false (Block number status entries absent) = true
 is_told false observation = false
 
--- what a frame is that is no late answer
+-- the outcome of a frame that is not a late answer
 abbrev pub outcome_in_time : Judging → LogPlace → Bool → List ℕ → Outcome
 outcome_in_time judging at from_cpu octets = if is_told from_cpu (observation_in from_cpu octets)
     then outcome_in judging at from_cpu octets
@@ -201,27 +202,28 @@ is_rule_of_late Same = true
 is_rule_of_late Refusal = true
 is_rule_of_late rule = false
 
--- a frame breaks such a rule
+-- a frame breaks a rule that late answers may break
 abbrev pub is_of_late : Outcome → Bool
 is_of_late (Broken breach) = is_rule_of_late breach.rule
 is_of_late outcome = false
 
--- a frame is excused that is this to the judge of the link: by content it is judged where no answer to a command above can still come
+-- a frame with this outcome of the judge of the link is excused: content is judged only if no answer to a command above can
+-- still come
 abbrev pub is_excused_late : Bool → Outcome → Bool
 is_excused_late settled (BrokenContent breach) = not settled
 is_excused_late settled Restarted = not settled
 is_excused_late settled (Excused Load) = not settled
 is_excused_late settled outcome = is_of_late outcome
 
--- no answer to a command above can still come below a frame that is this
+-- no answer to a command above can still come after a frame with this outcome
 abbrev pub late_settled : LateAnswers → Outcome → Bool
 late_settled late outcome = late.settled && not (is_of_late outcome)
 
--- what a frame is that is no late answer, below which this is kept of the answers
+-- the outcome of a frame that is not a late answer, by what is kept of the answers
 abbrev pub outcome_kept_late : LateAnswers → Outcome → LogOutcome
 outcome_kept_late late outcome = if is_excused_late (late_settled late outcome) outcome then LateAbove else Link outcome
 
--- below a late answer, or where one can still come
+-- the judge after a late answer, or where one can still come
 abbrev pub log_forgetting : LogJudging → LateAnswers → LogJudging
 log_forgetting log late = record log { link = without_content log.link; late = Some late }
 
@@ -231,17 +233,17 @@ log_kept_late log late outcome = if late_settled late outcome
     then record log { late = Some (record late { settled = true }) }
     else log_forgetting log (unsettled late)
 
--- what a frame is, by whether it is late
+-- the outcome of a frame, by whether it is late
 abbrev pub outcome_by_lateness : Lateness → LateAnswers → Outcome → LogOutcome
 outcome_by_lateness InTime late outcome = outcome_kept_late late outcome
 outcome_by_lateness lateness late outcome = Late
 
--- what a frame is of a log from which late answers are left out
+-- the outcome of a frame in a log from which late answers are left out
 abbrev pub outcome_late : LogJudging → LateAnswers → LogPlace → Bool → List ℕ → LogOutcome
 outcome_late log late at from_cpu octets = outcome_by_lateness (lateness_of late (observation_in from_cpu octets))
     (late_with late (observation_in from_cpu octets)) (outcome_in_time log.link at from_cpu octets)
 
--- with a frame more, by whether it is late: where the CPU's end may take a late answer, the place is lost
+-- the judge after a frame, by whether it is late: if the CPU's end may take a late answer, the place is lost
 abbrev pub log_by_lateness : Lateness → LogJudging → LateAnswers → LogPlace → Bool → List ℕ → LogJudging
 log_by_lateness InTime log late at from_cpu octets =
     log_kept_late (record log { link = judging_in_time log.link at from_cpu octets }) late
@@ -257,7 +259,7 @@ log_with_late log late at from_cpu octets = log_by_lateness (lateness_of late (o
 
 -- ---- a frame
 
--- what a frame is below what is known above it, by what tells which answers are late
+-- the outcome of a frame, by what decides which answers are late
 abbrev pub outcome_here : LogJudging → Option LateAnswers → LogPlace → Bool → List ℕ → LogOutcome
 outcome_here log None at from_cpu octets = Link (outcome_in log.link at from_cpu octets)
 outcome_here log (Some late) at from_cpu octets = outcome_late log late at from_cpu octets
@@ -266,12 +268,12 @@ outcome_here log (Some late) at from_cpu octets = outcome_late log late at from_
 abbrev pub outcome_reached : LogJudging → Bool → Option Bool → List ℕ → LogOutcome
 outcome_reached log from_cpu said octets = outcome_here log log.late (place_of log said) from_cpu octets
 
--- what a frame is, by whether the CPU sent it, and by whether its line says so, if it says who sent it
+-- the outcome of a frame, by whether the CPU sent it, and by whom its line names as the sender, if it names one
 abbrev pub outcome_in_log : LogJudging → Bool → Option Bool → List ℕ → LogOutcome
 outcome_in_log log from_cpu said octets =
     outcome_reached (log_reaching log from_cpu said (observation_in from_cpu octets)) from_cpu said octets
 
--- with that frame more
+-- the judge after that frame
 abbrev pub log_below : LogJudging → Option LateAnswers → LogPlace → Bool → List ℕ → LogJudging
 log_below log None at from_cpu octets = record log { link = judging_with log.link at from_cpu octets }
 log_below log (Some late) at from_cpu octets = log_with_late log late at from_cpu octets
@@ -287,8 +289,9 @@ log_with log from_cpu said octets =
 
 -- ---- all lines
 
--- what a reader finds in a log, in order: a frame, by whether the CPU sent it, and by whether its line says so, if it says who sent
--- it; a line that may have held a frame; one that says a message which nothing makes sure, or a heading; one that speaks of loss
+-- what a reader finds in a log, in order: a frame, with whether the CPU sent it and whom its line names as the sender, if it
+-- names one; a line that may have held a frame; a line that says a message which nothing confirms, or a heading; a line that
+-- speaks of loss
 pub data LogEvent : Type 0 where
   Found : (from_cpu : Bool) → (said : Option Bool) → (octets : List ℕ) → LogEvent
   Lost : LogEvent
@@ -307,12 +310,12 @@ abbrev pub log_below_events : LogJudging → List LogEvent → LogJudging
 log_below_events log [] = log
 log_below_events log (event ∷ events) = log_below_events (log_with_event log event) events
 
--- what an event is, if it is a frame
+-- the outcome of an event, if it is a frame
 abbrev pub outcome_of_event : LogJudging → LogEvent → List LogOutcome
 outcome_of_event log (Found from_cpu said octets) = outcome_in_log log from_cpu said octets ∷ []
 outcome_of_event log event = []
 
--- what the frames of events are, in order
+-- the outcomes of the frames among events, in order
 abbrev pub outcomes_in_log : LogJudging → List LogEvent → List LogOutcome
 outcomes_in_log log [] = []
 outcomes_in_log log (event ∷ events) = outcome_of_event log event ++ outcomes_in_log (log_with_event log event) events

@@ -14,9 +14,9 @@ abbrev pub mark_if : Bool → List LogLine
 mark_if true = Mark ∷ []
 mark_if false = []
 
--- What an event is to the judge of the link. A frame has the place that the judge of the log finds for it, with a mark directly
--- above if a frame that is lost explains what it breaks. A line that says a message is a mark below a frame. One that speaks of
--- loss is none by itself.
+-- The lines that an event is to the judge of the link. A frame gets the place that the judge of the log finds for it, with a
+-- mark directly above it if a lost frame explains what it breaks. A line that says a message is a mark, if a frame is above. A
+-- line that speaks of loss is not a line by itself.
 abbrev pub link_lines_of : LogJudging → LogEvent → List LogLine
 link_lines_of log (Found from_cpu said octets) =
     mark_if (log.missing && is_explained log from_cpu (observation_in from_cpu octets))
@@ -25,7 +25,7 @@ link_lines_of log Lost = Mark ∷ []
 link_lines_of log Possible = mark_if log.has_frames
 link_lines_of log Missing = []
 
--- the same of events
+-- the lines that events are to the judge of the link
 abbrev pub link_lines : LogJudging → List LogEvent → List LogLine
 link_lines log [] = []
 link_lines log (event ∷ events) = link_lines_of log event ++ link_lines (log_with_event log event) events
@@ -44,8 +44,8 @@ frame_found event = []
 
 -- ---- the law
 
--- Without late answers the judge says of each frame of events what the judge of the link says of it, and is below them what that
--- one is. The lines that the judge of the link takes have the frames of the events, in order, and no others.
+-- Without late answers the judge of a log gives each frame the outcome that the judge of the link gives it, and ends in the
+-- same state. The lines that the judge of the link takes have the frames of the events, in order, and no others.
 pub record SaysAsLink (log : LogJudging) (events : List LogEvent) : Type 0 where
   pub outcomes : log.late ≡ None → outcomes_in_log log events ≡ map Link (outcomes_of log.link (link_lines log events))
   pub below : log.late ≡ None → (log_below_events log events).link ≡ judging_below log.link (link_lines log events)

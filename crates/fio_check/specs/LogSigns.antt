@@ -27,7 +27,7 @@ one_more_if is_so count = if is_so then one_more count else count
 abbrev pub no_repeats : RepeatedFrames
 no_repeats = record { above = record { items = [] }; said = None; again = false; answers = 0; repeated = 0; contrary = 0 }
 
--- what is kept of a frame's octets: all of them, if a frame can have them
+-- what is kept of a frame's octets: all of them, if a frame can have so many
 abbrev pub octets_kept : List ℕ → List ℕ
 octets_kept octets = if nat_le (length octets) FRAME_OCTETS then octets else []
 
@@ -36,16 +36,16 @@ abbrev pub is_repeated : RepeatedFrames → List ℕ → Bool
 is_repeated frames [] = false
 is_repeated frames (code ∷ fields) = bytes_eq frames.above.items (code ∷ fields)
 
--- It is the second of equal frames. A third one says nothing of a log that has each frame twice.
+-- A frame is the second of equal frames. A third one is no sign of a log that has each frame twice.
 abbrev pub is_second : RepeatedFrames → List ℕ → Bool
 is_second frames octets = is_repeated frames octets && not frames.again
 
--- two lines say different senders
+-- two lines name different senders
 abbrev pub are_contrary : Option Bool → Option Bool → Bool
 are_contrary (Some by_cpu) (Some other) = not (is_same_end by_cpu other)
 are_contrary said other = false
 
--- with an answer more
+-- the counts after an answer
 abbrev pub repeats_with_answer : RepeatedFrames → Option Bool → List ℕ → RepeatedFrames
 repeats_with_answer frames said octets = record frames {
   answers = one_more frames.answers;
@@ -53,7 +53,7 @@ repeats_with_answer frames said octets = record frames {
   contrary = one_more_if (is_second frames octets && are_contrary frames.said said) frames.contrary;
 }
 
--- with a frame more: only answers are counted
+-- the counts after a frame: only answers are counted
 abbrev pub repeats_with : RepeatedFrames → Bool → Option Bool → List ℕ → RepeatedFrames
 repeats_with frames from_cpu said octets =
     record (if from_cpu then frames else repeats_with_answer frames said octets) {
@@ -66,7 +66,7 @@ repeats_with frames from_cpu said octets =
 abbrev pub is_twice : RepeatedFrames → Bool
 is_twice frames = nat_le 8 frames.answers && nat_le (2 * frames.answers) (5 * frames.repeated)
 
--- For at least half of those, the two lines say different senders.
+-- For at least half of those, the two lines name different senders.
 abbrev pub is_of_both_ends : RepeatedFrames → Bool
 is_of_both_ends frames = nat_le frames.repeated (2 * frames.contrary)
 
@@ -81,15 +81,15 @@ abbrev pub block_seen_in : Answer → Option BlockSeen
 block_seen_in (Block number entries status stamp) = Some (record { number = number; stamp = stamp })
 block_seen_in answer = None
 
--- those of a frame, if it is a block answer
+-- the number and the stamp of a frame, if it is a block answer
 abbrev pub block_seen : Bool → List ℕ → Option BlockSeen
 block_seen from_cpu octets = option_and_then block_seen_in (answer_from from_cpu octets)
 
--- a block has the number of the other one less one, and a stamp that is not later
+-- a block has the number before that of the block above, and no later stamp
 abbrev pub is_backward : BlockSeen → BlockSeen → Bool
 is_backward block above = above.number == (block.number + 1) % 256 && not (is_later block.stamp above.stamp)
 
--- with a block more
+-- the order after a block
 abbrev pub order_with : BlockOrder → BlockSeen → BlockOrder
 order_with order block = record {
   above = Some block;
@@ -107,21 +107,21 @@ is_reversed order = nat_le 8 order.blocks && not (nat_le (2 * order.backward) or
 abbrev pub no_rows : BlockRows
 no_rows = record { first = None; second = None; changes = 0; jumps = 0 }
 
--- a number is the one above a row's, and so of a block that is late
+-- a number is the one before a row's, so that its block is late
 abbrev pub is_late_in : Option ℕ → ℕ → Bool
 is_late_in row number = is_some_and row (λ latest. latest == (number + 1) % 256)
 
--- a row goes on with a number: with its own, the next one, or late with the one above
+-- a row continues with a number: its own, the next one, or that of a late block
 abbrev pub goes_on : Option ℕ → ℕ → Bool
 goes_on row number = is_late_in row number
     || is_some_and row (λ latest. number == latest || number == (latest + 1) % 256)
 
--- the row, where it goes on with a number
+-- the row after a number, if it continues with that
 abbrev pub row_with : Option ℕ → ℕ → Option ℕ
 row_with row number = if is_late_in row number then row else Some number
 
--- With a block more: the row that it goes on with becomes the first one. If there is none, it starts a row in place of the
--- second, which is a jump if there were two.
+-- The rows after a block: the row that the block continues becomes the first one. If it continues none, it starts a row in
+-- place of the second, which is a jump if both rows existed.
 abbrev pub rows_with : BlockRows → ℕ → BlockRows
 rows_with rows number = if goes_on rows.first number then record rows { first = row_with rows.first number }
     else if goes_on rows.second number then record rows {
@@ -135,7 +135,7 @@ rows_with rows number = if goes_on rows.first number then record rows { first = 
       jumps = one_more_if (is_some rows.second) rows.jumps;
     }
 
--- Of 8 or more blocks at least a quarter went on with the other row than the block above, and at most one in ten is a jump.
+-- Of 8 or more blocks at least a quarter continued the other row than the block above, and at most one in ten is a jump.
 abbrev pub are_two_links : BlockRows → ℕ → Bool
 are_two_links rows blocks =
     nat_le 8 blocks && (nat_le blocks (4 * rows.changes) && nat_le (10 * rows.jumps) blocks)
@@ -146,7 +146,7 @@ are_two_links rows blocks =
 abbrev pub no_signs : LogSigns
 no_signs = record { frames = no_repeats; order = no_blocks; rows = no_rows }
 
--- with a block answer more, if the frame is one
+-- the signs after a block answer, if the frame is one
 abbrev pub signs_with_block : LogSigns → Option BlockSeen → LogSigns
 signs_with_block signs None = signs
 signs_with_block signs (Some block) = record signs {
@@ -154,7 +154,7 @@ signs_with_block signs (Some block) = record signs {
   rows = rows_with signs.rows block.number;
 }
 
--- with a frame more
+-- the signs after a frame
 abbrev pub signs_with : LogSigns → Bool → Option Bool → List ℕ → LogSigns
 signs_with signs from_cpu said octets = signs_with_block
     (record signs { frames = repeats_with signs.frames from_cpu said octets }) (block_seen from_cpu octets)

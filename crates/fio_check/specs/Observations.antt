@@ -46,7 +46,7 @@ observation_of_answer (answers.Block number entries status stamp) = seen.Block n
     (length entries.items) (list_any (λ entry. is_absent entry.input) entries.items)
 observation_of_answer answer = seen.Answer (answer_code answer) (accepts answer)
 
--- by the command that a line sends, or the answer that it hears
+-- what a line says, by the command that it sends or the answer that it hears
 abbrev pub observation_of : Option Command → Option Answer → Observation
 observation_of (Some command) heard = observation_of_command command
 observation_of None (Some answer) = observation_of_answer answer
@@ -54,7 +54,7 @@ observation_of None None = seen.Unreadable
 
 -- ---- by the octets
 
--- of a frame, by whether the CPU sent it
+-- what a frame says, by whether the CPU sent it
 abbrev pub observation_in : Bool → List ℕ → Observation
 observation_in from_cpu octets =
     observation_of (command_from from_cpu octets) (answer_from from_cpu octets)
@@ -63,10 +63,10 @@ observation_in from_cpu octets =
 abbrev pub observation_on : TranscriptLine → Observation
 observation_on line = observation_in line.from_cpu line.octets
 
--- of the line at a place, where there is one; the first line has place 0
+-- what the line at a place says, if there is one; the first line has place 0
 abbrev pub observation_at : List TranscriptLine → ℕ → Observation
 observation_at lines place = option_map_or observation_on (slice_get lines place) seen.Unreadable
 
--- whether the CPU sent the line at a place, where there is one
+-- whether the CPU sent the line at a place, if there is one
 abbrev pub is_sent_at : List TranscriptLine → ℕ → Bool
 is_sent_at lines place = option_map_or (λ line. line.from_cpu) (slice_get lines place) false

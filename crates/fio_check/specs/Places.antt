@@ -16,12 +16,12 @@ pub record Placed (A : Type 0) : Type 0 where
 abbrev pub placed_at : {A : Type 0} → (ℕ → Option A) → ℕ → Option (Placed A)
 placed_at at place = option_map (λ value. record { place = place; value = value }) (at place)
 
--- the latest that lines above a place say
+-- the latest value that lines above a place say
 abbrev pub latest_above : {A : Type 0} → (ℕ → Option A) → ℕ → Option (Placed A)
 latest_above at zero = None
 latest_above at (suc place) = option_or (placed_at at place) (latest_above at place)
 
--- the earliest that lines above a place say
+-- the earliest value that lines above a place say
 abbrev pub earliest_above : {A : Type 0} → (ℕ → Option A) → ℕ → Option A
 earliest_above at zero = None
 earliest_above at (suc place) = option_or (earliest_above at place) (at place)

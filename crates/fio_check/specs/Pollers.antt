@@ -10,7 +10,7 @@ use Rattle.fio_check.specs.Facts.{number_polled}
 use Rattle.fio_check.specs.Lines.{TranscriptLine, answer_from, command_from}
 use Rattle.fio_check.specs.Observations.{observation_of}
 
--- the block that a line's frame spells, where the CPU heard it
+-- the block that a line's frame encodes, if the CPU heard it
 abbrev pub block_on : TranscriptLine → Option Block
 block_on line = answered_block (answer_from line.from_cpu line.octets)
 
@@ -26,6 +26,6 @@ abbrev pub poller_with : Option Polling → TranscriptLine → Option Polling
 poller_with poller line =
     poller_below poller (command_from line.from_cpu line.octets) (answer_from line.from_cpu line.octets)
 
--- the poller of a transcript, where one of its lines is a poll
+-- the poller of a transcript, if one of its lines is a poll
 abbrev pub poller_of : List TranscriptLine → Option Polling
 poller_of lines = fold poller_with None lines

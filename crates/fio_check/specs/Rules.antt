@@ -32,19 +32,19 @@ is_overfull_within limits status entries =
     (nat_lt limits.per_block limits.waiting && (says_lost status && not (says_more status)))
     || (says_more status && not (entries == limits.per_block))
 
--- A line breaks a rule, where the module has these limits:
+-- A line breaks a rule, if the module has these limits:
 abbrev pub breaks_within : Limits → Facts → Observation → Rule → Bool
 -- Readable: its octets are no message of its direction.
 breaks_within limits facts Unreadable Readable = true
 -- Pair: it is an answer, and directly above is no command that it answers.
 breaks_within limits facts (Answer code accepted) Pair = is_unasked facts code
 breaks_within limits facts (Block number status entries absent) Pair = is_unasked facts BLOCK_ANSWER
--- Number: it is a block answer whose number is not that of the latest poll, which is directly above
--- where the rule on pairs holds.
+-- Number: it is a block answer whose number is not that of the latest poll, which is directly above if the rule on
+-- pairs holds.
 breaks_within limits facts (Block number status entries absent) Number =
     is_some_and facts.polled (λ polled. not (number == polled))
--- Advance: it is a poll, and its number is not the next one where the latest poll was answered, or
--- not the same again where it was not.
+-- Advance: it is a poll, and its number is not the next one though the latest poll was answered, or not the same
+-- again though it was not.
 breaks_within limits facts (Poll number) Advance = is_some_and (number_due facts) (λ due. not (number == due))
 -- Same: it is a block answer with E, and its poll has another number than the poll before it.
 breaks_within limits facts (Block number status entries absent) Same = says_again status && facts.advanced
@@ -58,8 +58,8 @@ breaks_within limits facts (Block number status entries absent) LimitsRule =
 -- Rest: it is a block answer without entries, and the latest block answer above has C.
 breaks_within limits facts (Block number status entries absent) Rest =
     entries == 0 && is_some_and facts.more (λ more. more)
--- Refusal: it is an answer that a configuration was taken, and the command directly above names an
--- input above 63.
+-- Refusal: it is an answer that a configuration was taken, though the command directly above names an input above
+-- 63.
 breaks_within limits facts (Answer code accepted) Refusal = accepted && facts.absent_named
 -- No other line breaks it.
 breaks_within limits facts observation rule = false
@@ -88,7 +88,7 @@ rule_number LimitsRule = 7
 rule_number Rest = 8
 rule_number Refusal = 9
 
--- in the order in which they are tried
+-- the rules, in the order in which they are tried
 abbrev pub rules : List Rule
 rules = Readable ∷ Pair ∷ Number ∷ Advance ∷ Same ∷ Sequence ∷ LimitsRule ∷ Rest ∷ Refusal ∷ []
 
@@ -96,11 +96,11 @@ rules = Readable ∷ Pair ∷ Number ∷ Advance ∷ Same ∷ Sequence ∷ Limit
 abbrev pub rule_of_number : ℕ → Option Rule
 rule_of_number number = find (λ rule. rule_number rule == number) rules
 
--- the first rule that a line breaks which says this, below lines of which these facts hold, with these limits
+-- the first rule that a line with this observation breaks, given the facts above it, with these limits
 abbrev pub first_broken_within : Limits → Facts → Observation → Option Rule
 first_broken_within limits facts observation = find (breaks_within limits facts observation) rules
 
--- the same with the limits of TEES 2009
+-- the first rule that a line with this observation breaks, with the limits of TEES 2009
 abbrev pub first_broken : Facts → Observation → Option Rule
 first_broken facts observation = first_broken_within standard_limits facts observation
 

@@ -11,7 +11,7 @@ use Rattle.fio_check.specs.declared.verdict.Verdict.TheVariants.{Good, Broken}
 abbrev pub KeepsRulesAbove : List TranscriptLine → ℕ → Type 0
 KeepsRulesAbove lines place = (above : ℕ) → above < place → rule_broken lines above ≡ None
 
--- the first line that breaks a rule has this number, and this is the first rule that it breaks
+-- the first line that breaks a rule has this number, and breaks this rule first
 pub record IsFirstBreach (lines : List TranscriptLine) (number : ℕ) (rule : Rule) : Type 0 where
   pub place : ℕ
   pub line : TranscriptLine
@@ -25,7 +25,7 @@ abbrev pub IsVerdict : List TranscriptLine → Verdict → Type 0
 IsVerdict lines (Good frames) = (frames ≡ length lines) × KeepsRulesAbove lines (length lines)
 IsVerdict lines (Broken number rule) = IsFirstBreach lines number rule
 
--- the verdict of the line at a place, where it breaks a rule
+-- the verdict of the line at a place, if it breaks a rule
 abbrev pub breach_at : List TranscriptLine → ℕ → Option Verdict
 breach_at lines place = option_and_then
     (λ line. option_map (Broken line.number) (rule_broken lines place)) (slice_get lines place)

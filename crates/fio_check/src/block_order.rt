@@ -1,4 +1,4 @@
-//! The order of the block answers of a log: how many seem to come before the block answer above.
+//! The order of the block answers of a log: how many seem to belong before the block answer above.
 ghost use Rattle.std.specs.Prelude.{◌≡◌, None};
 ghost use Rattle.fio_message.specs.Decoding.{answer_in};
 ghost use Rattle.fio_message.specs.Views.{answer_of};
@@ -11,14 +11,14 @@ use fio_message::{AnswerView, read_answer};
 /// The number and the stamp of a block answer.
 #[derive(Clone, Copy, Debug, PartialEq, Eq, Hash)]
 pub struct BlockSeen {
-    /// Its number.
+    /// The block answer's number.
     pub number: u8,
-    /// Its stamp, in milliseconds.
+    /// The block answer's stamp, in milliseconds.
     pub stamp: u32,
 }
 
 impl BlockSeen {
-    /// Returns those of a frame, if it is a block answer.
+    /// Returns the number and the stamp of a frame, if it is a block answer.
     pub fn of(from_cpu: bool, octets: &[u8]) -> Option<BlockSeen>
         ensures { result ≡ block_seen from_cpu octets.now }
     {
@@ -31,7 +31,7 @@ impl BlockSeen {
         }
     }
 
-    /// Returns those of an answer, if it is a block.
+    /// Returns the number and the stamp of an answer, if it is a block answer.
     fn in_answer(answer: &AnswerView<'_>) -> Option<BlockSeen>
         ensures { result ≡ block_seen_in (answer_of answer.now) }
     {
@@ -44,7 +44,7 @@ impl BlockSeen {
         }
     }
 
-    /// Returns whether it has the number of the block answer above less one, and a stamp that is not later.
+    /// Returns whether the block answer has the number before that of the block answer above, and no later stamp.
     fn is_backward(self, above: BlockSeen) -> bool
         ensures { result ≡ is_backward self above }
     {
@@ -52,14 +52,14 @@ impl BlockSeen {
     }
 }
 
-/// What is kept of the block answers above, to tell whether the last is first.
+/// What is kept of the block answers above, to detect a log whose last line is first.
 #[derive(Clone, Copy, Debug, PartialEq, Eq, Hash)]
 pub struct BlockOrder {
     /// The latest block answer.
     pub above: Option<BlockSeen>,
-    /// How many block answers there are, up to 2^32 - 1.
+    /// The number of block answers, up to 2^32 - 1.
     pub blocks: u32,
-    /// How many of them seem to come before the one above, up to 2^32 - 1.
+    /// How many of them seem to belong before the one above, up to 2^32 - 1.
     pub backward: u32,
 }
 
@@ -88,8 +88,8 @@ impl BlockOrder {
         self.backward = one_more_if(backward, self.backward);
     }
 
-    /// Returns whether the last line seems to be first: of 8 or more block answers more than half seem to come before the one
-    /// above.
+    /// Returns whether the log seems to have its last line first: of 8 or more block answers more than half seem to belong
+    /// before the one above.
     pub fn is_reversed(&self) -> bool
         ensures { result ≡ is_reversed self.now }
     {

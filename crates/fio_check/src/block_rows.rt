@@ -1,17 +1,17 @@
-//! The rows of numbers that the block answers of a log go on with: two links have two.
+//! The rows of numbers that the block answers of a log continue: two links have two rows.
 ghost use Rattle.std.specs.Prelude.{◌≡◌};
 ghost use Rattle.fio_check.specs.LogSigns.{are_two_links, goes_on, is_late_in, no_rows, row_with, rows_with};
 
 use crate::repeated_frames::one_more_if;
 
-/// What is kept of the numbers of the block answers above, to tell whether they are of two links.
+/// What is kept of the numbers of the block answers above, to detect a log of two links.
 #[derive(Clone, Copy, Debug, PartialEq, Eq, Hash)]
 pub struct BlockRows {
-    /// The number of the row that the latest block answer is of.
+    /// The last number of the row of the latest block answer.
     pub first: Option<u8>,
-    /// The number of the other row.
+    /// The last number of the other row.
     pub second: Option<u8>,
-    /// How many block answers went on with the other row than the one above, up to 2^32 - 1.
+    /// How many block answers continued the other row than the one above, up to 2^32 - 1.
     pub changes: u32,
     /// How many started a row in place of another one, up to 2^32 - 1.
     pub jumps: u32,
@@ -48,8 +48,8 @@ impl BlockRows {
         }
     }
 
-    /// Returns whether the block answers, as many as this, seem to be of two links: of 8 or more at least a quarter went on with
-    /// the other row than the one above, and at most one in ten started a row in place of another one.
+    /// Returns whether the log seems to be of two links: of `blocks` block answers, 8 or more, at least a quarter continued the
+    /// other row than the one above, and at most one in ten started a row in place of another one.
     pub fn are_two_links(&self, blocks: u32) -> bool
         ensures { result ≡ are_two_links self.now blocks }
     {
@@ -60,7 +60,7 @@ impl BlockRows {
     }
 }
 
-/// Returns whether a row goes on with a number: with its own, the next one, or late with the one above.
+/// Returns whether a row continues with a number: its own, the next one, or that of a late block.
 fn goes_on(row: Option<u8>, number: u8) -> bool
     ensures { result ≡ goes_on row number }
 {
@@ -72,7 +72,7 @@ fn goes_on(row: Option<u8>, number: u8) -> bool
     }
 }
 
-/// Returns whether a number is the one above a row's, and so of a block that is late.
+/// Returns whether a number is the one before a row's, so that its block is late.
 fn is_late_in(row: Option<u8>, number: u8) -> bool
     ensures { result ≡ is_late_in row number }
 {
@@ -82,7 +82,7 @@ fn is_late_in(row: Option<u8>, number: u8) -> bool
     }
 }
 
-/// Returns a row, where it goes on with a number.
+/// Returns a row after a number, if it continues with that.
 fn row_with(row: Option<u8>, number: u8) -> Option<u8>
     ensures { result ≡ row_with row number }
 {

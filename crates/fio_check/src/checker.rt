@@ -28,14 +28,14 @@ pub struct Breach {
     pub due: Option<Due>,
 }
 
-/// What a checker passes over.
+/// What a checker skips.
 #[derive(Clone, Copy, Debug, PartialEq, Eq, Hash)]
 pub enum Skips {
     /// Nothing.
     Nothing,
-    /// What the CPU's end hears, to the first frame that it sends, as above the first command of a log that begins anywhere.
+    /// What the CPU's end hears before the first frame that it sends: in a log that begins anywhere.
     ToCommand,
-    /// All frames, to the next poll, as below a breach.
+    /// All frames before the next poll: below a breach.
     ToPoll,
 }
 
@@ -46,7 +46,7 @@ pub struct Checker {
     pub limits: Limits,
     /// What is above the next frame.
     pub facts: Facts,
-    /// What it passes over.
+    /// What the checker skips.
     pub skips: Skips,
 }
 
@@ -65,8 +65,8 @@ impl Checker {
         Checker::skipping(Skips::Nothing, limits)
     }
 
-    /// Returns a checker above the first frame of a log that begins anywhere, of a module with these limits. It passes over
-    /// what the CPU's end hears above the first frame that it sends.
+    /// Returns a checker above the first frame of a log that begins anywhere, of a module with these limits. It skips what
+    /// the CPU's end hears above the first frame that it sends.
     pub fn anywhere(limits: Limits) -> Checker
         ensures { result ≡ checker_anywhere limits }
     {
@@ -101,7 +101,7 @@ impl Checker {
         self.take(false, Observation::of(false, octets))
     }
 
-    /// Takes a frame that says this, and returns its breach.
+    /// Takes a frame with this observation, and returns its breach.
     pub(crate) fn take(&mut self, from_cpu: bool, observation: Observation) -> Option<Breach>
         ensures breach { result ≡ found_by self.old from_cpu observation }
         ensures next { self.new ≡ checker_with self.old from_cpu observation }
@@ -119,7 +119,7 @@ impl Checker {
         breach
     }
 
-    /// Returns whether it passes over a frame that says this.
+    /// Returns whether the checker skips a frame with this observation.
     pub(crate) fn passes_over(&self, from_cpu: bool, observation: Observation) -> bool
         ensures { result ≡ passes_over self.now from_cpu observation }
     {
@@ -142,7 +142,7 @@ impl Skips {
     }
 }
 
-/// Returns the breach of a frame that says this, below lines of which these facts hold, with these limits.
+/// Returns the breach of a frame with this observation, given the facts above it and the limits.
 fn breach_of(limits: Limits, facts: &Facts, observation: Observation) -> Option<Breach>
     ensures { result ≡ breach_of limits facts.now observation }
 {

@@ -22,25 +22,23 @@ use fio_message::{
 /// Where a frame breaks a rule on content.
 #[derive(Clone, Copy, Debug, PartialEq, Eq, Hash)]
 pub struct ContentBreach {
-    /// How many items of the frame's block are recorded above the breach: for an answer none, at the end of a
-    /// block all of them.
+    /// How many items of the frame's block are recorded above the breach: none for an answer, all for the end of a block.
     pub items: u16,
-    /// The input of the entry that breaks it, or that whose state is another; `None` for an answer.
+    /// The input of the entry that breaks the rule, or the input with another state; `None` for an answer.
     pub input: Option<u8>,
     /// The first rule that is broken.
     pub rule: ContentRule,
 }
 
-/// A checker of the rules on content: what it keeps of the frames that it took. It judges the
-/// answers and entries that a CPU's end takes which starts at the first poll: of the block answers those with
-/// that end's number. So a block that is heard again is judged once. Answers above the first command of a log that begins
-/// later than both ends are passed over.
+/// A checker of the rules on content: what it keeps of the frames that it took. It judges what a CPU's end takes that starts
+/// at the first poll: its answers, but of the block answers only those with that end's number, and their entries. So a
+/// repeated block is judged once. Answers above the first command are skipped in a log that begins later than both ends.
 #[derive(Clone, Copy, Debug)]
 #[repr(C)]
 pub struct ContentChecker {
     /// What is above the next frame.
     above: ContentAbove,
-    /// Whether there is a poll above.
+    /// Whether a poll is above.
     has_number: u8,
     /// The number that the next block to be taken has.
     number: u8,
@@ -83,15 +81,15 @@ impl ContentChecker {
         }
     }
 
-    /// Returns how many loads of the counter may still take effect: those that were sent and have excused no breach yet. 255
-    /// stays.
+    /// Returns how many loads of the counter may still take effect: that were sent and have excused no breach yet. The count
+    /// stays at 255.
     pub fn loads_left(&self) -> u8
         ensures { result ≡ (content_kept self.now).facts.excuses }
     {
         self.above.excuses
     }
 
-    /// Begins anew: of what is above it keeps only how many loads of the counter may still take effect.
+    /// Begins anew, and keeps only how many loads of the counter may still take effect.
     pub fn begin_again(&mut self)
         ensures { content_checking self.new ≡ checking_again (content_kept self.old).facts.excuses }
     {
@@ -130,7 +128,7 @@ impl ContentChecker {
         }
     }
 
-    /// Takes a command that is read already, as `sent` takes its octets.
+    /// Takes a decoded command, as `sent` takes its octets.
     #[inline]
     pub fn send(&mut self, command: &CommandView<'_>)
         ensures { content_checking self.new ≡ checking_with_command (content_checking self.old) (command_of command.now) }
@@ -156,7 +154,7 @@ impl ContentChecker {
         }
     }
 
-    /// Takes an answer that is read already, as `heard` takes its octets.
+    /// Takes a decoded answer, as `heard` takes its octets.
     #[inline]
     pub fn hear(&mut self, answer: &AnswerView<'_>) -> Option<ContentBreach>
         ensures found { result ≡ found_in_answer (content_checking self.old) (answer_of answer.now) }
@@ -194,7 +192,7 @@ impl ContentChecker {
     }
 }
 
-/// Returns the breach of a rule below this many items of its frame.
+/// Returns the breach of a rule below this number of items of its frame.
 fn breach_below(items: u16, broken: BrokenRule) -> ContentBreach
     ensures { result ≡ breach_below items broken }
 {
@@ -215,7 +213,7 @@ fn take_answer(above: &mut ContentAbove, answer: &AnswerView<'_>) -> Option<Cont
     Some(breach_below(0, broken?))
 }
 
-/// Takes the items of a block and its end, and returns the first breach with these.
+/// Takes the items of a block and its end, and returns the first breach so far.
 fn take_items(
     above: &mut ContentAbove,
     found: Option<ContentBreach>,
@@ -233,7 +231,7 @@ fn take_items(
     take_end(above, found, items + entries.len() as u16, status, stamp)
 }
 
-/// Begins a block, if entries were lost by a gap mark, and returns how many items that are.
+/// Begins a block, with a gap mark if entries were lost, and returns how many items that is.
 fn begin_block(above: &mut ContentAbove, status: u8) -> u16
     ensures items { result ≡ length (gap_if (says_lost status)) }
     ensures next { facts_kept above.new ≡ fold content_with (facts_kept above.old)
@@ -246,7 +244,7 @@ fn begin_block(above: &mut ContentAbove, status: u8) -> u16
     0
 }
 
-/// Takes the entries of a block below this many items of it, and returns the first breach with these.
+/// Takes the entries of a block below this number of its items, and returns the first breach so far.
 fn take_entries(
     above: &mut ContentAbove,
     found: Option<ContentBreach>,
@@ -269,7 +267,7 @@ fn take_entries(
     found
 }
 
-/// Takes an entry below this many items of its block, and returns the first breach with this entry.
+/// Takes an entry below this number of items of its block, and returns the first breach so far.
 fn take_entry(
     above: &mut ContentAbove,
     found: Option<ContentBreach>,
@@ -288,7 +286,7 @@ fn take_entry(
     found
 }
 
-/// Returns the first breach with an entry of this wide time. The rules are tried only where none is found yet.
+/// Returns the first breach so far, with an entry of this wide time. The rules are tried only if there is none yet.
 fn entry_breach(
     above: &ContentAbove,
     found: Option<ContentBreach>,
@@ -307,7 +305,7 @@ fn entry_breach(
     Some(breach_below(items, broken))
 }
 
-/// Takes the end of a block below this many items of it, and returns the first breach with the end.
+/// Takes the end of a block below this number of its items, and returns the first breach so far.
 fn take_end(
     above: &mut ContentAbove,
     found: Option<ContentBreach>,

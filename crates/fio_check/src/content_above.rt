@@ -1,5 +1,5 @@
-//! What the rules on content keep of the events above, in plain memory that C code can hold too: a flag
-//! is an octet, and 0 is no.
+//! What the rules on content keep of the events above, in plain memory that C code can hold too. A flag is an octet, and
+//! 0 is false.
 ghost use Rattle.std.specs.Prelude.{◌≡◌, ◌==◌, ◌&&◌, ◌||◌, ℕ, Bool, None, Some, false, nat_lt, not, if◌then◌else◌};
 ghost use Rattle.std.specs.Option.{option_or};
 ghost use Rattle.fio_message.specs.Status.{says_again, says_more};
@@ -27,9 +27,9 @@ pub struct ContentAbove {
     pub(crate) inputs: ContentInputs,
     /// The states of the latest 181.
     pub(crate) seen_levels: u64,
-    /// The inputs of which an item was sent below the first poll for the block that is due.
+    /// The inputs for which an item was sent below the first poll for the block that is due.
     pub(crate) since_poll: u64,
-    /// The latest stamp, but of a block that is sent again.
+    /// The latest stamp, but not that of a repeated block.
     pub(crate) clock: u32,
     /// The stamp of the latest block without C, if times are known.
     pub(crate) full: u32,
@@ -37,21 +37,21 @@ pub struct ContentAbove {
     pub(crate) floor: u32,
     /// The stamp of the latest 181.
     pub(crate) seen: u32,
-    /// How many loads of the counter were sent that have excused no breach yet: 255 stays.
+    /// How many loads of the counter were sent and have excused no breach yet. The count stays at 255.
     pub(crate) excuses: u8,
     /// Whether an answer to a watchdog was heard.
     pub(crate) watchdog_set: u8,
-    /// The flags that the command clears which awaits its answer.
+    /// The flags that the command which awaits its answer clears.
     pub(crate) clearing: u8,
     /// Whether that command names an input above 63.
     pub(crate) absent_named: u8,
     pub(crate) has_clock: u8,
     /// Whether a clear block is above.
     pub(crate) clear: u8,
-    /// Whether the latest block was made so long after the latest one without C that 16 bits do not tell the times of its
-    /// entries.
+    /// Whether the latest block was made so long after the latest one without C that 16 bits do not determine the times
+    /// of its entries.
     pub(crate) aged: u8,
-    /// What has the time of the floor: 1 an entry, 2 a block without C, and 0 where there is neither.
+    /// What has the time of the floor: 1 an entry, 2 a block without C, 0 neither.
     pub(crate) floor_kind: u8,
     /// The input of that entry.
     pub(crate) floor_input: u8,
@@ -68,7 +68,7 @@ pub struct ContentAbove {
 }
 
 impl ContentAbove {
-    /// Nothing is above.
+    /// Returns what is kept if nothing is above.
     #[inline(always)]
     pub(crate) fn new() -> ContentAbove
         ensures { facts_kept result ≡ no_content }
@@ -98,7 +98,7 @@ impl ContentAbove {
         }
     }
 
-    /// Nothing is above but this many loads of the counter that may still take effect.
+    /// Returns what is kept if nothing is above, except this number of loads of the counter that may still take effect.
     #[inline(always)]
     pub(crate) fn below_loads(loads: u8) -> ContentAbove
         ensures { facts_kept result ≡ (record no_content { excuses = loads }) }
@@ -109,7 +109,7 @@ impl ContentAbove {
         }
     }
 
-    /// Both ends begin.
+    /// Returns what is kept if both ends begin.
     #[inline(always)]
     pub(crate) fn begun() -> ContentAbove
         ensures { facts_kept result ≡ content_begun }
@@ -174,7 +174,7 @@ impl ContentAbove {
         }
     }
 
-    /// Adds the items of a command, the last one first: of each input that one counts.
+    /// Adds the items of a command, the last one first: for each input that one counts.
     fn add_items(&mut self, items: &ItemsView<'_>)
         requires { (input : ℕ) → ((facts_kept self.old).inputs input).named ≡ false }
         ensures { facts_kept self.new ≡ with_items (facts_kept self.old) (items_of items.now) }
@@ -255,7 +255,7 @@ impl ContentAbove {
         self.seen_levels = levels;
     }
 
-    /// Begins a block with this stamp: whether the times of its entries are told by 16 bits.
+    /// Begins a block with this stamp, and sets whether 16 bits determine the times of its entries.
     fn begin_block(&mut self, stamp: u32)
         ensures { facts_kept self.new ≡ (record (facts_kept self.old) {
           aged = is_aging (facts_kept self.old) (Some stamp);
@@ -419,7 +419,7 @@ impl ContentAbove {
         u8::from(self.block_heard != 0 || self.timely != 0)
     }
 
-    /// Uses an excuse and forgets all that is known of times, where an event is excused.
+    /// Uses an excuse and forgets all that is known of times, if an event is excused.
     fn forget(&mut self, excused: bool)
         ensures { facts_kept self.new ≡ forgetting excused (facts_kept self.old) }
     {
@@ -449,7 +449,7 @@ fn accepts_items(answer: &AnswerView<'_>) -> bool
     }
 }
 
-/// Returns the stamp of an answer, but of a block that is sent again.
+/// Returns the stamp of an answer, unless it is a repeated block.
 pub(crate) fn stamp_of(answer: &AnswerView<'_>) -> Option<u32>
     ensures { result ≡ stamp_of (answer_of answer.now) }
 {

@@ -20,48 +20,48 @@ use fio_message::{INPUTS, InputItem};
 pub struct ContentInputs {
     /// The command that awaits its answer has an item of the input.
     named: u64,
-    /// An item of it was sent.
+    /// An item of the input was sent.
     sent: u64,
-    /// The last item of it that was sent ignores it.
+    /// The last item that was sent ignores the input.
     ignoring: u64,
     /// That item was taken.
     taken: u64,
-    /// That item was taken above a block that settles it, and its filters are the least that can be in force.
+    /// That item was taken above a block that settles the input, and its filters are the lowest that can be in force.
     settled: u64,
-    /// An item that ignores it was sent since the latest block that settles it.
+    /// An item that ignores the input was sent since the latest block that settles it.
     hidden: u64,
-    /// And below that one an item that opens it.
+    /// Below that item one was sent that opens the input.
     reopened: u64,
-    /// An item of it was sent since the latest block that settles it.
+    /// An item of the input was sent since the latest block that settles it.
     touched: u64,
-    /// Its state in the latest 181 that the record has come to is known to be the same since.
+    /// The input's state is known to be that of the latest 181 that the record has come to.
     told: u64,
     /// That state.
     told_levels: u64,
-    /// It changed between two such 181 without an entry.
+    /// The input changed between two such 181 without an entry.
     unlogged: u64,
-    /// It is ignored for each entry below.
+    /// The input is ignored for each entry below.
     shut: u64,
-    /// The state of its latest entry.
+    /// The state of the input's latest entry.
     levels: u64,
-    /// No change of it since that entry can have been hidden and recorded again.
+    /// No change of the input since that entry can have been hidden and recorded again.
     watched: u64,
-    /// An item that ignores it was sent since the latest block above that entry that settles it.
+    /// An item that ignores the input was sent since the latest block above that entry that settles the input.
     shaded: u64,
     /// The time of that entry is known.
     timed: u64,
     /// The wide time of that entry.
     times: [u32; INPUTS],
-    /// Both filters of its last item, as they are in force.
+    /// Both filters of the last item, as they take effect.
     leading: [u8; INPUTS],
     trailing: [u8; INPUTS],
-    /// The least filters that can be in force, where the last item is not settled.
+    /// The lowest filters that can be in force, if the last item is not settled.
     least_leading: [u8; INPUTS],
     least_trailing: [u8; INPUTS],
 }
 
 impl ContentInputs {
-    /// Returns what is kept where nothing is above.
+    /// Returns what is kept if nothing is above.
     #[inline(always)]
     pub(crate) fn new() -> ContentInputs
         ensures { (input : ℕ) → input_kept result input ≡ no_input }
@@ -91,7 +91,7 @@ impl ContentInputs {
         }
     }
 
-    /// Returns what is kept where both ends begin: each input is ignored, with the filters of the start.
+    /// Returns what is kept if both ends begin: each input is ignored, with the initial filters.
     #[inline(always)]
     pub(crate) fn begun() -> ContentInputs
         ensures { (input : ℕ) → input_kept result input
@@ -124,7 +124,7 @@ impl ContentInputs {
 
     // ---- Commands and answers
 
-    /// Begins a command, no item of which is known yet.
+    /// Begins a command whose items are not known yet.
     pub(crate) fn begin_command(&mut self)
         ensures { (input : ℕ) → input_kept self.new input ≡ unnamed (input_kept self.old input) }
     {
@@ -163,7 +163,7 @@ impl ContentInputs {
         }
     }
 
-    /// Lowers the least filters of an input to these.
+    /// Lowers the lowest filters of an input to these, if these are lower.
     fn add_filters(&mut self, place: usize, leading: u8, trailing: u8)
         requires { place < INPUTS }
         ensures kept { (input : ℕ) → input_kept self.new input ≡ (if input == place
@@ -179,7 +179,7 @@ impl ContentInputs {
         self.least_trailing[place] = least_trailing.min(trailing);
     }
 
-    /// Returns the least filters of an input that can be in force.
+    /// Returns the lowest filters of an input that can be in force.
     fn least(&self, place: usize) -> (u8, u8)
         requires { place < INPUTS }
         ensures leading { result.0 ≡ (input_kept self.now place).least.leading }
@@ -192,7 +192,7 @@ impl ContentInputs {
         }
     }
 
-    /// Sets the last item of an input, of which none is settled.
+    /// Sets the last item of an input, which is not settled.
     fn set_item(&mut self, place: usize, ignore: bool, leading: u8, trailing: u8)
         requires within { place < INPUTS }
         requires unsettled { is_set self.old.settled place ≡ false }
@@ -312,7 +312,7 @@ impl ContentInputs {
 
     // ---- What the rules read
 
-    /// Returns the inputs of which the command that awaits its answer has an item.
+    /// Returns the inputs for which the command that awaits its answer has an item.
     pub(crate) fn named(&self) -> u64
         ensures { (input : ℕ) → is_set result input ≡ (input_kept self.now input).named }
     {
@@ -330,7 +330,8 @@ impl ContentInputs {
         }
     }
 
-    /// Returns the same, if no item that ignores the input was sent since the latest block above that entry that settles it.
+    /// Returns the state of the latest entry of an input, if it is watched and no item that ignores the input was sent since
+    /// the latest block above that entry that settles it.
     pub(crate) fn steady(&self, place: usize) -> Option<bool>
         ensures { result ≡ steady_state (input_kept self.now place).watched }
     {
@@ -360,7 +361,7 @@ impl ContentInputs {
         has_input(self.shut, place)
     }
 
-    /// Returns whether an entry of this state is none of the changes of an input, by what a 181 tells.
+    /// Returns whether an entry of this state contradicts what a 181 shows of an input.
     pub(crate) fn is_told_otherwise(&self, place: usize, level: bool) -> bool
         ensures { result ≡ is_told_otherwise level (input_kept self.now place) }
     {
@@ -368,7 +369,8 @@ impl ContentInputs {
         told || has_input(self.unlogged, place)
     }
 
-    /// Returns the same where the record comes to these states with the entry.
+    /// Returns whether an entry of this state contradicts what a 181 shows of an input, if the record comes to these states
+    /// with the entry.
     pub(crate) fn is_told_otherwise_by(&self, place: usize, level: bool, levels: u64) -> bool
         ensures { (stamp : ℕ) → result ≡ is_told_otherwise level (input_coming place
             (Some (record { stamp = stamp; levels = levels })) (input_kept self.now place)) }
@@ -386,7 +388,7 @@ impl ContentInputs {
         now == level || (has_input(self.told, place) && has_input(self.told_levels, place) != now)
     }
 
-    /// Returns the least filter of an input that can be in force for a change to this state.
+    /// Returns the lowest filter of an input that can be in force for a change to this state.
     pub(crate) fn filter_towards(&self, place: usize, level: bool) -> u8
         requires { place < INPUTS }
         ensures { result ≡ filter_towards level (input_kept self.now place).least }

@@ -127,7 +127,7 @@ impl ContentAbove {
         self.broken_state(is_later(wide, self.seen))
     }
 
-    /// Returns the first rule that an entry breaks, but for that on states.
+    /// Returns the first rule that an entry breaks, apart from the rule on states.
     fn broken_entry_rule(&self, input: InputNumber, level: bool, wide: u32) -> Option<ContentRule>
         ensures { result ≡ find (breaks_entry (facts_kept self.now) input
             (record { level = level; wide = wide })) entry_rules }
@@ -193,7 +193,7 @@ impl ContentAbove {
         !is_later(wide, self.floor)
     }
 
-    /// Returns whether an entry of an input is none of its changes, by what a 181 tells.
+    /// Returns whether an entry of an input contradicts what a 181 shows of it.
     fn is_otherwise(&self, place: usize, level: bool, wide: u32) -> bool
         ensures { result ≡ breaks_entry (without_excuse (facts_kept self.now)) place
             (record { level = level; wide = wide }) ContentRule.State }
@@ -206,7 +206,7 @@ impl ContentAbove {
         self.inputs.is_told_otherwise(place, level)
     }
 
-    /// Returns whether an entry is nearer to the latest one of its input than the least filter that can be in
+    /// Returns whether an entry is nearer to the latest one of its input than the lowest filter that can be in
     /// force.
     fn is_too_near(&self, place: usize, level: bool, wide: u32) -> bool
         ensures { result ≡ breaks_entry (without_excuse (facts_kept self.now)) place
@@ -241,7 +241,7 @@ impl ContentAbove {
         self.excuses != 0 && self.state_broken_by_end(status, stamp).is_some()
     }
 
-    /// Returns the same breach, where no load excuses it.
+    /// Returns the breach of the end of a block, as if no load excused it.
     fn state_broken_by_end(&self, status: u8, stamp: u32) -> Option<BrokenRule>
         ensures { result ≡ broken_state (without_excuse (facts_kept self.now)) (Ended status stamp) (facts_kept self.now).seen }
     {

@@ -2,17 +2,17 @@
 ghost use Rattle.std.specs.Prelude.{◌≡◌};
 ghost use Rattle.fio_check.specs.ContentRules.{content_rule_name, content_rule_number, content_rule_of_number};
 
-/// What an entry of the record, the states of a 181 or an answer may break (own profile). They judge a transcript
-/// that keeps the rules of `Rule`. A clear block is a block answer with neither C nor E. It settles each input; below
-/// one, a block with E and without C settles each input of which no item was sent since the first poll for that block.
-/// An input is watched from an entry on if a clear block is above that entry, and of what was sent since the latest
-/// block that settles it nothing opens the input below what ignores it; it is steady if nothing ignores it; a gap mark
-/// ends both. Below a clear block a block is late if its stamp is 65,536 or more after that of the latest block without
-/// C: its entries may be older than their 16 bits say. The rules on time are `order`, `fresh`, `apart`, `state` and `clock`.
-/// A load of the counter that is sent excuses one breach of them, somewhere below: it may have taken effect before. Then
-/// all that is known of times is forgotten, till the end of a clear block that is heard below; 255 excuses are never used
-/// up. Of each rule: what a right link does, when it is judged, and what a breach means, with the input I and its state S.
-/// `tools/generate-constants` makes the words of pages and tools of these.
+/// What an entry of the record, the states of a 181 or an answer may break (own profile). These rules judge a transcript
+/// that keeps the rules of `Rule`. A clear block is a block answer with neither C nor E. It settles each input; below it, a
+/// block with E and without C settles each input for which no item was sent since the first poll for that block. An input is
+/// watched from an entry on if a clear block is above that entry, and of what was sent since the latest block that settles
+/// it nothing opens the input below what ignores it; it is steady if nothing ignores it; a gap mark ends both. Below a clear
+/// block a block is late if its stamp is 65,536 or more after that of the latest block without C: its entries may be older
+/// than their 16 bits say. The rules on time are `order`, `fresh`, `apart`, `state` and `clock`. A load of the counter that
+/// is sent excuses one breach of them, somewhere below: it may have taken effect before. Then all that is known of times is
+/// forgotten, until the end of a clear block that is heard below; 255 excuses are never used up. Each rule says what a right
+/// link does, when it is judged, and what a breach means, with the input I and its state S. `tools/generate-constants` makes
+/// the words of pages and tools of these.
 #[derive(Clone, Copy, Debug, PartialEq, Eq, PartialOrd, Ord, Hash)]
 pub enum ContentRule {
     /// An entry is later than the entry above it, or has its time and a higher input.
@@ -94,7 +94,7 @@ pub enum ContentRule {
 /// A rule on content that is broken.
 #[derive(Clone, Copy, Debug, PartialEq, Eq, Hash)]
 pub struct BrokenRule {
-    /// The input of the entry that breaks it, or that whose state is another; `None` for an answer.
+    /// The input of the entry that breaks the rule, or the input with another state; `None` for an answer.
     pub input: Option<u8>,
     /// The rule.
     pub rule: ContentRule,

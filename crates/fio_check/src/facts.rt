@@ -6,10 +6,11 @@ use crate::observation::Observation;
 use fio_message::BlockStatus;
 use fio_message::types::BLOCK_ANSWER;
 
-/// What the rules read of the lines above. `default()`: above the first line.
+/// What the rules read of the lines above. `default()` is for the first line, above which nothing
+/// is.
 #[derive(Clone, Copy, Debug, Default, PartialEq, Eq, Hash)]
 pub struct Facts {
-    /// The type of the answer to the command directly above, if a command is there.
+    /// The type of the answer to the command directly above, if a command is directly above.
     pub awaited: Option<u8>,
     /// Whether that command names an input above 63.
     pub absent_named: bool,
@@ -24,7 +25,7 @@ pub struct Facts {
 }
 
 impl Facts {
-    /// Adds a line that says this.
+    /// Adds a line with this observation.
     pub fn add(&mut self, observation: Observation)
         ensures { self.new ≡ facts_with self.old observation }
     {
@@ -43,8 +44,7 @@ impl Facts {
         }
     }
 
-    /// Returns the number that a poll must have below these lines, and `None` where none is polled
-    /// above.
+    /// Returns the number that the next poll must have; `None` if no poll is above.
     pub fn number_due(&self) -> Option<u8>
         ensures { result ≡ number_due self.now }
     {
@@ -65,7 +65,7 @@ impl Facts {
         self.add_command(Some(BLOCK_ANSWER), false);
     }
 
-    /// Adds what any line says of the line below it: the answer that a command awaits there.
+    /// Adds what every line says about the next one: the answer that a command awaits there.
     fn add_command(&mut self, awaited: Option<u8>, absent_named: bool)
         ensures { self.new ≡ (record self.old { awaited = awaited; absent_named = absent_named }) }
     {

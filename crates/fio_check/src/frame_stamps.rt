@@ -6,7 +6,7 @@ ghost use Rattle.fio_check.specs.LinkJudges.{any_stamp_in, any_stamp_of, stamp_i
 use crate::content_above::stamp_of;
 use fio_message::{AnswerView, read_answer};
 
-/// Returns the stamp of an answer, also of a block that is sent again.
+/// Returns the stamp of an answer, also of a repeated block.
 pub(crate) fn any_stamp_of(answer: &AnswerView<'_>) -> Option<u32>
     ensures { result ≡ any_stamp_of (answer_of answer.now) }
 {
@@ -16,7 +16,7 @@ pub(crate) fn any_stamp_of(answer: &AnswerView<'_>) -> Option<u32>
     }
 }
 
-/// Returns the stamp of a frame that is heard, also of a block that is sent again.
+/// Returns the stamp of a frame that is heard, also of a repeated block.
 pub(crate) fn any_stamp_in(from_cpu: bool, octets: &[u8]) -> Option<u32>
     ensures { result ≡ any_stamp_in from_cpu octets.now }
 {
@@ -29,7 +29,7 @@ pub(crate) fn any_stamp_in(from_cpu: bool, octets: &[u8]) -> Option<u32>
     }
 }
 
-/// Returns the stamp of a frame that is heard, but of a block that is sent again.
+/// Returns the stamp of a frame that is heard, unless it is a repeated block.
 pub(crate) fn stamp_in(from_cpu: bool, octets: &[u8]) -> Option<u32>
     ensures { result ≡ stamp_in from_cpu octets.now }
 {

@@ -1,4 +1,4 @@
-//! Late answers: what a CPU's end hears late or twice that waits for each answer only until a deadline.
+//! Late answers: what a CPU's end that waits for each answer only until a deadline hears late or twice.
 ghost use Rattle.std.specs.Prelude.{◌≡◌, None};
 ghost use Rattle.fio_check.specs.LateAnswers.{awaits, late_above, late_below_answer, late_below_block, late_below_command, late_below_poll, late_with, lateness_of, lateness_of_block};
 
@@ -8,15 +8,15 @@ use fio_message::types::BLOCK_ANSWER;
 /// Whether a frame is a late answer.
 #[derive(Clone, Copy, Debug, PartialEq, Eq, Hash)]
 pub enum Lateness {
-    /// It is none.
+    /// The frame is not a late answer.
     InTime,
-    /// It is one, and the CPU's end does not take it.
+    /// The frame is a late answer, and the CPU's end does not take it.
     Late,
-    /// It is one, and the CPU's end may take it as the answer to its latest poll.
+    /// The frame is a late answer, and the CPU's end may take it as the answer to its latest poll.
     LateButTaken,
 }
 
-/// What is kept of the frames above, to tell which answers are late.
+/// What is kept of the frames above, to decide which answers are late.
 #[derive(Clone, Copy, Debug, PartialEq, Eq, Hash)]
 pub struct LateAnswers {
     /// Whether no answer to a command above can still come.
@@ -45,7 +45,7 @@ impl LateAnswers {
         }
     }
 
-    /// Returns whether a frame that says this is a late answer.
+    /// Returns whether a frame with this observation is a late answer.
     pub fn lateness(&self, observation: Observation) -> Lateness
         ensures { result ≡ lateness_of self.now observation }
     {
@@ -84,7 +84,7 @@ impl LateAnswers {
         }
     }
 
-    /// Takes a frame that says this.
+    /// Takes a frame with this observation.
     pub fn add(&mut self, observation: Observation)
         ensures { self.new ≡ late_with self.old observation }
     {

@@ -1,5 +1,4 @@
-//! Laws of the definitions that the contracts cite: a function states one in its contract, and does
-//! nothing.
+//! Laws of the definitions that the contracts cite. Each function states one in its contract, and does nothing.
 ghost use Rattle.std.specs.Prelude.{◌≡◌, ℕ, Bool, List, option_map};
 ghost use Rattle.fio_check.specs.Checkers.{BeginsAnywhere, GoesOn, verdict_of_checker};
 ghost use Rattle.fio_check.specs.ContentCheckers.{ContentChecking, checking_at_start, fault_found, found_first};
@@ -42,24 +41,24 @@ pub fn verdicts_are_one()
     ensures { (lines : List TranscriptLine) → HasOneVerdict lines }
 {}
 
-/// From the start on, through the first breach, a checker finds what `check_trace` finds: the verdict
-/// by its first breach is the verdict on the transcript.
+/// Up to the first breach a checker finds what `check_trace` finds: the verdict by its first breach is the verdict on the
+/// transcript.
 pub fn checkers_find_the_first_breach()
     ensures { (lines : List TranscriptLine) → verdict_of_checker lines ≡ verdict_on lines }
 {}
 
-/// Below a breach a checker goes on as one does that starts at the next poll.
+/// Below a breach a checker goes on like a checker that starts at the next poll.
 pub fn checkers_go_on()
     ensures { (limits : Limits) (lines : List TranscriptLine) → GoesOn limits lines }
 {}
 
-/// Of a log that begins anywhere a checker finds nothing above the first command, and from that command on what one finds that
-/// starts there.
+/// In a log that begins anywhere a checker finds nothing above the first command, and from that command on what a checker
+/// started there finds.
 pub fn checkers_begin_anywhere()
     ensures { (limits : Limits) (lines : List TranscriptLine) → BeginsAnywhere limits lines }
 {}
 
-/// What a checker of the rules on content keeps event by event is what is above the next event.
+/// What a checker of the rules on content updates event by event equals what is defined by the events above the next one.
 pub fn content_is_kept()
     ensures { (events : List LineEvent) → KeepsContent events }
 {}
@@ -72,34 +71,35 @@ pub fn content_checkers_find_the_fault()
         → found_first (checking_at_start begun) lines ≡ option_map fault_found (content_fault_in begun lines) }
 {}
 
-/// A doubled entry is found at once: where an entry is in a block twice in succession, below a clear block and with no
-/// load of the counter above, the log has a fault by that block, whatever else is in it.
+/// A doubled entry is found at once: if an entry is in a block twice in succession, below a clear block and with no load of the
+/// counter above, the log has a fault by that block, whatever else is in it.
 #[tactic(auto, using(crate::proofs::Found::finds_doubled))]
 pub fn doubled_entries_are_found()
     ensures { (begun : Bool) → FindsDoubled begun }
 {}
 
-/// Swapped neighbours are found at once: where two neighbours in a block of a log without a fault are exchanged, below a
-/// clear block and with no load of the counter above, the log has a fault by that block.
+/// Swapped neighbours are found at once: if two neighbours in a block of a log without a fault are exchanged, below a clear
+/// block and with no load of the counter above, the log has a fault by that block.
 #[tactic(auto, using(crate::proofs::Found::finds_swapped))]
 pub fn swapped_entries_are_found()
     ensures { (begun : Bool) → FindsSwapped begun }
 {}
 
-/// A turned entry is found, of a log without a fault: by its block if it is compared with the entry above it, and by the
-/// line at which it is compared with what follows it, the next entry of its input or a 181 that the record comes to.
+/// An entry whose state is inverted, in a log without a fault, is found: by its block if it is compared with the entry of its
+/// input above it, and otherwise by the line at which it is compared with what follows, the next entry of its input or a 181
+/// that the record comes to.
 pub fn turned_entries_are_found()
     ensures at_once { (begun : Bool) → FindsTurned begun }
     ensures later { (begun : Bool) → FindsTurnedLater begun }
 {}
 
-/// A dropped entry is found, of a log without a fault, if the entry is compared with the one above it: by the line at which
-/// it is compared with what follows it, the next entry of its input or a 181 that the record comes to.
+/// A dropped entry, in a log without a fault, is found if it is compared with the entry of its input above it: by the line at
+/// which it is compared with what follows, the next entry of its input or a 181 that the record comes to.
 pub fn dropped_entries_are_found()
     ensures { (begun : Bool) → FindsDropped begun }
 {}
 
-/// The judge of a link says of each frame exactly one outcome, and of marks none.
+/// The judge of a link gives each frame exactly one outcome, and marks none.
 #[tactic(auto, using(crate::proofs::LinkLaws::has_outcomes))]
 pub fn frames_have_outcomes()
     ensures { (judging : Judging) (lines : List LogLine) → HasOutcomes judging lines }
@@ -111,27 +111,27 @@ pub fn judges_lose_the_place()
     ensures { (judging : Judging) → LosesPlace judging }
 {}
 
-/// Where the place is lost a judge judges nothing above the next poll, and from that poll on says what one says that begins
+/// Once the place is lost a judge judges nothing above the next poll, and from that poll on says what a judge says that begins
 /// there.
 #[tactic(auto, using(crate::proofs::LinkLaws::goes_on))]
 pub fn judges_go_on()
     ensures { (judging : Judging) (above : List LogLine) → LinkGoesOn judging above }
 {}
 
-/// Of a whole log at the CPU's end the judge accuses first what the two checkers find first.
+/// In a whole log at the CPU's end the judge accuses first what the two checkers find first.
 #[tactic(auto, using(crate::proofs::LinkLaws::says_the_same))]
 pub fn judges_say_what_checkers_find()
     ensures { (limits : Limits) (lines : List TranscriptLine) → SaysTheSame limits lines }
 {}
 
-/// What two checkers find first is what either finds first by itself, if the other one finds nothing.
+/// If one of two checkers finds nothing, both together find first what the other finds first.
 #[tactic(auto, using(crate::proofs::BothFind::find_first))]
 pub fn checkers_find_side_by_side()
     ensures { (checker : Checker) (content : ContentChecking) (lines : List TranscriptLine) → FindFirst checker content lines }
 {}
 
-/// Of a log without late answers the judge of a log says of each frame what the judge of a link says of it, to which it gives the
-/// frames, each with its place, and the marks where lines are lost: so the laws of the judge of a link are laws of logs.
+/// Without late answers the judge of a log gives each frame the outcome of the judge of a link, to which it passes the frames,
+/// each with its place, and the marks where lines are lost. So the laws of the judge of a link are laws of logs.
 pub fn logs_are_judged_as_links()
     ensures { (log : LogJudging) (events : List LogEvent) → SaysAsLink log events }
 {}

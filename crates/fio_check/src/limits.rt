@@ -15,7 +15,7 @@ impl Limits {
     ghost use Rattle.std.specs.Prelude.{◌≡◌};
     ghost use Rattle.fio_check.specs.Rules.{standard_limits};
 
-    /// Returns those of TEES 2009.
+    /// Returns the limits of TEES 2009.
     pub fn standard() -> Limits
         ensures { result ≡ standard_limits }
     {

@@ -1,4 +1,4 @@
-//! The judge of a link: whom to accuse by a log in which lines may be lost, of a module that may be restarted.
+//! The judge of a link: which end a log accuses, if lines of it may be lost and the module may be restarted.
 ghost use Rattle.std.specs.Prelude.{◌≡◌, Bool, None, false};
 ghost use Rattle.fio_message.specs.Views.{answer_of};
 ghost use Rattle.fio_check.specs.ContentCheckers.{checking_with, found_in_frame};
@@ -20,11 +20,11 @@ use crate::observation::Observation;
 use crate::outcome::{Excuse, LogPlace, Outcome, Unjudged};
 use fio_message::{AnswerView, BlockStatus, read_answer};
 
-/// The judge of a link: it takes a log frame by frame, and says of each what it is. Where lines are lost it accuses nobody by what
-/// may stand in them; a module that is restarted, and a counter that is loaded, are no faults.
+/// The judge of a link: it takes a log frame by frame, and returns the outcome of each. What lost lines may explain accuses
+/// nobody, and neither a restart of the module nor a load of the counter is a fault.
 ///
-/// Below a lost line, a restart, a load that took effect, and a breach of a rule of transcripts nothing is judged till the next
-/// poll, and from there on all rules are applied anew.
+/// Below a lost line, a restart, a load that took effect, and a breach of a rule of transcripts nothing is judged until the
+/// next poll. From there on all rules apply anew.
 ///
 /// # Examples
 ///
@@ -44,9 +44,9 @@ pub struct LinkJudge {
     pub checker: Checker,
     /// The checker of the rules on content.
     pub content: ContentChecker,
-    /// The latest stamp that was judged, but of a block that is sent again.
+    /// The latest stamp that was judged, but not that of a repeated block.
     pub latest: Option<u32>,
-    /// What was the latest stamp at the first poll for the block that is due.
+    /// The latest stamp at the time of the first poll for the block that is due.
     pub asked: Option<u32>,
     /// Whether lines are lost below the latest stamp.
     pub lost: bool,
@@ -91,7 +91,7 @@ impl LinkJudge {
         self.lost = true;
     }
 
-    /// Takes a frame that was logged there, by whether the CPU's end sent it, and returns what it is.
+    /// Takes a frame that was logged at `at` and that the CPU's end sent or heard, and returns its outcome.
     pub fn frame(&mut self, at: LogPlace, from_cpu: bool, octets: &[u8]) -> Outcome
         ensures outcome { result ≡ outcome_in (judging self.old) at from_cpu octets.now }
         ensures next { judging self.new ≡ judging_with (judging self.old) at from_cpu octets.now }
@@ -119,7 +119,7 @@ impl LinkJudge {
 
     // ---- Stamps
 
-    /// Returns whether the stamp of a frame is before one that it is not before as long as the counter runs on.
+    /// Returns whether the stamp of a frame is earlier than it may be if the counter runs on.
     fn is_set_back(&self, from_cpu: bool, octets: &[u8]) -> bool
         ensures { result ≡ is_set_back (judging self.now) from_cpu octets.now }
     {
@@ -132,7 +132,7 @@ impl LinkJudge {
         }
     }
 
-    /// Returns whether the stamp of an answer is before one that it is not before as long as the counter runs on.
+    /// Returns whether the stamp of an answer is earlier than it may be if the counter runs on.
     fn is_answer_set_back(&self, answer: &AnswerView<'_>) -> bool
         ensures { result ≡ is_answer_set_back (judging self.now) (answer_of answer.now) }
     {
@@ -142,8 +142,8 @@ impl LinkJudge {
         }
     }
 
-    /// Returns the stamp before which that of an answer is not as long as the counter runs on. A block that is sent again was
-    /// made below the first poll for it.
+    /// Returns the earliest stamp that an answer may have if the counter runs on. A repeated block was made after the first
+    /// poll for it.
     fn stamp_above(&self, answer: &AnswerView<'_>) -> Option<u32>
         ensures { result ≡ stamp_above (judging self.now) (answer_of answer.now) }
     {
@@ -181,7 +181,7 @@ impl LinkJudge {
         self.lost = false;
     }
 
-    /// Forgets what is above of content and of stamps, but for the loads of the counter.
+    /// Forgets content and stamps, except the loads of the counter.
     pub(crate) fn forget_content(&mut self)
         ensures { judging self.new ≡ without_content (judging self.old) }
     {
@@ -192,7 +192,7 @@ impl LinkJudge {
 
     // ---- Frames that are judged
 
-    /// Takes an answer that says this, of which the rules on content are told nothing, and returns what it is.
+    /// Takes an answer with this observation, keeps it from the rules on content, and returns its outcome.
     pub(crate) fn answer_without_content(&mut self, observation: Observation) -> Outcome
         ensures outcome { result ≡ outcome_without_content (judging self.old) observation }
         ensures next { judging self.new ≡ (record (judging self.old) {
@@ -208,7 +208,7 @@ impl LinkJudge {
         }
     }
 
-    /// Judges a frame that says this, but for its stamp.
+    /// Judges a frame with this observation, without a look at its stamp.
     fn judge(
         &mut self,
         at: LogPlace,
@@ -267,7 +267,7 @@ impl LinkJudge {
         }
     }
 
-    /// Takes a frame below which the checker of transcripts and the latest stamp at the first poll are these, and returns its
+    /// Takes a frame after which the checker of transcripts and the latest stamp at the first poll are these, and returns its
     /// breach of a rule on content.
     fn take(
         &mut self,
@@ -308,7 +308,7 @@ impl LinkJudge {
         }
     }
 
-    /// Returns the latest stamp at the first poll for the block that is due, below a frame that says this.
+    /// Returns the latest stamp at the first poll for the block that is due, after a frame with this observation.
     fn asked_below(&self, observation: Observation) -> Option<u32>
         ensures { result ≡ asked_below (judging self.now) observation }
     {
@@ -325,7 +325,7 @@ impl LinkJudge {
         }
     }
 
-    /// Returns whether a frame that says this may be right by an answer above that the CPU's end did not hear.
+    /// Returns whether a frame with this observation may be right, because the CPU's end did not hear an answer above.
     fn is_unheard(&self, at: LogPlace, observation: Observation) -> bool
         ensures { result ≡ is_unheard (judging self.now) at observation }
     {
@@ -359,7 +359,7 @@ fn is_at_cpu(at: LogPlace) -> bool
     }
 }
 
-/// Returns whether a frame that says this is a poll with the number of the latest one.
+/// Returns whether a frame with this observation is a poll with the number of the latest one.
 fn is_asked_again(facts: &Facts, observation: Observation) -> bool
     ensures { result ≡ is_asked_again facts.now observation }
 {
@@ -369,7 +369,7 @@ fn is_asked_again(facts: &Facts, observation: Observation) -> bool
     }
 }
 
-/// Returns why a frame is not judged, by what is passed over.
+/// Returns why a frame is not judged, by what is skipped.
 fn unjudged_by(skips: Skips) -> Unjudged
     ensures { result ≡ unjudged_by skips }
 {

@@ -9,13 +9,14 @@ use fio_message::{AnswerView, BlockStatus, CommandView, EntriesView, read_answer
 /// P, bit 7 of the flags of a status answer: the module was reset. Flags with it are these or more.
 const RESET: u8 = 0x80;
 
-/// How many types of messages are counted apart.
+/// How many types of messages have a count of their own.
 const TYPES: usize = 256;
 
-/// How many inputs are counted apart: an entry has seven bits for its input.
+/// How many inputs have a count of their own: an entry has seven bits for its input.
 const INPUT_NUMBERS: usize = 128;
 
-/// What is counted of the frames of a log, and what of the frames above tells what the next one counts. Numbers are modulo 2^64.
+/// What is counted of the frames of a log, and what must be known of the frames above to count the next one. Numbers are modulo
+/// 2^64.
 #[derive(Clone, Copy, Debug)]
 #[repr(C)]
 pub struct LogCounts {
@@ -25,13 +26,13 @@ pub struct LogCounts {
     pub polls: u64,
     /// The polls with the number of the poll above.
     pub repeats: u64,
-    /// The polls below which a command comes before a block answer.
+    /// The polls after which a command comes before a block answer.
     pub unanswered: u64,
     /// The gap marks.
     pub marks: u64,
     /// The entries of blocks.
     pub entries: u64,
-    /// How often the module says that it was reset, and did not say so before.
+    /// How often the module says that it was reset, though it did not say so before.
     pub restarts: u64,
     /// The messages of each type.
     pub types: [u64; TYPES],
@@ -41,27 +42,27 @@ pub struct LogCounts {
     pub fills: [u64; TYPES],
     /// When the command above was sent, in microseconds.
     pub sent_at: u64,
-    /// 1 where that is known.
+    /// 1 if that is known.
     pub has_sent_at: u8,
     /// The type of the latest command, until it is answered.
     pub command: u8,
-    /// 1 where there is one.
+    /// 1 if there is one.
     pub has_command: u8,
     /// The number of the latest poll.
     pub polled: u8,
-    /// 1 where there is one.
+    /// 1 if there is one.
     pub has_polled: u8,
-    /// 1 where that poll is not answered yet.
+    /// 1 if that poll is not answered yet.
     pub waits: u8,
     /// The number of the latest block answer.
     pub block: u8,
-    /// 1 where there is one.
+    /// 1 if there is one.
     pub has_block: u8,
-    /// 1 where the latest status answer says that the module was reset.
+    /// 1 if the latest status answer says that the module was reset.
     pub reset: u8,
-    /// 1 where the first one says so.
+    /// 1 if the first one says so.
     pub first_reset: u8,
-    /// 1 where there is one.
+    /// 1 if there is one.
     pub has_reset: u8,
     /// 0 in each octet that the library writes.
     pub reserved: [u8; 5],
@@ -99,7 +100,7 @@ impl LogCounts {
         }
     }
 
-    /// Takes a place where a frame may be lost: whether the latest poll and command were answered is not known.
+    /// Takes a place where a frame may be lost: it is then unknown whether the latest poll and command were answered.
     pub fn lose(&mut self)
         ensures { self.new ≡ counted_lost self.old }
     {
@@ -107,8 +108,8 @@ impl LogCounts {
         self.has_command = 0;
     }
 
-    /// Counts a frame, by its time in microseconds, if it has one. Returns how long the module took for its answer, if the frame is
-    /// the one that the latest command waits for, both have a time, and this one's is not before the other.
+    /// Counts a frame, with its time in microseconds, if it has one. Returns how long the module took for its answer, if the
+    /// frame is the answer that the latest command waits for, both have a time, and the answer's is not the earlier one.
     pub fn frame(&mut self, time: Option<u64>, octets: &[u8]) -> Option<u64>
         ensures time { result ≡ time_to_frame self.old time octets.now }
         ensures next { self.new ≡ counts_with self.old time octets.now }
@@ -152,7 +153,7 @@ impl LogCounts {
         self.has_sent_at = u8::from(time.is_some());
     }
 
-    /// Counts what a poll is more than another command.
+    /// Counts what a poll has beyond other commands.
     fn count_poll(&mut self, number: u8)
         ensures { self.new ≡ counted_poll self.old number }
     {
@@ -208,7 +209,7 @@ impl LogCounts {
         }
     }
 
-    /// Ends that the latest command waits, if an answer of this type is the one that it waits for.
+    /// Ends the wait of the latest command, if it waits for an answer of this type.
     fn answer_command(&mut self, code: u8)
         ensures { self.new ≡ counted_awaited self.old code }
     {
@@ -266,7 +267,7 @@ fn raise_inputs(counts: &mut [u64], entries: &EntriesView<'_>)
     }
 }
 
-/// Adds one to the count of a number, if it is counted apart.
+/// Adds one to the count of a number, if the table has a place for it.
 fn raise(counts: &mut [u64], number: u8)
     ensures { counts.new ≡ raised counts.old number }
 {

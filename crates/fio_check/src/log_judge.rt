@@ -1,4 +1,5 @@
-//! The judge of a log: whom to accuse by the frames that a reader finds in it, and by what it says of the lines between them.
+//! The judge of a log: which end a log accuses, by the frames that a reader finds in it and by what it says of the lines
+//! between them.
 ghost use Rattle.std.specs.Prelude.{◌≡◌};
 ghost use Rattle.fio_check.specs.LinkKept.{judging};
 ghost use Rattle.fio_check.specs.LogJudges.{ends_missing, is_excused_late, is_explained, is_of_late, is_of_lost, judging_in_time, log_counting, log_forgetting, log_judging, log_kept_late, log_lost, log_missing, log_possible, log_reaching, log_starting, log_with, log_with_late, outcome_in_log, outcome_in_time, outcome_kept_late, outcome_late, place_of};
@@ -15,23 +16,23 @@ use crate::rules::Rule;
 /// How a log begins, and what is in it.
 #[derive(Clone, Copy, Debug, PartialEq, Eq, Hash)]
 pub enum LogStart {
-    /// It begins anywhere.
+    /// The log begins anywhere.
     Anywhere,
-    /// It begins with both ends: more is found then.
+    /// The log begins when both ends start; then more is found.
     Begun,
-    /// It begins anywhere, and was taken at a CPU's end that waits for each answer only until a deadline: late answers are left
-    /// out.
+    /// The log begins anywhere, and was taken at a CPU's end that waits for each answer only until a deadline: late answers are
+    /// left out.
     LateAnswers,
 }
 
 /// What a frame of a log is.
 #[derive(Clone, Copy, Debug, PartialEq, Eq, Hash)]
 pub enum LogOutcome {
-    /// What the judge of a link says of it.
+    /// The outcome that the judge of a link gives.
     Link(Outcome),
-    /// It is a late answer.
+    /// The frame is a late answer.
     Late,
-    /// It would break a rule, but a late answer above may be the reason.
+    /// The frame would break a rule, but a late answer above may be the reason.
     LateAbove,
 }
 
@@ -54,22 +55,23 @@ pub enum LogOutcome {
 pub struct LogJudge {
     /// The judge of the link.
     pub link: LinkJudge,
-    /// What tells which answers are late, if these are left out.
+    /// What decides which answers are late, if these are left out.
     pub late: Option<LateAnswers>,
     /// Where the log was taken, if that is known.
     pub place: Option<LogPlace>,
-    /// How many frames were sent by the end that the log says, up to 2^32 - 1.
+    /// How many frames were sent by the end that their line names, up to 2^32 - 1.
     pub agreeing: u32,
-    /// How many were sent by the other one, up to 2^32 - 1.
+    /// How many frames were sent by the other end, up to 2^32 - 1.
     pub contrary: u32,
-    /// Whether there is a frame above.
+    /// Whether a frame is above.
     pub has_frames: bool,
     /// Whether a line below the latest poll and the latest block answer speaks of loss.
     pub missing: bool,
 }
 
 impl LogJudge {
-    /// Returns a judge above the first line of a log of a module with these limits, by where it was taken, if that is known.
+    /// Returns a judge above the first line of a log of a module with these limits. `place` says where the log was taken, if
+    /// that is known.
     pub fn new(limits: Limits, place: Option<LogPlace>, start: LogStart) -> LogJudge
         ensures { log_judging result ≡ log_starting limits place start }
     {
@@ -89,7 +91,7 @@ impl LogJudge {
         }
     }
 
-    /// Takes a line that may have held a frame: the place is lost there.
+    /// Takes a line that may have held a frame: nothing is judged until the next poll.
     pub fn lose(&mut self)
         ensures { log_judging self.new ≡ log_lost (log_judging self.old) }
     {
@@ -99,8 +101,8 @@ impl LogJudge {
         }
     }
 
-    /// Takes a line at which the place is lost if there is a frame above: one that says a message which nothing makes sure, or the
-    /// heading of another part of the log.
+    /// Takes a line that says a message which nothing confirms, or that is the heading of another part of the log: if a frame
+    /// is above, nothing is judged until the next poll.
     pub fn possible(&mut self)
         ensures { log_judging self.new ≡ log_possible (log_judging self.old) }
     {
@@ -109,16 +111,16 @@ impl LogJudge {
         }
     }
 
-    /// Takes a line that speaks of loss, and has no octets: a breach that a lost frame explains is none, up to the next poll or
-    /// block answer that breaks no rule.
+    /// Takes a line that speaks of loss and has no octets. Up to the next poll or block answer, a breach that a lost frame
+    /// explains accuses nobody.
     pub fn miss(&mut self)
         ensures { log_judging self.new ≡ log_missing (log_judging self.old) }
     {
         self.missing = true;
     }
 
-    /// Takes a frame, by whether the CPU's end sent it, and by whether its line says so, if it says who sent it. Returns what it
-    /// is.
+    /// Takes a frame, and returns its outcome. `from_cpu` says whether the CPU's end sent it, and `said` whether its line says
+    /// so, if the line names the sender.
     pub fn frame(&mut self, from_cpu: bool, said: Option<bool>, octets: &[u8]) -> LogOutcome
         ensures outcome { result ≡ outcome_in_log (log_judging self.old) from_cpu said octets.now }
         ensures next { log_judging self.new ≡ log_with (log_judging self.old) from_cpu said octets.now }
@@ -134,7 +136,7 @@ impl LogJudge {
 
     // ---- Above a frame
 
-    /// Notes who sent a frame that says this, and loses the place if a frame that is lost above explains what it breaks.
+    /// Counts who sent a frame with this observation, and loses the place if a lost frame above explains what it breaks.
     fn reach(&mut self, from_cpu: bool, said: Option<bool>, observation: Observation)
         ensures { log_judging self.new ≡ log_reaching (log_judging self.old) from_cpu said observation }
     {
@@ -146,7 +148,7 @@ impl LogJudge {
         self.has_frames = true;
     }
 
-    /// Counts whether the log says of a frame that this end sent it.
+    /// Counts whether the log names the end that sent a frame, or the other one.
     fn count_side(&mut self, from_cpu: bool, said: Option<bool>)
         ensures { log_judging self.new ≡ log_counting (log_judging self.old) from_cpu said }
     {
@@ -157,7 +159,7 @@ impl LogJudge {
         }
     }
 
-    /// Returns whether a frame that says this breaks a rule that it may break since a frame above it is not in the log.
+    /// Returns whether a frame with this observation breaks a rule, which a frame missing above it in the log would explain.
     fn is_explained(&self, from_cpu: bool, observation: Observation) -> bool
         ensures { result ≡ is_explained (log_judging self.now) from_cpu observation }
     {
@@ -168,7 +170,7 @@ impl LogJudge {
         }
     }
 
-    /// Returns where a frame was logged of which this is said.
+    /// Returns where a frame was logged whose line names this sender, or none.
     fn place_of(&self, said: Option<bool>) -> LogPlace
         ensures { result ≡ place_of (log_judging self.now) said }
     {
@@ -211,7 +213,7 @@ impl LogJudge {
         }
     }
 
-    /// Leaves out a late answer: what is kept of the answers below it is this.
+    /// Leaves out a late answer, after which `below` is kept of the answers.
     fn leave_out(&mut self, below: LateAnswers) -> LogOutcome
         ensures outcome { result ≡ Late }
         ensures next { log_judging self.new ≡ log_forgetting (log_judging self.old) below }
@@ -221,7 +223,7 @@ impl LogJudge {
         LogOutcome::Late
     }
 
-    /// Judges a frame that is no late answer: by the rules on content commands and block answers alone.
+    /// Judges a frame that is not a late answer. The rules on content get only commands and block answers.
     fn judge_in_time(
         &mut self,
         at: LogPlace,
@@ -242,7 +244,8 @@ impl LogJudge {
         }
     }
 
-    /// Goes on below a frame that is this to the judge of the link, where this is kept of the answers, and returns what it is.
+    /// Goes on after a frame with this outcome of the judge of the link, with what is kept of the answers, and returns the
+    /// outcome of the frame.
     fn keep_late(&mut self, below: LateAnswers, outcome: Outcome) -> LogOutcome
         ensures outcome { result ≡ outcome_kept_late below outcome }
         ensures next { log_judging self.new ≡ log_kept_late (log_judging self.old) below outcome }
@@ -261,7 +264,7 @@ impl LogJudge {
     }
 }
 
-/// Returns whether a frame that says this ends what a line above it says of loss: a poll or a block answer.
+/// Returns whether a frame with this observation ends what a remark of loss explains: a poll or a block answer does.
 fn ends_missing(observation: Observation) -> bool
     ensures { result ≡ ends_missing observation }
 {
@@ -271,7 +274,7 @@ fn ends_missing(observation: Observation) -> bool
     )
 }
 
-/// Returns whether a frame that is lost can be the reason why one below it breaks this rule.
+/// Returns whether a lost frame can explain why a frame below it breaks this rule.
 fn is_of_lost(rule: Rule) -> bool
     ensures { result ≡ is_of_lost rule }
 {
@@ -288,8 +291,8 @@ fn is_of_late(outcome: Outcome) -> bool
     }
 }
 
-/// Returns whether a frame is excused that is this to the judge of the link, by whether no answer to a command above can still
-/// come.
+/// Returns whether a frame with this outcome of the judge of the link is excused. `settled` says that no answer to a command
+/// above can still come.
 fn is_excused_late(settled: bool, outcome: Outcome) -> bool
     ensures { result ≡ is_excused_late settled outcome }
 {

@@ -6,21 +6,21 @@ use crate::block_order::{BlockOrder, BlockSeen};
 use crate::block_rows::BlockRows;
 use crate::repeated_frames::RepeatedFrames;
 
-/// What kind of log a log looks like that is not the log of one link in order.
+/// What kind of log a log looks like, if not the log of one link in order.
 #[derive(Clone, Copy, Debug, PartialEq, Eq, Hash)]
 pub enum LogSign {
-    /// Each frame is there twice.
+    /// Each frame occurs twice.
     Twice,
     /// The logs of both ends are merged.
     BothEnds,
     /// The last line is first.
     Reversed,
-    /// It has two links.
+    /// The log has two links.
     TwoLinks,
 }
 
-/// Counts of the frames of a log, which tell whether it looks like another one than the log of one link in order. They change
-/// nothing of what a judge says of a frame.
+/// Counts of the frames of a log, which show whether it looks like something else than the log of one link in order. No judge
+/// reads them.
 ///
 /// # Examples
 ///
@@ -36,11 +36,11 @@ pub enum LogSign {
 /// ```
 #[derive(Debug, Drop)]
 pub struct LogSigns {
-    /// The answers that have the octets of the frame directly above.
+    /// The answers with the octets of the frame directly above.
     pub frames: RepeatedFrames,
     /// The order of the block answers.
     pub order: BlockOrder,
-    /// The rows of their numbers.
+    /// The rows of the block answers' numbers.
     pub rows: BlockRows,
 }
 
@@ -56,7 +56,8 @@ impl LogSigns {
         }
     }
 
-    /// Takes a frame, by whether the CPU's end sent it, and by whether its line says so, if it says who sent it.
+    /// Takes a frame. `from_cpu` says whether the CPU's end sent it, and `said` whether its line says so, if the line names
+    /// the sender.
     pub fn frame(&mut self, from_cpu: bool, said: Option<bool>, octets: &[u8])
         ensures { self.new ≡ signs_with self.old from_cpu said octets.now }
     {
@@ -67,7 +68,7 @@ impl LogSigns {
         }
     }
 
-    /// Returns what kind of log it looks like, if it is not the log of one link in order: the first that holds.
+    /// Returns what kind of log the log looks like, the first that fits; `None` for the log of one link in order.
     pub fn sign(&self) -> Option<LogSign>
         ensures { result ≡ sign_of self.now }
     {

@@ -15,36 +15,36 @@ use fio_message::{
 /// What a line says to the rules. An input is absent if no module of this profile has it.
 #[derive(Clone, Copy, Debug, PartialEq, Eq, Hash)]
 pub enum Observation {
-    /// No message of the line's direction.
+    /// The octets are no message of the line's direction.
     Unreadable,
     /// A poll.
     Poll {
-        /// Its number.
+        /// The block number.
         number: u8,
     },
     /// Any other command.
     Command {
-        /// The type of the answer to it.
+        /// The type of the answer to the command.
         answer: u8,
-        /// Whether it is a configuration that names an absent input.
+        /// Whether the command is a configuration that names an absent input.
         names_absent: bool,
     },
     /// A block answer.
     Block {
-        /// Its number.
+        /// The block number.
         number: u8,
-        /// Its status.
+        /// The status of the block.
         status: u8,
-        /// How many entries it has.
+        /// How many entries the block has.
         entries: usize,
-        /// Whether one of them names an absent input.
+        /// Whether an entry names an absent input.
         names_absent: bool,
     },
     /// Any other answer.
     Answer {
-        /// Its type.
+        /// The type of the answer.
         code: u8,
-        /// Whether it says that a configuration was taken.
+        /// Whether the answer says that a configuration was taken.
         accepts: bool,
     },
 }
@@ -57,7 +57,7 @@ impl Observation {
         Observation::of(line.from_cpu, line.octets.as_slice())
     }
 
-    /// Returns what a frame says that the CPU sent or heard.
+    /// Returns what a frame that the CPU sent or heard says.
     pub fn of(from_cpu: bool, octets: &[u8]) -> Observation
         ensures { result ≡ observation_in from_cpu octets.now }
     {
@@ -68,7 +68,7 @@ impl Observation {
         }
     }
 
-    /// Returns what a frame says that the CPU sent.
+    /// Returns what a frame that the CPU sent says.
     fn sent(octets: &[u8]) -> Observation
         ensures { result ≡ observation_of (command_in octets.now) None }
     {
@@ -78,7 +78,7 @@ impl Observation {
         }
     }
 
-    /// Returns what a command says that is read already.
+    /// Returns what a decoded command says.
     pub fn of_command(command: &CommandView<'_>) -> Observation
         ensures { result ≡ observation_of_command (command_of command.now) }
     {
@@ -95,7 +95,7 @@ impl Observation {
         }
     }
 
-    /// Returns what a frame says that the CPU heard.
+    /// Returns what a frame that the CPU heard says.
     fn heard(octets: &[u8]) -> Observation
         ensures { result ≡ observation_of None (answer_in octets.now) }
     {
@@ -105,7 +105,7 @@ impl Observation {
         }
     }
 
-    /// Returns what an answer says that is read already.
+    /// Returns what a decoded answer says.
     pub fn of_answer(answer: &AnswerView<'_>) -> Observation
         ensures { result ≡ observation_of_answer (answer_of answer.now) }
     {

@@ -1,4 +1,4 @@
-//! What the judge of a link says of a frame.
+//! The outcome that the judge of a link gives a frame.
 use crate::checker::Breach;
 use crate::content::ContentBreach;
 
@@ -9,41 +9,42 @@ pub enum LogPlace {
     Cpu,
     /// At the module: the CPU's end may not have heard an answer.
     Module,
-    /// On the bus between them, or nobody knows where: either end may not have heard it.
+    /// On the bus between them, or at an unknown place: either end may not have heard it.
     Bus,
 }
 
-/// Why a frame is not held against an end that would break a rule by it.
+/// Why a frame that would break a rule is not held against its sender.
 #[derive(Clone, Copy, Debug, PartialEq, Eq, Hash)]
 pub enum Excuse {
-    /// Its stamp is before the latest one, and a load of the counter may have taken effect.
+    /// The frame's stamp is before the latest one, and a load of the counter may have taken effect.
     Load,
-    /// It is a poll with the number of the latest one, and the CPU's end may not have heard the answer to that.
+    /// The frame is a poll with the number of the latest one, and the CPU's end may not have heard the answer
+    /// to that.
     Unheard,
 }
 
 /// Why a frame is not judged.
 #[derive(Clone, Copy, Debug, PartialEq, Eq, Hash)]
 pub enum Unjudged {
-    /// It is heard above the first command of a log that begins anywhere.
+    /// The frame is heard above the first command of a log that begins anywhere.
     AboveCommand,
-    /// It is below a place that is lost, and above the next poll.
+    /// The place is lost, and no poll is between that and the frame.
     PlaceLost,
 }
 
-/// What a frame is.
+/// The outcome of a frame.
 #[derive(Clone, Copy, Debug, PartialEq, Eq, Hash)]
 pub enum Outcome {
-    /// It keeps all rules.
+    /// The frame keeps all rules.
     Kept,
-    /// It breaks a rule of transcripts.
+    /// The frame breaks a rule of transcripts.
     Broken(Breach),
-    /// It breaks a rule on content.
+    /// The frame breaks a rule on content.
     BrokenContent(ContentBreach),
-    /// It would break a rule, but may be right.
+    /// The frame would break a rule, but may be right.
     Excused(Excuse),
-    /// The module was restarted above it, or its stamp is wrong.
+    /// The module was restarted above the frame, or the frame's stamp is wrong.
     Restarted,
-    /// No rule is applied to it.
+    /// No rule is applied to the frame.
     NotJudged(Unjudged),
 }

@@ -1,24 +1,24 @@
-//! Frames that are there twice: how many answers of a log have the octets of the frame directly above.
+//! Frames that occur twice: how many answers of a log have the octets of the frame directly above.
 ghost use Rattle.std.specs.Prelude.{◌≡◌};
 ghost use Rattle.std.specs.Str.{bytes_eq};
 ghost use Rattle.fio_check.specs.LogSigns.{are_contrary, is_of_both_ends, is_repeated, is_second, is_twice, no_repeats, octets_kept, one_more_if, repeats_with, repeats_with_answer};
 
 use fio_message::Frame;
 
-/// What is kept of the frames above, to tell whether each is there twice.
+/// What is kept of the frames above, to detect a log in which each frame occurs twice.
 #[derive(Debug, Drop)]
 pub struct RepeatedFrames {
-    /// The octets of the frame directly above; none above the first frame, and of a frame that is longer than any message.
+    /// The octets of the frame directly above; none above the first frame, or if that frame is longer than any message.
     pub above: Frame,
     /// Whether that frame's line says that the CPU's end sent it.
     pub said: Option<bool>,
-    /// Whether that frame has the octets of the one above it.
+    /// Whether that frame repeats the octets of the one above it.
     pub again: bool,
-    /// How many answers there are, up to 2^32 - 1.
+    /// The number of answers, up to 2^32 - 1.
     pub answers: u32,
     /// How many of them are the second of equal frames, up to 2^32 - 1.
     pub repeated: u32,
-    /// For how many of those the two lines say different senders, up to 2^32 - 1.
+    /// For how many of those the two lines name different senders, up to 2^32 - 1.
     pub contrary: u32,
 }
 
@@ -37,7 +37,8 @@ impl RepeatedFrames {
         }
     }
 
-    /// Takes a frame, by whether the CPU's end sent it, and by whether its line says so, if it says who sent it.
+    /// Takes a frame. `from_cpu` says whether the CPU's end sent it, and `said` whether its line says so, if the line names
+    /// the sender.
     pub fn add(&mut self, from_cpu: bool, said: Option<bool>, octets: &[u8])
         ensures { self.new ≡ repeats_with self.old from_cpu said octets.now }
     {
@@ -75,7 +76,7 @@ impl RepeatedFrames {
         !octets.is_empty() && are_same(self.above.as_slice(), octets)
     }
 
-    /// Returns whether each frame seems to be there twice: of 8 or more answers at least two of five are the second of equal
+    /// Returns whether each frame seems to occur twice: of 8 or more answers at least two of five are the second of equal
     /// frames.
     pub fn is_twice(&self) -> bool
         ensures { result ≡ is_twice self.now }
@@ -84,8 +85,8 @@ impl RepeatedFrames {
         answers >= 8 && 2 * u64::from(answers) <= 5 * u64::from(repeated)
     }
 
-    /// Returns whether the logs of both ends seem to be merged, if each frame is there twice: for at least half of the answers
-    /// that are, the two lines say different senders.
+    /// Returns whether the logs of both ends seem to be merged, if each frame occurs twice: for at least half of the repeated
+    /// answers the two lines name different senders.
     pub fn is_of_both_ends(&self) -> bool
         ensures { result ≡ is_of_both_ends self.now }
     {
@@ -101,17 +102,17 @@ fn are_same(octets: &[u8], other: &[u8]) -> bool
     octets == other
 }
 
-/// Returns the octets that are kept of a frame: all, if a message can have as many.
+/// Returns the octets that are kept of a frame: all of them, or none if they are more than a message can have.
 fn octets_kept(octets: &[u8]) -> Frame
     ensures { result.items ≡ octets_kept octets.now }
 {
     let mut kept = Frame::new();
-    // Where there is no room, none is kept.
+    // If there is no room, none is kept.
     let _fits = kept.try_extend_from_slice(octets);
     kept
 }
 
-/// Returns whether two lines say different senders.
+/// Returns whether two lines name different senders.
 fn are_contrary(said: Option<bool>, other: Option<bool>) -> bool
     ensures { result ≡ are_contrary said other }
 {

@@ -8,8 +8,8 @@ use crate::observation::Observation;
 use fio_message::BlockStatus;
 use fio_message::types::BLOCK_ANSWER;
 
-/// What a line of a transcript may break, in the order in which the rules are tried (own profile). Of `Advance` too what
-/// a breach means, if the number is ahead of block N, which was due, and if it is behind.
+/// What a line of a transcript may break, in the order in which the rules are tried (own profile). `Advance` also says
+/// what a breach means: with the number ahead of block N, which was due, and with an earlier number.
 /// `tools/generate-constants` makes the words of pages and tools of these.
 #[derive(Clone, Copy, Debug, PartialEq, Eq, PartialOrd, Ord, Hash)]
 pub enum Rule {
@@ -111,8 +111,8 @@ impl Rule {
         }
     }
 
-    /// Returns whether a line that says this breaks the rule, below lines of which these facts
-    /// hold, of a module with these limits.
+    /// Returns whether a line with this observation breaks the rule, given the facts above it, of a module with these
+    /// limits.
     #[inline(always)]
     pub fn is_broken(self, limits: Limits, facts: &Facts, observation: Observation) -> bool
         ensures { result ≡ breaks_within limits facts.now observation self }
@@ -152,8 +152,8 @@ impl Rule {
     }
 }
 
-/// Returns the first rule that a line breaks which says this, below lines of which these facts
-/// hold, of a module with the limits of TEES 2009.
+/// Returns the first rule that a line with this observation breaks, given the facts above it, of a module with the
+/// limits of TEES 2009.
 #[inline(always)]
 pub fn rule_broken(facts: &Facts, observation: Observation) -> Option<Rule>
     ensures { result ≡ first_broken facts.now observation }

@@ -7,12 +7,12 @@ use crate::line::Line;
 use crate::observation::Observation;
 use crate::rules::{Rule, rule_broken};
 
-/// What a transcript is found to be.
+/// The verdict on a transcript.
 #[derive(Clone, Copy, Debug, PartialEq, Eq, Hash)]
 pub enum Verdict {
     /// No line breaks a rule.
     Good {
-        /// How many lines there are.
+        /// The number of lines.
         frames: usize,
     },
     /// A line breaks a rule, and no line above it does.
@@ -25,8 +25,8 @@ pub enum Verdict {
 }
 
 /// Returns the verdict on a transcript: good if no line breaks a rule, else the number of the first
-/// line that does, and the first rule that it breaks. Goes through the lines once and takes no
-/// memory.
+/// line that does, and the first rule that it breaks. It reads the lines once and allocates
+/// nothing.
 pub fn check_trace(lines: &[Line]) -> Verdict
     ensures { result ≡ verdict_on lines.now }
 {
