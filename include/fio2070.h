@@ -268,8 +268,8 @@ struct fio2070_command {
 struct fio2070_configuration_item {
     /** The input, from 0 to 127. The module has the inputs 0 to 63. */
     uint8_t input;
-    /** 1 where the input's transitions are left out of the blocks, else 0. Calls that are given an item
-     *  take any number but 0 as 1. */
+    /** 1 if the input's transitions are left out of the blocks, else 0. In an item from the caller any
+     *  number other than 0 counts as 1. */
     uint8_t ignore;
     /** The leading filter: how many successive samples of 0 change the state from 1 to 0; 0 acts as 1. */
     uint8_t leading;
@@ -686,24 +686,24 @@ enum fio2070_start_kind {
 
 /** A checker of what the CPU's end sends and hears. Its fields are the library's own. */
 struct fio2070_checker {
-    /** 1 where a command is directly above. */
+    /** 1 if a command is directly above. */
     uint8_t has_awaited;
     /** The type of the answer to it. */
     uint8_t awaited;
-    /** 1 where it names an input above 63. */
+    /** 1 if it names an input above 63. */
     uint8_t absent_named;
-    /** 1 where a poll is above. */
+    /** 1 if a poll is above. */
     uint8_t has_polled;
     /** The number of the latest poll. */
     uint8_t polled;
-    /** 1 where the latest poll or block answer is a block answer. */
+    /** 1 if the latest poll or block answer is a block answer. */
     uint8_t answered;
-    /** 1 where the latest poll has another number than the poll before it. */
+    /** 1 if the latest poll has another number than the poll before it. */
     uint8_t advanced;
-    /** 0 where no block answer is above, 1 where the latest has no C, 2 where it has. */
+    /** 0 if no block answer is above, 1 if the latest has no C, 2 if it has. */
     uint8_t more;
-    /** What is passed over: 0 nothing; 1 all frames to the next poll, as below a breach; 2 what is heard
-     *  above the first command. */
+    /** What is skipped: 0 nothing; 1 all frames to the next poll, as below a breach; 2 what is heard above
+     *  the first command. */
     uint8_t skips;
     /** The most entries of a block of the module. */
     uint8_t per_block;
@@ -717,11 +717,11 @@ struct fio2070_checker {
 struct fio2070_breach {
     /** 0 for none, else the number of the rule: one of `FIO2070_RULE_READABLE` and those after it. */
     uint8_t rule;
-    /** 1 where `due` and `got` are set: for advance and number, and for pair below a command. */
+    /** 1 if `due` and `got` are set: for advance and number, and for pair below a command. */
     uint8_t has_due;
     /** The number of the poll or the block answer, or the type of the answer, that was due. */
     uint8_t due;
-    /** The one that the frame has. */
+    /** The number or type that the frame has. */
     uint8_t got;
 };
 
@@ -880,7 +880,7 @@ struct fio2070_content_checker {
 struct fio2070_content_breach {
     /** 0 for none, else the number of the rule: one of `FIO2070_CONTENT_ORDER` and those after it. */
     uint8_t rule;
-    /** The input of the entry that breaks it, or that whose state is another; 255 for an answer. */
+    /** The input of the entry that breaks the rule, or the input with another state; 255 for an answer. */
     uint8_t input;
     /** How many items of the frame's block are recorded above the breach, a gap mark with them: for an
      *  answer none, at the end of a block all. */
@@ -981,19 +981,19 @@ struct fio2070_judge {
 struct fio2070_judge_outcome {
     /** One of `FIO2070_OUTCOME_KEPT` and those after it. */
     uint8_t kind;
-    /** Why it is excused or not judged, one of `FIO2070_WHY_LOAD` and those after it; else 0. */
+    /** Why the frame is excused or not judged, one of `FIO2070_WHY_LOAD` and those after it; else 0. */
     uint8_t why;
-    /** The number of the rule that it breaks, one of `FIO2070_RULE_READABLE` or of `FIO2070_CONTENT_ORDER`
-     *  and those after it by its kind; else 0. */
+    /** The number of the rule that the frame breaks: by its kind one of `FIO2070_RULE_READABLE` and those
+     *  after it, or of `FIO2070_CONTENT_ORDER` and those after it; else 0. */
     uint8_t rule;
-    /** 1 where `due` and `got` are set: of rules of transcripts for advance and number, and for pair below
-     *  a command. */
+    /** 1 if `due` and `got` are set: of rules of transcripts for advance and number, and for pair below a
+     *  command. */
     uint8_t has_due;
     /** The number of the poll or the block answer, or the type of the answer, that was due. */
     uint8_t due;
-    /** The one that the frame has. */
+    /** The number or type that the frame has. */
     uint8_t got;
-    /** The input of the entry that breaks a rule on content, or that whose state is another; else 255. */
+    /** The input of the entry that breaks a rule on content, or the input with another state; else 255. */
     uint8_t input;
     /** 0. */
     uint8_t reserved;
@@ -1097,7 +1097,7 @@ struct fio2070_log_verdict {
     /** The time in microseconds since 1970, or since midnight or a start if the log has no date; 0 if
      *  there is none. */
     uint64_t time;
-    /** How many frames the line gives, with those of the lines below that go on with it. */
+    /** How many frames the line gives, with those of the lines below that continue it. */
     uint32_t frames;
     /** At how many places the octets of these frames are written. */
     uint32_t places;
@@ -1121,28 +1121,28 @@ struct fio2070_log_place {
     uint64_t line;
     /** The index of the first octet in the line, with its mark, bracket or quote. */
     uint32_t start;
-    /** The index after the last one. */
+    /** The index after the last octet. */
     uint32_t end;
 };
 
 /** Verdicts on lines of a log, with their frames and places, each at the front of its array and in order: the frames of the
  * first verdict, then those of the second, and so the places. */
 struct fio2070_log_batch {
-    /** How many verdicts there are. */
+    /** The number of verdicts. */
     uint32_t verdict_count;
-    /** How many frames these have. */
+    /** The number of frames of these verdicts. */
     uint32_t frame_count;
-    /** How many octets the frames have. */
+    /** The number of octets of these frames. */
     uint32_t octet_count;
-    /** How many places there are. */
+    /** The number of places. */
     uint32_t place_count;
     /** The verdicts. */
     struct fio2070_log_verdict verdicts[4096];
-    /** The places of all verdicts, those of each after those of the one before. */
+    /** The places of all verdicts, verdict after verdict. */
     struct fio2070_log_place places[20480];
     /** How many octets each frame has. */
     uint16_t lengths[20480];
-    /** The octets of all frames, those of each after those of the one before. */
+    /** The octets of all frames, frame after frame. */
     uint8_t octets[65536];
 };
 
@@ -1450,7 +1450,7 @@ struct fio2070_configured {
     uint8_t kind;
     /** 0 in each octet that the library writes. */
     uint8_t reserved[7];
-    /** The place of the first item that names an input above 63, counted from 0, for kind 1. */
+    /** For kind 1 the index of the first item that names an input above 63, from 0. */
     uint64_t place;
 };
 

@@ -15,35 +15,35 @@ use Rattle.fio_c.specs.declared.checker.Breach.{Breach}
 use Rattle.fio_c.specs.declared.checker.Checker.{Checker}
 use Rattle.fio_c.specs.declared.content.ContentBreach.{ContentBreach}
 
--- the limits of a module that a struct of C says
+-- the limits of a module, from a struct of C
 abbrev pub limits_of : Limits → LimitsOf
 limits_of limits = record { per_block = limits.per_block; waiting = limits.waiting }
 
--- a number that there may be
+-- a number, if its flag is set
 abbrev pub octet_in : ℕ → ℕ → Option ℕ
 octet_in has octet = if has == 0 then None else Some octet
 
--- whether the latest block answer has C, where there is one
+-- whether the latest block answer has C, if one is above
 abbrev pub more_in : ℕ → Option Bool
 more_in more = if more == 0 then None else Some (not (more == 1))
 
--- the same as an octet
+-- whether the latest block answer has C, as an octet
 abbrev pub flat_more : Option Bool → ℕ
 flat_more None = 0
 flat_more (Some false) = 1
 flat_more (Some true) = 2
 
--- what a checker passes over
+-- what a checker skips
 abbrev pub skips_in : ℕ → Skips
 skips_in skips = if skips == 0 then Nothing else if skips == 2 then ToCommand else ToPoll
 
--- the same as an octet
+-- what a checker skips, as an octet
 abbrev pub flat_skips : Skips → ℕ
 flat_skips Nothing = 0
 flat_skips ToPoll = 1
 flat_skips ToCommand = 2
 
--- the checker that a struct of C stands for, whatever its octets are
+-- the checker that a struct of C represents, whatever its octets are
 abbrev pub checker_in : Checker → CheckerOf
 checker_in flat = record {
   limits = record { per_block = flat.per_block; waiting = flat.waiting };
@@ -58,7 +58,7 @@ checker_in flat = record {
   skips = skips_in flat.skips;
 }
 
--- the struct of C that stands for a checker: numbers that are not there are 0
+-- the struct of C that represents a checker: a number that it lacks is 0
 abbrev pub flat_checker : CheckerOf → Checker
 flat_checker checker = record {
   has_awaited = bit_of (is_some checker.facts.awaited);
@@ -80,12 +80,12 @@ abbrev pub with_due : ℕ → Option Due → Breach
 with_due rule None = record { rule = rule; has_due = 0; due = 0; got = 0 }
 with_due rule (Some due) = record { rule = rule; has_due = 1; due = due.expected; got = due.actual }
 
--- a breach as C sees it, with its numbers 0 where there is none
+-- a breach as C sees it; without one all numbers are 0
 abbrev pub flat_breach : Option BreachOf → Breach
 flat_breach None = record { rule = 0; has_due = 0; due = 0; got = 0 }
 flat_breach (Some breach) = with_due (rule_number breach.rule) breach.due
 
--- a breach of a rule on content as C sees it, with the input 255 for none; each number is 0 where there is no breach
+-- a breach of a rule on content as C sees it, with input 255 for none; without a breach all numbers are 0
 abbrev pub flat_content_breach : Option ContentBreachOf → ContentBreach
 flat_content_breach None = record { rule = 0; input = 0; items = 0 }
 flat_content_breach (Some breach) = record {

@@ -1,4 +1,4 @@
--- Messages and their parts as C sees them: numbers side by side, those that a message lacks 0.
+-- Messages and their parts as C sees them: structs of numbers, 0 for those that a message lacks.
 use Rattle.std.specs.Prelude.{ℕ, ◌==◌, ◌&&◌, nat_le, nat_lt, Bool, not, List, [], ◌∷◌, length, map, Option, Some, None, replicate}
 use Rattle.std.specs.List.{list_all, position}
 use Rattle.fio_message.specs.Bits.{bit_of}
@@ -51,7 +51,7 @@ flat_item item = record {
 abbrev pub no_octets : List ℕ
 no_octets = 0 ∷ 0 ∷ 0 ∷ 0 ∷ 0 ∷ 0 ∷ 0 ∷ 0 ∷ []
 
--- a command of which its type alone is known
+-- a command of this type with all other fields 0
 abbrev pub command_of_type : ℕ → Command
 command_of_type code = record {
   code = code;
@@ -89,7 +89,7 @@ abbrev pub configured_items : Option CommandOf → Option (List InputItem)
 configured_items (Some (commands.ConfigureInputs items)) = Some items.items
 configured_items other = None
 
--- an item of a configuration that C gives: any ignore flag but 0 says that the input is ignored
+-- an item of a configuration from C: any ignore flag other than 0 says that the input is ignored
 abbrev pub read_item : ConfigurationItem → InputItem
 read_item item = record {
   input = item.input;
@@ -98,7 +98,7 @@ read_item item = record {
   trailing = item.trailing;
 }
 
--- the items that C's items are
+-- the items from C's items
 abbrev pub read_items : List ConfigurationItem → List InputItem
 read_items items = map read_item items
 
@@ -111,15 +111,15 @@ abbrev pub are_items : List ConfigurationItem → Bool
 are_items items =
     nat_le (length items) CONFIGURATION_ITEMS && list_all (λ item. can_be_named item.input) items
 
--- the place of the first item that names an input above 63, which the module does not have
+-- the index of the first item that names an input above 63, which the module does not have
 abbrev pub first_absent : List ConfigurationItem → Option ℕ
 first_absent items = position (λ item. nat_le INPUTS item.input) items
 
--- what became of a configuration: its kind, and the place of an item
+-- the result of a configuration: its kind, and the index of an item
 abbrev pub outcome : ℕ → ℕ → Configured
 outcome kind place = record { kind = kind; reserved = replicate 7 0; place = place }
 
--- an answer of which its type alone is known
+-- an answer of this type with all other fields 0
 abbrev pub answer_of_type : ℕ → Answer
 answer_of_type code = record {
   code = code;
@@ -159,7 +159,7 @@ with_answer_fields flat (answers.Other kind body) = record flat { body = length 
 abbrev pub flat_answer : AnswerOf → Answer
 flat_answer answer = with_answer_fields (answer_of_type (answer_code answer)) answer
 
--- an entry of a block that C gives: any state but 0 is 1
+-- an entry of a block from C: any state other than 0 is 1
 abbrev pub read_entry : Entry → EntryOf
 read_entry entry = record {
   input = entry.input;
@@ -167,7 +167,7 @@ read_entry entry = record {
   stamp = entry.stamp;
 }
 
--- the entries that C's entries are
+-- the entries from C's entries
 abbrev pub read_entries : List Entry → List EntryOf
 read_entries entries = map read_entry entries
 

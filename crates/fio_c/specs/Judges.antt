@@ -17,7 +17,7 @@ use Rattle.fio_c.specs.declared.checker.Breach.{Breach}
 use Rattle.fio_c.specs.declared.judge.Judge.{Judge}
 use Rattle.fio_c.specs.declared.judge.JudgeOutcome.{JudgeOutcome}
 
--- the judge that a struct of C stands for, whatever its octets are
+-- the judge that a struct of C represents, whatever its octets are
 abbrev pub judge_in : Judge → Judging
 judge_in flat = record {
   checker = checker_in flat.checker;
@@ -36,7 +36,7 @@ abbrev pub excuse_number : Excuse → ℕ
 excuse_number Load = 1
 excuse_number Unheard = 2
 
--- the reason of one that is not judged
+-- the reason of a frame that is not judged
 abbrev pub unjudged_number : Unjudged → ℕ
 unjudged_number AboveCommand = 3
 unjudged_number PlaceLost = 4
@@ -55,7 +55,7 @@ with_breach breach = record (without_breach 1 0) {
   got = breach.got;
 }
 
--- what a frame is as C sees it
+-- the outcome of a frame as C sees it
 abbrev pub flat_outcome : Outcome → JudgeOutcome
 flat_outcome Kept = without_breach 0 0
 flat_outcome (Broken breach) = with_breach (with_due (rule_number breach.rule) breach.due)

@@ -18,18 +18,18 @@ use Rattle.fio_c.specs.declared.log_batch.LogVerdict.{LogVerdict}
 use Rattle.fio_c.specs.declared.log_judge.LogJudge.{LogJudge}
 use Rattle.fio_message.specs.declared.types.TheConstants.{ANSWER}
 
--- where a log was taken: 0 it is not known, 1 at the CPU's end, 2 at the module, else on the bus
+-- where a log was taken: 0 unknown, 1 at the CPU's end, 2 at the module, else on the bus
 abbrev pub place_taken : ℕ → Option LogPlace
 place_taken place = if place == 0 then None else if place == 1 then Some Cpu else if place == 2 then Some Module else Some Bus
 
--- its number
+-- the number of where a log was taken
 abbrev pub place_number : Option LogPlace → ℕ
 place_number None = 0
 place_number (Some Cpu) = 1
 place_number (Some Module) = 2
 place_number (Some Bus) = 3
 
--- how a log begins: 1 with both ends, 2 anywhere, and late answers are left out, else anywhere
+-- how a log begins: 1 with both ends, 2 anywhere and with late answers left out, else anywhere
 abbrev pub start_in : ℕ → LogStart
 start_in start = if start == 1 then starts.Begun else if start == 2 then starts.LateAnswers else starts.Anywhere
 
@@ -37,7 +37,7 @@ start_in start = if start == 1 then starts.Begun else if start == 2 then starts.
 abbrev pub end_in : ℕ → Option Bool
 end_in said = if said == 1 then Some true else if said == 2 then Some false else None
 
--- what tells which answers are late, if these are left out
+-- what decides which answers are late, if these are left out
 abbrev pub late_in : LogJudge → Option LateAnswers
 late_in flat = if flat.has_late == 0 then None else Some (record {
   settled = not (flat.settled == 0);
@@ -47,7 +47,7 @@ late_in flat = if flat.has_late == 0 then None else Some (record {
   answered = not (flat.answered == 0);
 })
 
--- the judge that a struct of C stands for, whatever its octets are
+-- the judge that a struct of C represents, whatever its octets are
 abbrev pub log_judge_in : LogJudge → LogJudging
 log_judge_in flat = record {
   link = judge_in flat.link;
@@ -59,7 +59,7 @@ log_judge_in flat = record {
   missing = not (flat.missing == 0);
 }
 
--- what a frame is as C sees it
+-- the outcome of a frame as C sees it
 abbrev pub flat_log_outcome : LogOutcome → JudgeOutcome
 flat_log_outcome (Link outcome) = flat_outcome outcome
 flat_log_outcome Late = without_breach 3 5
@@ -67,43 +67,43 @@ flat_log_outcome LateAbove = without_breach 3 6
 
 -- ---- a batch of verdicts
 
--- whether the CPU's end sent a frame: by its line if the log is read so and it says who did, else by its type
+-- whether the CPU's end sent a frame: by its line, if lines count and this one names the sender, else by its type
 abbrev pub is_sent_frame : Bool → Option Bool → List ℕ → Bool
 is_sent_frame true (Some by_cpu) octets = by_cpu
 is_sent_frame as_said said octets = nat_lt (unwrap_or (slice_get octets 0) 0) ANSWER
 
--- what a frame says to the judge
+-- the event that a frame is to the judge
 abbrev pub event_of_frame : Bool → Option Bool → List ℕ → LogEvent
 event_of_frame as_said said octets = Found (is_sent_frame as_said said octets) said octets
 
--- what a line says to the judge that gives no frame, by its kind and its reason: a message that nothing makes sure, damage, a
--- remark that speaks of loss, or a heading
+-- the event that a line without frames is to the judge, if any, by its kind and its reason: a message that nothing confirms,
+-- damage, a remark of loss, or a heading
 abbrev pub event_of_line : ℕ → ℕ → List LogEvent
 event_of_line kind reason = if kind == 3 || kind == 5 && reason == 11 then Possible ∷ []
     else if kind == 4 then Lost ∷ []
     else if kind == 5 && reason == 10 then Missing ∷ []
     else []
 
--- what a verdict says to the judge, with its frames
+-- the events that a verdict with its frames is to the judge
 abbrev pub events_of_verdict : Bool → LogVerdict → List (List ℕ) → List LogEvent
 events_of_verdict as_said verdict frames = if verdict.kind == 1
     then map (event_of_frame as_said (end_in verdict.said)) frames
     else event_of_line verdict.kind verdict.reason
 
--- what its frames are: those of a line that is none of frames are not judged, for no reason of the judge's
+-- the outcomes of the frames of a verdict: frames of a line whose kind has no frames are not judged, without a reason
 abbrev pub outcomes_of_verdict : LogJudging → Bool → LogVerdict → List (List ℕ) → List JudgeOutcome
 outcomes_of_verdict judge as_said verdict frames = if verdict.kind == 1
     then map flat_log_outcome (outcomes_in_log judge (map (event_of_frame as_said (end_in verdict.said)) frames))
     else map (λ octets. without_breach 5 0) frames
 
--- what verdicts say to the judge, with the frames of all of them
+-- the events that verdicts, with the frames of all of them, are to the judge
 abbrev pub events_of_verdicts : Bool → List LogVerdict → List (List ℕ) → List LogEvent
 events_of_verdicts as_said [] frames = []
 events_of_verdicts as_said (verdict ∷ verdicts) frames =
     events_of_verdict as_said verdict (take verdict.frames frames)
     ++ events_of_verdicts as_said verdicts (drop verdict.frames frames)
 
--- what all frames are, in order
+-- the outcomes of all frames, in order
 abbrev pub outcomes_of_verdicts : LogJudging → Bool → List LogVerdict → List (List ℕ) → List JudgeOutcome
 outcomes_of_verdicts judge as_said [] frames = []
 outcomes_of_verdicts judge as_said (verdict ∷ verdicts) frames =
@@ -111,13 +111,13 @@ outcomes_of_verdicts judge as_said (verdict ∷ verdicts) frames =
     ++ outcomes_of_verdicts (log_below_events judge (events_of_verdict as_said verdict (take verdict.frames frames)))
     as_said verdicts (drop verdict.frames frames)
 
--- what verdicts with their frames say to the judge, as a reader told them
+-- the events that verdicts with their frames are to the judge, as a reader returned them
 abbrev pub events_of_told : Bool → List Told → List LogEvent
 events_of_told as_said told = flat_map (λ one. events_of_verdict as_said (flat_told one) one.frames) told
 
 -- ---- the frames of a batch
 
--- octets, one frame after the other, by how many octets each has; the last ones have what is left
+-- octets cut into frames of these lengths; if they run out, the last frames get what is left
 abbrev pub frames_in : List ℕ → List ℕ → List (List ℕ)
 frames_in [] octets = []
 frames_in (count ∷ counts) octets = take count octets ∷ frames_in counts (drop count octets)

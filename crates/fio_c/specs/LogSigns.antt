@@ -12,7 +12,7 @@ use Rattle.fio_c.specs.declared.log_signs.LogSigns.{LogSigns}
 abbrev pub block_seen_of : LogSigns → Option BlockSeen
 block_seen_of flat = if flat.has_block == 0 then None else Some (record { number = flat.number; stamp = flat.stamp })
 
--- the counts that a struct of C stands for, whatever its octets are
+-- the counts that a struct of C represents, whatever its octets are
 abbrev pub log_signs_in : LogSigns → Signs
 log_signs_in flat = record {
   frames = record {

@@ -105,7 +105,7 @@ has_room batch =
 abbrev pub HasRoomFirst : LogBatch → Type 0
 HasRoomFirst batch = batch.verdict_count ≡ 0 → has_room batch ≡ true
 
--- a reader has no verdict that is due, and after the end of a log none that is left
+-- a reader has no verdict to return: none that is due and, after the end of a log, none at all
 pub record HasNoneDue (telling : Telling) : Type 0 where
   pub ready : telling.is_ready ≡ false
   pub left : telling.is_ended ≡ true → telling.told ≡ telling.read
@@ -127,7 +127,7 @@ pub record HasVerdicts (first : Telling) (whole : List Text) (batch : LogBatch) 
   pub log : (texts : Texts) → HasReadOf texts first → AreLinesAfter first.read texts whole
       → HasReadOf texts last × All (IsVerdictOf texts first.form) told
 
--- the form that a number names: 1 and 2 the texts that are read by order, any other number what octets in a line are
+-- the form with a number: 1 and 2 the two texts of the program, any other number lines of any log
 abbrev pub form_of : ℕ → Form
 form_of number = if number == 1 then forms.Frames else (if number == 2 then forms.Transcript else forms.Auto)
 
@@ -151,15 +151,15 @@ pub record HasEnded (before after : Telling) : Type 0 where
   pub ready : before.is_ready ≡ true → KeepsVerdict before after
   pub log : (texts : Texts) → HasReadOf texts before → IsTextOf texts after → HasReadOf texts after
 
--- A reader has taken octets: they made these lines whole, which are read, and the line that is made.
+-- A reader has taken octets: they completed these lines, which are read, and went into the line that is being made.
 pub record HasTakenAll (before : Telling) (octets : List ℕ) (after : Telling) : Type 0 where
   pub whole : List Text
   pub lines : lines_after (only before.making) octets ≡ record { whole = whole; making = after.making }
   pub read : after.read ≡ before.read + length whole
   pub is_ended : after.is_ended ≡ before.is_ended
 
--- A reader has taken octets of a text that goes on with its log, and has told all verdicts that are in a batch. If there are
--- none, all octets are taken, or the log has ended and each of its lines has its verdict.
+-- A reader has taken octets of a text that goes on with its log, and has returned all verdicts that are in a batch. If there
+-- are none, all octets are taken, or the log has ended and each of its lines has its verdict.
 pub record HasReadOn (before : Telling) (text : List ℕ) (taken : ℕ) (after : Telling) (batch : LogBatch) : Type 0 where
   pub within : taken ≤ length text
   pub form : after.form ≡ before.form
@@ -168,13 +168,13 @@ pub record HasReadOn (before : Telling) (text : List ℕ) (taken : ℕ) (after :
   pub octets : HasTakenAll before (take taken text) after
   pub verdicts : HasVerdicts before octets.whole batch after
 
--- The reader that a text is read from: if the log has ended and all verdicts are told, octets begin another one.
+-- The reader that a text is read from: if the log has ended and all verdicts are returned, octets begin another log.
 pub record IsReadFrom (before : Telling) (text : List ℕ) (from : Telling) : Type 0 where
   pub anew : has_told_all before ≡ true → 0 < length text → HasBegun before.form from
   pub untold : has_told_all before ≡ false → from ≡ before
   pub empty : text ≡ [] → from ≡ before
 
--- A reader has taken octets of a text, and has told all verdicts that are in a batch.
+-- A reader has taken octets of a text, and has returned all verdicts that are in a batch.
 pub record HasRead (before : Telling) (text : List ℕ) (taken : ℕ) (after : Telling) (batch : LogBatch) : Type 0 where
   pub from : Telling
   pub begun : IsReadFrom before text from

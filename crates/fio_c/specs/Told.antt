@@ -24,7 +24,7 @@ abbrev pub told_by : Verdict → Telling → Told
 told_by verdict telling =
     record { verdict = verdict; frames = frames_of telling; places = places_of telling }
 
--- A reader returns the verdict of its next line, and these are its frames and places: each frame spells a message.
+-- A reader returns the verdict of its next line, and these are its frames and places: each frame encodes a message.
 pub record Returns (before : Telling) (one : Told) (after : Telling) : Type 0 where
   pub told : HasTold before one.verdict after
   pub same : one ≡ told_by one.verdict after
@@ -53,13 +53,13 @@ pub record HasReadOf (texts : Texts) (telling : Telling) : Type 0 where
   pub text : IsTextOf texts telling
   pub kept : IsReaderOf (log_of texts) telling
 
--- some of the lines of a log: the next ones after a number of them
+-- some lines of a log: the next ones after a number of lines
 abbrev pub AreLinesAfter : ℕ → Texts → List Text → Type 0
 AreLinesAfter above texts [] = Unit {0}
 AreLinesAfter above texts (text ∷ more) = (text ≡ texts (above + 1)) × AreLinesAfter (above + 1) texts more
 
 -- A verdict is of a log with these lines: its frames are written at its places, and what it says of the words of its line is
--- so; or, if lines are read by order, it is what `read_own_line` says of its line.
+-- true; or, if lines are read as one of the program's own texts, it is what `read_own_line` says of its line.
 pub record IsVerdictOf (texts : Texts) (form : Form) (one : Told) : Type 0 where
   pub written : form ≡ Auto → AreFramesAt (log_of texts) one.frames one.places
   pub words : form ≡ Auto → SaysWords (texts one.verdict.line).octets one.verdict.reason

@@ -19,8 +19,8 @@ use fio_message::{
     status_and_stamp,
 };
 
-/// Writes an answer where there is room for it, and returns how many octets it has. Inlined, so that
-/// no answer and no frame is made where the type is known.
+/// Writes an answer if there is room for it, and returns how many octets it has. Inlined, so that no
+/// answer and no frame is made if the type is known.
 #[inline(always)]
 fn write_answer(answer: &Answer, out: &mut [u8]) -> usize
     ensures { Writes (answer_octets answer.now) out.old out.new result }
@@ -28,8 +28,8 @@ fn write_answer(answer: &Answer, out: &mut [u8]) -> usize
     write_front(encode_answer(answer).as_slice(), out)
 }
 
-/// Writes the module's status (TEES 2009, answer 177). Returns how many octets it has; where there is
-/// no room nothing is written.
+/// Writes the module's status (TEES 2009, answer 177). Returns how many octets it has; without room
+/// for it nothing is written.
 #[unsafe(no_mangle)]
 pub extern "C" fn fio2070_encode_status_answer(
     flags: u8,
@@ -51,7 +51,7 @@ pub extern "C" fn fio2070_encode_status_answer(
 }
 
 /// Writes the answer to a load of the counter (TEES 2009, answer 178). Returns how many octets it
-/// has; where there is no room nothing is written.
+/// has; without room for it nothing is written.
 #[unsafe(no_mangle)]
 pub extern "C" fn fio2070_encode_load_counter_answer(status: u8, out: &mut [u8]) -> usize
     ensures { Writes (answer_octets (answers.LoadCounter status)) out.old out.new result }
@@ -60,7 +60,7 @@ pub extern "C" fn fio2070_encode_load_counter_answer(status: u8, out: &mut [u8])
 }
 
 /// Writes the answer to a configuration of inputs (TEES 2009, answer 179). Returns how many octets it
-/// has; where there is no room nothing is written.
+/// has; without room for it nothing is written.
 #[unsafe(no_mangle)]
 pub extern "C" fn fio2070_encode_configure_inputs_answer(status: u8, out: &mut [u8]) -> usize
     ensures { Writes (answer_octets (answers.ConfigureInputs status)) out.old out.new result }
@@ -69,7 +69,7 @@ pub extern "C" fn fio2070_encode_configure_inputs_answer(status: u8, out: &mut [
 }
 
 /// Writes the levels at the last scan (TEES 2009, answer 180): bit i of `inputs` is input i. Returns
-/// how many octets the answer has; where there is no room nothing is written.
+/// how many octets the answer has; without room for it nothing is written.
 #[unsafe(no_mangle)]
 pub extern "C" fn fio2070_encode_raw_inputs_answer(inputs: u64, stamp: u32, out: &mut [u8]) -> usize
     ensures { Writes (answer_octets (answers.RawInputs inputs stamp)) out.old out.new result }
@@ -78,7 +78,7 @@ pub extern "C" fn fio2070_encode_raw_inputs_answer(inputs: u64, stamp: u32, out:
 }
 
 /// Writes the filtered states (TEES 2009, answer 181): bit i of `inputs` is input i. Returns how many
-/// octets the answer has; where there is no room nothing is written.
+/// octets the answer has; without room for it nothing is written.
 #[unsafe(no_mangle)]
 pub extern "C" fn fio2070_encode_filtered_inputs_answer(
     inputs: u64,
@@ -90,9 +90,9 @@ pub extern "C" fn fio2070_encode_filtered_inputs_answer(
     write_answer(&Answer::FilteredInputs { inputs, stamp }, out)
 }
 
-/// Writes a block answer (TEES 2009, answer 182). Returns how many octets it has; where there is no
-/// room nothing is written. Where there are more than 255 entries, or one names an input above 127,
-/// no message has them, and the result is `NO_MESSAGE`.
+/// Writes a block answer (TEES 2009, answer 182). Returns how many octets it has; without room for it
+/// nothing is written. If there are more than 255 entries, or one names an input above 127, no
+/// message has them, and the result is `NO_MESSAGE`.
 #[unsafe(no_mangle)]
 pub extern "C" fn fio2070_encode_block_answer(
     block: u8,
@@ -141,7 +141,7 @@ impl Part for Entry {
 }
 
 /// Writes the answer to a watchdog command (TEES 2009, answer 186). Returns how many octets it has;
-/// where there is no room nothing is written.
+/// without room for it nothing is written.
 #[unsafe(no_mangle)]
 pub extern "C" fn fio2070_encode_watchdog_answer(status: u8, out: &mut [u8]) -> usize
     ensures { Writes (answer_octets (answers.Watchdog status)) out.old out.new result }
@@ -150,7 +150,7 @@ pub extern "C" fn fio2070_encode_watchdog_answer(status: u8, out: &mut [u8]) -> 
 }
 
 /// Writes an answer of type 183, 184, 185, 187 or 188 with the octets after its type (TEES 2009).
-/// Returns how many octets it has; where there is no room nothing is written. For any other type, and
+/// Returns how many octets it has; without room for it nothing is written. For any other type, and
 /// for more than 772 octets, there is no message, and the result is `NO_MESSAGE`.
 #[unsafe(no_mangle)]
 pub extern "C" fn fio2070_encode_other_answer(code: u8, body: &[u8], out: &mut [u8]) -> usize

@@ -1,4 +1,4 @@
-//! Answers of which one number is read.
+//! Answers from which one number is read.
 ghost use Rattle.std.specs.Prelude.{◌≡◌, ℕ, ◌<◌, ◌^◌, Some, MatchResult};
 ghost use Rattle.fio_message.specs.Answers.{SpellsAnswer, identity_answer};
 ghost use Rattle.fio_message.specs.Refusals.{IsWhole, Refuses};
@@ -13,8 +13,8 @@ use fio_message::types::{IDENTIFY_ANSWER, SET_OUTPUTS_ANSWER};
 use fio_message::{DecodeError, FRAME_OCTETS};
 
 /// Reads the stamp of an answer to the setting of outputs (TEES 2009, answer 183; in the own profile the
-/// octet 0 and the stamp, 6 octets in all). The octet before the stamp is not looked at. Any other answer
-/// is of unknown type. A fault leaves `stamp` as it was.
+/// octet 0 and the stamp, 6 octets in all). The octet before the stamp may be any. Any other answer has an
+/// unknown type. After a fault `stamp` is unchanged.
 #[unsafe(no_mangle)]
 pub extern "C" fn fio2070_read_outputs_answer(octets: &[u8], stamp: &mut u32) -> Fault
     ensures spelled { (octet sent : ℕ) → sent < 2 ^ 32 → SpellsAnswer (outputs_answer_with octet sent) octets.now
@@ -32,7 +32,7 @@ pub extern "C" fn fio2070_read_outputs_answer(octets: &[u8], stamp: &mut u32) ->
 }
 
 /// Reads the number of a module in its answer (TEES 2009, answer 188; in the own profile one octet, 2 octets
-/// in all). Any other answer is of unknown type. A fault leaves `id` as it was.
+/// in all). Any other answer has an unknown type. After a fault `id` is unchanged.
 #[unsafe(no_mangle)]
 pub extern "C" fn fio2070_read_identification(octets: &[u8], id: &mut u8) -> Fault
     ensures spelled { (sent : ℕ) → SpellsAnswer (identity_answer sent) octets.now

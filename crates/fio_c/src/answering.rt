@@ -1,4 +1,4 @@
-//! What a module does whose entries wait in slots of the caller.
+//! A module whose waiting entries are in slots of the caller.
 ghost use Rattle.std.specs.Prelude.{◌≡◌, ◌<◌, ◌∷◌, length};
 ghost use Rattle.fio_message.specs.Views.{command_of};
 ghost use Rattle.fio_module.specs.Settings.{Settings};
@@ -30,7 +30,7 @@ pub(crate) fn scan(
 }
 
 /// Carries out a command, writes the octets of the answer, with these error counts, to the front of
-/// `out`, and returns how many they are, or 0 where there is no answer.
+/// `out`, and returns how many they are, or 0 if there is no answer.
 pub(crate) fn answer(
     state: &mut ModuleState,
     place: &mut RingPlace,

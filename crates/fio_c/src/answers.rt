@@ -97,8 +97,8 @@ fn flat_answer(answer: AnswerView<'_>) -> Answer
     flat
 }
 
-/// Reads any answer. The entries of a block and the octets of a body stay where they are. A fault
-/// leaves `answer` as it was.
+/// Reads any answer. The entries of a block and the octets of a body are not copied. After a fault
+/// `answer` is unchanged.
 #[unsafe(no_mangle)]
 pub extern "C" fn fio2070_decode_answer(octets: &[u8], answer: &mut Answer) -> Fault
     ensures { Reads flat_answer (decoded_answer octets.now) answer.old answer.new result }

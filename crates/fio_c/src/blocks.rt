@@ -66,7 +66,7 @@ fn entry_of(entry: fio_message::Entry) -> Entry
     }
 }
 
-/// Reads a block answer without its entries. A fault leaves `header` as it was.
+/// Reads a block answer without its entries. After a fault `header` is unchanged.
 #[unsafe(no_mangle)]
 pub extern "C" fn fio2070_read_block(octets: &[u8], header: &mut BlockHeader) -> Fault
     ensures { ReadsBlock flat_header octets.now header.old header.new result }
@@ -80,8 +80,8 @@ pub extern "C" fn fio2070_read_block(octets: &[u8], header: &mut BlockHeader) ->
     }
 }
 
-/// Copies the entries of a block answer where there is room for all of them, and returns how many they
-/// are. Where the octets are no block answer nothing is copied, and the result is `NO_MESSAGE`.
+/// Copies the entries of a block answer if there is room for all of them, and returns how many they
+/// are. If the octets are no block answer, nothing is copied, and the result is `NO_MESSAGE`.
 #[unsafe(no_mangle)]
 pub extern "C" fn fio2070_block_entries(octets: &[u8], entries: &mut [Entry]) -> usize
     ensures block { (block : Block) → SpellsBlock block octets.now

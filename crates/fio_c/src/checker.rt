@@ -13,23 +13,23 @@ use fio_module::MOST_WAITING;
 #[derive(Clone, Copy)]
 #[repr(C)]
 pub struct Checker {
-    /// 1 where a command is directly above.
+    /// 1 if a command is directly above.
     pub has_awaited: u8,
     /// The type of the answer to it.
     pub awaited: u8,
-    /// 1 where it names an input above 63.
+    /// 1 if it names an input above 63.
     pub absent_named: u8,
-    /// 1 where a poll is above.
+    /// 1 if a poll is above.
     pub has_polled: u8,
     /// The number of the latest poll.
     pub polled: u8,
-    /// 1 where the latest poll or block answer is a block answer.
+    /// 1 if the latest poll or block answer is a block answer.
     pub answered: u8,
-    /// 1 where the latest poll has another number than the poll before it.
+    /// 1 if the latest poll has another number than the poll before it.
     pub advanced: u8,
-    /// 0 where no block answer is above, 1 where the latest has no C, 2 where it has.
+    /// 0 if no block answer is above, 1 if the latest has no C, 2 if it has.
     pub more: u8,
-    /// What is passed over: 0 nothing; 1 all frames to the next poll, as below a breach; 2 what is heard above the first
+    /// What is skipped: 0 nothing; 1 all frames to the next poll, as below a breach; 2 what is heard above the first
     /// command.
     pub skips: u8,
     /// The most entries of a block of the module.
@@ -46,11 +46,11 @@ pub struct Checker {
 pub struct Breach {
     /// 0 for none, else the number of the rule: one of `FIO2070_RULE_READABLE` and those after it.
     pub rule: u8,
-    /// 1 where `due` and `got` are set: for advance and number, and for pair below a command.
+    /// 1 if `due` and `got` are set: for advance and number, and for pair below a command.
     pub has_due: u8,
     /// The number of the poll or the block answer, or the type of the answer, that was due.
     pub due: u8,
-    /// The one that the frame has.
+    /// The number or type that the frame has.
     pub got: u8,
 }
 
@@ -62,7 +62,7 @@ const NO_BREACH: Breach = Breach {
     got: 0,
 };
 
-/// A checker above the first frame, of a module with the limits of TEES 2009. Each octet of the struct is set.
+/// Starts a checker above the first frame, of a module with the limits of TEES 2009. Each octet of the struct is set.
 #[unsafe(no_mangle)]
 pub extern "C" fn fio2070_checker_start(checker: &mut Checker)
     ensures made { checker_in checker.new ≡ new_checker }
@@ -71,8 +71,8 @@ pub extern "C" fn fio2070_checker_start(checker: &mut Checker)
     *checker = flat_from(&CheckerOf::new());
 }
 
-/// A checker above the first frame, of a module with these limits. Each octet of the struct is set. Returns 0. Where a limit
-/// is out of its range it returns 1, and nothing changes.
+/// Starts a checker above the first frame, of a module with these limits. Each octet of the struct is set. Returns 0, or 1
+/// without any change if a limit is out of its range.
 #[unsafe(no_mangle)]
 pub extern "C" fn fio2070_checker_start_within(checker: &mut Checker, limits: Limits) -> u8
     ensures made { are_limits limits ≡ true → checker_in checker.new ≡ checker_within (limits_of limits) }
@@ -86,8 +86,8 @@ pub extern "C" fn fio2070_checker_start_within(checker: &mut Checker, limits: Li
     0
 }
 
-/// The same above the first frame of a log that begins anywhere: what the CPU's end heard above the first frame that it sent
-/// is passed over. Returns as `fio2070_checker_start_within` does.
+/// Starts a checker above the first frame of a log that begins anywhere: what the CPU's end heard above the first frame that
+/// it sent is skipped. Returns as `fio2070_checker_start_within` does.
 #[unsafe(no_mangle)]
 pub extern "C" fn fio2070_checker_start_anywhere(checker: &mut Checker, limits: Limits) -> u8
     ensures made { are_limits limits ≡ true → checker_in checker.new ≡ checker_anywhere (limits_of limits) }
@@ -101,7 +101,7 @@ pub extern "C" fn fio2070_checker_start_anywhere(checker: &mut Checker, limits: 
     0
 }
 
-/// Returns the limits that a struct of C says, `None` where one is out of its range.
+/// Returns the limits in a struct of C; `None` if one is out of its range.
 pub(crate) fn limits_from(limits: Limits) -> Option<LimitsOf>
     ensures none { IfNone result (are_limits limits ≡ false) }
     ensures some { IfSome result (λ found. (are_limits limits ≡ true) × (found ≡ limits_of limits)) }
@@ -115,9 +115,8 @@ pub(crate) fn limits_from(limits: Limits) -> Option<LimitsOf>
     })
 }
 
-/// Takes a frame that the CPU's end sent: writes its breach, each octet of it, and returns the
-/// number of its rule, 0 where it keeps the rules. Below a breach the checker goes on as one that
-/// starts at the next poll.
+/// Takes a frame that the CPU's end sent: writes its breach, each octet of it, and returns the number of its rule, 0 if it
+/// keeps the rules. Below a breach the checker goes on as one that starts at the next poll.
 #[unsafe(no_mangle)]
 pub extern "C" fn fio2070_checker_sent(
     checker: &mut Checker,
@@ -149,7 +148,7 @@ pub extern "C" fn fio2070_checker_heard(
     keep(&kept, found, checker, breach)
 }
 
-/// Returns the checker that a struct of C stands for, whatever its octets are.
+/// Returns the checker that a struct of C represents, whatever its octets are.
 pub(crate) fn checker_from(flat: &Checker) -> CheckerOf
     ensures { result ≡ checker_in flat.now }
 {
@@ -170,8 +169,8 @@ pub(crate) fn checker_from(flat: &Checker) -> CheckerOf
     }
 }
 
-/// Writes a checker and the breach that it found to the caller's structs, each octet of them, and returns
-/// the number of the breach's rule: 0 where there is none.
+/// Writes a checker and the breach that it found to the caller's structs, each octet of them, and returns the number of the
+/// breach's rule, 0 without a breach.
 #[tactic(auto, using(crate::proofs::Checkers::checker_kept))]
 fn keep(
     kept: &CheckerOf,
@@ -188,7 +187,7 @@ fn keep(
     breach.rule
 }
 
-/// Returns the struct of C that stands for a checker.
+/// Returns the struct of C that represents a checker.
 pub(crate) fn flat_from(checker: &CheckerOf) -> Checker
     ensures { result ≡ flat_checker checker.now }
 {
@@ -209,7 +208,7 @@ pub(crate) fn flat_from(checker: &CheckerOf) -> Checker
     }
 }
 
-/// Returns a number that there may be.
+/// Returns a number, if its flag is set.
 fn octet_in(has: u8, octet: u8) -> Option<u8>
     ensures { result ≡ octet_in has octet }
 {
@@ -234,7 +233,7 @@ fn flat_more(more: Option<bool>) -> u8
     }
 }
 
-/// Returns what a checker passes over.
+/// Returns what a checker skips.
 fn skips_in(skips: u8) -> Skips
     ensures { result ≡ skips_in skips }
 {

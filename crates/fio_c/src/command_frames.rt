@@ -19,8 +19,8 @@ use fio_message::{
     encode_command,
 };
 
-/// Writes a command where there is room for it, and returns how many octets it has. Inlined, so that
-/// no command and no frame is made where the type is known.
+/// Writes a command if there is room for it, and returns how many octets it has. Inlined, so that no
+/// command and no frame is made if the type is known.
 #[inline(always)]
 fn write_command(command: &Command, out: &mut [u8]) -> usize
     ensures { Writes (command_octets command.now) out.old out.new result }
@@ -29,7 +29,7 @@ fn write_command(command: &Command, out: &mut [u8]) -> usize
 }
 
 /// Writes the request for the module's status (TEES 2009, command 49), which clears the flags whose
-/// bits are one. Returns how many octets it has; where there is no room nothing is written.
+/// bits are one. Returns how many octets it has; without room for it nothing is written.
 #[unsafe(no_mangle)]
 pub extern "C" fn fio2070_encode_status(clear: u8, out: &mut [u8]) -> usize
     ensures { Writes (command_octets (commands.Status clear)) out.old out.new result }
@@ -38,7 +38,7 @@ pub extern "C" fn fio2070_encode_status(clear: u8, out: &mut [u8]) -> usize
 }
 
 /// Writes the command that loads the millisecond counter at the next line sync (TEES 2009, command
-/// 50). Returns how many octets it has; where there is no room nothing is written.
+/// 50). Returns how many octets it has; without room for it nothing is written.
 #[unsafe(no_mangle)]
 pub extern "C" fn fio2070_encode_load_counter(load: u32, out: &mut [u8]) -> usize
     ensures { Writes (command_octets (commands.LoadCounter load)) out.old out.new result }
@@ -46,8 +46,8 @@ pub extern "C" fn fio2070_encode_load_counter(load: u32, out: &mut [u8]) -> usiz
     write_command(&Command::LoadCounter { load }, out)
 }
 
-/// Writes the configuration of inputs (TEES 2009, command 51). Returns how many octets it has; where
-/// there is no room nothing is written. Where there are more than 255 items, or one names an input
+/// Writes the configuration of inputs (TEES 2009, command 51). Returns how many octets it has;
+/// without room for it nothing is written. If there are more than 255 items, or one names an input
 /// above 127, no message has them, and the result is `NO_MESSAGE`.
 #[unsafe(no_mangle)]
 pub extern "C" fn fio2070_encode_configure_inputs(
@@ -83,7 +83,7 @@ impl Part for ConfigurationItem {
     }
 }
 
-/// Returns the item that an item of C is.
+/// Returns the item from an item of C.
 #[inline]
 pub(crate) fn read_item(item: &ConfigurationItem) -> InputItem
     requires { item.now.input < INPUT_NUMBERS }
@@ -101,7 +101,7 @@ pub(crate) fn read_item(item: &ConfigurationItem) -> InputItem
 }
 
 /// Writes the request for the levels at the last scan (TEES 2009, command 52). Returns how many
-/// octets it has; where there is no room nothing is written.
+/// octets it has; without room for it nothing is written.
 #[unsafe(no_mangle)]
 pub extern "C" fn fio2070_encode_raw_inputs(out: &mut [u8]) -> usize
     ensures { Writes (command_octets commands.RawInputs) out.old out.new result }
@@ -110,7 +110,7 @@ pub extern "C" fn fio2070_encode_raw_inputs(out: &mut [u8]) -> usize
 }
 
 /// Writes the request for the filtered states (TEES 2009, command 53). Returns how many octets it
-/// has; where there is no room nothing is written.
+/// has; without room for it nothing is written.
 #[unsafe(no_mangle)]
 pub extern "C" fn fio2070_encode_filtered_inputs(out: &mut [u8]) -> usize
     ensures { Writes (command_octets commands.FilteredInputs) out.old out.new result }
@@ -119,7 +119,7 @@ pub extern "C" fn fio2070_encode_filtered_inputs(out: &mut [u8]) -> usize
 }
 
 /// Writes a poll for the block with this number (TEES 2009, command 54). Returns how many octets it
-/// has; where there is no room nothing is written.
+/// has; without room for it nothing is written.
 #[unsafe(no_mangle)]
 pub extern "C" fn fio2070_encode_poll(block: u8, out: &mut [u8]) -> usize
     ensures { Writes (command_octets (commands.Poll block)) out.old out.new result }
@@ -128,7 +128,7 @@ pub extern "C" fn fio2070_encode_poll(block: u8, out: &mut [u8]) -> usize
 }
 
 /// Writes the command that sets the outputs (TEES 2009, command 55; eight octets for each half are
-/// own profile). Returns how many octets it has; where there is no room nothing is written.
+/// own profile). Returns how many octets it has; without room for it nothing is written.
 #[unsafe(no_mangle)]
 pub extern "C" fn fio2070_encode_set_outputs(
     levels: &[u8; 8],
@@ -146,7 +146,7 @@ pub extern "C" fn fio2070_encode_set_outputs(
 }
 
 /// Writes the command that sets the watchdog (TEES 2009, command 58), with the timeout in
-/// milliseconds. Returns how many octets it has; where there is no room nothing is written.
+/// milliseconds. Returns how many octets it has; without room for it nothing is written.
 #[unsafe(no_mangle)]
 pub extern "C" fn fio2070_encode_watchdog(timeout: u8, out: &mut [u8]) -> usize
     ensures { Writes (command_octets (commands.Watchdog timeout)) out.old out.new result }
@@ -155,7 +155,7 @@ pub extern "C" fn fio2070_encode_watchdog(timeout: u8, out: &mut [u8]) -> usize
 }
 
 /// Writes the question which module it is (TEES 2009, command 60). Returns how many octets it has;
-/// where there is no room nothing is written.
+/// without room for it nothing is written.
 #[unsafe(no_mangle)]
 pub extern "C" fn fio2070_encode_identify(out: &mut [u8]) -> usize
     ensures { Writes (command_octets commands.Identify) out.old out.new result }
@@ -164,8 +164,8 @@ pub extern "C" fn fio2070_encode_identify(out: &mut [u8]) -> usize
 }
 
 /// Writes a command of type 56, 57 or 59 with the octets after its type (TEES 2009). Returns how many
-/// octets it has; where there is no room nothing is written. For any other type, and for more than
-/// 772 octets, there is no message, and the result is `NO_MESSAGE`.
+/// octets it has; without room for it nothing is written. For any other type, and for more than 772
+/// octets, there is no message, and the result is `NO_MESSAGE`.
 #[unsafe(no_mangle)]
 pub extern "C" fn fio2070_encode_other_command(code: u8, body: &[u8], out: &mut [u8]) -> usize
     ensures written { (kind : Kind) → other_command_of code ≡ Some kind → length body.now ≤ BODY_OCTETS

@@ -43,8 +43,8 @@ pub struct Command {
 pub struct ConfigurationItem {
     /// The input, from 0 to 127. The module has the inputs 0 to 63.
     pub input: u8,
-    /// 1 where the input's transitions are left out of the blocks, else 0. Calls that are given an
-    /// item take any number but 0 as 1.
+    /// 1 if the input's transitions are left out of the blocks, else 0. In an item from the caller any
+    /// number other than 0 counts as 1.
     pub ignore: u8,
     /// The leading filter: how many successive samples of 0 change the state from 1 to 0; 0 acts as 1.
     pub leading: u8,
@@ -94,8 +94,8 @@ fn flat_command(command: CommandView<'_>) -> Command
     flat
 }
 
-/// Reads any command. The items of a configuration and the octets of a body stay where they are. A
-/// fault leaves `command` as it was.
+/// Reads any command. The items of a configuration and the octets of a body are not copied. After a
+/// fault `command` is unchanged.
 #[unsafe(no_mangle)]
 pub extern "C" fn fio2070_decode_command(octets: &[u8], command: &mut Command) -> Fault
     ensures { Reads flat_command (decoded_command octets.now) command.old command.new result }
@@ -109,8 +109,8 @@ pub extern "C" fn fio2070_decode_command(octets: &[u8], command: &mut Command) -
     }
 }
 
-/// Copies the items of a configuration (TEES 2009, command 51) where there is room for all of them, and
-/// returns how many they are. Where the octets are no configuration nothing is copied, and the result is
+/// Copies the items of a configuration (TEES 2009, command 51) if there is room for all of them, and
+/// returns how many they are. If the octets are no configuration, nothing is copied, and the result is
 /// `NO_MESSAGE`.
 #[unsafe(no_mangle)]
 pub extern "C" fn fio2070_command_items(octets: &[u8], items: &mut [ConfigurationItem]) -> usize

@@ -6,7 +6,7 @@ ghost use Rattle.fio_c.specs.Checkers.{flat_content_breach};
 
 use fio_check::{ContentBreach as BreachFound, ContentChecker};
 
-/// What `input` of a breach says that has no input.
+/// The value of `input` in a breach without an input.
 const NO_INPUT: u8 = 255;
 
 /// The first rule on content that a frame breaks.
@@ -15,7 +15,7 @@ const NO_INPUT: u8 = 255;
 pub struct ContentBreach {
     /// 0 for none, else the number of the rule: one of `FIO2070_CONTENT_ORDER` and those after it.
     pub rule: u8,
-    /// The input of the entry that breaks it, or that whose state is another; 255 for an answer.
+    /// The input of the entry that breaks the rule, or the input with another state; 255 for an answer.
     pub input: u8,
     /// How many items of the frame's block are recorded above the breach, a gap mark with them: for an answer none, at
     /// the end of a block all.
@@ -29,8 +29,8 @@ const NO_BREACH: ContentBreach = ContentBreach {
     items: 0,
 };
 
-/// A checker of the rules on content above the first frame of a log, whose ends may have begun long before. Answers above the
-/// first frame that the CPU's end sent are passed over.
+/// Starts a checker of the rules on content above the first frame of a log whose ends may have begun long before. Answers
+/// above the first frame that the CPU's end sent are skipped.
 #[unsafe(no_mangle)]
 pub extern "C" fn fio2070_content_start(content: &mut ContentChecker)
     ensures { content_checking content.new ≡ checking_at_start false }
@@ -38,7 +38,8 @@ pub extern "C" fn fio2070_content_start(content: &mut ContentChecker)
     *content = ContentChecker::new();
 }
 
-/// The same for a log that begins with both ends. It knows how the module begins, so it finds more.
+/// Starts a checker of the rules on content for a log that begins with both ends. It knows how the module begins, so it finds
+/// more.
 #[unsafe(no_mangle)]
 pub extern "C" fn fio2070_content_start_begun(content: &mut ContentChecker)
     ensures { content_checking content.new ≡ checking_at_start true }

@@ -5,7 +5,7 @@ ghost use Rattle.fio_input.specs.Widening.{wide_time_of};
 
 use fio_input::{Counter, widen};
 
-/// A counter at 0 (own profile), with no load asked for. Each octet of the struct is set.
+/// Starts a counter at 0 (own profile), with no load asked for. Each octet of the struct is set.
 #[unsafe(no_mangle)]
 pub extern "C" fn fio2070_counter_start(counter: &mut Counter)
     ensures made { IsCounterAfter counter.new [] }

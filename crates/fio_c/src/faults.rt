@@ -5,7 +5,7 @@ ghost use Rattle.fio_flat.specs.Faults.{NeedFitsFrame, fault_of};
 use fio_flat::Fault;
 use fio_message::DecodeError;
 
-/// Octets that are a message have no fault.
+/// The fault of octets that are a message: none.
 pub(crate) const NO_FAULT: Fault = Fault {
     kind: 0,
     code: 0,

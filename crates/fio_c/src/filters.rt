@@ -12,8 +12,8 @@ use crate::commands::ConfigurationItem;
 use fio_input::{Configuration, Filters};
 use fio_message::{CONFIGURATION_ITEMS, INPUTS, InputItem};
 
-/// Filters before any scan: each input is ignored, both its filters are 5, and its raw level and
-/// filtered state are 1 (own profile). Each octet of the struct is set.
+/// Starts filters before any scan: each input is ignored, both its filters are 5, and its raw level
+/// and filtered state are 1 (own profile). Each octet of the struct is set.
 #[unsafe(no_mangle)]
 pub extern "C" fn fio2070_filters_start(filters: &mut Filters)
     ensures made { AreFiltersAfter filters.new [] }
@@ -52,7 +52,7 @@ pub extern "C" fn fio2070_filters_raw(filters: &Filters) -> u64
     filters.raw()
 }
 
-/// What became of a configuration.
+/// The result of a configuration.
 #[derive(Clone, Copy)]
 #[repr(C)]
 pub struct Configured {
@@ -60,13 +60,13 @@ pub struct Configured {
     pub kind: u8,
     /// 0 in each octet that the library writes.
     pub reserved: [u8; 7],
-    /// The place of the first item that names an input above 63, counted from 0, for kind 1.
+    /// For kind 1 the index of the first item that names an input above 63, from 0.
     pub place: u64,
 }
 
 /// Applies the items in their order, or none if one names an input above 63 or there are more than
 /// 255 (own profile). An applied item starts its input's samples anew from its present filtered
-/// state. Where none is applied nothing changes.
+/// state. If none is applied, nothing changes.
 #[unsafe(no_mangle)]
 pub extern "C" fn fio2070_filters_configure(
     filters: &mut Filters,
@@ -112,7 +112,7 @@ impl Configuration for CallersItems<'_> {
     }
 }
 
-/// Returns what became of a configuration, by its kind and place.
+/// Returns the result of a configuration, by its kind and index.
 const fn outcome(kind: u8, place: u64) -> Configured
     ensures { result ≡ outcome kind place }
 {
@@ -123,7 +123,7 @@ const fn outcome(kind: u8, place: u64) -> Configured
     }
 }
 
-/// Returns the place of the first item that names an input above 63.
+/// Returns the index of the first item that names an input above 63.
 fn first_absent(items: &[ConfigurationItem]) -> Option<usize>
     ensures { result ≡ first_absent items.now }
 {

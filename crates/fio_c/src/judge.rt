@@ -10,7 +10,7 @@ use crate::checker::{Checker, breach_from, checker_from, flat_from, limits_from}
 use fio_check::{ContentChecker, Excuse, LinkJudge, LogPlace, Outcome, Unjudged};
 use fio_flat::Limits;
 
-/// What `input` of an outcome says that has no input.
+/// The value of `input` in an outcome without an input.
 const NO_INPUT: u8 = 255;
 
 /// A judge of a link. Its fields are the library's own: what it keeps of the frames that it took.
@@ -21,38 +21,38 @@ pub struct Judge {
     pub content: ContentChecker,
     /// The checker of the rules of transcripts.
     pub checker: Checker,
-    /// The latest stamp that was judged, but of a block that is sent again.
+    /// The latest stamp that was judged, but not that of a repeated block.
     pub latest: u32,
-    /// What was the latest stamp at the first poll for the block that is due.
+    /// The latest stamp at the time of the first poll for the block that is due.
     pub asked: u32,
-    /// 1 where there is a latest stamp.
+    /// 1 if there is a latest stamp.
     pub has_latest: u8,
-    /// 1 where there was one at that poll.
+    /// 1 if there was a latest stamp at that poll.
     pub has_asked: u8,
-    /// 1 where lines are lost below the latest stamp.
+    /// 1 if lines are lost below the latest stamp.
     pub lost: u8,
     /// 0 in each octet that the library writes.
     pub reserved: [u8; 5],
 }
 
-/// What a frame is.
+/// The outcome of a frame.
 #[derive(Clone, Copy)]
 #[repr(C)]
 pub struct JudgeOutcome {
     /// One of `FIO2070_OUTCOME_KEPT` and those after it.
     pub kind: u8,
-    /// Why it is excused or not judged, one of `FIO2070_WHY_LOAD` and those after it; else 0.
+    /// Why the frame is excused or not judged, one of `FIO2070_WHY_LOAD` and those after it; else 0.
     pub why: u8,
-    /// The number of the rule that it breaks, one of `FIO2070_RULE_READABLE` or of `FIO2070_CONTENT_ORDER` and those after it by
-    /// its kind; else 0.
+    /// The number of the rule that the frame breaks: by its kind one of `FIO2070_RULE_READABLE` and those after it, or of
+    /// `FIO2070_CONTENT_ORDER` and those after it; else 0.
     pub rule: u8,
-    /// 1 where `due` and `got` are set: of rules of transcripts for advance and number, and for pair below a command.
+    /// 1 if `due` and `got` are set: of rules of transcripts for advance and number, and for pair below a command.
     pub has_due: u8,
     /// The number of the poll or the block answer, or the type of the answer, that was due.
     pub due: u8,
-    /// The one that the frame has.
+    /// The number or type that the frame has.
     pub got: u8,
-    /// The input of the entry that breaks a rule on content, or that whose state is another; else 255.
+    /// The input of the entry that breaks a rule on content, or the input with another state; else 255.
     pub input: u8,
     /// 0.
     pub reserved: u8,
@@ -61,8 +61,8 @@ pub struct JudgeOutcome {
     pub items: u16,
 }
 
-/// A judge above the first frame of a log that begins anywhere, of a module with these limits. What the CPU's end heard above the
-/// first frame that it sent is not judged. Returns 0. Where a limit is out of its range it returns 1, and nothing changes.
+/// Starts a judge above the first frame of a log that begins anywhere, of a module with these limits. What the CPU's end heard
+/// above the first frame that it sent is not judged. Returns 0, or 1 without any change if a limit is out of its range.
 #[unsafe(no_mangle)]
 pub extern "C" fn fio2070_judge_start_anywhere(judge: &mut Judge, limits: Limits) -> u8
     ensures made { are_limits limits ≡ true → (result ≡ 0) × (judge_in judge.new ≡ judging_anywhere (limits_of limits)) }
@@ -75,7 +75,7 @@ pub extern "C" fn fio2070_judge_start_anywhere(judge: &mut Judge, limits: Limits
     0
 }
 
-/// The same above the first frame of a log that begins with both ends: more is found then. Returns as
+/// Starts a judge above the first frame of a log that begins with both ends; then more is found. Returns as
 /// `fio2070_judge_start_anywhere` does.
 #[unsafe(no_mangle)]
 pub extern "C" fn fio2070_judge_start_begun(judge: &mut Judge, limits: Limits) -> u8
@@ -89,8 +89,8 @@ pub extern "C" fn fio2070_judge_start_begun(judge: &mut Judge, limits: Limits) -
     0
 }
 
-/// Takes a place where lines of the log are lost, or where a part of it ends and another begins: nothing is judged till the next
-/// poll, and nobody is accused by what may stand there.
+/// Takes a place where lines of the log are lost, or where a part of it ends and another begins: nothing is judged until the
+/// next poll, and what the lost lines may explain accuses nobody.
 #[unsafe(no_mangle)]
 pub extern "C" fn fio2070_judge_lose(judge: &mut Judge)
     ensures { judge_in judge.new ≡ judging_lost (judge_in judge.old) }
@@ -100,8 +100,8 @@ pub extern "C" fn fio2070_judge_lose(judge: &mut Judge)
     *judge = flat_of(&kept);
 }
 
-/// Takes a frame that the CPU's end sent, by where it was logged: 0 at the CPU's end, 1 at the module, any other on the bus. Writes
-/// what it is, each octet of it, and returns its kind.
+/// Takes a frame that the CPU's end sent. `at` says where it was logged: 0 at the CPU's end, 1 at the module, any other on the
+/// bus. Writes its outcome, each octet of it, and returns its kind.
 #[unsafe(no_mangle)]
 pub extern "C" fn fio2070_judge_sent(
     judge: &mut Judge,
@@ -133,7 +133,7 @@ pub extern "C" fn fio2070_judge_heard(
     outcome.kind
 }
 
-/// Takes a frame, and returns what it is as C sees it.
+/// Takes a frame, and returns its outcome as C sees it.
 fn take(judge: &mut Judge, at: u8, from_cpu: bool, octets: &[u8]) -> JudgeOutcome
     ensures next { judge_in judge.new ≡ judging_with (judge_in judge.old) (place_in at) from_cpu octets.now }
     ensures outcome { result ≡ flat_outcome (outcome_in (judge_in judge.old) (place_in at) from_cpu octets.now) }
@@ -144,7 +144,7 @@ fn take(judge: &mut Judge, at: u8, from_cpu: bool, octets: &[u8]) -> JudgeOutcom
     outcome_from(outcome)
 }
 
-/// Returns the judge that a struct of C stands for, whatever its octets are.
+/// Returns the judge that a struct of C represents, whatever its octets are.
 pub(crate) fn judge_from(flat: &Judge) -> LinkJudge
     ensures { judging result ≡ judge_in flat.now }
 {
@@ -157,14 +157,14 @@ pub(crate) fn judge_from(flat: &Judge) -> LinkJudge
     }
 }
 
-/// Returns a stamp that there may be.
+/// Returns a stamp, if its flag is set.
 fn stamp_in(has: u8, stamp: u32) -> Option<u32>
     ensures { result ≡ octet_in has stamp }
 {
     if has == 0 { None } else { Some(stamp) }
 }
 
-/// Returns the struct of C that stands for a judge.
+/// Returns the struct of C that represents a judge.
 #[tactic(auto, using(crate::proofs::Checkers::checker_kept))]
 pub(crate) fn flat_of(judge: &LinkJudge) -> Judge
     ensures { judge_in result ≡ judging judge.now }
@@ -192,7 +192,7 @@ fn place_from(at: u8) -> LogPlace
     }
 }
 
-/// Returns what a frame is as C sees it.
+/// Returns the outcome of a frame as C sees it.
 pub(crate) fn outcome_from(outcome: Outcome) -> JudgeOutcome
     ensures { result ≡ flat_outcome outcome }
 {

@@ -1,10 +1,10 @@
 //! The field I/O transition link for C and C++: the calls of the crates below over memory of the
 //! caller. `include/fio2070.h` declares them.
 //!
-//! No export but those of the reader of logs has a `requires`: each is right for all octets, all
-//! lengths and all contents of a struct. What C owes is memory alone: pointers that are valid, aligned
-//! and not shared for the time of a call. A reader of logs has parts of its own, so C owes one that
-//! `fio2070_log_start` made (`log`). Nothing here allocates, keeps a static or calls anything but `memcpy` and its like.
+//! Only the exports of the reader of logs have a `requires`. Every other export is right for all octets, all lengths and all
+//! contents of a struct. C must only pass pointers that are valid, aligned and not shared during a call. A reader of logs must
+//! be one that `fio2070_log_start` made (`log`). Nothing here allocates, keeps a static or calls anything but `memcpy` and the
+//! like.
 //!
 //! | To | Call |
 //! |---|---|
@@ -23,9 +23,9 @@
 //! | say which library it is | `fio2070_version` |
 //! | use its parts | `fio2070_counter_..`, `fio2070_filters_..`, `fio2070_widen` |
 //!
-//! The definitions are in `specs/`: flat forms of commands, answers and blocks (`Flat`), checkers
-//! (`Checkers`), the judge of a link (`Judges`), that of a log (`LogJudges`), logs (`Logs`, `Told`), counts (`LogCounts`), words (`Texts`), versions (`Version`), lines (`Wires`). `fio_flat` has the other structs, and what calls do to them
-//! and to the caller's arrays.
+//! The definitions are in `specs/`: flat forms of commands, answers and blocks (`Flat`), checkers (`Checkers`), the judge of a
+//! link (`Judges`), the judge of a log (`LogJudges`), logs (`Logs`, `Told`), counts (`LogCounts`), texts (`Texts`), versions
+//! (`Version`), lines (`Wires`). `fio_flat` has the other structs, and what calls do to them and to the caller's arrays.
 #![tactic(auto)]
 
 mod answer_frames;

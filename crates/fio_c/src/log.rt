@@ -1,7 +1,7 @@
 //! The reader of logs, which C holds behind a pointer.
 //!
-//! A reader is no plain memory: its parts are as the library made them. So these calls take a pointer, and are the only
-//! ones that require something of what lies there: a reader that `fio2070_log_start` has made, in room for one.
+//! Unlike the other structs, a reader is not plain memory: only the library can make its parts. So these calls take a pointer,
+//! and they alone require something of what it points to: a reader that `fio2070_log_start` has made, in room for one.
 ghost use Rattle.std.specs.Prelude.{◌≡◌, ◌+◌, ◌<◌, ℕ};
 ghost use Rattle.std.specs.Borrow.{full_share, sem};
 ghost use Rattle.std.specs.Ptr.{lies_at, room_at};
@@ -14,7 +14,7 @@ use crate::log_batch::LogBatch;
 use crate::log_verdicts::fill;
 use fio_log::{Form, Reader};
 
-/// How many words of 64 bits a reader has room in.
+/// How many words of 64 bits have room for a reader.
 const LOG_READER_WORDS: usize = 65_536;
 
 /// A reader of logs, or room for one. Its octets are the library's own.
@@ -27,8 +27,8 @@ pub struct LogReader {
 
 const _: () = prove!(std::mem::size_of::<Reader>() <= 8 * LOG_READER_WORDS);
 
-/// Begins a log, whose lines are read as the form says: 1 as `fio2070 show` reads its lines, 2 as `fio2070 check` does, any
-/// other number by the definition of what octets in a line are.
+/// Begins a log. `form` says how its lines are read: 1 as `fio2070 show` reads its input, 2 as `fio2070 check` does, any other
+/// number as lines of any log.
 #[unsafe(no_mangle)]
 pub unsafe extern "C" fn fio2070_log_start(reader: *mut LogReader, form: u8)
     requires* { sem 𝓛 (room_at ReaderRow reader) }
@@ -38,9 +38,9 @@ pub unsafe extern "C" fn fio2070_log_start(reader: *mut LogReader, form: u8)
     std::ptr::write(reader as *mut Reader, new_reader(form));
 }
 
-/// Takes octets of the log until all are taken or the batch has no more room, and returns how many it took. The batch then
-/// has the verdicts that were due. Each octet that is not taken is to be given again. After the end of a log, once each of its
-/// verdicts was given, octets begin a new log of the same form.
+/// Takes octets of the log until all are taken or the batch has no more room, and returns how many it took. The batch then has
+/// the verdicts that were due. Pass octets that were not taken again. After the end of a log, once each of its verdicts was
+/// returned, octets begin a new log of the same form.
 #[unsafe(no_mangle)]
 pub unsafe extern "C" fn fio2070_log_read(
     reader: *mut LogReader,
@@ -55,8 +55,8 @@ pub unsafe extern "C" fn fio2070_log_read(
     read_log(&mut *(reader as *mut Reader), octets, batch)
 }
 
-/// Ends the log: the octets after the last line end are its last line. Then `fio2070_log_read` of no octets gives the verdicts
-/// that are left, until it gives none.
+/// Ends the log: the octets after the last line end are its last line. Then `fio2070_log_read` with no octets returns the
+/// verdicts that are left, until it returns none.
 #[unsafe(no_mangle)]
 pub unsafe extern "C" fn fio2070_log_end(reader: *mut LogReader)
     ghost telling: { Telling }
@@ -93,7 +93,7 @@ fn read_log(reader: &mut Reader, octets: &[u8], batch: &mut LogBatch) -> usize
     read_on(reader, octets, batch)
 }
 
-/// Begins the next log if its octets come after the end of one, and each verdict of that was given.
+/// Begins the next log, if octets come after the end of a log whose verdicts are all returned.
 fn begin_next(reader: &mut Reader, octets: &[u8])
     ensures { IsReadFrom reader.old octets.now reader.new }
 {

@@ -7,7 +7,7 @@ use fio_message::FRAME_OCTETS;
 /// The most verdicts of a batch.
 pub const LOG_VERDICTS: usize = 4_096;
 
-/// The most octets that several lines say together, and so the most frames and places of a verdict.
+/// The most octets of joined lines, and so the most frames and places of a verdict.
 const VERDICT_OCTETS: usize = 16_384;
 
 /// The most frames of a batch.
@@ -27,7 +27,7 @@ pub struct LogVerdict {
     pub line: u64,
     /// The time in microseconds since 1970, or since midnight or a start if the log has no date; 0 if there is none.
     pub time: u64,
-    /// How many frames the line gives, with those of the lines below that go on with it.
+    /// How many frames the line gives, with those of the lines below that continue it.
     pub frames: u32,
     /// At how many places the octets of these frames are written.
     pub places: u32,
@@ -43,8 +43,8 @@ pub struct LogVerdict {
     pub reserved: [u8; 4],
 }
 
-/// Where octets are written in a log. A line is counted in octets, those of UTF-8; colour sequences, NUL and byte order
-/// marks are none of them.
+/// Where octets are written in a log. Places in a line are counted in octets of UTF-8, without colour sequences, NUL
+/// and byte order marks.
 #[derive(Clone, Copy)]
 #[repr(C)]
 pub struct LogPlace {
@@ -52,7 +52,7 @@ pub struct LogPlace {
     pub line: u64,
     /// The index of the first octet in the line, with its mark, bracket or quote.
     pub start: u32,
-    /// The index after the last one.
+    /// The index after the last octet.
     pub end: u32,
 }
 
@@ -60,21 +60,21 @@ pub struct LogPlace {
 #[derive(Clone, Copy)]
 #[repr(C)]
 pub struct LogBatch {
-    /// How many verdicts there are.
+    /// The number of verdicts.
     pub verdict_count: u32,
-    /// How many frames these have.
+    /// The number of frames of these verdicts.
     pub frame_count: u32,
-    /// How many octets the frames have.
+    /// The number of octets of these frames.
     pub octet_count: u32,
-    /// How many places there are.
+    /// The number of places.
     pub place_count: u32,
     /// The verdicts.
     pub verdicts: [LogVerdict; LOG_VERDICTS],
-    /// The places of all verdicts, those of each after those of the one before.
+    /// The places of all verdicts, verdict after verdict.
     pub places: [LogPlace; LOG_PLACES],
     /// How many octets each frame has.
     pub lengths: [u16; LOG_FRAMES],
-    /// The octets of all frames, those of each after those of the one before.
+    /// The octets of all frames, frame after frame.
     pub octets: [u8; LOG_OCTETS],
 }
 
@@ -82,7 +82,7 @@ impl LogBatch {
     ghost use Rattle.std.specs.Prelude.{[], ◌∷◌, ◌++◌};
     ghost use Rattle.fio_c.specs.Logs.{Content, Holds, has_room};
 
-    /// Takes all out.
+    /// Removes everything.
     pub(crate) fn clear(&mut self)
         ensures empty { Holds self.new (record { verdicts = []; frames = []; places = [] }) }
         ensures room { has_room self.new ≡ true }

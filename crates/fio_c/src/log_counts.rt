@@ -6,7 +6,7 @@ ghost use Rattle.fio_c.specs.LogCounts.{time_in};
 
 use fio_check::LogCounts;
 
-/// The counts of no frame: each octet is 0.
+/// Starts the counts before any frame: each octet is 0.
 #[unsafe(no_mangle)]
 pub extern "C" fn fio2070_log_counts_start(counts: &mut LogCounts)
     ensures { counts.new ≡ counts_above }
@@ -14,7 +14,7 @@ pub extern "C" fn fio2070_log_counts_start(counts: &mut LogCounts)
     *counts = LogCounts::new();
 }
 
-/// Takes a place where a frame may be lost: whether the latest poll and command were answered is not known.
+/// Takes a place where a frame may be lost: it is then unknown whether the latest poll and command were answered.
 #[unsafe(no_mangle)]
 pub extern "C" fn fio2070_log_counts_lose(counts: &mut LogCounts)
     ensures { counts.new ≡ counted_lost counts.old }
@@ -22,9 +22,9 @@ pub extern "C" fn fio2070_log_counts_lose(counts: &mut LogCounts)
     counts.lose();
 }
 
-/// Counts a frame, by its time in microseconds, if `has_time` is not 0. If the frame is the answer that the latest command waits for,
-/// both have a time, and this one's is not before the other, it writes how long the module took, in microseconds, and returns 1.
-/// Else it writes 0 and returns 0.
+/// Counts a frame, with its time in microseconds if `has_time` is not 0. If the frame is the answer that the latest command
+/// waits for, both have a time, and the answer's is not the earlier one, it writes how long the module took, in microseconds,
+/// and returns 1. Otherwise it writes 0 and returns 0.
 #[unsafe(no_mangle)]
 pub extern "C" fn fio2070_log_counts_frame(
     counts: &mut LogCounts,

@@ -16,40 +16,40 @@ use fio_flat::Limits;
 pub struct LogJudge {
     /// The judge of the link.
     pub link: Judge,
-    /// How many frames were sent by the end that the log says.
+    /// How many frames were sent by the end that their line names.
     pub agreeing: u32,
-    /// How many were sent by the other one.
+    /// How many frames were sent by the other end.
     pub contrary: u32,
-    /// Where the log was taken: 0 it is found, 1 at the CPU's end, 2 at the module, any other on the bus.
+    /// Where the log was taken: 0 to be found out, 1 at the CPU's end, 2 at the module, any other on the bus.
     pub place: u8,
-    /// 1 where there is a frame above.
+    /// 1 if there is a frame above.
     pub has_frames: u8,
-    /// 1 where a line below the latest poll and the latest block answer speaks of loss.
+    /// 1 if a line below the latest poll and the latest block answer speaks of loss.
     pub missing: u8,
-    /// 1 where late answers are left out.
+    /// 1 if late answers are left out.
     pub has_late: u8,
-    /// 1 where no answer to a command above can still come.
+    /// 1 if no answer to a command above can still come.
     pub settled: u8,
-    /// 1 where the latest command waits for an answer.
+    /// 1 if the latest command waits for an answer.
     pub has_awaited: u8,
     /// The type of that answer.
     pub awaited: u8,
-    /// 1 where there is a poll above.
+    /// 1 if there is a poll above.
     pub has_polled: u8,
     /// The number of the latest poll.
     pub polled: u8,
-    /// 1 where that poll is the first with its number.
+    /// 1 if that poll is the first with its number.
     pub first: u8,
-    /// 1 where a block with that number is below that poll.
+    /// 1 if a block with that number is below that poll.
     pub answered: u8,
     /// 0 in each octet that the library writes.
     pub reserved: [u8; 5],
 }
 
-/// A judge above the first line of a log of a module with these limits. `place` says where the log was taken: 0 it is found by the
-/// directions that the log says, 1 at the CPU's end, 2 at the module, any other on the bus. `start` says how it begins: 1 with both
-/// ends, any other number anywhere, where 2 leaves out late answers. Returns 0. Where a limit is out of its range it returns 1,
-/// and nothing changes.
+/// Starts a judge above the first line of a log of a module with these limits. `place` says where the log was taken: 0 to be
+/// found out by the directions in the log, 1 at the CPU's end, 2 at the module, any other on the bus. `start` says how the log
+/// begins: 1 with both ends, any other number anywhere; 2 also leaves out late answers. Returns 0, or 1 without any change if a
+/// limit is out of its range.
 #[unsafe(no_mangle)]
 pub extern "C" fn fio2070_log_judge_start(
     judge: &mut LogJudge,
@@ -68,7 +68,7 @@ pub extern "C" fn fio2070_log_judge_start(
     0
 }
 
-/// Takes a line that may have held a frame: nothing is judged till the next poll.
+/// Takes a line that may have held a frame: nothing is judged until the next poll.
 #[unsafe(no_mangle)]
 pub extern "C" fn fio2070_log_judge_lose(judge: &mut LogJudge)
     ensures { log_judge_in judge.new ≡ log_lost (log_judge_in judge.old) }
@@ -78,8 +78,8 @@ pub extern "C" fn fio2070_log_judge_lose(judge: &mut LogJudge)
     *judge = log_flat_of(&kept);
 }
 
-/// Takes a line that says a message which nothing makes sure, or the heading of a part of the log: below a frame it is as for
-/// `fio2070_log_judge_lose`.
+/// Takes a line that says a message which nothing confirms, or that is the heading of a part of the log: if a frame is above,
+/// it acts as `fio2070_log_judge_lose`.
 #[unsafe(no_mangle)]
 pub extern "C" fn fio2070_log_judge_possible(judge: &mut LogJudge)
     ensures { log_judge_in judge.new ≡ log_possible (log_judge_in judge.old) }
@@ -89,8 +89,8 @@ pub extern "C" fn fio2070_log_judge_possible(judge: &mut LogJudge)
     *judge = log_flat_of(&kept);
 }
 
-/// Takes a line without octets that speaks of loss: up to the next poll or block answer nobody is accused of what a lost frame
-/// explains.
+/// Takes a line without octets that speaks of loss: up to the next poll or block answer, what a lost frame explains accuses
+/// nobody.
 #[unsafe(no_mangle)]
 pub extern "C" fn fio2070_log_judge_miss(judge: &mut LogJudge)
     ensures { log_judge_in judge.new ≡ log_missing (log_judge_in judge.old) }
@@ -100,8 +100,9 @@ pub extern "C" fn fio2070_log_judge_miss(judge: &mut LogJudge)
     *judge = log_flat_of(&kept);
 }
 
-/// Takes a frame that the CPU's end sent, if `from_cpu` is not 0, or the module. `said` is who sent it by its line: 1 the CPU's end,
-/// 2 the module, any other number if the line does not say it. Writes what the frame is, each octet of it, and returns its kind.
+/// Takes a frame that the CPU's end sent, if `from_cpu` is not 0, or the module. `said` is who sent it by its line: 1 the CPU's
+/// end, 2 the module, any other number if the line does not say it. Writes the frame's outcome, each octet of it, and returns
+/// its kind.
 #[unsafe(no_mangle)]
 pub extern "C" fn fio2070_log_judge_frame(
     judge: &mut LogJudge,
@@ -118,7 +119,7 @@ pub extern "C" fn fio2070_log_judge_frame(
     outcome.kind
 }
 
-/// Takes a frame, and returns what it is as C sees it.
+/// Takes a frame, and returns its outcome as C sees it.
 fn take(judge: &mut LogJudge, from_cpu: bool, said: Option<bool>, octets: &[u8]) -> JudgeOutcome
     ensures next { log_judge_in judge.new ≡ log_with (log_judge_in judge.old) from_cpu said octets.now }
     ensures outcome { result ≡ flat_log_outcome (outcome_in_log (log_judge_in judge.old) from_cpu said octets.now) }
@@ -129,7 +130,7 @@ fn take(judge: &mut LogJudge, from_cpu: bool, said: Option<bool>, octets: &[u8])
     log_outcome_from(outcome)
 }
 
-/// Returns what a frame is as C sees it.
+/// Returns the outcome of a frame as C sees it.
 pub(crate) fn log_outcome_from(outcome: LogOutcome) -> JudgeOutcome
     ensures { result ≡ flat_log_outcome outcome }
 {
@@ -140,7 +141,7 @@ pub(crate) fn log_outcome_from(outcome: LogOutcome) -> JudgeOutcome
     }
 }
 
-/// Returns the judge that a struct of C stands for, whatever its octets are.
+/// Returns the judge that a struct of C represents, whatever its octets are.
 pub(crate) fn log_judge_from(flat: &LogJudge) -> JudgeOfLog
     ensures { log_judging result ≡ log_judge_in flat.now }
 {
@@ -155,7 +156,7 @@ pub(crate) fn log_judge_from(flat: &LogJudge) -> JudgeOfLog
     }
 }
 
-/// Returns what tells which answers are late, if these are left out.
+/// Returns what decides which answers are late, if these are left out.
 fn late_from(flat: &LogJudge) -> Option<LateAnswers>
     ensures { result ≡ late_in flat.now }
 {
@@ -171,14 +172,14 @@ fn late_from(flat: &LogJudge) -> Option<LateAnswers>
     })
 }
 
-/// Returns an octet that there may be.
+/// Returns an octet, if its flag is set.
 pub(crate) fn octet_from(has: u8, octet: u8) -> Option<u8>
     ensures { result ≡ octet_in has octet }
 {
     if has == 0 { None } else { Some(octet) }
 }
 
-/// Returns the struct of C that stands for a judge.
+/// Returns the struct of C that represents a judge.
 pub(crate) fn log_flat_of(judge: &JudgeOfLog) -> LogJudge
     ensures { log_judge_in result ≡ log_judging judge.now }
 {
@@ -213,7 +214,7 @@ fn flat_without_late(judge: &JudgeOfLog) -> LogJudge
     }
 }
 
-/// Returns the struct with what tells which answers are late.
+/// Returns the struct with what decides which answers are late.
 fn flat_with_late(flat: LogJudge, late: LateAnswers) -> LogJudge
     ensures { log_judge_in result ≡ (record (log_judge_in flat) { late = Some late }) }
 {

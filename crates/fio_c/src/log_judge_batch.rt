@@ -16,10 +16,10 @@ use fio_message::types::ANSWER;
 /// The kind of a line that gives frames.
 const FRAMES: u8 = 1;
 
-/// Judges the frames of a batch that `fio2070_log_read` wrote, in order, and writes what each is; returns how many. The lines
-/// between them are taken too, as `fio2070_log_judge_lose` and its like take them. `as_said` is not 0 if the log is a transcript
-/// read by order, whose lines say themselves who sent a frame. A frame of a line that is of no frames is not judged. The outcomes
-/// after those that are written stay as they were.
+/// Judges the frames of a batch that `fio2070_log_read` wrote, in order, writes the outcome of each, and returns their number.
+/// The lines between them are taken too, as `fio2070_log_judge_lose` and the calls after it do. Set `as_said` to a number other
+/// than 0 for a log that is read as a transcript, whose lines say who sent a frame. A frame of a line whose kind has no frames
+/// is not judged. The outcomes after those that are written are unchanged.
 #[unsafe(no_mangle)]
 pub extern "C" fn fio2070_log_judge_batch(
     judge: &mut LogJudge,
@@ -143,7 +143,7 @@ fn judge_frames<'a>(
     left
 }
 
-/// Judges a frame, by who sent it, and returns what it is as C sees it.
+/// Judges a frame, by who sent it, and returns its outcome as C sees it.
 fn judge_frame(
     judge: &mut JudgeOfLog,
     as_said: bool,
@@ -156,7 +156,7 @@ fn judge_frame(
     log_outcome_from(judge.frame(is_sent_frame(as_said, said, octets), said, octets))
 }
 
-/// Returns whether the CPU's end sent a frame: as its line says, if the log is read so and it says who did, else by its type.
+/// Returns whether the CPU's end sent a frame: by its line, if lines count and this one names the sender, else by its type.
 fn is_sent_frame(as_said: bool, said: Option<bool>, octets: &[u8]) -> bool
     ensures { result ≡ is_sent_frame as_said said octets.now }
 {

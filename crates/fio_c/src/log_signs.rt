@@ -14,17 +14,17 @@ use fio_message::{FRAME_OCTETS, Frame};
 #[derive(Clone, Copy)]
 #[repr(C)]
 pub struct LogSigns {
-    /// How many answers there are.
+    /// The number of answers.
     pub answers: u32,
     /// How many of them are the second of equal frames.
     pub repeated: u32,
-    /// For how many of those the two lines say different senders.
+    /// For how many of those the two lines name different senders.
     pub contrary: u32,
-    /// How many block answers there are.
+    /// The number of block answers.
     pub blocks: u32,
-    /// How many of them seem to come before the one above.
+    /// How many of them seem to belong before the one above.
     pub backward: u32,
-    /// How many of them went on with the other row of numbers than the one above.
+    /// How many of them continued the other row of numbers than the one above.
     pub changes: u32,
     /// How many of them started a row in place of another one.
     pub jumps: u32,
@@ -34,19 +34,19 @@ pub struct LogSigns {
     pub length: u16,
     /// Who sent that frame by its line: 1 the CPU's end, 2 the module, any other if it does not say it.
     pub said: u8,
-    /// 1 where that frame has the octets of the one above it.
+    /// 1 if that frame has the octets of the one above it.
     pub again: u8,
-    /// 1 where there is a block answer above.
+    /// 1 if there is a block answer above.
     pub has_block: u8,
     /// The number of the latest block answer.
     pub number: u8,
-    /// 1 where there is a row of numbers.
+    /// 1 if there is a row of numbers.
     pub has_first: u8,
-    /// The number of the row that the latest block answer is of.
+    /// The last number of the row of the latest block answer.
     pub first: u8,
-    /// 1 where there is another row.
+    /// 1 if there is another row.
     pub has_second: u8,
-    /// Its number.
+    /// The last number of that row.
     pub second: u8,
     /// The octets that are kept of the frame directly above.
     pub above: [u8; FRAME_OCTETS],
@@ -78,8 +78,8 @@ pub extern "C" fn fio2070_log_signs_frame(
     *signs = flat_signs_of(&kept);
 }
 
-/// Returns what kind of log it looks like: 0 the log of one link in order, or one of too few frames to say; 1 each frame is there
-/// twice; 2 the logs of both ends are merged; 3 the last line is first; 4 it has two links.
+/// Returns what kind of log the log looks like: 0 the log of one link in order, or one with too few frames to say; 1 each frame
+/// occurs twice; 2 the logs of both ends are merged; 3 the last line is first; 4 it has two links.
 #[unsafe(no_mangle)]
 pub extern "C" fn fio2070_log_signs_sign(signs: &LogSigns) -> u8
     ensures { result ≡ sign_number (sign_of (log_signs_in signs.now)) }
@@ -93,7 +93,7 @@ pub extern "C" fn fio2070_log_signs_sign(signs: &LogSigns) -> u8
     }
 }
 
-/// Returns the counts that a struct of C stands for, whatever its octets are.
+/// Returns the counts that a struct of C represents, whatever its octets are.
 fn signs_from(flat: &LogSigns) -> SignsOfLog
     ensures { result ≡ log_signs_in flat.now }
 {
@@ -144,7 +144,7 @@ fn block_from(flat: &LogSigns) -> Option<BlockSeen>
     })
 }
 
-/// Returns the struct of C that stands for counts.
+/// Returns the struct of C that represents counts.
 fn flat_signs_of(signs: &SignsOfLog) -> LogSigns
     ensures { log_signs_in result ≡ signs.now }
 {

@@ -29,7 +29,7 @@ pub(crate) fn fill(reader: &mut Reader, batch: &mut LogBatch)
     }
 }
 
-/// Adds the verdict that a reader has told last, with its frames and places.
+/// Adds the verdict that a reader returned last, with its frames and places.
 fn add(verdict: &Verdict, reader: &Reader, batch: &mut LogBatch)
     requires room { has_room batch.old ≡ true }
     requires few { AreFew (frames_of reader.now) (places_of reader.now) }
@@ -46,7 +46,7 @@ fn add(verdict: &Verdict, reader: &Reader, batch: &mut LogBatch)
     batch.push_verdict(told_from(verdict, frames, places));
 }
 
-/// Adds the frames of the last verdict, and returns how many they are.
+/// Adds the frames of the last verdict, and returns their number.
 fn add_frames(reader: &Reader, batch: &mut LogBatch) -> u32
     requires frames { batch.old.frame_count ≤ LOG_VERDICTS }
     requires octets { batch.old.octet_count ≤ LOG_OCTETS - VERDICT_OCTETS }
@@ -67,7 +67,7 @@ fn add_frames(reader: &Reader, batch: &mut LogBatch) -> u32
     LOG_FRAMES as u32
 }
 
-/// Adds the places of the last verdict, and returns how many they are.
+/// Adds the places of the last verdict, and returns their number.
 fn add_places(reader: &Reader, batch: &mut LogBatch) -> u32
     requires room { batch.old.place_count ≤ LOG_VERDICTS }
     requires few { AreFew (frames_of reader.now) (places_of reader.now) }

@@ -10,21 +10,21 @@ ghost use Rattle.fio_flat.specs.Written.{Writes, buffer_with};
 use crate::written::write_at;
 use fio_message::INPUT_NUMBERS;
 
-/// An item or an entry that C gives.
+/// An item or an entry from C.
 pub(crate) trait Part {
-    /// The input that it names.
+    /// The input that the message names.
     ghost named: { Self → ℕ };
 
-    /// The octets that a message has of it.
+    /// The octets that encode it in a message.
     ghost spelled: { Self → List ℕ };
 
     ghost three: { (part : Self) → length (spelled part) ≡ 3 };
 
-    /// Returns the input that it names.
+    /// Returns the input that the message names.
     fn input(&self) -> u8
         ensures { result ≡ named self.now };
 
-    /// Returns the octets that a message has of it.
+    /// Returns the octets that encode it in a message.
     fn octets(&self) -> [u8; 3]
         requires { named self.now < INPUT_NUMBERS }
         ensures { result ≡ spelled self.now };
@@ -37,8 +37,8 @@ pub(crate) fn are_parts<T: Part>(parts: &[T], most: usize) -> bool
     parts.len() <= most && are_named(parts)
 }
 
-/// Returns whether a message can name the input of each part. All are looked at, which the compiler does
-/// many at a time.
+/// Returns whether a message can name the input of each part. It looks at all parts, so that the
+/// compiler can test many at a time.
 fn are_named<T: Part>(parts: &[T]) -> bool
     ensures { result ≡ list_all (λ part. can_be_named (T.named part)) parts.now }
 {
@@ -49,7 +49,7 @@ fn are_named<T: Part>(parts: &[T]) -> bool
     named
 }
 
-/// Writes a message where there is room for it: the octets before its parts, the parts, and the octets
+/// Writes a message if there is room for it: the octets before its parts, the parts, and the octets
 /// after them. Returns how many octets it has.
 #[inline]
 pub(crate) fn write_with_parts<T: Part>(
@@ -72,7 +72,7 @@ pub(crate) fn write_with_parts<T: Part>(
     length
 }
 
-/// Writes parts from the place on, three octets each.
+/// Writes parts from an index on, three octets each.
 fn write_parts<T: Part>(parts: &[T], from: usize, out: &mut [u8])
     requires named { list_all (λ part. can_be_named (T.named part)) parts.now ≡ true }
     requires room { from + 3 * length parts.now ≤ length out.old }

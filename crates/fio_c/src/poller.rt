@@ -27,7 +27,7 @@ const GAP: RecordItem = RecordItem {
     wide: 0,
 };
 
-/// What was heard, with all its numbers 0.
+/// A struct for what was heard with all numbers 0.
 const HEARD_NOTHING: Heard = Heard {
     kind: 0,
     code: 0,
@@ -50,8 +50,8 @@ pub extern "C" fn fio2070_poller_start(poller: &mut Poller, number: u8)
     *poller = Poller { number };
 }
 
-/// Writes a poll with the present block number (TEES 2009, command 54). Returns how many octets it
-/// has; where there is no room nothing is written.
+/// Writes a poll with the present block number (TEES 2009, command 54). Returns how many octets it has;
+/// without room for it nothing is written.
 #[unsafe(no_mangle)]
 pub extern "C" fn fio2070_poller_poll(poller: &Poller, out: &mut [u8]) -> usize
     ensures { Writes (command_octets (commands.Poll poller.now.number)) out.old out.new result }
@@ -59,12 +59,12 @@ pub extern "C" fn fio2070_poller_poll(poller: &Poller, out: &mut [u8]) -> usize
     fio2070_encode_poll(poller.number, out)
 }
 
-/// Hears the octets of a frame. A block answer (TEES 2009, answer 182) with the present number is
-/// taken whole: what it adds to the record is written to the front of `items`, a gap mark if F is
-/// set and then its entries in order, and the number rises by one modulo 256. Where there is no
-/// room for all of it, nothing changes, and the result says how many items there are; 256 places
-/// are always enough. Anything else is reported and changes nothing (own profile). Of any block answer
-/// the result has the number and the stamp.
+/// Hears the octets of a frame. A block answer (TEES 2009, answer 182) with the present number is taken
+/// whole: what it adds to the record is written to the front of `items`, a gap mark if F is set and then
+/// its entries in order, and the number rises by one modulo 256. Without room for all of it nothing
+/// changes, and the result says how many items there are; room for 256 is always enough. Anything else is
+/// reported and changes nothing (own profile). For any block answer the result has the number and the
+/// stamp.
 #[unsafe(no_mangle)]
 #[tactic(auto, using(crate::proofs::Decoded::block_decoded))]
 pub extern "C" fn fio2070_poller_hear(
@@ -84,7 +84,7 @@ pub extern "C" fn fio2070_poller_hear(
     }
 }
 
-/// Hears an answer that is read already.
+/// Hears a decoded answer.
 fn hear_answer(poller: &mut Poller, answer: &AnswerView<'_>, items: &mut [RecordItem]) -> Heard
     ensures { HearsAs poller.old.number (heard_answer poller.old.number (answer_of answer.now))
         (answered_block (Some (answer_of answer.now))) items.old items.new poller.new.number result }
@@ -115,7 +115,7 @@ fn with_block(heard: Heard, answer: &AnswerView<'_>) -> Heard
     }
 }
 
-/// Returns what was heard in its flat form, with as many items as it adds to the record.
+/// Returns what was heard in its flat form, with the number of items that it adds to the record.
 fn flat_heard(heard: fio_cpu::Heard) -> Heard
     requires few { HasFewEntries heard }
     requires need { (error : DecodeError) → heard ≡ outcomes.Unreadable error → NeedFitsFrame error }
@@ -155,7 +155,7 @@ impl Record for ItemSlots<'_> {
     ghost use Rattle.fio_flat.specs.Hearing.{Gain};
     ghost use Rattle.std.proofs.Common.{rules};
 
-    /// How many items there are.
+    /// The number of items.
     type NoRoom = u16;
 
     ghost Gains = { λ before items after. Gain before.items items after.items };
@@ -175,7 +175,7 @@ impl Record for ItemSlots<'_> {
     }
 }
 
-/// Writes items to the front of the places, of which there are enough.
+/// Writes items to the front of the slots, which are enough.
 fn write_items(items: &BlockItems<'_>, places: &mut [RecordItem])
     requires { length items.now ≤ length places.old }
     ensures { places.new ≡ map flat_record_item items.now ++ drop (length items.now) places.old }

@@ -9,9 +9,9 @@ use fio_show::{LINE_OCTETS, TextSink, append_further, put_frame};
 use std::convert::Infallible;
 
 /// Writes what `fio2070 show` writes of a frame, with a line feed at the end of each line: the lines of
-/// the message, of an answer where its first octet is 128 or more, else of a command; the words of the
-/// fault where the octets are none. A zero octet is written after it. Returns how many octets the text
-/// has; where there is no room for it and the zero octet, nothing is written.
+/// the message, of an answer if its first octet is 128 or more, else of a command; or the text of the
+/// fault if the octets are no message. A zero octet is written after it. Returns how many octets the
+/// text has; without room for it and the zero octet, nothing is written.
 #[unsafe(no_mangle)]
 pub extern "C" fn fio2070_show(octets: &[u8], text: &mut [u8]) -> usize
     ensures { WritesText (frame_text octets.now) text.old text.new result }
@@ -24,7 +24,7 @@ pub extern "C" fn fio2070_show(octets: &[u8], text: &mut [u8]) -> usize
     count
 }
 
-/// Writes the text of a frame where there is room for all of it, and returns how many octets it has.
+/// Writes the text of a frame if there is room for all of it, and returns how many octets it has.
 fn write_lines(octets: &[u8], text: &mut [u8]) -> usize
     ensures { Appends (frame_text octets.now) text.old text.new 0 result }
 {

@@ -1,11 +1,11 @@
 //! The module, whose waiting entries are in an array of the caller, its ring.
 //!
-//! `scan` and `receive` are given that array, always the same one, or one with its octets: array and
-//! struct may be moved. Of an array that is longer than the limit the further slots are unchanged; with a
-//! shorter one calls are safe, and which entries wait is not promised.
+//! `scan` and `receive` get that array: always the same one, or one with its octets, since array and
+//! struct may be moved. In an array that is longer than the limit the further slots are unchanged. With a
+//! shorter one calls are safe, but nothing is promised of which entries wait.
 //!
 //! C gives a ring by value, as the struct `fio2070_ring`. It is always the second parameter: so the
-//! conventions of x86-64 and of AArch64 have it in two registers, which are those of a slice here.
+//! conventions of x86-64 and of AArch64 pass it in two registers, the same as for a slice here.
 ghost use Rattle.std.specs.Prelude.{◌≡◌, ◌<◌, ◌≤◌, ◌-◌, ℕ, true, false, List, ◌∷◌, [], drop, length, min, unwrap_or, None, Some};
 ghost use Rattle.fio_message.specs.declared.commands.Command.{Command};
 ghost use Rattle.fio_message.specs.declared.limits.TheConstants.{INPUTS};
@@ -32,10 +32,10 @@ const NO_ERRORS: ErrorCounts = ErrorCounts {
     transmit: 0,
 };
 
-/// Starts a module that answers `id` where it is asked for its identification (own profile: one
-/// octet), with these limits: 1 to 8,192 entries that wait, 1 to 255 entries of a block (TEES 2009: 1,024
-/// and 255). Each octet of the struct is set. Returns 0. Where a limit is out of its range it returns
-/// 1, and nothing changes.
+/// Starts a module that answers `id` when it is asked for its identification (own profile: one octet),
+/// with these limits: 1 to 8,192 entries that wait, 1 to 255 entries of a block (TEES 2009: 1,024 and
+/// 255). Each octet of the struct is set. Returns 0, or 1 without any change if a limit is out of its
+/// range.
 #[unsafe(no_mangle)]
 pub extern "C" fn fio2070_sized_module_start(device: &mut SizedModule, id: u8, limits: Limits) -> u8
     ensures made { are_limits limits ≡ true → (slots : List (List ℕ)) → limits.waiting ≤ length slots
@@ -56,9 +56,9 @@ pub extern "C" fn fio2070_sized_module_start(device: &mut SizedModule, id: u8, l
     0
 }
 
-/// Starts anew: all but the identification and the limits is as it was started. The flags are P alone,
-/// the counter and the error counts are 0, and the waiting entries and the block that was sent last are
-/// lost (own profile).
+/// Restarts the module: everything but the identification and the limits is as at its start. The flags
+/// are P alone, the counter and the error counts are 0, and the waiting entries and the block that was
+/// sent last are lost (own profile).
 #[unsafe(no_mangle)]
 pub extern "C" fn fio2070_sized_module_restart(device: &mut SizedModule)
     ensures { AddsEventAlone (Reached Restart) device.old device.new }
@@ -70,7 +70,7 @@ pub extern "C" fn fio2070_sized_module_restart(device: &mut SizedModule)
 
 /// Steps the counter by one millisecond, then takes a sample of each input (own profile: one scan a
 /// step). Bit i of `raw` is the level of input i. Each reported change of a filtered state joins the
-/// waiting entries; where as many wait as the limit says it pushes out the oldest one.
+/// waiting entries; if the limit is reached, it pushes out the oldest one.
 #[unsafe(no_mangle)]
 pub extern "C" fn fio2070_sized_module_scan(
     device: &mut SizedModule,
@@ -131,10 +131,10 @@ pub extern "C" fn fio2070_sized_module_count_transmit_error(device: &mut SizedMo
 }
 
 /// Takes the octets of a frame, writes those of the answer to the front of `out`, and returns how many
-/// they are, 0 where the command gets no answer: commands 56, 57 and 59, which change nothing (own
-/// profile). Where the octets spell no command the result is `NO_MESSAGE`, and nothing changes.
+/// they are, 0 if the command gets no answer: commands 56, 57 and 59, which change nothing (own profile).
+/// If the octets encode no command, the result is `NO_MESSAGE`, and nothing changes.
 ///
-/// Where `out` is shorter than the longest answer of this module, 8 + 3 * `per_block` octets and at least
+/// If `out` is shorter than the longest answer of this module, 8 + 3 * `per_block` octets and at least
 /// 13, that number is returned, and nothing changes.
 #[unsafe(no_mangle)]
 pub extern "C" fn fio2070_sized_module_receive(

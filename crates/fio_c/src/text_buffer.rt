@@ -9,8 +9,8 @@ use std::convert::Infallible;
 /// The most octets of a text: a frame has at most 256 lines, each of at most 128 octets.
 pub(crate) const MOST_OCTETS: usize = 65_536;
 
-/// A buffer of the caller, in which a text is written as far as there is room for it. Octets for which
-/// there is none are only counted.
+/// A buffer of the caller, in which a text is written as far as it fits. Octets that do not fit are
+/// only counted.
 #[derive(Drop)]
 pub(crate) struct TextBuffer<'a> {
     pub(crate) text: &'a mut [u8],

@@ -1,4 +1,4 @@
-//! Faults, rules and what was heard, in words: each ends in a zero octet, as C has texts.
+//! Texts for faults, rules and what was heard. Each ends with a zero octet, like strings in C.
 ghost use Rattle.std.specs.Prelude.{◌≡◌, ◌<◌, ◌≤◌, ◌+◌, ◌++◌, ◌==◌, [], codes, decimal, drop, length, Some, if◌then◌else◌};
 ghost use Rattle.fio_message.specs.declared.faults.DecodeError.{DecodeError};
 ghost use Rattle.fio_message.specs.Texts.{fault_text};
@@ -20,12 +20,12 @@ use fio_text::{line_end, put_pieces};
 /// The most octets of a text of this module, with the zero octet after it.
 const LONGEST_TEXT: usize = 62;
 
-/// The most octets of the words of a fault, whose numbers have 16 and 64 bits.
+/// The most octets of the text of a fault, whose numbers have 16 and 64 bits.
 const FAULT_WORDS: usize = 50;
 
-/// Writes the words of a fault, as `fio2070 show` has them, with no line end: the empty text where the
-/// kind is none of 1 to 4. Returns how many octets they have, at most 50; where there is no room for them
-/// and a zero octet nothing is written.
+/// Writes the text of a fault, as `fio2070 show` has it, without a line end; the empty text if the kind is
+/// none of 1 to 4. Returns how many octets it has, at most 50; without room for it and a zero octet nothing
+/// is written.
 #[unsafe(no_mangle)]
 pub extern "C" fn fio2070_fault_text(fault: &Fault, text: &mut [u8]) -> usize
     ensures words { WritesText (text_of_fault fault.now) text.old text.new result }
@@ -39,7 +39,7 @@ pub extern "C" fn fio2070_fault_text(fault: &Fault, text: &mut [u8]) -> usize
     }
 }
 
-/// Returns the fault of a decoder that this is by its kind, if it is one.
+/// Returns the fault of a decoder that a struct says by its kind, if it says one.
 fn error_in(fault: Fault) -> Option<DecodeError>
     ensures error { result ≡ error_in fault }
     ensures short { (error : DecodeError) → result ≡ Some error → length (fault_text error) ≤ FAULT_WORDS }
@@ -58,9 +58,8 @@ fn error_in(fault: Fault) -> Option<DecodeError>
     }
 }
 
-/// Writes the name of a rule of a transcript, as `fio2070 check` has it: the empty text where the number is
-/// none of 1 to 9. Returns how many octets it has; where there is no room for them and a zero octet nothing
-/// is written.
+/// Writes the name of a rule of a transcript, as `fio2070 check` has it; the empty text if the number is
+/// none of 1 to 9. Returns how many octets it has; without room for it and a zero octet nothing is written.
 #[unsafe(no_mangle)]
 pub extern "C" fn fio2070_rule_text(rule: u8, text: &mut [u8]) -> usize
     ensures words { WritesText (text_of_rule rule) text.old text.new result }
@@ -72,9 +71,8 @@ pub extern "C" fn fio2070_rule_text(rule: u8, text: &mut [u8]) -> usize
     }
 }
 
-/// Writes the name of a rule on content, as `fio2070 record` has it: the empty text where the number is none
-/// of 1 to 11. Returns how many octets it has; where there is no room for them and a zero octet nothing is
-/// written.
+/// Writes the name of a rule on content, as `fio2070 record` has it; the empty text if the number is none of
+/// 1 to 11. Returns how many octets it has; without room for it and a zero octet nothing is written.
 #[unsafe(no_mangle)]
 pub extern "C" fn fio2070_content_rule_text(rule: u8, text: &mut [u8]) -> usize
     ensures words { WritesText (text_of_content_rule rule) text.old text.new result }
@@ -86,10 +84,10 @@ pub extern "C" fn fio2070_content_rule_text(rule: u8, text: &mut [u8]) -> usize
     }
 }
 
-/// Writes what a poller heard, in the words of `fio2070 simulate` with no line end: `block entries N status
-/// HH`, `stale N`, `other N`, or `unreadable ` and the words of the fault; `no room needed N` where N items
-/// need room; the empty text where the kind is none of 0 to 4. Returns how many octets they have, at most
-/// 61; where there is no room for them and a zero octet nothing is written.
+/// Writes what a poller heard, as `fio2070 simulate` does, without a line end: `block entries N status HH`,
+/// `stale N`, `other N`, or `unreadable ` and the text of the fault; `no room needed N` if N items need
+/// room; the empty text if the kind is none of 0 to 4. Returns how many octets it has, at most 61; without
+/// room for it and a zero octet nothing is written.
 #[unsafe(no_mangle)]
 pub extern "C" fn fio2070_heard_text(heard: &Heard, text: &mut [u8]) -> usize
     ensures words { WritesText (text_of_heard heard.now) text.old text.new result }
@@ -103,8 +101,8 @@ pub extern "C" fn fio2070_heard_text(heard: &Heard, text: &mut [u8]) -> usize
     write_text(&line[start..], text)
 }
 
-/// Puts at the end of the room how many items need room, where that was heard, and else nothing. Returns
-/// where it starts.
+/// Puts at the end of the room how many items need room, if that was heard, otherwise nothing. Returns where
+/// the text starts.
 fn put_no_room(line: &mut [u8; LINE_OCTETS], heard: &Heard) -> usize
     ensures start { result ≤ LINE_OCTETS }
     ensures words { drop result line.new
@@ -119,7 +117,7 @@ fn put_no_room(line: &mut [u8; LINE_OCTETS], heard: &Heard) -> usize
     }
 }
 
-/// Returns what was heard that this is by its kind, if it is readable.
+/// Returns what was heard, by the kind in a struct, if it was readable.
 fn heard_in(heard: Heard) -> Option<fio_cpu::Heard>
     ensures heard { result ≡ heard_in heard }
     ensures short { (heard : HeardOf) → result ≡ Some heard → length (heard_text heard) < LONGEST_TEXT }

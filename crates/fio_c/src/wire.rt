@@ -21,8 +21,8 @@ fn heard_code(heard: Heard) -> u8
     }
 }
 
-/// A decoder before the first flag of a line of octets. One's own are the frames with this address and this control octet;
-/// above 255 is any. Each octet of the struct is set.
+/// Starts a decoder before the first flag of a line of octets. One's own frames are those with this address and this control
+/// octet; a number above 255 accepts any. Each octet of the struct is set.
 #[unsafe(no_mangle)]
 pub extern "C" fn fio2070_wire_start(wire: &mut Wire, address: u16, control: u16)
     ensures is { IsWire wire.new }
@@ -33,8 +33,8 @@ pub extern "C" fn fio2070_wire_start(wire: &mut Wire, address: u16, control: u16
     wire.start(address, control);
 }
 
-/// Reads the next octet of the line. Returns 0 if no frame ends with it, 1 if a frame of one's own does, 2 if one with another
-/// address or control octet does, 3 if something does that is no frame.
+/// Reads the next octet of the line. Returns 0 if no frame ends with it, 1 if a frame of one's own does, 2 if a frame with
+/// another address or control octet does, 3 if something that is no frame does.
 #[unsafe(no_mangle)]
 pub extern "C" fn fio2070_wire_read(wire: &mut Wire, octet: u8) -> u8
     ensures is { IsWire wire.old → IsWire wire.new }
@@ -45,7 +45,7 @@ pub extern "C" fn fio2070_wire_read(wire: &mut Wire, octet: u8) -> u8
     heard_code(wire.read(octet))
 }
 
-/// Reads octets of the line up to the end of the next frame or of something that is none, and returns how many it read.
+/// Reads octets of the line up to the end of the next frame, or of something that is no frame, and returns how many it read.
 /// `heard` is what `fio2070_wire_read` returns for the last of them, 0 if there are none.
 #[unsafe(no_mangle)]
 pub extern "C" fn fio2070_wire_read_many(wire: &mut Wire, octets: &[u8], heard: &mut u8) -> usize
@@ -72,8 +72,8 @@ pub extern "C" fn fio2070_wire_lose(wire: &mut Wire)
     wire.lose();
 }
 
-/// Returns how many octets the message of the frame has that the last octet ended, 0 if it ended none. The message is at
-/// `octets + 2`, behind the address and the control octet.
+/// Returns how many octets the message has whose frame the last octet ended, 0 if it ended none. The message is at
+/// `octets + 2`, after the address and the control octet.
 #[unsafe(no_mangle)]
 pub extern "C" fn fio2070_wire_message_length(wire: &Wire) -> usize
     ensures within { result ≤ FRAME_OCTETS }
@@ -110,8 +110,8 @@ pub extern "C" fn fio2070_wire_check(octets: &[u8]) -> u16
     frame_check(octets)
 }
 
-/// A decoder before the first flag of a line of bits. One's own are the frames with this address and this control octet; above
-/// 255 is any. Each octet of the struct is set.
+/// Starts a decoder before the first flag of a line of bits. One's own frames are those with this address and this control
+/// octet; a number above 255 accepts any. Each octet of the struct is set.
 #[unsafe(no_mangle)]
 pub extern "C" fn fio2070_wire_bits_start(bits: &mut WireBits, address: u16, control: u16)
     ensures is { line.IsWireBits bits.new }
@@ -134,7 +134,7 @@ pub extern "C" fn fio2070_wire_bits_read(bits: &mut WireBits, bit: u8) -> u8
     heard_code(bits.read(bit % 2 == 1))
 }
 
-/// Reads bits of the line, each the lowest of an octet, up to the end of the next frame or of something that is none, and
+/// Reads bits of the line, each the lowest of an octet, up to the end of the next frame, or of something that is no frame, and
 /// returns how many it read. `heard` is what `fio2070_wire_bits_read` returns for the last of them, 0 if there are none.
 #[unsafe(no_mangle)]
 pub extern "C" fn fio2070_wire_bits_read_many(
@@ -158,8 +158,8 @@ pub extern "C" fn fio2070_wire_bits_read_many(
     count
 }
 
-/// Returns how many octets the message of the frame has that the last bit ended, 0 if it ended none. The message is at
-/// `octets + 2`, behind the address and the control octet.
+/// Returns how many octets the message has whose frame the last bit ended, 0 if it ended none. The message is at `octets + 2`,
+/// after the address and the control octet.
 #[unsafe(no_mangle)]
 pub extern "C" fn fio2070_wire_bits_message_length(bits: &WireBits) -> usize
     ensures within { result ≤ FRAME_OCTETS }

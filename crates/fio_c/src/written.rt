@@ -6,7 +6,7 @@ ghost use Rattle.fio_flat.specs.Written.{Writes, WritesNoMessage, WritesText, bu
 use fio_flat::NO_MESSAGE;
 use fio_message::BODY_OCTETS;
 
-/// Writes octets to the front of the buffer where it has room for them, and returns how many they are.
+/// Writes octets to the front of the buffer, if it has room for them, and returns how many they are.
 pub(crate) fn write_front(octets: &[u8], out: &mut [u8]) -> usize
     ensures { Writes octets.now out.old out.new result }
 {
@@ -17,7 +17,7 @@ pub(crate) fn write_front(octets: &[u8], out: &mut [u8]) -> usize
     count
 }
 
-/// Writes a message that is its type and a body of at most 772 octets, without a frame between, where the
+/// Writes a message of its type and a body of at most 772 octets, without a frame in between, if the
 /// buffer has room for it, and returns how many octets it has. For a longer body nothing is written, and
 /// the result is `NO_MESSAGE`.
 pub(crate) fn write_with_body(code: u8, body: &[u8], out: &mut [u8]) -> usize
@@ -49,7 +49,7 @@ pub(crate) fn write_text(words: &[u8], text: &mut [u8]) -> usize
     count
 }
 
-/// Writes octets from the place on, where there is room for them.
+/// Writes octets from an index on, if there is room for them.
 #[inline(always)]
 pub(crate) fn write_at(place: usize, octets: &[u8], out: &mut [u8])
     requires { place + length octets.now ≤ length out.old }
