@@ -21,8 +21,8 @@ use Rattle.fio_flat.specs.declared.module.SizedModule.{SizedModule}
 use Rattle.fio_flat.specs.declared.poller.Heard.{Heard}
 use Rattle.fio_flat.specs.declared.poller.RecordItem.{RecordItem}
 
--- what a caller has: the module and its ring, the poller's number, the frames that each end has sent, oldest first, the
--- number of the one delivered last in each direction, 0 for none, and the items that hearing has written
+-- what a caller has: the module and its ring; the poller's number; the frames that each end has sent, oldest first; the
+-- number of the frame delivered last in each direction, 0 for none; and the items that hearing has written
 pub record CallerState : Type 0 where
   pub device : SizedModule
   pub ring : List (List ℕ)
@@ -73,14 +73,14 @@ pub record HasPolled (old new : CallerState) : Type 0 where
   pub room : count ≤ length before
   pub rest : new ≡ record old { to_module = old.to_module ++ take count after ∷ [] }
 
--- the answer of a call that wrote so many octets to the front of a buffer: none where it wrote none, or
--- would have written more than there is room for
+-- the answer of a call that wrote this number of octets to the front of a buffer: none if it wrote none, or needed more
+-- room than the buffer has
 abbrev pub frames_written : ℕ → List ℕ → List (List ℕ)
 frames_written count buffer =
     if count == 0 || nat_lt (length buffer) count then [] else take count buffer ∷ []
 
--- `fio2070_sized_module_receive` took this frame, with room for the longest answer, and the caller sends
--- the answer where there is one
+-- `fio2070_sized_module_receive` took this frame, with room for the longest answer, and the caller sends the answer, if
+-- there is one
 pub record HasReceived (index : ℕ) (octets : List ℕ) (old new : CallerState) : Type 0 where
   pub device : SizedModule
   pub ring : List (List ℕ)
@@ -116,20 +116,20 @@ pub record HasHeard (index : ℕ) (octets : List ℕ) (old new : CallerState) : 
         items = old.items ++ take heard.items after;
       }
 
--- the frame with a number is there, and this has happened to it
+-- the frame with a number exists, and this has happened to it
 abbrev pub IsFoundAnd : Option (List ℕ) → (List ℕ → Type 0) → Type 0
 IsFoundAnd None Happened = ⊥
 IsFoundAnd (Some octets) Happened = Happened octets
 
--- The caller makes the call for an event: a frame goes to either end only where the link machine allows it,
--- none after a later one of its direction.
+-- The caller makes the call for an event: a frame goes to either end only if the link machine allows it, and never
+-- after a later frame of its direction.
 abbrev pub IsCalledFor : Event → CallerState → CallerState → Type 0
 IsCalledFor (Scan raw) old new = HasHappened (Reached (lives.Scan raw)) old new
 IsCalledFor LineSync old new = HasHappened (Reached lives.LineSync) old new
 IsCalledFor (Raise mask) old new = HasHappened (Reached (lives.Raise mask)) old new
 IsCalledFor Restart old new = HasHappened (Reached lives.Restart) old new
 IsCalledFor Poll old new = HasPolled old new
--- a command that is no poll may be spelled by whatever call
+-- a command other than a poll may be encoded by any call
 IsCalledFor (Send command) old new =
     (sending_refusal command ≡ None)
     × (new ≡ record old { to_module = old.to_module ++ command_octets command ∷ [] })
@@ -145,7 +145,7 @@ abbrev pub IsCalled : Call → CallerState → CallerState → Type 0
 IsCalled (For event) old new = IsCalledFor event old new
 IsCalled (ChangeErrors change) old new = HasHappened (ErrorsChanged change) old new
 
--- these calls, one after the other
+-- the caller makes these calls, one after the other
 abbrev pub AreCalled : List Call → CallerState → CallerState → Type 0
 AreCalled [] old last = last ≡ old
 AreCalled (call ∷ calls) old last = (new : CallerState) × IsCalled call old new × AreCalled calls new last

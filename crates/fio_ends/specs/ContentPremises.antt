@@ -1,4 +1,4 @@
--- What is asked of a log, so that the rules on content that read times accuse no right link.
+-- What a log must fulfil, so that the rules on content that read times accuse no right link.
 use Rattle.std.specs.Prelude.{◌≡◌, ℕ, ◌+◌, ◌^◌, ◌<◌, ◌==◌, Bool, ◌≤◌, ◌&&◌, ◌||◌, true, false, List, [], ◌∷◌, Option, Some, None, drop, is_some, length, nat_lt, not, option_and_then, slice_get, take, if◌then◌else◌}
 use Rattle.std.specs.List.{flat_map, list_any}
 use Rattle.fio_message.specs.declared.commands.Command.TheVariants.{LoadCounter}
@@ -19,8 +19,8 @@ abbrev pub loads_sent : Event → ℕ
 loads_sent (Send (LoadCounter load)) = 1
 loads_sent event = 0
 
--- at each of these events no more loads of the counter have taken effect since the module started than so many, and those that
--- are sent among the events above it
+-- at each of these events, no more loads of the counter have taken effect since the module started than this number plus those
+-- that are sent in the events above it
 abbrev pub LoadsAreSent : Settings → ℕ → ℕ → Machine → List Event → Type 0
 LoadsAreSent settings first most machine [] = Unit {0}
 LoadsAreSent settings first most machine (event ∷ events) =
@@ -28,12 +28,12 @@ LoadsAreSent settings first most machine (event ∷ events) =
     × LoadsAreSent settings first (most + loads_sent event) (after settings first machine event) events
 
 -- No more loads of the counter take effect in a log than are sent in it. One that was sent before takes no effect in it; or one
--- that is sent in it takes none. In a log that begins with both ends it is so.
+-- that is sent in it takes none. A log that begins with both ends always fulfils this.
 abbrev pub NoMoreLoads : Bool → Settings → ℕ → Machine → List Event → Type 0
 NoMoreLoads begun settings first machine events =
     begun ≡ false → LoadsAreSent settings first (loads_of (life_of machine.history)) machine events
 
--- the blocks that the CPU takes from one machine of a run on to another
+-- the blocks that the CPU takes between two machines of a run
 abbrev pub blocks_taken : Settings → Machine → Machine → List MadeBlock
 blocks_taken settings begin last = drop begin.round (take last.round (blocks_in settings last))
 
@@ -42,7 +42,7 @@ abbrev pub IsNear : Option ℕ → ℕ → Type 0
 IsNear None scans = Unit {0}
 IsNear (Some before) scans = scans < before + 2 ^ 31
 
--- the scans of what is above a log: none at the start of both ends, if it begins with it
+-- the scans of what is above a log: none if it begins with the start of both ends
 abbrev pub scans_above : Bool → Option ℕ
 scans_above begun = if begun then Some 0 else None
 
@@ -58,18 +58,18 @@ BlocksAreNear before (block ∷ blocks) =
 
 -- ---- successive stamps
 
--- after an event, the scans that there were when the module received the command sent last
+-- after an event, the number of scans when the module received the command sent last
 abbrev pub scans_asked : Machine → ℕ → Event → ℕ
 scans_asked machine asked (ToModule index) =
     if index == length machine.to_module then scans_of (life_of machine.history) else asked
 scans_asked machine asked other = asked
 
--- the CPU hears an answer with a stamp, but no block that is sent again
+-- the CPU hears an answer with a stamp, other than a repeated block
 abbrev pub hears_stamp : Machine → Event → Bool
 hears_stamp machine (ToCpu index) = is_some (option_and_then (λ frame. option_and_then stamp_of (answer_in frame.octets)) (item_numbered machine.to_cpu index))
 hears_stamp machine other = false
 
--- after an event, the scans of the latest stamp that the CPU has heard: those when the module received the command
+-- after an event, the scans of the latest stamp that the CPU has heard: their number when the module received the command
 abbrev pub scans_stamped : Machine → ℕ → Option ℕ → Event → Option ℕ
 scans_stamped machine asked before event = if hears_stamp machine event then Some asked else before
 
@@ -93,7 +93,7 @@ abbrev pub latest_with : (ℕ → Option ℕ) → Transition → ℕ → Option 
 latest_with latest transition input =
     if input == transition.input then Some transition.scans else latest input
 
--- each entry comes fewer than 2^32 scans after the latest one of its input before it
+-- each entry comes fewer than 2^32 scans after the entry of its input before it
 abbrev pub InputsAreNear : (ℕ → Option ℕ) → List Transition → Type 0
 InputsAreNear latest [] = Unit {0}
 InputsAreNear latest (transition ∷ transitions) =
@@ -108,7 +108,7 @@ hears_states machine (ToCpu index) =
     is_some (option_and_then (λ frame. option_and_then (λ answer. states_heard (Heard answer)) (answer_in frame.octets)) (item_numbered machine.to_cpu index))
 hears_states machine other = false
 
--- the block that the CPU takes where it hears a block answer
+-- the block that the CPU takes when it hears a block answer
 abbrev pub block_taken : Settings → Machine → Event → Option MadeBlock
 block_taken settings machine (ToCpu index) = option_and_then
     (λ frame. option_and_then (λ block. slice_get (blocks_in settings machine) machine.round) (block_in frame.octets))
@@ -119,7 +119,8 @@ block_taken settings machine other = None
 abbrev pub is_later_among : ℕ → List Transition → Bool
 is_later_among scans transitions = list_any (λ transition. nat_lt scans transition.scans) transitions
 
--- with a block the record comes to states of so many scans: an entry of it is later, or it has no C and was made later
+-- with a block the record comes to the states at this number of scans: an entry of the block is later, or the block has no C
+-- and was made later
 abbrev pub comes_with : ℕ → MadeBlock → Bool
 comes_with scans block = is_later_among scans block.transitions || (not block.more && nat_lt scans block.scans)
 
@@ -129,12 +130,12 @@ scans_left None seen = seen
 scans_left (Some block) None = None
 scans_left (Some block) (Some scans) = if comes_with scans block then None else Some scans
 
--- after an event, the scans that there were for the latest states that the CPU heard, till the record comes to them
+-- after an event, the scans of the latest states that the CPU heard, until the record comes to them
 abbrev pub scans_seen : Settings → Machine → ℕ → Option ℕ → Event → Option ℕ
 scans_seen settings machine asked seen event =
     if hears_states machine event then Some asked else scans_left (block_taken settings machine event) seen
 
--- fewer than 2^31 scans lie between
+-- fewer than 2^31 scans lie between two moments
 pub record AreNear (one other : ℕ) : Type 0 where
   pub after : one < other + 2 ^ 31
   pub before : other < one + 2 ^ 31
@@ -145,12 +146,13 @@ EntriesNearStates scans [] = Unit {0}
 EntriesNearStates scans (transition ∷ transitions) =
     AreNear scans transition.scans × (transition.scans ≤ scans → EntriesNearStates scans transitions)
 
--- a block is near the states, if the record has not come to them above: its entries are, and it is itself, if none is later
+-- a block is near the states, if the record has not come to them above: its entries are, and so is the block itself, if no
+-- entry is later
 pub record IsNearStates (scans : ℕ) (block : MadeBlock) : Type 0 where
   pub entries : EntriesNearStates scans block.transitions
   pub made : is_later_among scans block.transitions ≡ false → block.more ≡ false → AreNear scans block.scans
 
--- each block that the CPU takes is near the states that it heard, till the record comes to them
+-- each block that the CPU takes is near the states that it heard, until the record comes to them
 abbrev pub StatesAreNear : Settings → ℕ → Machine → ℕ → Option ℕ → List Event → Type 0
 StatesAreNear settings first machine asked seen [] = Unit {0}
 StatesAreNear settings first machine asked seen (event ∷ events) =
@@ -167,8 +169,8 @@ pub record AreTimesNear (begun : Bool) (settings : Settings) (first : ℕ) (begi
   pub inputs : InputsAreNear (λ input. None) (flat_map (λ block. block.transitions) (blocks_taken settings begin last))
   pub states : StatesAreNear settings first begin 0 None later
 
--- What the rules on time ask of a log: no more loads of the counter take effect in it than are sent in it, and what is compared
--- is near.
+-- What the rules on time require of a log: no more loads of the counter take effect in it than are sent in it, and what is
+-- compared is near.
 pub record HasNearTimes (begun : Bool) (settings : Settings) (first : ℕ) (begin : Machine) (later : List Event) (last : Machine) : Type 0 where
   pub loads : NoMoreLoads begun settings first begin later
   pub near : AreTimesNear begun settings first begin later last

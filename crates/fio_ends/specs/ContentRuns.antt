@@ -1,4 +1,4 @@
--- The rules on content and the log of a prompt run, from its start or from any event on: none is broken.
+-- The log of a prompt run, from its start or from any event on, breaks no rule on content.
 use Rattle.std.specs.Prelude.{◌≡◌, ℕ, Bool, true, false, List, [], ◌++◌, Some, None, if◌then◌else◌}
 use Rattle.fio_cpu.specs.declared.record.Item.TheVariants.{Entry}
 use Rattle.fio_module.specs.Settings.{Settings, AreInRange}
@@ -38,12 +38,12 @@ abbrev pub MayBegin : Bool → List Event → Type 0
 MayBegin true before = before ≡ []
 MayBegin false before = Unit {0}
 
--- what is asked of a log, by whether it begins with both ends, the machine at which it begins, its events and the machine at
--- its end
+-- what a log must fulfil: a statement on whether it begins with both ends, the machine at which it begins, its events and
+-- the machine at its end
 abbrev pub Premise : Type 1
 Premise = Bool → Settings → ℕ → Machine → List Event → Machine → Type 0
 
--- the events of a log that are judged: all of one that begins with both ends, of any other those from the first command on
+-- the events of a log that are judged: all of them if it begins with both ends, else those from the first command on
 abbrev pub judged_events : Bool → List Event → List Event
 judged_events begun events = if begun then events else events_from_command events
 
@@ -52,8 +52,8 @@ abbrev pub judged_from : Bool → Settings → ℕ → Machine → List Event �
 judged_from begun settings first machine events =
     if begun then machine else machine_at_command settings first machine events
 
--- A rule never accuses, if this holds of a log: what the CPU's end logs of each prompt run keeps the rule, from the start of
--- both ends or from any event on.
+-- A rule never accuses, if a log fulfils this premise: what the CPU's end logs of each prompt run keeps the rule, from the
+-- start of both ends or from any event on.
 unfoldable pub ContentNeverAccuses : ContentRule → Premise → Type 0
 ContentNeverAccuses rule Holds =
     (begun : Bool) (settings : Settings) (first : ℕ) (before later : List Event) (machine last : Machine) →
@@ -63,12 +63,12 @@ ContentNeverAccuses rule Holds =
     (lines : List TranscriptLine) → HaveFrames lines (frames_from settings first machine later) →
     NoneBreaks begun lines rule
 
--- whatever holds of a log
+-- the premise that every log fulfils
 abbrev pub Always : Premise
 Always begun settings first machine later last = Unit {0}
 
--- The checker accuses no right link, if this holds of a log: what the CPU's end logs of each prompt run has no fault, from
--- the start of both ends or from any event on.
+-- The checker accuses no right link, if a log fulfils this premise: what the CPU's end logs of each prompt run has no fault,
+-- from the start of both ends or from any event on.
 unfoldable pub AccusesNone : Premise → Type 0
 AccusesNone Holds =
     (begun : Bool) (settings : Settings) (first : ℕ) (before later : List Event) (machine last : Machine) →

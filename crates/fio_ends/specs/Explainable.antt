@@ -1,4 +1,4 @@
--- Which logs a right link explains.
+-- Which logs a right link can explain.
 use Rattle.std.specs.Prelude.{◌≢◌, ℕ, Bool, List, ◌++◌, None}
 use Rattle.fio_module.specs.Settings.{Settings, AreInRange}
 use Rattle.fio_check.specs.ContentFaults.{content_fault_in}
@@ -12,8 +12,8 @@ use Rattle.fio_ends.specs.PromptRuns.{IsPromptRun, SuitModule}
 use Rattle.fio_ends.specs.Transcripts.{HaveFrames, frames_from}
 
 -- A right link explains a log: there is a prompt run, from its start or with anything before, whose CPU's end logs these lines
--- from there on. It has the distances that are asked of a log, and no more loads of the counter take effect in the log than are
--- sent in it. Its module has these limits, or more entries may wait in it.
+-- from there on. Its times are as near as a log requires, and no more loads of the counter take effect in the log than are sent
+-- in it. Its module has these limits, or more entries may wait in it.
 pub record IsExplainable (limits : Limits) (begun : Bool) (lines : List TranscriptLine) : Type 0 where
   pub settings : Settings
   pub range : AreInRange settings

@@ -35,7 +35,7 @@ pub record AreOfRun (settings : Settings) (framing : Framing) (first : ℕ) (eve
   pub to_module : ends.to_module.written ≡ written_of framing machine.to_module
   pub to_cpu : ends.to_cpu.written ≡ written_of framing machine.to_cpu
 
--- a promise for both ends over two lines, from their start on
+-- a promise holds for both ends over two lines, from their start on
 abbrev pub HoldsOverLines : (Settings → Framing → ℕ → List LineEvent → Ends → Type 0) → Type 0
 HoldsOverLines Holds =
     (settings : Settings) (framing : Framing) (first : ℕ) (events : List LineEvent) (last : Ends)
@@ -43,7 +43,7 @@ HoldsOverLines Holds =
     → LeadOverLines settings framing (ends_at_start first) events last
     → Holds settings framing first events last
 
--- Whatever the lines bring of all this, it is a run of the link.
+-- Whatever the lines may bring, what the ends do is a run of the link.
 abbrev pub LinesAreRuns : Type 0
 LinesAreRuns =
     HoldsOverLines (λ settings framing first events last. AreOfRun settings framing first (events_of_lines events) last)
@@ -55,7 +55,7 @@ HeadlineOverLines =
 
 -- ---- What the premise leaves open
 
--- what a line brings of a part: its octets one by one, and what ends it
+-- what a line brings for a part: its octets one by one, and what ends it
 abbrev pub part_brought : (Brought → LineEvent) → List ℕ → Brought → List LineEvent
 part_brought at [] ending = at ending ∷ []
 part_brought at (octet ∷ part) ending = at (Arrives (Octet octet)) ∷ part_brought at part ending

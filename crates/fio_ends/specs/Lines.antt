@@ -79,7 +79,7 @@ pub data Brought : Type 0 where
   Arrives : (arrival : Arrival) → Brought
   EndOf : (number : ℕ) → Brought
 
--- what the receiver gets of it
+-- what the receiver gets of what a line brings
 abbrev pub arrival_of : Brought → Arrival
 arrival_of (Arrives arrival) = arrival
 arrival_of (EndOf number) = Octet FLAG
@@ -105,27 +105,27 @@ events_of_lines (other ∷ events) = events_of_lines events
 abbrev pub IsStruck : List ℕ → Type 0
 IsStruck part = (frame : List ℕ) × (errors : List Bool) × IsFate (Struck frame errors part)
 
--- octets between two flags that are no frame of the decoder's own: no octets, octets with a wrong check, or another's frame
+-- octets between two flags that are not a frame of the decoder's own: no octets, octets with a wrong check, or another's frame
 abbrev pub IsNoise : frames.Settings → List ℕ → Type 0
 IsNoise own part = heard_as own (said_in part) ≢ Message
 
--- octets between two flags that are the frame with this number, as it was written, and no frame after it came before
+-- octets between two flags that are the frame with this number, as it was written, before any later frame
 pub record ComesWhole (line : Line) (number : ℕ) : Type 0 where
   pub part : List ℕ
   pub is_part : line.part ≡ Some part
   pub is_written : item_numbered line.written number ≡ Some (FLAG ∷ part ++ FLAG ∷ [])
   pub in_order : line.last ≤ number
 
--- What a line may bring: any octets, but between two flags a frame whole and in order, a frame struck, or noise. A frame that
--- does not come is lost.
+-- What a line may bring: any octets, if between two flags they are a frame, whole and in order, a struck frame, or noise. A
+-- frame that does not come is lost.
 abbrev pub MayBring : frames.Settings → Line → Brought → Type 0
 MayBring own line (Arrives (Octet octet)) =
     octet ≡ FLAG → (part : List ℕ) → line.part ≡ Some part → IsStruck part ⊎ IsNoise own part
 MayBring own line (Arrives Loss) = Unit {0}
 MayBring own line (EndOf number) = ComesWhole line number
 
--- What may happen at the ends: a command that is sent is within its ranges, as each value of its type is, and no poll, which is
--- an event of its own.
+-- What may happen at the ends: a command that is sent is within its ranges, as every value of its type is, and is not a poll,
+-- which is an event of its own.
 abbrev pub MayHappen : Event → Type 0
 MayHappen (Send command) = (sending_refusal command ≡ None) × IsCommand command
 MayHappen (ToModule number) = ⊥
@@ -151,7 +151,7 @@ abbrev pub last_after : ℕ → Brought → ℕ
 last_after last (Arrives arrival) = last
 last_after last (EndOf number) = number
 
--- a line after it has brought this
+-- a line after it has brought something
 abbrev pub line_after : Line → Brought → Line
 line_after line brought =
     record line {
@@ -180,7 +180,7 @@ abbrev pub with_answer : Framing → Line → Option Answer → Line
 with_answer framing line None = line
 with_answer framing line (Some answer) = with_written framing line (answer_octets answer)
 
--- the ends after the module has received a message, if it has: it writes its reply
+-- the ends after the module has received a message, if it has received one: it writes its reply
 abbrev pub after_receipt : Settings → Framing → Ends → Option (List ℕ) → Ends
 after_receipt settings framing ends None = ends
 after_receipt settings framing ends (Some message) =
@@ -189,7 +189,7 @@ after_receipt settings framing ends (Some message) =
       to_cpu = with_answer framing ends.to_cpu (reply_to settings ends.history message);
     }
 
--- the ends after the CPU has heard a message, if it has
+-- the ends after the CPU has heard a message, if it has heard one
 abbrev pub after_message : Ends → Option (List ℕ) → Ends
 after_message ends None = ends
 after_message ends (Some message) = record ends { polling = after_hearing ends.polling (block_in message) }

@@ -1,4 +1,4 @@
--- Logs of a right link that begin anywhere, below loads of the counter that may still take effect, and in which lines may be lost.
+-- Logs of a right link that begin anywhere, while loads of the counter may still take effect, and in which lines may be lost.
 use Rattle.std.specs.Prelude.{◌≡◌, ℕ, ◌+◌, ◌<◌, ◌^◌, Bool, true, false, List, [], ◌∷◌, ◌++◌, map, Option, Some, None, if◌then◌else◌}
 use Rattle.std.specs.List.{AllByRecursion}
 use Rattle.fio_module.specs.Settings.{Settings, AreInRange}
@@ -20,13 +20,14 @@ use Rattle.fio_ends.specs.Transcripts.{CpuFrame, HaveFrames, frames_at, frames_f
 
 -- ---- loads of the counter that were sent above
 
--- this many loads of the counter are under way at most: from here on no more take effect than these and those that are sent
+-- at most this number of loads of the counter are under way: from here on no more take effect than these and those that are
+-- sent
 abbrev pub AreUnderWay : ℕ → Settings → ℕ → Machine → List Event → Type 0
 AreUnderWay loads settings first machine events =
     LoadsAreSent settings first (loads_of (life_of machine.history) + loads) machine events
 
--- A checker of content that begins anywhere, below this many loads that may still take effect, accuses no right link: it finds
--- nothing in what the CPU's end logs of a prompt run from any event on.
+-- A checker of content that begins anywhere, given the number of loads that may still take effect, accuses no right link: it
+-- finds nothing in what the CPU's end logs of a prompt run from any event on.
 unfoldable pub AccusesNoneBelowLoads : Type 0
 AccusesNoneBelowLoads =
     (loads : ℕ) (settings : Settings) (first : ℕ) (before later : List Event) (machine last : Machine) →
@@ -67,24 +68,25 @@ log_from settings first machine (Logged at event ∷ steps) =
 log_from settings first machine (Missing event ∷ steps) = log_from settings first (after settings first machine event) steps
 log_from settings first machine (Marked ∷ steps) = Lost ∷ log_from settings first machine steps
 
--- frames are missing only below a mark, with no frame between; by whether it is so above
+-- frames are missing only below a mark, with no frame between, by whether a mark is directly above
 abbrev pub AreMarked : Bool → List LogStep → Type 0
 AreMarked marked [] = Unit {0}
 AreMarked marked (Logged at event ∷ steps) = AreMarked false steps
 AreMarked marked (Missing event ∷ steps) = (marked ≡ true) × AreMarked marked steps
 AreMarked marked (Marked ∷ steps) = AreMarked true steps
 
--- where a part of a log begins this many loads are under way at most, if it has not begun above
+-- at most this number of loads are under way where a part of a log begins, if the part has not begun above
 abbrev pub AreUnderWayAt : Option ℕ → Settings → ℕ → Machine → List Event → Type 0
 AreUnderWayAt None settings first machine events = Unit {0}
 AreUnderWayAt (Some loads) settings first machine events = AreUnderWay loads settings first machine events
 
--- the same below an event that is logged: with a command the part has begun
+-- the loads that may be under way after an event that is logged: with a command the part has begun
 abbrev pub below_command : Event → Option ℕ → Option ℕ
 below_command event begins = if is_command event then None else begins
 
 -- A part of a log begins at its first line, and another below each mark. Few loads are under way at the first command that is
--- logged in it: as many as this in the part that has not begun above, if one has not, and one in each that begins below a mark.
+-- logged in a part: at most this number in a part that has not begun above, if there is one, and at most one in each part that
+-- begins below a mark.
 abbrev pub FewAreUnderWay : Settings → ℕ → Machine → Option ℕ → List LogStep → Type 0
 FewAreUnderWay settings first machine begins [] = Unit {0}
 FewAreUnderWay settings first machine begins (Logged at event ∷ steps) =
@@ -104,13 +106,14 @@ AccusesNeither outcome = Unit {0}
 abbrev pub judging_at_start : Bool → Limits → Judging
 judging_at_start begun limits = if begun then judging_begun limits else judging_anywhere limits
 
--- how many loads are under way at most where a log begins: none. Of one that begins with both ends nothing is asked.
+-- how many loads may be under way where a log begins: none. Nothing is required of a log that begins with both ends.
 abbrev pub loads_at_start : Bool → Option ℕ
 loads_at_start begun = if begun then None else Some 0
 
--- The judge of a link accuses no right link: no outcome accuses, of what the CPU's end logs of a prompt run, from the start of
--- both ends or from any event on, where any frames may be missing at marks. Its limits suit the module; one load of the counter
--- is under way at most where the log goes on below a mark, and none where it begins; and all that is compared is near.
+-- The judge of a link accuses no right link: in what the CPU's end logs of a prompt run, from the start of both ends or from
+-- any event on, no outcome accuses, though any frames may be missing at marks. The judge's limits suit the module; at most one
+-- load of the counter is under way where the log goes on below a mark, and none where it begins; and all that is compared is
+-- near.
 unfoldable pub JudgeAccusesNone : Type 0
 JudgeAccusesNone =
     (begun : Bool) (settings : Settings) (limits : Limits) (first : ℕ) (before : List Event) (steps : List LogStep) (machine last : Machine) →
@@ -131,7 +134,7 @@ AreLogged [] = Unit {0}
 AreLogged (Logged at event ∷ steps) = AreLogged steps
 AreLogged (other ∷ steps) = ⊥
 
--- no load of the counter takes effect from one machine on to another, and fewer than 2^31 scans lie between them
+-- between two machines no load of the counter takes effect, and fewer than 2^31 scans lie
 pub record IsCalm (begin last : Machine) : Type 0 where
   pub no_loads : loads_of (life_of last.history) ≡ loads_of (life_of begin.history)
   pub short : scans_of (life_of last.history) < scans_of (life_of begin.history) + 2 ^ 31
@@ -142,8 +145,8 @@ IsRight Kept = Unit {0}
 IsRight (NotJudged AboveCommand) = Unit {0}
 IsRight outcome = ⊥
 
--- Nor does the judge excuse a frame or take the module for restarted, where no frame is missing: from the first command on each
--- frame keeps all rules. No load of the counter takes effect in the log, and it lasts fewer than 2^31 scans.
+-- If no frame is missing, the judge also excuses no frame and never takes the module for restarted: from the first command on
+-- each frame keeps all rules. No load of the counter takes effect in the log, and it lasts fewer than 2^31 scans.
 unfoldable pub JudgeKeepsAll : Type 0
 JudgeKeepsAll =
     (settings : Settings) (limits : Limits) (first : ℕ) (before : List Event) (steps : List LogStep) (machine last : Machine) →

@@ -1,4 +1,4 @@
--- Logs of polls: what is answered are polls and requests for the states, and each block is without C and F.
+-- Logs of polls: only polls and requests for the states are answered, and no block has C or F.
 use Rattle.std.specs.Prelude.{◌≡◌, ◌↔◌, ℕ, ◌+◌, ◌<◌, ◌≤◌, ◌^◌, ◌%◌, Bool, true, false, List, [], ◌∷◌, Option, Some, None, length}
 use Rattle.std.specs.List.{AllByRecursion}
 use Rattle.fio_message.specs.declared.answers.Answer.TheVariants as answers
@@ -16,7 +16,7 @@ use Rattle.fio_ends.specs.Explainable.{IsExplainable}
 use Rattle.fio_ends.specs.Transcripts.{CpuFrame, HaveFrames}
 
 -- a poll or another command without an answer; a request and the states that it is answered with; a poll, and a clear block
--- with these entries and this stamp; or a poll without an answer, the same again, and such a block with E
+-- with these entries and this stamp; or a poll without an answer, the same poll again, and such a block with E
 pub data Turn : Type 0 where
   Unanswered : Turn
   Lost : (command : Command) → Turn
@@ -28,18 +28,18 @@ pub data Turn : Type 0 where
 abbrev pub sent_frame : Command → CpuFrame
 sent_frame command = record { from_cpu = true; octets = command_octets command }
 
--- of a poll with this number
+-- the frame of a poll with this number
 abbrev pub poll_frame : ℕ → CpuFrame
 poll_frame number = sent_frame (commands.Poll number)
 
--- of a block without C, F and G, with E or not
+-- the frame of a block without C, F and G, with E or not
 abbrev pub block_frame : ℕ → Bool → List Entry → ℕ → CpuFrame
 block_frame number again entries stamp = record {
   from_cpu = false;
   octets = answer_octets (answers.Block number (record { items = entries }) (block_status false false again false) stamp);
 }
 
--- of the states of the inputs
+-- the frame of the states of the inputs
 abbrev pub states_frame : ℕ → ℕ → CpuFrame
 states_frame levels stamp = record { from_cpu = false; octets = answer_octets (answers.FilteredInputs levels stamp) }
 
@@ -60,7 +60,7 @@ pub record IsEntryOf64 (entry : Entry) : Type 0 where
   pub input : entry.input < 64
   pub stamp : entry.stamp < 2 ^ 16
 
--- a block has at most 255 of them, and a stamp of 32 bits
+-- a block has at most 255 such entries, and a stamp of 32 bits
 pub record IsBlock (entries : List Entry) (stamp : ℕ) : Type 0 where
   pub few : length entries ≤ 255
   pub each : AllByRecursion IsEntryOf64 entries
@@ -70,20 +70,20 @@ pub record IsBlock (entries : List Entry) (stamp : ℕ) : Type 0 where
 abbrev pub IsSoon : ℕ → ℕ → Type 0
 IsSoon before stamp = milliseconds_between before stamp < 2 ^ 16
 
--- a command that is no poll, no load of the counter and no configuration
+-- a command other than a poll, a load of the counter or a configuration
 abbrev pub IsQuiet : Command → Type 0
 IsQuiet (commands.Poll number) = ⊥
 IsQuiet (commands.LoadCounter load) = ⊥
 IsQuiet (commands.ConfigureInputs items) = ⊥
 IsQuiet command = Unit {0}
 
--- the states were seen so many scans after the block before, if at all, and not later than a block
+-- the states were seen this number of scans after the block before, if at all, and not later than a block
 abbrev pub IsSeenBy : Option ℕ → ℕ → Type 0
 IsSeenBy None scans = Unit {0}
 IsSeenBy (Some seen) scans = seen ≤ scans
 
--- So is each block of turns, and a command that is lost is quiet. The states are seen once at most between two blocks, later
--- than the first and not later than the second, and a block is below.
+-- Each block of turns comes soon after the one before it, and a command that is lost is quiet. The states are seen at most
+-- once between two blocks, later than the first and not later than the second, and a block follows.
 abbrev pub AreInStep : ℕ → Option ℕ → List Turn → Type 0
 AreInStep before seen [] = seen ≡ None
 AreInStep before seen (Unanswered ∷ turns) = AreInStep before seen turns
@@ -133,17 +133,17 @@ pub record IsWholeLogOfPolls (lines : List TranscriptLine) : Type 0 where
   pub lasts : scans_of_turns 0 turns < 2 ^ 30
   pub has : HaveFrames lines (frames_of_turns number turns)
 
--- Of logs of polls exactly those are accused that no right link explains.
+-- Exactly those logs of polls are accused that no right link explains.
 unfoldable pub LogsOfPollsAreDecided : Type 0
 LogsOfPollsAreDecided = (lines : List TranscriptLine) → IsLogOfPolls lines →
     (content_fault_in false lines ≡ None) ↔ IsExplainable standard_limits false lines
 
--- so it is with those that begin with both ends
+-- exactly those logs of polls that begin with both ends are accused that no right link explains
 unfoldable pub WholeLogsOfPollsAreDecided : Type 0
 WholeLogsOfPollsAreDecided = (lines : List TranscriptLine) → IsWholeLogOfPolls lines →
     (content_fault_in true lines ≡ None) ↔ IsExplainable standard_limits true lines
 
--- logs of polls of both kinds: one that a right link explains, and one that none explains
+-- there are logs of polls of both kinds: one that a right link explains, and one that none explains
 unfoldable pub AreOfBothKinds : Type 0
 AreOfBothKinds =
     ((lines : List TranscriptLine) × IsLogOfPolls lines × IsExplainable standard_limits false lines)

@@ -17,7 +17,7 @@ use Rattle.fio_check.specs.declared.verdict.Verdict.TheVariants.{Good}
 abbrev pub poller_at : List TranscriptLine → ℕ → Option Polling
 poller_at lines place = poller_of (take place lines)
 
--- its number
+-- the number of that poller
 abbrev pub number_at : List TranscriptLine → ℕ → Option ℕ
 number_at lines place = option_map (λ poller. poller.number) (poller_at lines place)
 
@@ -29,10 +29,10 @@ pub record IsTaken (before after : Option Polling) (block : Block) : Type 0 wher
   pub taken : after
       ≡ Some (record { number = (poller.number + 1) % 256; items = poller.items ++ items_of_block block })
 
--- A transcript is that of its poller: each poll has its number, each block answer heard is taken, and
--- none is stale.
+-- A transcript fits its poller: each poll has the poller's number, and each block answer heard is
+-- taken, so none is stale.
 pub record IsOfPoller (lines : List TranscriptLine) : Type 0 where
-  -- said of the poller below the poll, which changes none that has started
+  -- this is stated of the poller below the poll, since a poll changes no poller that has started
   pub polls : (place number : ℕ) (line : TranscriptLine) → slice_get lines place ≡ Some line
       → number_polled (observation_on line) ≡ Some number
       → number_at lines (suc place) ≡ Some number
@@ -44,7 +44,7 @@ pub record IsOfPoller (lines : List TranscriptLine) : Type 0 where
       → poller_at lines place ≡ Some poller
       → heard_as poller.number (decoded_answer line.octets) ≢ Stale number
 
--- a good transcript is that of its poller
+-- a good transcript fits its poller
 abbrev pub GoodIsOfPoller : Type 0
 GoodIsOfPoller = (lines : List TranscriptLine) (frames : ℕ) →
     verdict_on lines ≡ Good frames → IsOfPoller lines

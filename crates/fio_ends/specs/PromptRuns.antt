@@ -15,8 +15,8 @@ use Rattle.fio_link.specs.Link.{Machine, start, after, IsRun, Leads}
 use Rattle.fio_link.specs.Headline.{HaveNoRestart}
 use Rattle.fio_ends.specs.Transcripts.{HaveFrames, frames_from, transcript_of}
 
--- After an event, the number that the answer to the command sent last has among the frames to the CPU, if
--- it is answered; 0 until the module receives that command.
+-- After an event, the number among the frames to the CPU of the answer to the command sent last, if it is answered; 0 until
+-- the module receives that command.
 abbrev pub due_after : Machine → ℕ → Event → ℕ
 due_after machine due Poll = 0
 due_after machine due (Send command) = 0
@@ -24,20 +24,20 @@ due_after machine due (ToModule index) =
     if index == length machine.to_module then length machine.to_cpu + 1 else due
 due_after machine due other = due
 
--- a frame is delivered that was not delivered before, and to the CPU only the one that is due
+-- a frame is delivered only if it was not delivered before, and to the CPU only the frame that is due
 abbrev pub IsPrompt : Machine → ℕ → Event → Type 0
 IsPrompt machine due (ToModule index) = machine.last_to_module < index
 IsPrompt machine due (ToCpu index) = (machine.last_to_cpu < index) × (index ≡ due)
 IsPrompt machine due other = Unit {0}
 
--- and so is each of these events
+-- each of these events is prompt
 abbrev pub ArePrompt : Settings → ℕ → Machine → ℕ → List Event → Type 0
 ArePrompt settings first machine due [] = Unit {0}
 ArePrompt settings first machine due (event ∷ events) =
     IsPrompt machine due event
     × ArePrompt settings first (after settings first machine event) (due_after machine due event) events
 
--- a command that is sent is within its ranges, as each value of its type is
+-- a command that is sent is within its ranges, as every value of its type is
 abbrev pub IsWithinRanges : Event → Type 0
 IsWithinRanges (Send command) = IsCommand command
 IsWithinRanges other = Unit {0}
@@ -54,7 +54,7 @@ pub record IsPromptRun (settings : Settings) (first : ℕ) (events : List Event)
 
 -- ---- what is found
 
--- limits that a checker may be given for a module: its own, or those of a module in which fewer entries may wait
+-- limits that a checker may use for a module: the module's own, or those of a module in which fewer entries may wait
 pub record SuitModule (settings : Settings) (limits : Limits) : Type 0 where
   pub per_block : settings.per_block ≡ limits.per_block
   pub waiting : limits.waiting ≤ settings.waiting
@@ -65,11 +65,11 @@ HasNoBreach settings lines =
     (limits : Limits) → SuitModule settings limits →
     (place : ℕ) → place < length lines → found_at limits lines place ≡ None
 
--- and if those of TEES 2009 are such limits, the transcript is good
+-- if the limits of TEES 2009 are such limits, the transcript is good
 abbrev pub IsGood : Settings → List TranscriptLine → Type 0
 IsGood settings lines = SuitModule settings standard_limits → verdict_on lines ≡ Good (length lines)
 
--- No false accusation: so it is with the transcript of each prompt run.
+-- No false accusation: a statement holds for the transcript of each prompt run.
 abbrev pub NeverAccuses : (Settings → List TranscriptLine → Type 0) → Type 0
 NeverAccuses IsRight =
     (settings : Settings) (first : ℕ) (events : List Event) (machine : Machine) →
@@ -103,11 +103,11 @@ HasNoBreachAnywhere settings lines =
     (limits : Limits) → SuitModule settings limits →
     (place : ℕ) → place < length lines → found_from (checker_anywhere limits) lines place ≡ None
 
--- this holds of the lines from the first command on
+-- a statement holds for the lines from the first command on
 abbrev pub FromCommand : (Settings → List TranscriptLine → Type 0) → Settings → List TranscriptLine → Type 0
 FromCommand IsRight settings lines = IsRight settings (from_first_command lines)
 
--- Nor is there a false accusation in a log that begins later: so it is with what the CPU's end logs of a prompt run from any
+-- No false accusation in a log that begins later: a statement holds for what the CPU's end logs of a prompt run from any
 -- event on.
 abbrev pub NeverAccusesLater : (Settings → List TranscriptLine → Type 0) → Type 0
 NeverAccusesLater IsRight =

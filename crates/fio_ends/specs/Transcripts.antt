@@ -13,7 +13,7 @@ pub record CpuFrame : Type 0 where
   pub from_cpu : Bool
   pub octets : List ℕ
 
--- the frame that is heard, where there is one
+-- the frame that is heard, if there is one
 abbrev pub frame_heard : Option SentFrame → List CpuFrame
 frame_heard None = []
 frame_heard (Some frame) = record { from_cpu = false; octets = frame.octets } ∷ []

@@ -1,4 +1,4 @@
-//! Laws of the definitions: each function states one in its contract, and does nothing.
+//! Laws of the definitions. Each function states one in its contract, and does nothing.
 ghost use Rattle.fio_check.specs.declared.content_rules.ContentRule.TheVariants.{Accepted, Alternate, Apart, Cleared, Clock, Done, Fresh, Ignored, Order, State, Watchdog};
 ghost use Rattle.fio_ends.specs.Calls.{CallsAreRuns};
 ghost use Rattle.fio_ends.specs.ContentPremises.{HasNearTimes};
@@ -12,8 +12,8 @@ ghost use Rattle.fio_ends.specs.Pollers.{GoodIsOfPoller};
 ghost use Rattle.fio_ends.specs.PromptRuns.{FromCommand, HasNoBreach, HasNoBreachAnywhere, IsGood, NeverAccuses, NeverAccusesLater};
 ghost use Rattle.fio_ends.specs.RunRecords.{KeepsRecord};
 
-/// A good transcript is that of a right CPU's end: a poller that starts with the first poll's number has
-/// at each poll that poll's number, and takes each block answer heard, so that none is stale.
+/// A good transcript comes from a right CPU's end: a poller that starts with the first poll's number has at each poll that
+/// poll's number, and takes each block answer heard, so none is stale.
 pub fn good_transcripts_are_of_pollers()
     ensures { GoodIsOfPoller }
 {}
@@ -26,8 +26,8 @@ pub fn prompt_runs_are_good()
     ensures standard { NeverAccuses IsGood }
 {}
 
-/// No false accusation in a log that begins later: so it is with what the CPU's end logs from any event of a prompt run on. A
-/// checker that is started for such logs finds nothing, nor does one that starts at the first command; with the limits of TEES
+/// No false accusation in a log that begins later, with what the CPU's end logs from any event of a prompt run on. A checker
+/// that is started for such logs finds nothing, and neither does one that starts at the first command; with the limits of TEES
 /// 2009, or if more may wait, the transcript from that command on is good.
 #[tactic(auto, using(crate::proofs::LaterLogs::never_accuses_anywhere, crate::proofs::LaterLogs::never_accuses_later, crate::proofs::LaterLogs::is_good_later))]
 pub fn later_logs_are_good()
@@ -50,94 +50,95 @@ pub fn done_never_accuses()
     ensures { ContentNeverAccuses Done Always }
 {}
 
-/// The rule `accepted` never accuses, of any log.
+/// The rule `accepted` never accuses, in any log.
 #[tactic(auto, using(crate::proofs::AnswersKept::accepted_never_accuses))]
 pub fn accepted_never_accuses()
     ensures { ContentNeverAccuses Accepted Always }
 {}
 
-/// Nor does `cleared`.
+/// The rule `cleared` never accuses, in any log.
 #[tactic(auto, using(crate::proofs::AnswersKept::cleared_never_accuses))]
 pub fn cleared_never_accuses()
     ensures { ContentNeverAccuses Cleared Always }
 {}
 
-/// Nor does `watchdog`.
+/// The rule `watchdog` never accuses, in any log.
 #[tactic(auto, using(crate::proofs::AnswersKept::watchdog_never_accuses))]
 pub fn watchdog_never_accuses()
     ensures { ContentNeverAccuses Watchdog Always }
 {}
 
-/// The rule `clock` never accuses of a log with near times: no more loads of the counter take effect in it than are sent in it;
+/// The rule `clock` never accuses in a log with near times: no more loads of the counter take effect in it than are sent in it;
 /// and fewer than 2^31 scans lie between successive stamps; between a block without C and each block up to the next one without
-/// C; between the states that were asked for and each entry and block below them, till the record comes to them; and fewer than
-/// 2^32 between successive entries of an input. The start of both ends, if the log begins there, counts as such a block.
+/// C; between the states that were asked for and each entry and block below them, until the record comes to them; and fewer
+/// than 2^32 between successive entries of an input. The start of both ends, if the log begins there, counts as such a block.
 #[tactic(auto, using(crate::proofs::TimesKept::clock_never_accuses))]
 pub fn clock_never_accuses()
     ensures { ContentNeverAccuses Clock HasNearTimes }
 {}
 
-/// The rule `order` never accuses, of the same logs.
+/// The rule `order` never accuses, in the same logs.
 #[tactic(auto, using(crate::proofs::TimesKept::order_never_accuses))]
 pub fn order_never_accuses()
     ensures { ContentNeverAccuses Order HasNearTimes }
 {}
 
-/// The rule `fresh` never accuses, of the same logs.
+/// The rule `fresh` never accuses, in the same logs.
 #[tactic(auto, using(crate::proofs::TimesKept::fresh_never_accuses))]
 pub fn fresh_never_accuses()
     ensures { ContentNeverAccuses Fresh HasNearTimes }
 {}
 
-/// The rule `alternate` never accuses, of any log, whatever its times.
+/// The rule `alternate` never accuses, in any log, whatever its times.
 #[tactic(auto, using(crate::proofs::AlternateKept::alternate_never_accuses))]
 pub fn alternate_never_accuses()
     ensures { ContentNeverAccuses Alternate Always }
 {}
 
-/// Nor does the rule `ignored`, of any log.
+/// The rule `ignored` never accuses, in any log.
 #[tactic(auto, using(crate::proofs::IgnoredKept::ignored_never_accuses))]
 pub fn ignored_never_accuses()
     ensures { ContentNeverAccuses Ignored Always }
 {}
 
-/// The rule `apart` never accuses, of logs with near times.
+/// The rule `apart` never accuses, in logs with near times.
 #[tactic(auto, using(crate::proofs::TimesKept::apart_never_accuses))]
 pub fn apart_never_accuses()
     ensures { ContentNeverAccuses Apart HasNearTimes }
 {}
 
-/// Nor does the rule `state`, of the same logs.
+/// The rule `state` never accuses, in the same logs.
 #[tactic(auto, using(crate::proofs::TimesKept::state_never_accuses))]
 pub fn state_never_accuses()
     ensures { ContentNeverAccuses State HasNearTimes }
 {}
 
-/// So a checker of content accuses no right link, from the start of both ends or from any event on, if all this holds. Of a
-/// log that begins later it is asked from the first command on.
+/// So a checker of content accuses no right link, from the start of both ends or from any event on, if all this holds. A log
+/// that begins later must fulfil it from the first command on.
 #[tactic(auto, using(crate::proofs::FaultsOfLogs::accuses_none))]
 pub fn content_accuses_no_right_link()
     ensures { AccusesNone HasNearTimes }
 {}
 
-/// So it is with a checker that begins anywhere below loads of the counter that may still take effect: it finds nothing in what the
-/// CPU's end logs of a prompt run from any event on, if it knows how many these are, and all that is compared is near.
+/// A checker that begins anywhere, while loads of the counter may still take effect, accuses no right link: it finds nothing in
+/// what the CPU's end logs of a prompt run from any event on, if it knows the number of these loads, and all that is compared
+/// is near.
 #[tactic(auto, using(crate::proofs::BegunAgain::accuses_none_below_loads))]
 pub fn content_accuses_no_right_link_below_loads()
     ensures { AccusesNoneBelowLoads }
 {}
 
-/// The judge of a link accuses no right link: in what the CPU's end logs of a prompt run, from the start of both ends or from any
-/// event on, no frame breaks a rule, where any frames may be missing at marks. One load of the counter is under way at most where
-/// the log goes on below a mark, and none where it begins; and all that is compared is near.
+/// The judge of a link accuses no right link: in what the CPU's end logs of a prompt run, from the start of both ends or from
+/// any event on, no frame breaks a rule, though any frames may be missing at marks. At most one load of the counter is under
+/// way where the log goes on below a mark, and none where it begins; and all that is compared is near.
 #[tactic(auto, using(crate::proofs::JudgedRuns::judge_accuses_none))]
 pub fn judge_accuses_no_right_link()
     ensures { JudgeAccusesNone }
 {}
 
-/// Nor does the judge excuse a frame, or take the module for restarted, where no frame is missing: from the first command on each
-/// frame keeps all rules, whatever block is sent again. No load of the counter takes effect in the log, and it lasts fewer than
-/// 2^31 scans.
+/// If no frame is missing, the judge also excuses no frame and never takes the module for restarted: from the first command on
+/// each frame keeps all rules, whatever block is repeated. No load of the counter takes effect in the log, and it lasts fewer
+/// than 2^31 scans.
 #[tactic(auto, using(crate::proofs::JudgedCalm::judge_keeps_all))]
 pub fn judge_keeps_each_right_frame()
     ensures { JudgeKeepsAll }
@@ -150,22 +151,22 @@ pub fn accused_logs_are_not_explainable()
     ensures { AccusedAreNotExplainable }
 {}
 
-/// Of logs of polls exactly those are accused that no right link explains. In such a log only polls and requests for the states
+/// Exactly those logs of polls are accused that no right link explains. In such a log only polls and requests for the states
 /// are answered, and no load and no configuration is sent. Each block is without C and F, and made fewer than 65,536 scans
-/// after the one before. One request at most is answered between two blocks, later than the first was made, and a block comes
-/// below it. The log begins with a clear block, whatever came before.
+/// after the one before. At most one request is answered between two blocks, after the first was made, and a block follows it.
+/// The log begins with a clear block, whatever came before.
 #[tactic(auto, using(crate::proofs::PollLogs::logs_of_polls_are_decided))]
 pub fn logs_of_polls_are_decided()
     ensures { LogsOfPollsAreDecided }
 {}
 
-/// There are such logs of both kinds: one that a right link explains, and one that none explains.
+/// Such logs of both kinds exist: one that a right link explains, and one that none explains.
 #[tactic(auto, using(crate::proofs::PollExamples::of_both_kinds))]
 pub fn logs_of_polls_are_of_both_kinds()
     ensures { AreOfBothKinds }
 {}
 
-/// So it is with such logs that begin with both ends, if no request is answered.
+/// Exactly those of such logs that begin with both ends are accused that no right link explains, if no request is answered.
 #[tactic(auto, using(crate::proofs::WholePollLogs::whole_logs_of_polls_are_decided))]
 pub fn whole_logs_of_polls_are_decided()
     ensures { WholeLogsOfPollsAreDecided }
@@ -195,8 +196,8 @@ pub fn headline_holds_over_lines()
     ensures { HeadlineOverLines }
 {}
 
-/// The premise shuts out no frame: directly after a flag a line may bring each frame that was written to it whole, if none
-/// after it came before.
+/// The premise excludes no frame: directly after a flag a line may bring each frame that was written to it whole, if no later
+/// frame came before.
 #[tactic(auto, using(crate::proofs::LinePremises::frames_to_module, crate::proofs::LinePremises::frames_to_cpu))]
 pub fn lines_may_bring_each_frame()
     ensures to_module { EachFrameMayCome (λ ends. ends.to_module) AtModule }
@@ -210,7 +211,7 @@ pub fn lines_may_bring_struck_frames()
     ensures to_cpu { EachStruckFrameMayCome (λ ends. ends.to_cpu) AtCpu }
 {}
 
-/// The premises can be met: there are lines over which the CPU's record gains something.
+/// The premises can be met: over some lines the CPU's record gains something.
 #[tactic(auto, using(crate::proofs::LineExamples::lines_bring_records))]
 pub fn lines_bring_records()
     ensures { LinesBringRecords }
