@@ -1,4 +1,4 @@
--- What a reader has read of a log, and of which lines it has returned the verdict.
+-- What a reader has read of a log, and the lines whose verdicts it has returned.
 use Rattle.std.specs.Prelude.{◌≡◌, ℕ, ◌+◌, ◌≤◌, ◌==◌, ◌&&◌, Bool, true, false, if◌then◌else◌, List, [], length}
 use Rattle.std.specs.List.{All, concat}
 use Rattle.fio_log.specs.Frames.{AreFramesOf, IsJudgeOf, Log, frames_told, places_told}

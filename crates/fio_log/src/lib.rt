@@ -1,34 +1,36 @@
-//! Reads logs that have frames of the field I/O link: octets to lines, lines to runs of octets, and what these say.
-//! Nothing here allocates memory. It goes by a definition of what octets in a line are, and not by the forms of known
-//! loggers.
-//!
-//! | To | Call |
-//! |---|---|
-//! | read a log: a verdict of each line, with its frames | `Reader` |
-//! | make lines of octets that come in pieces, cut anywhere | `LineMaker` |
-//! | find the octets that are written as hexadecimal words, with each mark of `MARKS` | `next_run` |
-//! | find those written as decimal numbers in brackets, or as a string literal | `numbers_at`, `literal_at` |
-//! | know what octets say: a message, the beginning of one, or none | `read_saying` |
-//! | find the first time in a line | `time_in` |
-//!
-//! The definitions are in `specs/`, in this order: characters (`Digits`), words with their marks (`Words`), the octets that
-//! characters spell (`Readings`, `Numbers`, `Literals`) and the places where they are written (`Written`), runs (`Runs`),
-//! what octets say (`Sayings`), the runs of a line (`LineRuns`), lines (`Lines`), chains of messages (`Chains`), frames and their
-//! places (`Frames`), what an entry keeps (`Keeping`), what words say (`Wordings`), what a verdict says (`Verdicts`), what a reader has read and returned
-//! (`Telling`). Only the code says what times are, and which messages are frames (`judge`). The laws are
-//! the contracts of `Reader` and of the module `laws`.
+//! Reads logs that have frames of the field I/O link, whatever logger wrote them: frames are found by what the octets in a line
+//! say, not by the forms of known loggers. Nothing here allocates memory.
 //!
 //! # Examples
 //!
 //! ```rust
-//! use fio_log::{MARKS, Octets, Saying, next_run, read_saying};
+//! use fio_log::{Form, Kind, Reader};
 //!
-//! let mut octets = Octets::new();
-//! let run = next_run(b"07:15:02 TX 36 05", 12, MARKS[0], false, &mut octets);
-//! assert_eq!(rt; octets.as_slice(), [0x36, 0x05].as_slice());
-//! let saying = Saying::Says { from: 0, to: 2, is_sure: false };
-//! assert!(rt; run.is_some() && read_saying(octets.as_slice()) == saying);
+//! let mut reader = Reader::new(Form::Auto);
+//! reader.feed(b"07:15:02.101 TX 36 05\n");
+//! // Two octets may be anything: the poll is a frame once its answer follows.
+//! assert!(rt; reader.verdict().is_none());
+//! reader.feed(b"07:15:02.103 RX b6 05 00 00 00 00 00 01\n");
+//! let first = reader.verdict();
+//! assert!(rt; first.is_some_and(|verdict| verdict.line == 1 && verdict.kind == Kind::Frames));
+//! assert!(rt; matches!(reader.frame(0), Some([0x36, 5])));
 //! ```
+//!
+//! | To | Call |
+//! |---|---|
+//! | read a log: a verdict on each line, with its frames and where they are written | `Reader` |
+//! | split octets into lines, however they are cut into pieces | `LineMaker` |
+//! | find octets written as hexadecimal words, with each mark of `MARKS` | `next_run` |
+//! | find octets written as decimal numbers in brackets, or as a string literal | `numbers_at`, `literal_at` |
+//! | learn what octets say: a message, the beginning of one, or none | `read_saying` |
+//! | find the first time in a line | `time_in` |
+//!
+//! The definitions are in `specs/`, in this order: characters (`Digits`), words with their marks (`Words`), the octets of
+//! characters (`Readings`, `Numbers`, `Literals`) and the places where they are written (`Written`), runs (`Runs`), what octets
+//! say (`Sayings`), the runs of a line (`LineRuns`), lines (`Lines`), chains of messages (`Chains`), frames and their places
+//! (`Frames`), what an entry keeps (`Keeping`), what words say (`Wordings`), what a verdict says (`Verdicts`), and what a reader
+//! has read and returned (`Telling`). What a time is, and which messages are frames (`judge`), only the code says. The laws are
+//! the contracts of `Reader` and of the module `laws`.
 #![tactic(auto)]
 
 mod around;

@@ -21,7 +21,7 @@ pub struct Literal {
 /// A character of a string literal.
 #[derive(Clone, Copy, Debug, PartialEq, Eq)]
 pub(crate) struct LiteralCharacter {
-    /// The octet that the character stands for.
+    /// The octet of the character.
     pub octet: u8,
     /// Whether the character is written as itself.
     pub is_itself: bool,

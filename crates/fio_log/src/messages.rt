@@ -67,7 +67,7 @@ impl Message {
     }
 
     /// Returns whether this is a command and `answer` its answer: by their types, and for a poll and its block by their
-    /// number. A command of open length has no answer, nor has a command of one octet an answer of open length.
+    /// number. A command of open length has no answer, and a command of one octet none of open length.
     pub(crate) fn is_answered_by(&self, answer: &Message) -> bool {
         let ([command, number @ ..], [code, numbers @ ..]) = (self.octets(), answer.octets()) else {
             return false;

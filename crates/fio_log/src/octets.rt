@@ -49,7 +49,7 @@ pub(crate) fn read_pairs(text: &[u8], has_blanks: bool, octets: &mut Octets) -> 
 }
 
 /// Returns where the blank at a place of a text ends, if words are separated by blanks and the text does not end there;
-/// otherwise the place. `None` if another character is there.
+/// otherwise the place. `None` for any other character.
 fn blank_end(text: &[u8], place: usize, has_blanks: bool) -> Option<usize>
     requires { place ≤ length text.now }
     ensures order { IfSome result (λ end. (place ≤ end) × (end ≤ length text.now)) }

@@ -69,7 +69,7 @@ fn read_frame(
 }
 
 /// Returns whether the CPU sent the frame of a line, if the text says that, and the digits of its octets; `None` for a line
-/// of a transcript that begins neither with `> ` nor with `< `.
+/// of a transcript without `> ` or `< ` at its beginning.
 fn frame_word(form: OwnForm, line: &[u8]) -> Option<(Option<bool>, &[u8])>
     ensures none { IfNone result (own_frame form line.now ≡ None) }
     ensures some { IfSome result (λ found. own_frame form line.now ≡ frame_with found.0 found.1.now) }

@@ -230,7 +230,7 @@ fn is_plain(line: &[u8], start: usize) -> bool {
         .is_some_and(|text| read_plain(text, &mut Octets::new()).is_some())
 }
 
-/// Returns whether a text without signs may be a time: ten digits, of which the first is 1.
+/// Returns whether a text without signs may be a time: ten digits, the first of them 1.
 fn may_be_time(text: &[u8]) -> bool {
     text.len() == 10 && text[0] == b'1'
 }

@@ -12,7 +12,7 @@ pub enum Notation {
     Numbers,
     /// As a string literal.
     Literal,
-    /// As hexadecimal words, all of which are kept, however many.
+    /// As hexadecimal words, of which all are kept, however many.
     Long,
 }
 

@@ -1,4 +1,4 @@
-//! The reader of a log: octets to lines, and lines to verdicts.
+//! The reader of a log: it turns octets into lines, and lines into verdicts.
 ghost use Rattle.std.specs.Prelude.{◌≡◌, ◌+◌, ◌≤◌, ◌<◌, ◌↔◌, true, false, IfSome, IsSome, MatchOption, Some, [], get_or, length, slice_index_or, take};
 ghost use Rattle.fio_log.specs.Lines.{finished, is_whole, no_line};
 ghost use Rattle.fio_log.specs.LineRuns.{IsLineRun};
@@ -28,13 +28,17 @@ use crate::places::Place;
 use crate::verdict::{Form, Kind, Reason, Verdict};
 use std::marker::Model;
 
-/// The most lines that are read and have no verdict, while none can be fetched: those of all entries that are kept, each of which
-/// has a row in each of its lines but perhaps the last one.
+/// The most lines that are read and still without a verdict when none can be fetched: the lines of all entries that are kept.
+/// An entry has a row in each of its lines, but perhaps not in the last one.
 pub(crate) const WAITING_LINES: u64 = (ENTRIES * (CHAIN_OCTETS + 1)) as u64;
 
-/// A reader of a log. It takes the octets of the log, and returns a verdict of each line, in order.
+/// A reader of a log: takes its octets in pieces of any size, and returns a verdict on each line, in order, with the frames of
+/// the line and the places where they are written.
 ///
-/// Call `verdict` until it returns `None`, then feed the next octets.
+/// Call `verdict` until it returns `None`, then feed the next octets; at the end of the log call `end`, and then `verdict`
+/// until it returns `None`. The frames and places of a verdict are there until the next call that changes the reader. A verdict
+/// may have to wait for later lines: whether a short message is a frame is often shown by the lines after it. The head of the
+/// crate has an example.
 #[derive(Drop)]
 pub struct Reader {
     maker: LineMaker,
@@ -43,10 +47,10 @@ pub struct Reader {
     patterns: Patterns,
     judge: Judge,
     frames: Frames,
-    /// The blank lines that have no verdict yet, if lines are not read by order.
+    /// The blank lines without a verdict; none if `form` names one of the program's own texts.
     blanks: Blanks,
     form: Form,
-    /// The verdict of the last line, if it is read by order.
+    /// The verdict on the last line, if `form` names one of the program's own texts.
     own: Verdict,
     read: u64,
     told: u64,
@@ -125,7 +129,7 @@ impl Reader {
         }
     }
 
-    /// Starts again with another log of the same form.
+    /// Starts again with another log, which is read in the same form.
     pub fn start_again(&mut self)
         ensures line { self.new.making ≡ no_line }
         ensures none_read { self.new.read ≡ 0 }
@@ -150,15 +154,15 @@ impl Reader {
         self.is_ended = false;
     }
 
-    /// Returns whether the log has ended, and each verdict is fetched.
+    /// Returns whether the log has ended and every verdict is fetched.
     pub fn has_told_all(&self) -> bool
         ensures { result ≡ has_told_all self.now }
     {
         self.is_ended && self.told == self.read
     }
 
-    /// Takes octets of the log until they end a line or there are no more, and returns how many it has taken. It takes none
-    /// while a verdict can be fetched, after the end, or after 2^64 - 1 lines.
+    /// Takes octets of the log, at most up to the end of a line, and returns how many it has taken. It takes none while a
+    /// verdict can be fetched, after the end, or after 2^64 - 1 lines.
     pub fn feed(&mut self, octets: &[u8]) -> usize
         ensures within { result ≤ length octets.now }
         ensures taken { 0 < result → HasTaken self.old (take result octets.now) self.new }
@@ -181,8 +185,8 @@ impl Reader {
         count
     }
 
-    /// Ends the log: the line that is made is its last one, if it has octets. Then each line has its verdict. A verdict that
-    /// can be fetched before stays as it is.
+    /// Ends the log: the line that is being made is its last one, if it has octets. From now on `verdict` returns the verdicts
+    /// of all lines that are left. A verdict that could be fetched before stays as it was.
     pub fn end(&mut self)
         ensures ended { self.new.is_ended ≡ true }
         ensures line { self.old.is_ended ≡ false → self.old.read < u64.MAX
@@ -247,7 +251,7 @@ impl Reader {
         self.refresh();
     }
 
-    /// Counts the line that is whole. By order it gets its verdict; otherwise it is still to be read.
+    /// Counts the line that is whole. A line of the program's own texts gets its verdict; any other is still to be read.
     fn count_line(&mut self)
         requires room { self.old.read < u64.MAX }
         requires open { self.old.is_ended ≡ false }
@@ -322,8 +326,8 @@ impl Reader {
         }
     }
 
-    /// Reads and judges the last line, and after the end what waits, once no verdict is left to be fetched; then finds
-    /// whether there is one.
+    /// Once no verdict is left to be fetched, reads and judges the last line, and after the end also the lines that wait; then
+    /// finds out whether a verdict is due.
     fn refresh(&mut self)
         ensures waiting { self.new.is_ready ≡ false → self.new.read ≤ self.new.told + WAITING_LINES }
         ensures line { self.new.making ≡ self.old.making }
@@ -359,7 +363,7 @@ impl Reader {
             || self.blanks.are_many();
     }
 
-    /// Returns whether there is a verdict to return. Nothing changes if that is known.
+    /// Returns whether a verdict is due. Nothing changes if that is already known.
     fn is_due(&mut self) -> bool
         ensures waiting { result ≡ false → self.new.read ≤ self.new.told + WAITING_LINES }
         ensures some { result ≡ true → self.new.told < self.new.read }
@@ -381,8 +385,8 @@ impl Reader {
         was_ready || self.is_ready
     }
 
-    /// Returns the verdict of the next line; `None` if more octets decide on it, or if each line that is read has its
-    /// verdict. After the end that is each line of the log.
+    /// Returns the verdict on the next line; `None` if it depends on later octets, or if each line that is read has its
+    /// verdict. After the end `None` means that each line of the log has one.
     pub fn verdict(&mut self) -> Option<Verdict>
         ensures ready { self.old.is_ready ≡ true → IsSome result }
         ensures told { MatchOption result (HasNoMore self.old self.new) (λ verdict. HasTold self.old verdict self.new) }
@@ -466,7 +470,7 @@ impl Reader {
         self.judge.tell(line, is_blank, &mut self.frames)
     }
 
-    /// Returns the verdict of the last line, which is read by order; its frames are taken.
+    /// Returns the verdict on the last line, a line of the program's own texts; its frames are taken.
     fn tell_own(&self) -> Verdict
         requires { self.now.told < self.now.read }
         ensures agreed { (own : OwnForm) → own_form_of self.now.form ≡ Some own → AreAgreed (self.now.told + 1)

@@ -47,7 +47,7 @@ pub(crate) struct Decider {
     pub vocabulary: Vocabulary,
     pub queue: Queue,
     pub above: Above,
-    /// The runs of the line that is decided, or of the first one of those that are open.
+    /// The runs of the line that is decided, or of the first open line.
     pub keys: ArrayVec<RunKey, LINE_RUNS>,
     /// How their octets would encode a message, if they encode none.
     pub remark: Option<Reason>,

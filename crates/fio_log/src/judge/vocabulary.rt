@@ -1,4 +1,4 @@
-//! The words around the frames of a log, by which the remains of a frame's line that was cut are recognised.
+//! The words around the frames of a log. They show what may be the rest of a frame's line that was cut.
 use crate::digits::{digit, is_decimal, is_letter};
 use crate::masks::{Mask, NO_SUM, with_character};
 use crate::surroundings::read_after;
