@@ -4,7 +4,7 @@
 -- above was received or is lost. Without C it took all waiting entries, so each entry below was logged later.
 --
 -- A block that is sent again was made at an earlier poll for it, so each command above the first one was received by then or is
--- lost. If it has no C, it settles each input of which no item was sent since that first poll, as a clear block settles all
+-- lost. If it has no C, it settles each input for which no item was sent since that first poll, as a clear block settles all
 -- inputs. A clear block must be above; then the first poll is above, too.
 use Rattle.std.specs.Prelude.{ℕ, zero, suc, ◌+◌, ◌-◌, ◌==◌, Bool, ◌&&◌, ◌||◌, false, List, Option, Some, None, drop, fold, is_some, min, not, nat_lt, option_map, option_and_then, take, unwrap_or, if◌then◌else◌}
 use Rattle.std.specs.Option.{option_map_or}

@@ -88,7 +88,7 @@ breaks_entry facts input entry State = is_judged facts
     && is_told_otherwise entry.level (input_coming input (coming_with facts entry.wide) (facts.inputs input))
 breaks_entry facts input entry rule = false
 
--- in the order in which they are tried
+-- the rules on entries, in the order in which they are tried
 abbrev pub entry_rules : List ContentRule
 entry_rules = Order ∷ Fresh ∷ Alternate ∷ Apart ∷ Ignored ∷ State ∷ []
 
@@ -132,7 +132,7 @@ breaks_answer facts answer Clock = is_judged facts
     && is_some_and (stamp_of answer) (λ stamp. is_some_and facts.clock (is_before stamp))
 breaks_answer facts answer rule = false
 
--- in the order in which they are tried
+-- the rules on answers, in the order in which they are tried
 abbrev pub answer_rules : List ContentRule
 answer_rules = Done ∷ Accepted ∷ Cleared ∷ Watchdog ∷ Clock ∷ []
 

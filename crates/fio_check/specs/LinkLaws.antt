@@ -113,7 +113,7 @@ pub record Accused : Type 0 where
   pub line : ℕ
   pub outcome : Outcome
 
--- the breach of which an outcome accuses an end
+-- the breach, if an outcome accuses an end
 abbrev pub accused : ℕ → Outcome → Option Accused
 accused line (Broken breach) = Some (record { line = line; outcome = Broken breach })
 accused line (BrokenContent breach) = Some (record { line = line; outcome = BrokenContent breach })

@@ -32,7 +32,7 @@ use Rattle.fio_check.specs.declared.rules.Rule.TheVariants.{Pair, Number, Advanc
 -- what a judge of a log keeps
 pub record LogJudging : Type 0 where
   pub link : Judging
-  -- what tells which answers are late, if these are left out
+  -- what decides which answers are late, if these are left out
   pub late : Option LateAnswers
   -- where the log was taken, if that is known
   pub place : Option LogPlace
@@ -63,7 +63,7 @@ abbrev pub link_starting : Limits → LogStart → Judging
 link_starting limits Begun = judging_begun limits
 link_starting limits start = judging_anywhere limits
 
--- what tells which answers are late, if these are left out
+-- what decides which answers are late, if these are left out
 abbrev pub late_starting : LogStart → Option LateAnswers
 late_starting StartLate = Some late_above
 late_starting start = None
@@ -190,7 +190,7 @@ outcome_in_time judging at from_cpu octets = if is_told from_cpu (observation_in
     then outcome_in judging at from_cpu octets
     else outcome_without_content judging (observation_in from_cpu octets)
 
--- with such a frame more
+-- the judge of the link after a frame that is not a late answer
 abbrev pub judging_in_time : Judging → LogPlace → Bool → List ℕ → Judging
 judging_in_time judging at from_cpu octets = if is_told from_cpu (observation_in from_cpu octets)
     then judging_with judging at from_cpu octets
@@ -227,7 +227,7 @@ outcome_kept_late late outcome = if is_excused_late (late_settled late outcome) 
 abbrev pub log_forgetting : LogJudging → LateAnswers → LogJudging
 log_forgetting log late = record log { link = without_content log.link; late = Some late }
 
--- with such a frame more
+-- the judge after a frame that is not a late answer, by what is kept of the answers
 abbrev pub log_kept_late : LogJudging → LateAnswers → Outcome → LogJudging
 log_kept_late log late outcome = if late_settled late outcome
     then record log { late = Some (record late { settled = true }) }
@@ -252,7 +252,7 @@ log_by_lateness LateOne log late at from_cpu octets = log_forgetting log late
 log_by_lateness LateButTaken log late at from_cpu octets =
     log_forgetting (record log { link = judging_lost log.link }) late
 
--- with such a frame more
+-- the judge after a frame in a log from which late answers are left out
 abbrev pub log_with_late : LogJudging → LateAnswers → LogPlace → Bool → List ℕ → LogJudging
 log_with_late log late at from_cpu octets = log_by_lateness (lateness_of late (observation_in from_cpu octets)) log
     (late_with late (observation_in from_cpu octets)) at from_cpu octets
@@ -264,7 +264,7 @@ abbrev pub outcome_here : LogJudging → Option LateAnswers → LogPlace → Boo
 outcome_here log None at from_cpu octets = Link (outcome_in log.link at from_cpu octets)
 outcome_here log (Some late) at from_cpu octets = outcome_late log late at from_cpu octets
 
--- the same by where it was logged
+-- the outcome of a frame that the judge has reached, by where it was logged
 abbrev pub outcome_reached : LogJudging → Bool → Option Bool → List ℕ → LogOutcome
 outcome_reached log from_cpu said octets = outcome_here log log.late (place_of log said) from_cpu octets
 
@@ -278,7 +278,7 @@ abbrev pub log_below : LogJudging → Option LateAnswers → LogPlace → Bool �
 log_below log None at from_cpu octets = record log { link = judging_with log.link at from_cpu octets }
 log_below log (Some late) at from_cpu octets = log_with_late log late at from_cpu octets
 
--- the same by where it was logged
+-- the judge after a frame that it has reached, by where it was logged
 abbrev pub log_reached : LogJudging → Bool → Option Bool → List ℕ → LogJudging
 log_reached log from_cpu said octets = log_below log log.late (place_of log said) from_cpu octets
 

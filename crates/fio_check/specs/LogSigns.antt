@@ -23,11 +23,11 @@ one_more_if is_so count = if is_so then one_more count else count
 
 -- ---- frames that are there twice
 
--- above the first frame
+-- the repeated answers above the first frame
 abbrev pub no_repeats : RepeatedFrames
 no_repeats = record { above = record { items = [] }; said = None; again = false; answers = 0; repeated = 0; contrary = 0 }
 
--- what is kept of a frame's octets: all of them, if a frame can have so many
+-- what is kept of a frame's octets: all of them, or none if they are more than a frame can have
 abbrev pub octets_kept : List ℕ → List ℕ
 octets_kept octets = if nat_le (length octets) FRAME_OCTETS then octets else []
 
@@ -72,7 +72,7 @@ is_of_both_ends frames = nat_le frames.repeated (2 * frames.contrary)
 
 -- ---- block answers whose last is first
 
--- above the first frame
+-- the order of the block answers above the first frame
 abbrev pub no_blocks : BlockOrder
 no_blocks = record { above = None; blocks = 0; backward = 0 }
 
@@ -103,7 +103,7 @@ is_reversed order = nat_le 8 order.blocks && not (nat_le (2 * order.backward) or
 
 -- ---- block answers of two links
 
--- above the first frame
+-- the rows of numbers above the first frame
 abbrev pub no_rows : BlockRows
 no_rows = record { first = None; second = None; changes = 0; jumps = 0 }
 
@@ -142,7 +142,7 @@ are_two_links rows blocks =
 
 -- ---- the log
 
--- above the first frame
+-- the signs above the first frame
 abbrev pub no_signs : LogSigns
 no_signs = record { frames = no_repeats; order = no_blocks; rows = no_rows }
 

@@ -83,8 +83,8 @@ impl Checker {
         }
     }
 
-    /// Takes a frame that the CPU's end sent, and returns its breach. Below a breach the checker
-    /// goes on as one that starts at the next poll.
+    /// Takes a frame that the CPU's end sent, and returns its breach. After a breach it continues like a checker that
+    /// starts at the next poll.
     pub fn sent(&mut self, octets: &[u8]) -> Option<Breach>
         ensures breach { result ≡ found_by self.old true (observation_in true octets.now) }
         ensures next { self.new ≡ checker_with self.old true (observation_in true octets.now) }
@@ -92,8 +92,8 @@ impl Checker {
         self.take(true, Observation::of(true, octets))
     }
 
-    /// Takes a frame that the CPU's end heard, and returns its breach. Below a breach the checker
-    /// goes on as one that starts at the next poll.
+    /// Takes a frame that the CPU's end heard, and returns its breach. After a breach it continues like a checker that
+    /// starts at the next poll.
     pub fn heard(&mut self, octets: &[u8]) -> Option<Breach>
         ensures breach { result ≡ found_by self.old false (observation_in false octets.now) }
         ensures next { self.new ≡ checker_with self.old false (observation_in false octets.now) }

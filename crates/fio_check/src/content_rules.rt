@@ -120,7 +120,7 @@ impl ContentRule {
         }
     }
 
-    /// Returns the number of the rule, from 1, by which C and the bindings know it.
+    /// Returns the number of the rule in C and the bindings, from 1.
     pub fn number(self) -> u8
         ensures { result ≡ content_rule_number self }
     {

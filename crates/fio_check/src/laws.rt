@@ -47,7 +47,7 @@ pub fn checkers_find_the_first_breach()
     ensures { (lines : List TranscriptLine) → verdict_of_checker lines ≡ verdict_on lines }
 {}
 
-/// Below a breach a checker goes on like a checker that starts at the next poll.
+/// After a breach a checker continues like a checker that starts at the next poll.
 pub fn checkers_go_on()
     ensures { (limits : Limits) (lines : List TranscriptLine) → GoesOn limits lines }
 {}

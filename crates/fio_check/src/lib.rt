@@ -1,18 +1,5 @@
-//! The rules of a transcript, of what the CPU's end of the transition link sent and heard: which of
-//! them each line breaks, and the verdict. Nothing here takes memory.
-//!
-//! What the crates above use: `check_trace` gives the one verdict on a list of lines; `rule_broken`
-//! gives the first rule that a line breaks by what is above it, and `Facts::add` keeps what the
-//! rules read of the lines above. `Checker` takes a frame at a time, and goes on below a breach.
-//!
-//! The definitions are in `specs/`, in this order: the lines (`Lines`), what a line says to the
-//! rules (`Observations`), the latest that is said above a place (`Places`), what is above a line
-//! (`Facts`), the rules (`Rules`), the verdict (`Verdicts`), the checker
-//! (`Checkers`). Their laws (`Laws`) are the contracts of
-//! the module `laws`. Those of the rules on content follow: events, what is above one by places
-//! (`ContentAbove`), the rules, the same event by event (`ContentFacts`), the checker. `LinkJudge` has both checkers, and says
-//! whom to accuse by a log in which lines may be lost (`LinkJudges`). `LogSigns` says what kind of log it looks like
-//! if it is not the log of one link in order.
+//! The rules that a transcript must keep, that is, what the CPU's end of the transition link sent and heard, and the judges that
+//! say which end a log accuses. Nothing here allocates memory.
 //!
 //! # Examples
 //!
@@ -25,6 +12,24 @@
 //! assert_eq!(rt; above.number_due(), Some(5));
 //! assert_eq!(rt; rule_broken(&above, next), Some(Rule::Advance));
 //! ```
+//!
+//! | To | Call |
+//! |---|---|
+//! | get the one verdict on a list of lines | `check_trace` |
+//! | get the first rule that a line breaks, from the facts above it | `rule_broken`; `Facts::add` keeps the facts |
+//! | check a transcript frame by frame, also after a breach | `Checker` |
+//! | check what entries and answers say | `ContentChecker` |
+//! | judge a link by a log in which lines may be lost | `LinkJudge`, which has both checkers |
+//! | judge a log by its frames and by the lines between them | `LogJudge` |
+//! | see whether a log looks like another kind than that of one link in order | `LogSigns` |
+//! | count what a log has | `LogCounts` |
+//!
+//! The definitions are in `specs/`, in this order: the lines (`Lines`), what a line says to the rules (`Observations`), the latest
+//! value said above a place (`Places`), what is above a line (`Facts`), the rules (`Rules`), the verdict (`Verdicts`) and the
+//! checker (`Checkers`), whose laws (`Laws`) are the contracts of the module `laws`. Those of the rules on content follow: events
+//! (`ContentEvents`), the rules (`ContentRules`), what is above an event, by places (`ContentAbove`) and updated event by event
+//! (`ContentFacts`), and the checker (`ContentCheckers`); then the judges (`LinkJudges`, `LogJudges`), the signs of other logs
+//! (`LogSigns`) and the counts (`LogCounts`).
 #![tactic(auto)]
 
 mod block_order;

@@ -36,12 +36,13 @@ pub enum LogOutcome {
     LateAbove,
 }
 
-/// The judge of a log: it takes frames, and what is known of the lines between them, in order.
-///
-/// Where a log was taken it finds by the directions that the log says, if it is not told: on the bus between the ends if a frame
-/// has none; at the module, if more of them down to here contradict the types of their messages than agree; else at the CPU's end.
+/// The judge of a log: takes the frames of a log in order, and what is known of the lines between them, and returns for each frame
+/// whether it breaks a rule, and so accuses its sender, or why it does not.
 ///
 /// # Examples
+///
+/// The CPU polls for block 6 though block 5 was not answered. That breaks the rule `advance`, unless a line between says that
+/// frames were lost:
 ///
 /// ```rust
 /// use fio_check::{Limits, LogJudge, LogOutcome, LogStart, Outcome};
@@ -51,6 +52,12 @@ pub enum LogOutcome {
 /// judge.miss();
 /// assert_eq!(rt; judge.frame(true, Some(true), &[0x36, 6]), LogOutcome::Link(Outcome::Kept));
 /// ```
+///
+/// # Where the log was taken
+///
+/// A log from the module or from the bus has answers that the CPU's end may not have heard, so a poll that asks again for an
+/// answered block accuses nobody there. If `new` gets no place, the judge decides at each frame: on the bus, if its line names no
+/// sender; at the module, if so far more lines name the wrong end as the sender than the right one; else at the CPU's end.
 #[derive(Clone, Copy, Debug)]
 pub struct LogJudge {
     /// The judge of the link.

@@ -75,8 +75,7 @@ impl Rule {
         }
     }
 
-    /// Returns the place of the rule among `Rule::ALL`, from 1, by which C and the bindings know
-    /// it.
+    /// Returns the place of the rule in `Rule::ALL`, from 1, which is its number in C and the bindings.
     pub fn number(self) -> u8
         ensures { result ≡ rule_number self }
     {
