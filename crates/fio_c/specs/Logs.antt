@@ -158,8 +158,8 @@ pub record HasTakenAll (before : Telling) (octets : List ℕ) (after : Telling) 
   pub read : after.read ≡ before.read + length whole
   pub is_ended : after.is_ended ≡ before.is_ended
 
--- A reader has taken octets of a text that goes on with its log, and has returned all verdicts that are in a batch. If there
--- are none, all octets are taken, or the log has ended and each of its lines has its verdict.
+-- A reader has taken octets of a text that continues its log, and has returned all verdicts that are in a batch. If there are
+-- none, all octets are taken, or the log has ended and each of its lines has its verdict.
 pub record HasReadOn (before : Telling) (text : List ℕ) (taken : ℕ) (after : Telling) (batch : LogBatch) : Type 0 where
   pub within : taken ≤ length text
   pub form : after.form ≡ before.form

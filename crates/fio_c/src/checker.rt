@@ -116,7 +116,7 @@ pub(crate) fn limits_from(limits: Limits) -> Option<LimitsOf>
 }
 
 /// Takes a frame that the CPU's end sent: writes its breach, each octet of it, and returns the number of its rule, 0 if it
-/// keeps the rules. Below a breach the checker goes on as one that starts at the next poll.
+/// keeps the rules. After a breach it continues like a checker that starts at the next poll.
 #[unsafe(no_mangle)]
 pub extern "C" fn fio2070_checker_sent(
     checker: &mut Checker,

@@ -1,4 +1,4 @@
-//! The reader of logs, which C holds behind a pointer.
+//! The reader of logs, which C holds by a pointer.
 //!
 //! Unlike the other structs, a reader is not plain memory: only the library can make its parts. So these calls take a pointer,
 //! and they alone require something of what it points to: a reader that `fio2070_log_start` has made, in room for one.

@@ -40,9 +40,9 @@ const HEARD_NOTHING: Heard = Heard {
     fault: NO_FAULT,
 };
 
-/// Starts a poller whose first poll has this block number, 0 to 255 (own profile). A CPU that goes on with
-/// the number that it kept loses nothing and records nothing twice. One that starts anew with the number of
-/// the module's last poll gets that poll's block again, with E, and records it a second time.
+/// Starts a poller whose first poll has this block number, 0 to 255 (own profile). A CPU that continues
+/// with the number that it kept loses nothing and records nothing twice. A CPU that starts anew with the
+/// number of the module's last poll gets that poll's block again, with E, and records it a second time.
 #[unsafe(no_mangle)]
 pub extern "C" fn fio2070_poller_start(poller: &mut Poller, number: u8)
     ensures { poller.new ≡ record { number = number } }
