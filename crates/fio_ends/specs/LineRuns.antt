@@ -12,7 +12,7 @@ use Rattle.fio_wire.specs.Laws.{Octet}
 use Rattle.fio_wire.specs.Octets.{sent, stuffed}
 use Rattle.fio_ends.specs.Lines.{Framing, IsFraming, Line, Ends, ends_at_start, Brought, LineEvent, events_of_lines, IsStruck, MayCome, after_line_event, Arrives, EndOf}
 
--- these events, each of which may come, lead from some ends to others
+-- these events may come one after the other, and lead from some ends to others
 abbrev pub LeadOverLines : Settings → Framing → Ends → List LineEvent → Ends → Type 0
 LeadOverLines settings framing ends [] last = last ≡ ends
 LeadOverLines settings framing ends (event ∷ events) last =
