@@ -97,7 +97,7 @@ start = record { packing = none_packed; ones = 7; is_pending = false; phase = Hu
 abbrev pub fresh : Reading
 fresh = record { packing = none_packed; ones = 0; is_pending = false; phase = Within }
 
--- with so many ones
+-- with this number of ones
 abbrev pub with_ones : ℕ → Packing → Packing
 with_ones zero packing = packing
 with_ones (suc count) packing = packed (with_ones count packing) true

@@ -32,7 +32,7 @@ pub record Flips (errors : List Bool) (sent got : List ℕ) : Type 0 where
   pub size : length errors ≡ length (bits_of sent)
   pub bits : bits_of got ≡ damaged (bits_of sent) errors
 
--- bits of which one is flipped
+-- bits, one of them flipped
 abbrev pub OneFlip : List Bool → List Bool → Type 0
 OneFlip [] others = ⊥
 OneFlip (bit ∷ bits) [] = ⊥

@@ -9,7 +9,7 @@ use Rattle.fio_wire.specs.declared.limits.TheConstants.{FLAG, ESCAPE, STUFFED, H
 
 -- ---- What is sent
 
--- an octet as it is sent: 7E and 7D are 7D and the octet with bit 5 turned
+-- an octet as it is sent: 7E and 7D are 7D and the octet with bit 5 inverted
 abbrev pub stuffed_octet : ℕ → List ℕ
 stuffed_octet octet = if octet == FLAG || octet == ESCAPE then ESCAPE ∷ bit_xor octet STUFFED ∷ [] else octet ∷ []
 

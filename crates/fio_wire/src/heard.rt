@@ -12,7 +12,7 @@ pub enum Heard {
     Nothing,
     /// A frame with one's own address and control octet ends here. It is held until the next octet or bit is read.
     Message,
-    /// A frame with another address or control octet ends here. It is held likewise.
+    /// A frame with another address or control octet ends here. It is held in the same way.
     Other,
     /// Something ends here that is no frame.
     Damaged,

@@ -24,8 +24,8 @@ pub fn flags_resynchronise()
         → said_of reading (noise ++ FLAG ∷ rest) ≡ said_of reading (noise ++ FLAG ∷ []) ++ said_of start (FLAG ∷ rest) }
 {}
 
-/// A part of which an octet was lost is damage, if the loss is reported, whatever else arrives of it. Each other part says what
-/// it says without losses elsewhere.
+/// A part that lost an octet is damage, if the loss is reported, whatever else of the part arrives. Losses do not change what
+/// other parts say.
 #[tactic(auto, using(crate::proofs::Losses::exact))]
 pub fn losses_are_damage()
     ensures { (noise : List Arrival) (parts : List (List Arrival)) (rest : List Arrival)
