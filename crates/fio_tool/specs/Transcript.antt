@@ -31,7 +31,7 @@ pub record IsReadFrame (line : List ℕ) (from_cpu : Bool) (count : ℕ) (room :
   pub counted : count ≡ length octets
   pub read : count ≤ FRAME_OCTETS → octets ≡ take count room
 
--- these octets spell the same messages as other octets, whether the CPU sent or heard them
+-- these octets encode the same messages as other octets, whether the CPU sent or heard them
 pub record SpellsSame (shown octets : List ℕ) : Type 0 where
   pub sent : command_in shown ≡ command_in octets
   pub heard : answer_in shown ≡ answer_in octets

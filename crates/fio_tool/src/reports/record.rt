@@ -14,9 +14,9 @@ use fio_show::push_items;
 use fio_text::{BadLine, Report, push_line};
 use std::alloc::{AllocError, Global};
 
-/// Returns the text with the record of the CPU in the input's transcript: `record N`, and then a line for each of its N
-/// items, `gap` or `input I state L stamp S wide W`. That CPU starts at the first poll with the number of that poll, and
-/// hears each frame after it. The transcript may begin anywhere: what is heard above its first command is passed over.
+/// Returns the text with the record of the CPU in the input's transcript: `record N`, and then a line for each of its N items,
+/// `gap` or `input I state L stamp S wide W`. That CPU starts at the first poll with the number of that poll, and hears each
+/// frame after it. The transcript may begin anywhere: what is heard above its first command is skipped.
 ///
 /// If a rule on content is broken, the text has only the items before the first breach, and then the line `line L input I
 /// breaks RULE` or, for an answer, `line L breaks RULE`, where L is the number of the line; the report is not good. If from

@@ -17,7 +17,7 @@ use std::alloc::{AllocError, Global};
 const EXPECTED: usize = 8;
 
 /// Returns the text that reports each line of the input. A line of octets in hexadecimal digits is reported as the message
-/// that they spell: an answer if the first octet is 128 or more, otherwise a command. A line that spells no message gives
+/// that they encode: an answer if the first octet is 128 or more, otherwise a command. A line that encodes no message gives
 /// `line N: ` and its fault. Lines that are empty or begin with `#` give nothing. An input of more than 1,048,576 octets
 /// gives the one line `input too long`.
 ///

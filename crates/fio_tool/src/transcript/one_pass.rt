@@ -39,7 +39,7 @@ pub(crate) fn judge_lines(text: &[u8]) -> Result<Verdict, BadLine>
 }
 
 /// Returns the verdict, as `judge_lines` does, and if no line breaks a rule, the record of the transcript's CPU. What is heard
-/// above the first command is passed over.
+/// above the first command is skipped.
 ///
 /// # Errors
 /// `BadLine` as for `judge_lines`; `Memory` if the record could not grow.
@@ -92,7 +92,7 @@ fn read_frame(line: &[u8], room: &mut [u8; FRAME_OCTETS]) -> Option<(bool, usize
     Some((from_cpu, count))
 }
 
-/// Returns the octets of a frame that is in the room, or none if the frame is longer: neither spells a message.
+/// Returns the octets of a frame that is in the room, or none if the frame is longer: neither encodes a message.
 fn octets_of(count: usize, room: &[u8; FRAME_OCTETS]) -> &[u8]
     ensures { (line : List ℕ) (from_cpu : Bool) (frame : IsReadFrame line from_cpu count room.now)
         → SpellsSame result.now frame.octets }
