@@ -34,7 +34,7 @@ plain_event restarts line =
     (exactly (codes "restart") (then_some restarts Restart) line
     (event_with_value line)))
 
--- the command that the word after `send` denotes, if its octets spell one
+-- the command that the word after `send` denotes, if its octets encode one
 abbrev pub command_named : List ℕ → Option Command
 command_named word = option_and_then command_in (octets_in word)
 

@@ -45,17 +45,17 @@ abbrev pub with_events : Header → Result (List Event) ScriptError → Result S
 with_events header (Ok events) = Ok (scenario_below header events)
 with_events header (Err fault) = Err fault
 
--- the script that this header and the lines after it spell, if they spell one
+-- the script of this header and the lines after it, if they are one
 abbrev pub below : Option Header → List (List ℕ) → Result Scenario ScriptError
 below None lines = Err BadHeader
 below (Some header) lines = with_events header (script_events header.restarts lines)
 
--- the script that lines spell: a header, and events after it
+-- the script of lines: a header, and events after it
 abbrev pub scenario_in : List (List ℕ) → Result Scenario ScriptError
 scenario_in [] = Err BadHeader
 scenario_in (header ∷ lines) = below (header_of header) lines
 
--- the script that a text spells, or the fault of its first faulty line
+-- the script of a text, or the fault of its first faulty line
 abbrev pub script_in : List ℕ → Result Scenario ScriptError
 script_in text = scenario_in (lines_of text)
 
@@ -75,6 +75,6 @@ HaveGoodFront restarts lines =
 abbrev pub scenario_of : Script → Scenario
 scenario_of script = scenario_with script.id script.first script.limits script.events.items
 
--- a text spells a script
+-- a text is a script
 abbrev pub IsScript : List ℕ → Type 0
 IsScript text = (scenario : Scenario) × (script_in text ≡ Ok scenario)

@@ -53,11 +53,11 @@ pub enum ScriptError {
         /// The number of the line.
         line: usize,
     },
-    /// The line sends octets that spell no command.
+    /// The line sends octets that encode no command.
     BadFrame {
         /// The number of the line.
         line: usize,
-        /// Why they spell none.
+        /// Why they encode none.
         fault: DecodeError,
     },
     /// The events or the octets of a frame had to grow, and there was no memory.
@@ -98,7 +98,7 @@ impl<T: Drop> From<AllocFailed<T>> for ScriptError {
     }
 }
 
-/// Returns the script that a text spells.
+/// Returns the script of a text.
 ///
 /// # Errors
 /// The fault of the first faulty line; `Memory` if the list of events had to grow before that line and there was no memory.
@@ -119,7 +119,7 @@ pub fn read_script(alloc: Global, text: &[u8]) -> Result<Script, ScriptError>
     })
 }
 
-/// Returns the header of the script that a text spells, and its steps.
+/// Returns the header of the script of a text, and its steps.
 ///
 /// # Errors
 /// Those of `read_script`.

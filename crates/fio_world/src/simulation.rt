@@ -40,8 +40,8 @@ pub fn report(alloc: Global, script: &Script) -> Result<Report, Memory>
     )
 }
 
-/// Returns the report of the script that a text spells: `read_script` and `report` in one, without a list of events. It
-/// reads the whole text before it runs anything.
+/// Returns the report of the script of a text: `read_script` and `report` in one, without a list of events. It reads the
+/// whole text before it runs anything.
 ///
 /// # Errors
 /// The fault of the text's first faulty line; `Memory` if there was none for the steps of the script, for the run or for the

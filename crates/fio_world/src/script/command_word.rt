@@ -23,7 +23,7 @@ impl<'a> CommandWord<'a> {
     /// Reads the word after `send` in the line with this number. Its octets are read in place.
     ///
     /// # Errors
-    /// `BadLine` if the word denotes no octets, `BadFrame` if they spell no command.
+    /// `BadLine` if the word denotes no octets, `BadFrame` if they encode no command.
     // Not inlined: otherwise the room for a frame would be cleared for each line.
     #[inline(never)]
     pub(crate) fn read(number: usize, word: &'a [u8]) -> Result<CommandWord<'a>, ScriptError>
