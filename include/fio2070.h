@@ -1079,7 +1079,7 @@ enum fio2070_log_reason {
     FIO2070_LOG_EXCHANGED = 8,        /**< its octets spell a message with a count if those of each pair are exchanged */
     FIO2070_LOG_TWO_MORE = 9,         /**< its octets spell a message with a count but for two at one end */
     FIO2070_LOG_LOSS = 10,            /**< it has no octets, and its words speak of loss: an answer may be missing here */
-    FIO2070_LOG_HEADING = 11,         /**< it has no octets, and is the heading of a log or of a part of one */
+    FIO2070_LOG_HEADING = 11,         /**< it says no message, and is the heading of a log or of a part of one */
     FIO2070_LOG_ONE_LESS = 12         /**< its octets spell a message with a count but for one missing at their end */
 };
 

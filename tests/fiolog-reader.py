@@ -66,14 +66,15 @@ REASONS = {
     'a short message and a check': ('TX 36 05 a4 7c\n', ['no message']),
     'a message without its last octet, in no log of frames': ('RX b6 05 00 00 00 00 00\n', ['no message']),
     'words of loss': ('07:15:02 3 frames lost\nRX buffer OVERRUN\nrx_dropped: 9\n[warn] Overflow, octets missing\nmissed an answer\nTX FIFO full\n'
-                      'truncated\n* loss *\n', ['loss'] * 8),
+                      'truncated\n* loss *\nsuppressed by a filter\n', ['loss'] * 9),
     'headings': ('=~=~=~=~=~= PuTTY log 2026.03.01 12:00:00 =~=~=~=~=~=\nDocklight Log File (HEX) started 22.11.2026 07:15:02\n'
                  'Log file opened 2026-03-01 12:00:00\nScript started on 2026-03-01 12:00:00 [TERM="xterm"]\n==> rx.log <==\n'
                  '--------- beginning of main\n*** 3 octets lost ***\n  # # #\n\t___\nWelcome to minicom 2.8\nEnabling Logfile\n'
                  'Mar  1 00:00:00 host newsyslog: logfile turned over\nsyslogd 1.5.0: restart.\nSerial port COM3 opened\nSession started.\n'
                  'Log file created at: 2026/03/01 12:00:00\nlistening on eth0, link-type EN10MB (Ethernet), capture size 65535 bytes\n'
-                 'Begin capture\nRECORDING RESUMED\n-- Logs begin at Sun 2026-03-01 12:00:00 UTC --\n',
-                 ['heading'] * 7 + ['no octets'] + ['heading'] * 12),
+                 'Begin capture\nRECORDING RESUMED\n-- Logs begin at Sun 2026-03-01 12:00:00 UTC --\nTerminal ready\n'
+                 "Capturing on 'ttyS0'\nScript started on 2026-03-01 00:00:00+00:00 [TERM=\"xterm\"]\n",
+                 ['heading'] * 7 + ['no octets'] + ['heading'] * 15),
     'words that say nothing': ('main loop idle\nport 3 idle\nqueue 08\nheartbeat 34\nstarting scan 12\nfile saved\nlossless\nblossom\nfully\n'
                                'login reopening\nopen 3\n-> port\n==\n-- MARK --\n', ['no octets'] * 3 + ['short message'] + ['no octets'] * 10),
 }

@@ -8,7 +8,7 @@ from support.log_clock import DIGITS, HEX, MONTHS, without_time
 from support.log_sources import Sources, numbers_in
 from support.log_runs import (BLANK, HELD, LATER, LINE, LONG, LOOSE, MOST, ROW, SHAPES, WORD, YOUNG, frames_of, hex_runs, is_pair, lacks,
                               length_of, remark_of, runs, spells)
-from support.log_wordings import without_octets
+from support.log_wordings import is_heading, without_octets
 
 NO_OCTETS, NO_MESSAGE, SHORT, SEVERAL, LONGER, TOO_LONG, BAD_LINE = (
     'no octets', 'no message', 'short message', 'several messages', 'may be longer', 'too long', 'bad line')
@@ -476,7 +476,8 @@ class Reader:
     def pass_over(self, entry):
         has_octets = any(len(one.octets) > 1 for one in entry.said)
         remarks = [remark_of(one.octets) for one in entry.said if not one.frames]
-        remark = next((one for one in remarks if one in OTHERWISE), next(filter(None, remarks), NO_MESSAGE))
+        plain = 'heading' if is_heading(entry.whole) else NO_MESSAGE
+        remark = next((one for one in remarks if one in OTHERWISE), next(filter(None, remarks), plain))
         entry.settle('passed over', SHORT if entry.fits else remark if has_octets else without_octets(entry.whole))
 
     def ask(self, entry):

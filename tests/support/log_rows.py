@@ -5,7 +5,7 @@ import itertools
 import re
 
 from support.log_lines import text_of
-from support.log_wordings import without_octets
+from support.log_wordings import is_heading, without_octets
 from support.log_octets import ANY_LENGTH, Run, begins, column_of, is_written_alike, needed, said
 
 WIDTH = 8               # octets of a row, at least
@@ -285,7 +285,8 @@ def why(line):
     if not line.runs:
         return without_octets(line.text)
     remarks = [remark for run in line.runs for remark in remarks_on(run.octets)]
-    return next((one for one in remarks if one != 'one less'), 'one less' if remarks else 'no message')
+    plain = 'one less' if remarks else 'heading' if is_heading(line.text) else 'no message'
+    return next((one for one in remarks if one != 'one less'), plain)
 
 
 def remarks_on(octets):

@@ -28,7 +28,7 @@ class Verdict(NamedTuple):
     the line gives no frame, in one of these words: 'no octets', 'no message', 'short message', 'several messages', 'may be
     longer', 'too long', 'exchanged' (a message that has a count, if the octets of each pair are exchanged), 'two more' (one but
     for two octets at one end), 'one less' (of a damaged line: one but for its last octet), 'loss' (no octets, and words of loss),
-    'heading' (no octets, and the heading of a log or of a part of one), and by order 'bad line'; else it is empty. The octets of `frames` are written at `places`, in
+    'heading' (no message, and the heading of a log or of a part of one), and by order 'bad line'; else it is empty. The octets of `frames` are written at `places`, in
     their order: each is the number of a line, and where it begins and ends there, in octets of UTF-8, after colours, NUL and
     marks are taken out. `time` is in microseconds since 1970, or since midnight or a start; None if the log has none there. `said` is
     '>' if the line says that the CPU sent these octets, '<' if the module, else empty."""

@@ -85,7 +85,7 @@ IsRunOf log from rows run = AreFramesAt log (message_of run ∷ []) (run_places 
 -- keeps of its words.
 pub record IsEntryOf (log : Log) (entry : Entry) : Type 0 where
   pub written : All (IsRunOf log entry.from entry.rows.items) entry.runs.items
-  pub words : SaysWords (log entry.from) entry.without_octets
+  pub words : SaysWords (log entry.from) entry.wording
 
 -- what each entry keeps of a log is right
 abbrev pub AreEntriesOf : Log → Entries → Type 0

@@ -1,4 +1,4 @@
--- What the words of a line without octets say: that octets were lost, or that a log or a part of one begins.
+-- What the words of a line say that gives no frame: that octets were lost, or that a log or a part of one begins.
 use Rattle.std.specs.Prelude.{◌≡◌, ℕ, ◌==◌, ◌&&◌, ◌||◌, not, Bool, true, false, if◌then◌else◌, List, [], ◌∷◌, codes, drop}
 use Rattle.std.specs.List.{list_any, prefix_len, slice_split}
 use Rattle.std.specs.Char.{is_ascii_alphabetic}
@@ -25,8 +25,9 @@ has_one_of known line = list_any (is_one_of known) (words_of line)
 -- the words of loss
 abbrev pub loss_words : List (List ℕ)
 loss_words =
-    codes "missed" ∷ codes "missing" ∷ codes "lost" ∷ codes "loss" ∷ codes "dropped" ∷ codes "drops" ∷ codes "overrun"
-    ∷ codes "overruns" ∷ codes "overflow" ∷ codes "full" ∷ codes "truncated" ∷ []
+    codes "missed" ∷ codes "missing" ∷ codes "lost" ∷ codes "loss" ∷ codes "drop" ∷ codes "dropped" ∷ codes "drops"
+    ∷ codes "discarded" ∷ codes "suppressed" ∷ codes "overrun" ∷ codes "overruns" ∷ codes "overflow" ∷ codes "overflowed"
+    ∷ codes "full" ∷ codes "truncated" ∷ []
 
 -- whether a line speaks of loss
 abbrev pub speaks_of_loss : List ℕ → Bool
@@ -46,14 +47,15 @@ start_words =
     ∷ codes "begun" ∷ codes "opened" ∷ codes "open" ∷ codes "new" ∷ codes "rotated" ∷ codes "rotating" ∷ codes "resumed"
     ∷ codes "continued" ∷ codes "created" ∷ codes "reopened" ∷ codes "restarted" ∷ codes "restart" ∷ []
 
--- the words that name logs and nothing else
+-- the words for what logs alone are, or what writes them
 abbrev pub capture_words : List (List ℕ)
 capture_words =
-    codes "logfile" ∷ codes "logging" ∷ codes "capture" ∷ codes "capturing" ∷ codes "snapshot" ∷ []
+    codes "logfile" ∷ codes "logging" ∷ codes "capture" ∷ codes "capturing" ∷ codes "snapshot" ∷ codes "terminal" ∷ []
 
 -- the words that say that one of these begins
 abbrev pub turn_words : List (List ℕ)
-turn_words = codes "enabled" ∷ codes "enabling" ∷ codes "listening" ∷ codes "turned" ∷ []
+turn_words =
+    codes "enabled" ∷ codes "enabling" ∷ codes "listening" ∷ codes "on" ∷ codes "ready" ∷ codes "turned" ∷ []
 
 -- the words with which a program begins what it writes
 abbrev pub welcome_words : List (List ℕ)
@@ -87,6 +89,10 @@ abbrev pub SaysWords : List ℕ → Reason → Type 0
 SaysWords line reasons.Loss = (is_heading line ≡ false) × (speaks_of_loss line ≡ true)
 SaysWords line reasons.Heading = is_heading line ≡ true
 SaysWords line other = Unit {0}
+
+-- why a line with octets of no message gives no frame, by its words: it is a heading, or they say nothing of it
+abbrev pub reason_beside_octets : List ℕ → Reason
+reason_beside_octets line = if is_heading line then reasons.Heading else reasons.None
 
 -- Why a line without octets gives no frame, by its words. A heading that speaks of loss is a heading.
 abbrev pub reason_without_octets : List ℕ → Reason

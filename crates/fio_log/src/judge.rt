@@ -44,7 +44,7 @@ use crate::judge::remarks::remark_on;
 use crate::judge::slots::Slot;
 use crate::line_run::{LineRun, LineRuns};
 use crate::verdict::{Kind, Reason};
-use crate::wordings::reason_without_octets;
+use crate::wordings::{reason_beside_octets, reason_without_octets};
 
 /// A line that is read.
 #[derive(Clone, Copy)]
@@ -65,13 +65,14 @@ impl Line<'_> {
         !self.is_long && are_blanks(self.text)
     }
 
-    /// Returns why the line gives no frame if it has no octets; `None` if one of its runs has two octets or more. The words of
-    /// a line that is too long are not read.
-    fn without_octets(&self, runs: &LineRuns) -> Reason
+    /// Returns why it gives no frame, by its words; `None` if it says a message, or it is too long: then its words are not read.
+    fn wording(&self, runs: &LineRuns) -> Reason
         ensures { SaysWords self.now.text.now result }
     {
-        if self.is_long || runs.has_octets() {
+        if self.is_long || runs.say() {
             Reason::None
+        } else if runs.has_octets() {
+            reason_beside_octets(self.text)
         } else {
             reason_without_octets(self.text)
         }
@@ -234,7 +235,7 @@ impl Judge {
         ensures line { IsOfLine self.new.entries slot line.entry.number }
     {
         self.entries
-            .begin(slot, line.number, time, line.without_octets(runs));
+            .begin(slot, line.number, time, line.wording(runs));
         self.decider.queue.push(slot, line.number, line.text);
     }
 

@@ -94,6 +94,11 @@ impl LineRuns {
         self.is_no_dump = false;
     }
 
+    /// Returns whether a run says a message.
+    pub(crate) fn say(&self) -> bool {
+        self.all.as_slice().iter().any(|run| run.says())
+    }
+
     /// Returns whether a run has two octets or more.
     pub(crate) fn has_octets(&self) -> bool {
         self.all.as_slice().iter().any(|run| run.is_long())

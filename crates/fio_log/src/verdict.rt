@@ -55,7 +55,7 @@ pub enum Reason {
     TwoMore,
     /// The line has no octets, and speaks of loss.
     Loss,
-    /// The line has no octets, and is the heading of a log or of a part of one.
+    /// It says no message, and is the heading of a log or of a part of one.
     Heading,
     /// The line's octets encode a message that has a count, but the last octet is missing.
     OneLess,

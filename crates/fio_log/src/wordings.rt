@@ -1,23 +1,27 @@
-//! What the words of a line without octets say.
+//! What the words of a line say that gives no frame.
 ghost use Rattle.std.specs.Prelude.{◌≡◌, ◌≤◌, ℕ, List, drop, length, map};
 ghost use Rattle.std.specs.List.{before_first, list_any, position_or_len, prefix_len};
 ghost use Rattle.std.specs.Str.{str_eq_ignore_ascii_case};
 ghost use Rattle.std.specs.Char.{is_ascii_alphabetic};
-ghost use Rattle.fio_log.specs.Wordings.{begins_ruled, has_one_of, is_blank, is_heading, is_no_letter, is_of_rule, is_one_of, SaysWords, reason_without_octets, speaks_of_loss};
+ghost use Rattle.fio_log.specs.Wordings.{begins_ruled, has_one_of, is_blank, is_heading, is_no_letter, is_of_rule, is_one_of, SaysWords, reason_beside_octets, reason_without_octets, speaks_of_loss};
 
 use crate::verdict::Reason;
 
 /// The words of loss.
-const LOSS: [&[u8]; 11] = [
+const LOSS: [&[u8]; 15] = [
     b"missed",
     b"missing",
     b"lost",
     b"loss",
+    b"drop",
     b"dropped",
     b"drops",
+    b"discarded",
+    b"suppressed",
     b"overrun",
     b"overruns",
     b"overflow",
+    b"overflowed",
     b"full",
     b"truncated",
 ];
@@ -66,17 +70,25 @@ const STARTS: [&[u8]; 19] = [
     b"restart",
 ];
 
-/// The words that name logs and nothing else.
-const CAPTURES: [&[u8]; 5] = [
+/// The words for what logs alone are, or what writes them.
+const CAPTURES: [&[u8]; 6] = [
     b"logfile",
     b"logging",
     b"capture",
     b"capturing",
     b"snapshot",
+    b"terminal",
 ];
 
-/// The words that say that one of these begins.
-const TURNS: [&[u8]; 4] = [b"enabled", b"enabling", b"listening", b"turned"];
+/// The words that say of these that they begin.
+const TURNS: [&[u8]; 6] = [
+    b"enabled",
+    b"enabling",
+    b"listening",
+    b"on",
+    b"ready",
+    b"turned",
+];
 
 /// The words with which a program begins what it writes.
 const WELCOMES: [&[u8]; 1] = [b"welcome"];
@@ -185,6 +197,18 @@ fn is_heading(line: &[u8]) -> bool
         || has_one_of(&LOGS, line) && has_one_of(&STARTS, line)
         || has_one_of(&CAPTURES, line) && has_one_of(&TURNS, line)
         || has_one_of(&WELCOMES, line)
+}
+
+/// Returns why a line gives no frame if it has octets of no message: it is a heading, or its words say nothing of it.
+pub(crate) fn reason_beside_octets(line: &[u8]) -> Reason
+    ensures reason { result ≡ reason_beside_octets line.now }
+    ensures words { SaysWords line.now result }
+{
+    if is_heading(line) {
+        Reason::Heading
+    } else {
+        Reason::None
+    }
 }
 
 /// Returns why a line without octets gives no frame, by its words.

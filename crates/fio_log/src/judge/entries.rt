@@ -1,5 +1,5 @@
 //! Entries: lines of a log that have one decision, and what is read of them.
-ghost use Rattle.std.specs.Prelude.{◌≡◌, ℕ, ◌<◌, [], IfSome};
+ghost use Rattle.std.specs.Prelude.{◌≡◌, ℕ, ◌<◌, [], IfSome, true};
 ghost use Rattle.fio_log.specs.Frames.{AreEntriesOf, AreJoined, IsEntryOf, IsMessageOf, IsRunOf, Log, line_place};
 ghost use Rattle.fio_log.specs.Keeping.{AreWith, IsKeptIn, IsOfLine};
 ghost use Rattle.fio_log.specs.Wordings.{SaysWords};
@@ -8,7 +8,7 @@ use crate::judge::joined::{Joined, Row};
 use crate::judge::message_run::MessageRun;
 use crate::judge::slots::{Slot, Slots};
 use crate::places::Place;
-use crate::verdict::Reason;
+use crate::verdict::{Kind, Reason};
 use arrayvec::ArrayVec;
 use std::mem;
 
@@ -25,10 +25,10 @@ pub(crate) struct Entry {
     pub from: u64,
     /// The entry's time, in microseconds.
     pub time: Option<u64>,
-    /// Why its first line gives no frame if it has no octets, by the words of the line; `None` if these are not read. The
-    /// default is all zeros, so that a reader can be made in place instead of on the stack.
-    pub without_octets: Reason,
-    /// The runs that say messages, each combination of octets and shape once.
+    /// Why its first line gives no frame, by the words of the line; `None` if these are not read. So the default is nothing but
+    /// zeros, of which a reader can be made in its place, and not on the stack.
+    pub wording: Reason,
+    /// The runs that say messages, without those of the same octets and shape.
     pub runs: ArrayVec<MessageRun, ENTRY_RUNS>,
     /// Where the octets of its only run are written, if it has several lines.
     pub rows: ArrayVec<Row, ENTRY_ROWS>,
@@ -38,13 +38,13 @@ impl Default for Entry {
     ghost use Rattle.std.specs.Prelude.{◌≡◌, []};
     ghost use Rattle.fio_log.specs.declared.verdict.Reason.TheVariants as reasons;
 
-    ghost is_default = { λ entry. (entry.runs.items ≡ []) × (entry.without_octets ≡ reasons.None) };
+    ghost is_default = { λ entry. (entry.runs.items ≡ []) × (entry.wording ≡ reasons.None) };
 
     fn default() -> Entry {
         Entry {
             from: 0,
             time: None,
-            without_octets: Reason::None,
+            wording: Reason::None,
             runs: ArrayVec::new(),
             rows: ArrayVec::new(),
         }
@@ -52,16 +52,16 @@ impl Default for Entry {
 }
 
 impl Entry {
-    /// Begins an entry of one line, which has no runs yet. `without_octets` is why the line gives no frame if it has no octets.
-    fn begin(&mut self, line: u64, time: Option<u64>, without_octets: Reason)
-        ensures words { (log : Log) → SaysWords (log line) without_octets → IsEntryOf log self.new }
+    /// Begins an entry of one line, which has no runs yet. `wording` is why the line gives no frame, by its words.
+    fn begin(&mut self, line: u64, time: Option<u64>, wording: Reason)
+        ensures words { (log : Log) → SaysWords (log line) wording → IsEntryOf log self.new }
         ensures none { self.new.runs.items ≡ [] }
         ensures from { self.new.from ≡ line }
         ensures rows { self.new.rows.items ≡ [] }
     {
         self.from = line;
         self.time = time;
-        self.without_octets = without_octets;
+        self.wording = wording;
         self.runs.clear();
         self.rows.clear();
     }
@@ -109,7 +109,7 @@ impl Entry {
             → IsEntryOf log self.new }
     {
         self.from = lines.from;
-        self.without_octets = Reason::None;
+        self.wording = Reason::None;
         self.runs.clear();
         self.rows.clear();
         let Some(run) = run else {
@@ -187,18 +187,26 @@ impl Entry {
         }
     }
 
-    /// Returns why a line of the entry gives no frame, by what is decided of it, and by its words if it has no octets.
-    pub(crate) fn reason_of(&self, line: u64, reason: Reason) -> Reason
+    /// Returns why a line of the entry gives no frame, by what is decided of it, and by its words.
+    pub(crate) fn reason_of(&self, line: u64, kind: Kind, reason: Reason) -> Reason
         ensures { (log : Log) → IsEntryOf log self.now → SaysWords (log line) result }
     {
         match reason {
-            Reason::NoOctets if line == self.from => self.without_octets,
+            Reason::NoOctets if line == self.from => self.wording,
+            Reason::NoMessage if line == self.from && self.is_heading(kind) => Reason::Heading,
             Reason::Loss | Reason::Heading => Reason::NoOctets,
             reason => reason,
         }
     }
 
-    /// Returns whether the entry is nothing but one message.
+    /// Returns whether its first line is a heading, if it is of this kind.
+    fn is_heading(&self, kind: Kind) -> bool
+        ensures { result ≡ true → self.now.wording ≡ Reason.Heading }
+    {
+        kind == Kind::PassedOver && self.wording == Reason::Heading
+    }
+
+    /// Returns whether it is nothing but one message.
     pub(crate) fn is_bare(&self) -> bool {
         match self.runs.as_slice() {
             [only] => only.is_bare,
@@ -252,12 +260,12 @@ impl Entries {
         self.slots.all.as_mut_slice()[slot.index()].take_runs()
     }
 
-    /// Begins an entry of one line in a slot. `without_octets` is why the line gives no frame if it has no octets.
-    pub(crate) fn begin(&mut self, slot: Slot, line: u64, time: Option<u64>, without_octets: Reason)
-        ensures written { (log : Log) → AreEntriesOf log self.old → SaysWords (log line) without_octets → AreEntriesOf log self.new }
+    /// Begins an entry of one line in a slot. `wording` is why the line gives no frame, by its words.
+    pub(crate) fn begin(&mut self, slot: Slot, line: u64, time: Option<u64>, wording: Reason)
+        ensures written { (log : Log) → AreEntriesOf log self.old → SaysWords (log line) wording → AreEntriesOf log self.new }
         ensures line { IsOfLine self.new slot line }
     {
-        self.slots.all.as_mut_slice()[slot.index()].begin(line, time, without_octets);
+        self.slots.all.as_mut_slice()[slot.index()].begin(line, time, wording);
     }
 
     /// Keeps a run of a line that says a message in the entry of a slot, which is of that line alone.

@@ -251,7 +251,7 @@ impl Judge {
         let (decided, reason) = decision.verdict(entry.from, line, is_blank);
         frames.fill(entry, decided, decision.state);
         let kind = frames.agree(decided, line, &self.join.lines);
-        let reason = reason_for(kind, entry.reason_of(line, reason));
+        let reason = reason_for(kind, entry.reason_of(line, kind, reason));
         let said = self.said(entry, kind, decision.state);
         Verdict {
             time: if kind == Kind::Blank {
