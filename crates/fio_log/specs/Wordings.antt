@@ -47,7 +47,7 @@ start_words =
     ∷ codes "begun" ∷ codes "opened" ∷ codes "open" ∷ codes "new" ∷ codes "rotated" ∷ codes "rotating" ∷ codes "resumed"
     ∷ codes "continued" ∷ codes "created" ∷ codes "reopened" ∷ codes "restarted" ∷ codes "restart" ∷ []
 
--- the words for what logs alone are, or what writes them
+-- the words that name logs, or what writes them, and nothing else
 abbrev pub capture_words : List (List ℕ)
 capture_words =
     codes "logfile" ∷ codes "logging" ∷ codes "capture" ∷ codes "capturing" ∷ codes "snapshot" ∷ codes "terminal" ∷ []

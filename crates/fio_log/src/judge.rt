@@ -65,7 +65,8 @@ impl Line<'_> {
         !self.is_long && are_blanks(self.text)
     }
 
-    /// Returns why it gives no frame, by its words; `None` if it says a message, or it is too long: then its words are not read.
+    /// Returns why the line gives no frame, by its words; `None` if it says a message. The words of a line that is too long are
+    /// not read.
     fn wording(&self, runs: &LineRuns) -> Reason
         ensures { SaysWords self.now.text.now result }
     {

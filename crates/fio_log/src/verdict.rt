@@ -55,7 +55,7 @@ pub enum Reason {
     TwoMore,
     /// The line has no octets, and speaks of loss.
     Loss,
-    /// It says no message, and is the heading of a log or of a part of one.
+    /// The line says no message, and is the heading of a log or of a part of one.
     Heading,
     /// The line's octets encode a message that has a count, but the last octet is missing.
     OneLess,

@@ -70,7 +70,7 @@ const STARTS: [&[u8]; 19] = [
     b"restart",
 ];
 
-/// The words for what logs alone are, or what writes them.
+/// The words that name logs, or what writes them, and nothing else.
 const CAPTURES: [&[u8]; 6] = [
     b"logfile",
     b"logging",
@@ -80,7 +80,7 @@ const CAPTURES: [&[u8]; 6] = [
     b"terminal",
 ];
 
-/// The words that say of these that they begin.
+/// The words that say that one of these begins.
 const TURNS: [&[u8]; 6] = [
     b"enabled",
     b"enabling",

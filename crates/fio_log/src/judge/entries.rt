@@ -25,10 +25,10 @@ pub(crate) struct Entry {
     pub from: u64,
     /// The entry's time, in microseconds.
     pub time: Option<u64>,
-    /// Why its first line gives no frame, by the words of the line; `None` if these are not read. So the default is nothing but
-    /// zeros, of which a reader can be made in its place, and not on the stack.
+    /// Why its first line gives no frame, by the words of the line; `None` if these are not read. The default is all zeros, so
+    /// that a reader can be made in place instead of on the stack.
     pub wording: Reason,
-    /// The runs that say messages, without those of the same octets and shape.
+    /// The runs that say messages, each combination of octets and shape once.
     pub runs: ArrayVec<MessageRun, ENTRY_RUNS>,
     /// Where the octets of its only run are written, if it has several lines.
     pub rows: ArrayVec<Row, ENTRY_ROWS>,
@@ -199,14 +199,14 @@ impl Entry {
         }
     }
 
-    /// Returns whether its first line is a heading, if it is of this kind.
+    /// Returns whether the first line is a heading, if the line is of this kind.
     fn is_heading(&self, kind: Kind) -> bool
         ensures { result ≡ true → self.now.wording ≡ Reason.Heading }
     {
         kind == Kind::PassedOver && self.wording == Reason::Heading
     }
 
-    /// Returns whether it is nothing but one message.
+    /// Returns whether the entry is nothing but one message.
     pub(crate) fn is_bare(&self) -> bool {
         match self.runs.as_slice() {
             [only] => only.is_bare,
