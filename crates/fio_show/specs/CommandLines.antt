@@ -40,7 +40,7 @@ abbrev pub body_text : List ℕ → List ℕ
 body_text [] = codes "-"
 body_text (octet ∷ octets) = digits_of (octet ∷ octets)
 
--- the line of a message of which only the type and the body are read
+-- the line of a message whose type and body alone are read
 abbrev pub other_text : ℕ → List ℕ → List ℕ
 other_text code body =
     codes "other " ++ (decimal code ++ (codes " body " ++ (body_text body ++ codes "\n")))

@@ -1,4 +1,4 @@
--- The lines of a frame: those of the message that its octets spell.
+-- The lines of a frame: those of the message that its octets encode.
 use Rattle.std.specs.Prelude.{ℕ, List, ◌++◌, codes, nat_le, if◌then◌else◌, slice_index_or, Result, Ok, Err}
 use Rattle.fio_message.specs.Decoding.{decoded_command, decoded_answer}
 use Rattle.fio_message.specs.Texts.{fault_text}
@@ -12,11 +12,11 @@ abbrev pub text_or_fault : {M : Type 0} → (M → List ℕ) → Result M Decode
 text_or_fault text (Ok message) = Ok (text message)
 text_or_fault text (Err fault) = Err (fault_text fault)
 
--- the lines of the command that octets spell, or the text of their fault
+-- the lines of the command that octets encode, or the text of their fault
 abbrev pub shown_command : List ℕ → Result (List ℕ) (List ℕ)
 shown_command octets = text_or_fault command_text (decoded_command octets)
 
--- the lines of the answer that octets spell, or the text of their fault
+-- the lines of the answer that octets encode, or the text of their fault
 abbrev pub shown_answer : List ℕ → Result (List ℕ) (List ℕ)
 shown_answer octets = text_or_fault answer_text (decoded_answer octets)
 

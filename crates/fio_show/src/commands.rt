@@ -50,7 +50,7 @@ fn put_configuration<'a>(
     (start, FurtherLines::Items { items })
 }
 
-/// Puts the beginning of the line of a message of which only the type and the body are read.
+/// Puts the beginning of the line of a message whose type and body alone are read.
 pub(crate) fn put_other<'a>(
     line: &mut [u8; LINE_OCTETS],
     code: u8,
