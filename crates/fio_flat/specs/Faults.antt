@@ -50,7 +50,8 @@ abbrev pub Reads :
 Reads flat (Ok message) before after fault = (fault ≡ no_fault) × (after ≡ flat message)
 Reads flat (Err error) before after fault = (fault ≡ fault_of error) × (after ≡ before)
 
--- the same for octets that are read as a block answer: they spell a block, or are refused
+-- What reading a block answer returns, in flat form: the block that the octets encode, with no fault; or else the struct stays as
+-- it was, with the fault for which the octets are refused.
 pub record ReadsBlock {Flat : Type 0} (flat : Block → Flat)
     (octets : List ℕ) (before after : Flat) (fault : Fault) : Type 0 where
   pub spelled :

@@ -54,7 +54,7 @@ flat_heard count (outcomes.Stale block) = record (heard_nothing count) { kind = 
 abbrev pub heard_no_room : ℕ → Heard
 heard_no_room count = record (heard_nothing count) { kind = 4 }
 
--- what was heard, with the number and the stamp of the block that the octets spell, if they spell one
+-- what was heard, with the number and the stamp of the block that the octets encode, if they encode one
 abbrev pub with_block : Option BlockOf → Heard → Heard
 with_block None heard = heard
 with_block (Some block) heard = record heard { number = block.number; stamp = block.stamp }
@@ -66,10 +66,10 @@ pub record Gain (before : MutBor (List RecordItem)) (items : List Item)
   pub room : length items ≤ length before.now
   pub written : after.now ≡ map flat_record_item items ++ drop (length items) before.now
 
--- A poller with this number hears octets of which it reports `what`, and which spell the block `found`, or no block. What
--- they add to its record is written to the front of the caller's items, and its number becomes the next one if a block was
--- taken. If there is no room for all that they add, the poller says so and nothing changes. The number and the stamp of any
--- block are reported.
+-- A poller with this number hears octets that encode the block `found`, or no block, and reports `what`. What they add to
+-- its record is written to the front of the caller's items, and its number becomes the next one if a block was taken. If
+-- there is no room for all that they add, the poller says so and nothing changes. The number and the stamp of any block are
+-- reported.
 pub record HearsAs (number : ℕ) (what : HeardOf) (found : Option BlockOf) (before after : List RecordItem)
     (next : ℕ) (heard : Heard) : Type 0 where
   pub room :

@@ -1,4 +1,4 @@
-//! Why octets spell no message.
+//! Why octets encode no message.
 
 /// Why octets are no message: the first fault that applies (own profile).
 #[derive(Clone, Copy)]
