@@ -19,7 +19,7 @@ pub data Event : Type 0 where
 abbrev pub History : Type 0
 History = List Event
 
--- what happened to it: here a frame appears as the command that it spells
+-- what happened to it: here a frame appears as the command that it encodes
 pub data Occurrence : Type 0 where
   Scanned : (raw : ℕ) → Occurrence
   LineSynced : Occurrence
@@ -30,7 +30,7 @@ pub data Occurrence : Type 0 where
 abbrev pub Life : Type 0
 Life = List Occurrence
 
--- the life after a command, if there is one: octets that spell no command change nothing
+-- the life after a command, if there is one: octets that encode no command change nothing
 abbrev pub life_after_command : Option Command → Life → Life
 life_after_command None life = life
 life_after_command (Some command) life = Commanded command ∷ life

@@ -44,7 +44,7 @@ answer_to settings life (Other kind body) = None
 abbrev pub longest_answer : ℕ → ℕ
 longest_answer per_block = max 13 (8 + 3 * per_block)
 
--- octets that spell no command get no answer
+-- octets that encode no command get no answer
 abbrev pub answer_if : Settings → Life → Option Command → Option Answer
 answer_if settings life None = None
 answer_if settings life (Some command) = answer_to settings life command
@@ -53,7 +53,7 @@ answer_if settings life (Some command) = answer_to settings life command
 abbrev pub reply_to : Settings → History → List ℕ → Option Answer
 reply_to settings history octets = answer_if settings (life_of history) (command_in octets)
 
--- there is a frame exactly if there is an answer, and the frame spells it
+-- there is a frame exactly if there is an answer, and the frame encodes it
 abbrev pub Encodes : Option Answer → Option (ArrayVec ℕ) → Type 0
 Encodes None frame = frame ≡ None
 Encodes (Some answer) None = ⊥
