@@ -3,8 +3,8 @@ use Rattle.std.specs.Prelude.{◌≡◌, ℕ, ◌==◌, ◌||◌, Bool, true, fa
 use Rattle.fio_log.specs.Digits.{is_between}
 use Rattle.fio_log.specs.declared.lines.Held.{Held}
 use Rattle.fio_log.specs.declared.lines.Held.TheVariants.{Nothing, Escape, Colour, NoBreak, Mark, SecondMark}
-use Rattle.fio_log.specs.declared.lines.Ending.{Ending}
-use Rattle.fio_log.specs.declared.lines.Ending.TheVariants.{Open, Feed, Return}
+use Rattle.fio_log.specs.declared.lines.LineEnding.{LineEnding}
+use Rattle.fio_log.specs.declared.lines.LineEnding.TheVariants.{Open, Feed, Return}
 use Rattle.fio_log.specs.declared.lines.TheConstants.{LINE_OCTETS}
 
 -- the octets of a line, at most 65,536, and whether it has more
@@ -76,7 +76,7 @@ own_text octet = if octet == 0 || octet == 27 || octet == 194 || octet == 239 th
 pub record Making : Type 0 where
   pub text : Text
   pub held : Held
-  pub ending : Ending
+  pub ending : LineEnding
 
 -- a line that has not ended and holds no octets back
 abbrev pub open_line : Text → Making
@@ -87,7 +87,7 @@ abbrev pub no_line : Making
 no_line = open_line no_text
 
 -- a line that is whole
-abbrev pub ended : Making → Ending → Making
+abbrev pub ended : Making → LineEnding → Making
 ended making ending =
     record { text = with_all making.text (held_octets making.held); held = Nothing; ending = ending }
 
@@ -113,7 +113,7 @@ with_line_octet making octet =
     else (if octet == 13 then ended making Return else with_character making octet)
 
 -- One octet more: after a whole line the next one begins, and LF directly after CR is part of the ending.
-abbrev pub with_octet_after : Ending → Making → ℕ → Making
+abbrev pub with_octet_after : LineEnding → Making → ℕ → Making
 with_octet_after Open making octet = with_line_octet making octet
 with_octet_after Feed making octet = with_line_octet no_line octet
 with_octet_after Return making octet = if octet == 10 then no_line else with_line_octet no_line octet
@@ -123,12 +123,12 @@ abbrev pub with_octet : Making → ℕ → Making
 with_octet making octet = with_octet_after making.ending making octet
 
 -- whether a line with this ending is whole
-abbrev pub is_whole : Ending → Bool
+abbrev pub is_whole : LineEnding → Bool
 is_whole Open = false
 is_whole other = true
 
 -- the last line of a text: it ends here if it is open and has octets, and stays as it is if it is whole
-abbrev pub finished_by : Ending → List ℕ → Held → Making → Making
+abbrev pub finished_by : LineEnding → List ℕ → Held → Making → Making
 finished_by Open [] Nothing making = no_line
 finished_by Open octets held making = ended making Feed
 finished_by other octets held making = making

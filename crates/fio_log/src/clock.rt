@@ -3,7 +3,7 @@ ghost use Rattle.std.specs.Prelude.{◌≤◌, ◌<◌, IfSome, length};
 
 use crate::digits::{digit, is_decimal, is_letter};
 use crate::marks::character;
-use crate::parts::Parts;
+use crate::parts::TimeParts;
 
 /// A time in a line.
 #[derive(Clone, Copy, Debug, PartialEq, Eq)]
@@ -81,7 +81,7 @@ fn time_at(line: &[u8], start: usize, form: &[u8]) -> Option<Time>
     ensures order { IfSome result (λ time. time.start ≤ time.end) }
     ensures within { IfSome result (λ time. time.end ≤ length line.now) }
 {
-    let mut parts = Parts {
+    let mut parts = TimeParts {
         year: 1970,
         month: 0,
         day: 0,
@@ -113,7 +113,7 @@ fn time_at(line: &[u8], start: usize, form: &[u8]) -> Option<Time>
 
 /// Sets the parts of a date and time like `2026-11-22 07:15:02` at `start`, and returns where they end. It is a faster way for
 /// the first form.
-fn usual_end(line: &[u8], start: usize, parts: &mut Parts) -> Option<usize>
+fn usual_end(line: &[u8], start: usize, parts: &mut TimeParts) -> Option<usize>
     requires { start ≤ length line.now }
     ensures order { IfSome result (λ end. start ≤ end) }
     ensures within { IfSome result (λ end. end ≤ length line.now) }
@@ -149,7 +149,7 @@ fn usual_end(line: &[u8], start: usize, parts: &mut Parts) -> Option<usize>
     if !is_gap(gap) {
         return None;
     }
-    *parts = Parts {
+    *parts = TimeParts {
         year: 100 * century + year,
         month,
         day,
@@ -173,7 +173,7 @@ fn two(high: u8, low: u8) -> Option<u64>
 }
 
 /// Sets the parts of a time of the form `form` that begins at `start`, and returns where they end.
-fn form_end(line: &[u8], start: usize, form: &[u8], parts: &mut Parts) -> Option<usize>
+fn form_end(line: &[u8], start: usize, form: &[u8], parts: &mut TimeParts) -> Option<usize>
     requires { start ≤ length line.now }
     ensures order { IfSome result (λ end. start ≤ end) }
     ensures within { IfSome result (λ end. end ≤ length line.now) }
@@ -186,7 +186,7 @@ fn form_end(line: &[u8], start: usize, form: &[u8], parts: &mut Parts) -> Option
 }
 
 /// Sets the part of a time that begins at `place`, and returns where it ends.
-fn part_end(line: &[u8], place: usize, sign: u8, parts: &mut Parts) -> Option<usize>
+fn part_end(line: &[u8], place: usize, sign: u8, parts: &mut TimeParts) -> Option<usize>
     requires { place ≤ length line.now }
     ensures order { IfSome result (λ end. place ≤ end) }
     ensures within { IfSome result (λ end. end ≤ length line.now) }
@@ -254,7 +254,7 @@ fn is_gap(character: u8) -> bool {
 }
 
 /// Sets the month whose name is at `place`, and returns where the name ends.
-fn month_end(line: &[u8], place: usize, parts: &mut Parts) -> Option<usize>
+fn month_end(line: &[u8], place: usize, parts: &mut TimeParts) -> Option<usize>
     requires { place ≤ length line.now }
     ensures order { IfSome result (λ end. place ≤ end) }
     ensures within { IfSome result (λ end. end ≤ length line.now) }
@@ -286,7 +286,7 @@ fn month_end(line: &[u8], place: usize, parts: &mut Parts) -> Option<usize>
 }
 
 /// Sets the microseconds of the fraction of a second that begins at `place`, and returns where it ends.
-fn fraction_end(line: &[u8], place: usize, parts: &mut Parts) -> usize
+fn fraction_end(line: &[u8], place: usize, parts: &mut TimeParts) -> usize
     requires { place ≤ length line.now }
     ensures order { place ≤ result }
     ensures within { result ≤ length line.now }
@@ -345,7 +345,7 @@ fn is_unit(text: &[u8]) -> bool {
 
 /// Corrects the hour by `AM` or `PM`, if one comes after blanks at `place`, and returns where it ends; otherwise returns
 /// `place`.
-fn half_end(line: &[u8], place: usize, parts: &mut Parts) -> usize
+fn half_end(line: &[u8], place: usize, parts: &mut TimeParts) -> usize
     requires { place ≤ length line.now }
     ensures order { place ≤ result }
     ensures within { result ≤ length line.now }

@@ -68,7 +68,7 @@ impl Agreement {
 
 /// The words of a text, as far as they were read.
 #[derive(Clone, Copy)]
-struct Words {
+struct DirectionWords {
     /// The index of the word for a direction.
     index: Option<usize>,
     /// Whether there are words of another meaning.
@@ -77,7 +77,7 @@ struct Words {
     is_number: bool,
 }
 
-impl Words {
+impl DirectionWords {
     /// Reads one word more.
     fn add(&mut self, word: &[u8]) {
         if word.is_empty() {
@@ -117,7 +117,7 @@ pub(crate) fn direction_of_word(word: &[u8]) -> Option<Direction> {
 /// Returns the direction that a text says: it has one word for it, perhaps several times, no other words but numbers, and no
 /// number after that word. The time in `gap` does not count.
 pub(crate) fn direction_of(text: &[u8], gap: Gap) -> Option<Direction> {
-    let mut words = Words {
+    let mut words = DirectionWords {
         index: None,
         has_others: false,
         is_number: false,

@@ -90,7 +90,7 @@ impl Held {
 
 /// How a line ends.
 #[derive(Clone, Copy, Debug, PartialEq, Eq)]
-enum Ending {
+enum LineEnding {
     /// The line has not ended.
     Open,
     /// The line ends with LF, or with the text.
@@ -154,7 +154,7 @@ impl LineText {
 pub struct LineMaker {
     text: LineText,
     held: Held,
-    ending: Ending,
+    ending: LineEnding,
 }
 
 impl Model for LineMaker {
@@ -176,7 +176,7 @@ impl LineMaker {
                 is_long: false,
             },
             held: Held::Nothing,
-            ending: Ending::Open,
+            ending: LineEnding::Open,
         }
     }
 
@@ -186,11 +186,11 @@ impl LineMaker {
     {
         self.text.clear();
         self.held = Held::Nothing;
-        self.ending = Ending::Open;
+        self.ending = LineEnding::Open;
     }
 
     /// Ends the line.
-    fn end(&mut self, ending: Ending)
+    fn end(&mut self, ending: LineEnding)
         ensures { self.new ≡ ended self.old ending }
     {
         self.text.push_all(self.held.octets());
@@ -200,7 +200,7 @@ impl LineMaker {
 
     /// Reads one octet more that does not end the line.
     fn add_character(&mut self, octet: u8)
-        requires { self.old.ending ≡ Ending.Open }
+        requires { self.old.ending ≡ LineEnding.Open }
         ensures { self.new ≡ with_character self.old octet }
     {
         if self.held.goes_on(octet) {
@@ -217,12 +217,12 @@ impl LineMaker {
 
     /// Reads one octet more of a line that is not whole.
     fn add_to_line(&mut self, octet: u8)
-        requires { self.old.ending ≡ Ending.Open }
+        requires { self.old.ending ≡ LineEnding.Open }
         ensures { self.new ≡ with_line_octet self.old octet }
     {
         match octet {
-            b'\n' => self.end(Ending::Feed),
-            b'\r' => self.end(Ending::Return),
+            b'\n' => self.end(LineEnding::Feed),
+            b'\r' => self.end(LineEnding::Return),
             _ => self.add_character(octet),
         }
     }
@@ -232,10 +232,10 @@ impl LineMaker {
         ensures { self.new ≡ with_octet self.old octet }
     {
         let ending = self.ending;
-        if ending != Ending::Open {
+        if ending != LineEnding::Open {
             self.restart();
         }
-        if ending != Ending::Return || octet != b'\n' {
+        if ending != LineEnding::Return || octet != b'\n' {
             self.add_to_line(octet);
         }
     }
@@ -244,7 +244,7 @@ impl LineMaker {
     fn is_clear(&self) -> bool
         ensures { result ≡ true → self.now ≡ open_line self.now.text }
     {
-        matches!((self.held, self.ending), (Held::Nothing, Ending::Open))
+        matches!((self.held, self.ending), (Held::Nothing, LineEnding::Open))
     }
 
     /// Reads the printable octets that a text begins with, or one octet that must be looked at, and returns how many it has
@@ -285,13 +285,13 @@ impl LineMaker {
     pub fn finish(&mut self)
         ensures { self.new ≡ finished self.old }
     {
-        if self.ending != Ending::Open {
+        if self.ending != LineEnding::Open {
             return;
         }
         if self.text.octets.is_empty() && self.held == Held::Nothing {
             self.restart();
         } else {
-            self.end(Ending::Feed);
+            self.end(LineEnding::Feed);
         }
     }
 
@@ -299,7 +299,7 @@ impl LineMaker {
     pub fn is_whole(&self) -> bool
         ensures { result ≡ is_whole self.now.ending }
     {
-        matches!(self.ending, Ending::Feed | Ending::Return)
+        matches!(self.ending, LineEnding::Feed | LineEnding::Return)
     }
 
     /// Returns whether the line has more octets than are kept.

@@ -6,7 +6,7 @@ const DAYS_TO_1970: u64 = 719_468;
 /// The parts of a time. A day of 0 says that it has no date. No part has more than 14 digits, so no product below
 /// overflows.
 #[derive(Clone, Copy)]
-pub(crate) struct Parts {
+pub(crate) struct TimeParts {
     pub year: u64,
     pub month: u64,
     pub day: u64,
@@ -16,7 +16,7 @@ pub(crate) struct Parts {
     pub microseconds: u64,
 }
 
-impl Parts {
+impl TimeParts {
     /// Sets the part that a sign of a form names.
     pub(crate) fn set(&mut self, sign: u8, value: u64) {
         match sign {

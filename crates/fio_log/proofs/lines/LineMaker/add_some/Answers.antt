@@ -3,7 +3,7 @@ use Rattle.std.specs.Prelude.{slice_index}
 use Rattle.std.proofs.lemmas.List.{get_or-take, length-take-le}
 use Rattle.fio_log.specs.Lines.{is_plain, lines_after, only, open_line, with_all, with_making}
 use Rattle.fio_log.specs.declared.lines.Held.TheVariants.{Nothing}
-use Rattle.fio_log.specs.declared.lines.Ending.TheVariants.{Open}
+use Rattle.fio_log.specs.declared.lines.LineEnding.TheVariants.{Open}
 use Rattle.fio_log.proofs.LineLemmas.{plain-lines}
 use Rattle.fio_log.proofs.lines.LineMaker.add_some.Goals as goal
 
