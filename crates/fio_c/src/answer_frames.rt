@@ -11,7 +11,7 @@ ghost use Rattle.fio_c.specs.Flat.{are_entries, can_be_named, read_entry, read_e
 ghost use Rattle.fio_flat.specs.Written.{Writes, WritesNoMessage, buffer_with};
 
 use crate::blocks::Entry;
-use crate::parts::{Part, are_parts, write_with_parts};
+use crate::parts::{FlatPart, are_parts, write_with_parts};
 use crate::written::{write_front, write_with_body};
 use fio_flat::NO_MESSAGE;
 use fio_message::{
@@ -114,7 +114,7 @@ pub extern "C" fn fio2070_encode_block_answer(
     write_with_parts(&before, entries, &status_and_stamp(status, stamp), out)
 }
 
-impl Part for Entry {
+impl FlatPart for Entry {
     ghost use Rattle.std.proofs.Common.{refl};
 
     ghost named = { λ entry. entry.input };

@@ -11,7 +11,7 @@ ghost use Rattle.fio_c.specs.Flat.{are_items, can_be_named, read_item, read_item
 ghost use Rattle.fio_flat.specs.Written.{Writes, WritesNoMessage, buffer_with};
 
 use crate::commands::ConfigurationItem;
-use crate::parts::{Part, are_parts, write_with_parts};
+use crate::parts::{FlatPart, are_parts, write_with_parts};
 use crate::written::{write_front, write_with_body};
 use fio_flat::NO_MESSAGE;
 use fio_message::{
@@ -65,7 +65,7 @@ pub extern "C" fn fio2070_encode_configure_inputs(
     write_with_parts(&before_items(items.len() as u8), items, &[], out)
 }
 
-impl Part for ConfigurationItem {
+impl FlatPart for ConfigurationItem {
     ghost use Rattle.std.proofs.Common.{refl};
 
     ghost named = { λ item. item.input };

@@ -11,7 +11,7 @@ use crate::written::write_at;
 use fio_message::INPUT_NUMBERS;
 
 /// An item or an entry from C.
-pub(crate) trait Part {
+pub(crate) trait FlatPart {
     /// The input that the message names.
     ghost named: { Self → ℕ };
 
@@ -31,7 +31,7 @@ pub(crate) trait Part {
 }
 
 /// Returns whether there are at most `most` parts, each of an input that a message can name.
-pub(crate) fn are_parts<T: Part>(parts: &[T], most: usize) -> bool
+pub(crate) fn are_parts<T: FlatPart>(parts: &[T], most: usize) -> bool
     ensures { result ≡ (nat_le (length parts.now) most && list_all (λ part. can_be_named (T.named part)) parts.now) }
 {
     parts.len() <= most && are_named(parts)
@@ -39,7 +39,7 @@ pub(crate) fn are_parts<T: Part>(parts: &[T], most: usize) -> bool
 
 /// Returns whether a message can name the input of each part. It looks at all parts, so that the
 /// compiler can test many at a time.
-fn are_named<T: Part>(parts: &[T]) -> bool
+fn are_named<T: FlatPart>(parts: &[T]) -> bool
     ensures { result ≡ list_all (λ part. can_be_named (T.named part)) parts.now }
 {
     let mut named = true;
@@ -52,7 +52,7 @@ fn are_named<T: Part>(parts: &[T]) -> bool
 /// Writes a message if there is room for it: the octets before its parts, the parts, and the octets
 /// after them. Returns how many octets it has.
 #[inline]
-pub(crate) fn write_with_parts<T: Part>(
+pub(crate) fn write_with_parts<T: FlatPart>(
     before: &[u8],
     parts: &[T],
     after: &[u8],
@@ -73,7 +73,7 @@ pub(crate) fn write_with_parts<T: Part>(
 }
 
 /// Writes parts from an index on, three octets each.
-fn write_parts<T: Part>(parts: &[T], from: usize, out: &mut [u8])
+fn write_parts<T: FlatPart>(parts: &[T], from: usize, out: &mut [u8])
     requires named { list_all (λ part. can_be_named (T.named part)) parts.now ≡ true }
     requires room { from + 3 * length parts.now ≤ length out.old }
     ensures { out.new ≡ buffer_with from (flat_map T.spelled parts.now) out.old }

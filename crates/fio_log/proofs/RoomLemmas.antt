@@ -5,12 +5,12 @@ use Rattle.std.proofs.lemmas.List.{length-take}
 use Rattle.std.proofs.lemmas.List.Sums.{sum_by-cons}
 use Rattle.fio_log.specs.Chains.{part_length, part_of}
 use Rattle.fio_log.specs.Frames.{octets_in}
-use Rattle.fio_log.specs.declared.chains.Part.{Part}
+use Rattle.fio_log.specs.declared.chains.ChainPart.{ChainPart}
 use Rattle.fio_log.specs.declared.messages.Message.{Message}
 use Rattle.fio_log.proofs.OwnTextLemmas.{spelled_short}
 
 -- the parts of octets have no more octets than their lengths say
-pub parts_few : (octets : List ℕ) (parts : List Part) → length (concat (map (part_of octets) parts)) ≤ sum_by part_length parts
+pub parts_few : (octets : List ℕ) (parts : List ChainPart) → length (concat (map (part_of octets) parts)) ≤ sum_by part_length parts
 parts_few octets [] = omega arith
 parts_few octets (part ∷ parts) =
     omega (

@@ -4,12 +4,12 @@ use Rattle.std.proofs.lemmas.List.Elements.{All-map}
 use Rattle.fio_log.specs.Chains.{IsPart, part_of}
 use Rattle.fio_log.specs.Frames.{AreFramesAt, AreJoined, IsWithin, Log, octets_in, row_places}
 use Rattle.fio_log.specs.Telling.{IsReaderOf, Telling, frames_of, places_of}
-use Rattle.fio_log.specs.declared.chains.Part.{Part}
+use Rattle.fio_log.specs.declared.chains.ChainPart.{ChainPart}
 use Rattle.fio_log.specs.declared.judge.joined.Joined.{Joined}
 use Rattle.fio_log.specs.declared.places.Place.{Place}
 use Rattle.fio_log.specs.declared.verdict.Form.TheVariants.{Auto}
 
-within-part : (octets : List ℕ) (part : Part) → IsPart octets part → IsWithin octets (part_of octets part)
+within-part : (octets : List ℕ) (part : ChainPart) → IsPart octets part → IsWithin octets (part_of octets part)
 within-part octets part is = record {
   start = part.start;
   end = part.end;

@@ -21,7 +21,7 @@ pub(crate) const CHAIN_FRAMES: usize = 2_048;
 
 /// Where a message is in the octets.
 #[derive(Clone, Copy, Debug, Default, PartialEq, Eq)]
-pub(crate) struct Part {
+pub(crate) struct ChainPart {
     /// Where the message begins.
     pub start: u16,
     /// Where the message ends.
@@ -32,7 +32,7 @@ pub(crate) struct Part {
 #[derive(Debug, Drop)]
 pub(crate) struct Chain {
     octets: ArrayVec<u8, CHAIN_OCTETS>,
-    parts: ArrayVec<Part, CHAIN_FRAMES>,
+    parts: ArrayVec<ChainPart, CHAIN_FRAMES>,
     ghost few: { length octets.items ≤ CHAIN_OCTETS },
     ghost spelled: { All (IsPart octets.items) parts.items },
     ghost room: { sum_by part_length parts.items ≤ length octets.items },
@@ -116,7 +116,7 @@ impl Chain {
     }
 
     /// Appends a message; returns whether there was room.
-    fn add(&mut self, part: Part) -> bool
+    fn add(&mut self, part: ChainPart) -> bool
         requires part { IsPart self.old.octets.items part }
         requires room { sum_by part_length self.old.parts.items + part_length part ≤ length self.old.octets.items }
         ensures octets { self.new.octets ≡ self.old.octets }
@@ -163,7 +163,7 @@ impl Chain {
 #[derive(Clone, Copy)]
 struct Next {
     /// The message; `None` for a flag.
-    part: Option<Part>,
+    part: Option<ChainPart>,
     /// Whether the message is sure by itself.
     is_sure: bool,
     /// Where the next one begins.
@@ -202,7 +202,7 @@ fn next_in(octets: &[u8], place: usize) -> Option<Next>
 }
 
 /// Returns the message of the frame between the flag at a place and one after it, and where that flag is.
-fn framed_in(octets: &[u8], place: usize) -> Option<(Part, usize)>
+fn framed_in(octets: &[u8], place: usize) -> Option<(ChainPart, usize)>
     requires { place < length octets.now }
     ensures forward { IfSome result (λ found. place < found.1) }
     ensures within { IfSome result (λ found. found.1 ≤ length octets.now) }
@@ -226,14 +226,14 @@ fn framed_in(octets: &[u8], place: usize) -> Option<(Part, usize)>
 }
 
 /// Returns the part of octets between two places, if it encodes a message.
-fn part_in(octets: &[u8], start: usize, end: usize) -> Option<Part>
+fn part_in(octets: &[u8], start: usize, end: usize) -> Option<ChainPart>
     ensures part { IfSome result (IsPart octets.now) }
     ensures length { IfSome result (λ part. part_length part ≡ end - start) }
 {
     spelled(octets.get(start..end)?).ok()?;
     let start = u16::try_from(start).ok()?;
     let end = u16::try_from(end).ok()?;
-    Some(Part { start, end })
+    Some(ChainPart { start, end })
 }
 
 /// Returns whether octets begin with a message whose length is known by its type and count.

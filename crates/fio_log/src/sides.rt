@@ -15,7 +15,7 @@ pub(crate) fn said_at(line: &[u8], place: usize) -> Option<Direction> {
 
 /// A kind of word, by its characters.
 #[derive(Clone, Copy, PartialEq, Eq)]
-enum Part {
+enum WordKind {
     /// Letters.
     Letters,
     /// The signs of an arrow.
@@ -27,12 +27,12 @@ enum Part {
 }
 
 /// Returns the kind of word that a character belongs to.
-fn part_of(character: u8) -> Part {
+fn kind_of(character: u8) -> WordKind {
     match character {
-        b'A'..=b'Z' | b'a'..=b'z' => Part::Letters,
-        b'<' | b'>' | b'=' | b'-' => Part::Signs,
-        128..=255 => Part::Wide,
-        _ => Part::Other,
+        b'A'..=b'Z' | b'a'..=b'z' => WordKind::Letters,
+        b'<' | b'>' | b'=' | b'-' => WordKind::Signs,
+        128..=255 => WordKind::Wide,
+        _ => WordKind::Other,
     }
 }
 
@@ -41,10 +41,10 @@ fn last_said(text: &[u8]) -> Option<Direction> {
     let mut said = None;
     let mut start = 0;
     'words: while start < text.len() {
-        let part = part_of(text[start]);
-        let end = word_end(text, start, part);
-        if part != Part::Other {
-            said = said_by(part, &text[start..end]).or(said);
+        let kind = kind_of(text[start]);
+        let end = word_end(text, start, kind);
+        if kind != WordKind::Other {
+            said = said_by(kind, &text[start..end]).or(said);
         }
         start = end;
     }
@@ -52,14 +52,14 @@ fn last_said(text: &[u8]) -> Option<Direction> {
 }
 
 /// Returns where the word that begins at a place of a text ends. Each arrow of one character is a word.
-fn word_end(text: &[u8], start: usize, part: Part) -> usize
+fn word_end(text: &[u8], start: usize, kind: WordKind) -> usize
     requires { start < length text.now }
     ensures forward { start < result }
     ensures within { result ≤ length text.now }
 {
     let mut end = start + 1;
-    'characters: while end < text.len() && part_of(text[end]) == part {
-        if part == Part::Wide && matches!(&text[start..end], [.., 0xe2, 0x86, 0x90 | 0x92]) {
+    'characters: while end < text.len() && kind_of(text[end]) == kind {
+        if kind == WordKind::Wide && matches!(&text[start..end], [.., 0xe2, 0x86, 0x90 | 0x92]) {
             return end;
         }
         end += 1;
@@ -68,13 +68,13 @@ fn word_end(text: &[u8], start: usize, part: Part) -> usize
 }
 
 /// Returns the direction that a word says. The arrows are U+2192 and U+2190.
-fn said_by(part: Part, word: &[u8]) -> Option<Direction> {
-    match (part, word) {
-        (Part::Letters, _) => direction_of_word(word),
-        (Part::Wide, [.., 0xe2, 0x86, 0x92]) => Some(Direction::Command),
-        (Part::Wide, [.., 0xe2, 0x86, 0x90]) => Some(Direction::Answer),
-        (Part::Signs, [.., b'>']) if !word.contains(&b'<') => Some(Direction::Command),
-        (Part::Signs, [b'<', ..]) if !word.contains(&b'>') => Some(Direction::Answer),
+fn said_by(kind: WordKind, word: &[u8]) -> Option<Direction> {
+    match (kind, word) {
+        (WordKind::Letters, _) => direction_of_word(word),
+        (WordKind::Wide, [.., 0xe2, 0x86, 0x92]) => Some(Direction::Command),
+        (WordKind::Wide, [.., 0xe2, 0x86, 0x90]) => Some(Direction::Answer),
+        (WordKind::Signs, [.., b'>']) if !word.contains(&b'<') => Some(Direction::Command),
+        (WordKind::Signs, [b'<', ..]) if !word.contains(&b'>') => Some(Direction::Answer),
         _ => None,
     }
 }

@@ -5,4 +5,4 @@ use Rattle.fio_c.proofs.parts.are_named.Given as goal
 
 -- whether each part that the loop has gone through can be named
 abbrev pub invariant-loop-part : goal.invariant-loop-part
-invariant-loop-part g l = l.named ≡ list_all (λ part. can_be_named (g.T.Part.named part)) (take l.part-index l.parts)
+invariant-loop-part g l = l.named ≡ list_all (λ part. can_be_named (g.T.FlatPart.named part)) (take l.part-index l.parts)

@@ -8,7 +8,7 @@ loop-part-preserved g c =
     let loop = c.loop-part in
     record {
       counted = omega arith;
-      written = part-more g.T.Part.spelled g.T.Part.three c.args.from loop.place loop.part-index c.args.parts.now c.part-item.result
+      written = part-more g.T.FlatPart.spelled g.T.FlatPart.three c.args.from loop.place loop.part-index c.args.parts.now c.part-item.result
           c.args.out.now loop.out c.write_at.new.out loop.invariant.counted c.loop-part-test.true c.requires.room loop.invariant.written
-          (c.write_at.ensures ∙ ap (λ octets. buffer_with loop.place octets loop.out) (c.octets.ensures ∙ ap g.T.Part.spelled c.part-item.is));
+          (c.write_at.ensures ∙ ap (λ octets. buffer_with loop.place octets loop.out) (c.octets.ensures ∙ ap g.T.FlatPart.spelled c.part-item.is));
     }

@@ -7,5 +7,5 @@ use Rattle.fio_c.proofs.parts.write_parts.Given as goal
 abbrev pub invariant-loop-part : goal.invariant-loop-part
 invariant-loop-part g l = record {
   counted : l.place ≡ l.from + 3 * l.part-index;
-  written : l.out ≡ buffer_with l.from (flat_map g.T.Part.spelled (take l.part-index l.parts)) l.initial.out;
+  written : l.out ≡ buffer_with l.from (flat_map g.T.FlatPart.spelled (take l.part-index l.parts)) l.initial.out;
 }

@@ -8,20 +8,20 @@ use Rattle.fio_c.proofs.parts.write_with_parts.Goals as goal
 pub returns-else-length-out : goal.returns-else-length-out
 returns-else-length-out g c =
     let before = c.args.before.now in
-    let body = flat_map g.T.Part.spelled c.args.parts.now in
+    let body = flat_map g.T.FlatPart.spelled c.args.parts.now in
     let after = c.args.after.now in
     let count = length before + 3 * length c.args.parts.now + length after in
     let long : length (before ++ (body ++ after)) ≡ count =
-    omega (arith, length-append before (body ++ after), length-append body after, length-spelled g.T.Part.spelled g.T.Part.three c.args.parts.now) in
+    omega (arith, length-append before (body ++ after), length-append body after, length-spelled g.T.FlatPart.spelled g.T.FlatPart.three c.args.parts.now) in
     writes-none (before ++ (body ++ after)) c.args.out.now count long (omega (arith, c.if-length-out.false))
 
 pub returns-then-length-out : goal.returns-then-length-out
 returns-then-length-out g c =
     let before = c.args.before.now in
-    let body = flat_map g.T.Part.spelled c.args.parts.now in
+    let body = flat_map g.T.FlatPart.spelled c.args.parts.now in
     let after = c.args.after.now in
     let inner = length before + 3 * length c.args.parts.now in
-    let three = length-spelled g.T.Part.spelled g.T.Part.three c.args.parts.now in
+    let three = length-spelled g.T.FlatPart.spelled g.T.FlatPart.three c.args.parts.now in
     let long : length (before ++ (body ++ after)) ≡ inner + length after =
     omega (arith, length-append before (body ++ after), length-append body after) in
     let with_body : c.write_parts.new.out ≡ buffer_with 0 (before ++ body) c.args.out.now =
