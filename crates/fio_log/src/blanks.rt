@@ -3,7 +3,7 @@ ghost use Rattle.std.specs.Prelude.{◌≡◌, ◌+◌, ◌++◌, ◌&&◌, ◌<
 ghost use Rattle.fio_log.specs.Blanks.{are_blanks, begin_with, without};
 ghost use Rattle.fio_log.specs.declared.blanks.TheConstants.{BLANKS};
 
-use crate::judge::Line;
+use crate::judge::NumberedLine;
 use crate::judge::slots::ENTRIES;
 use arrayvec::ArrayVec;
 
@@ -54,7 +54,7 @@ impl Blanks {
     }
 
     /// Appends a line if it is blank.
-    pub(crate) fn note(&mut self, line: Line)
+    pub(crate) fn note(&mut self, line: NumberedLine)
         requires { length self.old.lines.items < BLANKS }
         ensures { self.new.lines.items ≡ self.old.lines.items ++ (if not line.entry.is_long && are_blanks line.entry.text.now
             then line.entry.number ∷ [] else []) }

@@ -48,7 +48,7 @@ use crate::wordings::{reason_beside_octets, reason_without_octets};
 
 /// A line that is read.
 #[derive(Clone, Copy)]
-pub(crate) struct Line<'a> {
+pub(crate) struct NumberedLine<'a> {
     /// The line's number.
     pub number: u64,
     /// The line's characters.
@@ -57,7 +57,7 @@ pub(crate) struct Line<'a> {
     pub is_long: bool,
 }
 
-impl Line<'_> {
+impl NumberedLine<'_> {
     /// Returns whether the line has nothing but blanks.
     pub(crate) fn is_blank(self) -> bool
         ensures { result ≡ (not self.entry.is_long && are_blanks self.entry.text.now) }
@@ -126,7 +126,7 @@ impl Judge {
     }
 
     /// Reads a line as a continuation of the open lines, and returns whether it is one. If not, these are closed.
-    pub(crate) fn goes_on(&mut self, line: Line, runs: &LineRuns) -> bool
+    pub(crate) fn goes_on(&mut self, line: NumberedLine, runs: &LineRuns) -> bool
         ensures { (log : Log) → IsJudgeOf log self.old → line.entry.text.now ≡ log line.entry.number
             → All (IsLineRun (log line.entry.number)) runs.now.all.items → IsJudgeOf log self.new }
     {
@@ -147,7 +147,7 @@ impl Judge {
     }
 
     /// Reads a line as a continuation of the open lines, if it is the next line.
-    fn join_line(&mut self, line: Line, runs: &LineRuns) -> Going
+    fn join_line(&mut self, line: NumberedLine, runs: &LineRuns) -> Going
         ensures { (log : Log) → IsJudgeOf log self.old → line.entry.text.now ≡ log line.entry.number
             → All (IsLineRun (log line.entry.number)) runs.now.all.items → IsJudgeOf log self.new }
     {
@@ -165,7 +165,7 @@ impl Judge {
     }
 
     /// Reads the next line as a row of the open lines. A blank line ends the rows.
-    fn join_row(&mut self, line: Line, runs: &LineRuns) -> Going
+    fn join_row(&mut self, line: NumberedLine, runs: &LineRuns) -> Going
         requires { line.number ≡ self.old.join.lines.from + length self.old.join.lines.rows.items }
         ensures { (log : Log) → IsJudgeOf log self.old → line.entry.text.now ≡ log line.entry.number
             → All (IsLineRun (log line.entry.number)) runs.now.all.items → IsJudgeOf log self.new }
@@ -185,7 +185,7 @@ impl Judge {
     }
 
     /// Reads a line that does not continue those above it.
-    pub(crate) fn begin(&mut self, line: Line, runs: &LineRuns)
+    pub(crate) fn begin(&mut self, line: NumberedLine, runs: &LineRuns)
         ensures written { (log : Log) → IsJudgeOf log self.old → line.entry.text.now ≡ log line.entry.number
             → All (IsLineRun (log line.entry.number)) runs.now.all.items → IsJudgeOf log self.new }
         ensures given { self.old.decider.queue.count < ENTRIES
@@ -231,7 +231,7 @@ impl Judge {
     }
 
     /// Puts the entry of a line in the next slot.
-    fn put(&mut self, slot: Slot, line: Line, time: Option<u64>, runs: &LineRuns)
+    fn put(&mut self, slot: Slot, line: NumberedLine, time: Option<u64>, runs: &LineRuns)
         ensures written { (log : Log) → IsJudgeOf log self.old → line.entry.text.now ≡ log line.entry.number → IsJudgeOf log self.new }
         ensures line { IsOfLine self.new.entries slot line.entry.number }
     {
@@ -279,7 +279,7 @@ impl Judge {
     }
 
     /// Returns whether the next line may continue this one; if so, begins with it.
-    fn opens(&mut self, line: Line, runs: &LineRuns) -> bool
+    fn opens(&mut self, line: NumberedLine, runs: &LineRuns) -> bool
         ensures written { (log : Log) → IsJudgeOf log self.old → line.entry.text.now ≡ log line.entry.number
             → All (IsLineRun (log line.entry.number)) runs.now.all.items → IsJudgeOf log self.new }
         ensures entries { self.new.entries ≡ self.old.entries }
@@ -297,7 +297,7 @@ impl Judge {
 
     /// Begins with the first row of a dump, unless the line is known to be none. Returns whether the row has octets; `None` if
     /// the line is not such a row.
-    fn begin_dump(&mut self, line: Line, runs: &LineRuns) -> Option<bool>
+    fn begin_dump(&mut self, line: NumberedLine, runs: &LineRuns) -> Option<bool>
         ensures written { (log : Log) → IsJudgeOf log self.old → line.entry.text.now ≡ log line.entry.number
             → IsJudgeOf log self.new }
         ensures entries { self.new.entries ≡ self.old.entries }

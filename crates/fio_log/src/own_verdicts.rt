@@ -6,7 +6,7 @@ ghost use Rattle.fio_log.specs.Sayings.{spells};
 ghost use Rattle.fio_log.specs.Verdicts.{AreAgreed, AreOfLine};
 
 use crate::directions::Direction;
-use crate::judge::Line;
+use crate::judge::NumberedLine;
 use crate::judge::tell::Frames;
 use crate::messages::Message;
 use crate::own_texts::{OwnForm, OwnLine, read_own_line};
@@ -40,7 +40,7 @@ impl OwnForm {
 
 impl Frames {
     /// Returns the verdict on a line of an own text, and takes its frame.
-    pub(crate) fn tell_own(&mut self, form: OwnForm, line: Line) -> Verdict
+    pub(crate) fn tell_own(&mut self, form: OwnForm, line: NumberedLine) -> Verdict
         ensures own { IsOwnVerdict form (record { octets = line.entry.text.now; is_long = line.entry.is_long }) result.kind result.reason
             (map octets_in self.new.messages.items) }
         ensures agreed { AreAgreed line.entry.number result.kind result.reason (map octets_in self.new.messages.items) self.new.places.items }
@@ -70,7 +70,7 @@ impl Frames {
     }
 
     /// Takes the frame of a line.
-    fn take_own(&mut self, form: OwnForm, line: Line, octets: &[u8])
+    fn take_own(&mut self, form: OwnForm, line: NumberedLine, octets: &[u8])
         requires none { self.old.messages.items ≡ [] }
         requires unplaced { self.old.places.items ≡ [] }
         requires spelled { spells octets.now ≡ true }

@@ -19,7 +19,7 @@ use crate::blanks::Blanks;
 use crate::chains::CHAIN_OCTETS;
 use crate::judge::slots::ENTRIES;
 use crate::judge::tell::Frames;
-use crate::judge::{Judge, Line};
+use crate::judge::{Judge, NumberedLine};
 use crate::line_run::LineRuns;
 use crate::line_runs::read_line;
 use crate::lines::LineMaker;
@@ -514,12 +514,12 @@ impl Reader {
 }
 
 /// Returns the line that is made, with its number.
-fn last_line(maker: &LineMaker, number: u64) -> Line<'_>
+fn last_line(maker: &LineMaker, number: u64) -> NumberedLine<'_>
     ensures number { result.number ≡ number }
     ensures text { result.text.now ≡ maker.now.text.octets }
     ensures long { result.is_long ≡ maker.now.text.is_long }
 {
-    Line {
+    NumberedLine {
         number,
         text: maker.octets(),
         is_long: maker.is_long(),
@@ -527,7 +527,7 @@ fn last_line(maker: &LineMaker, number: u64) -> Line<'_>
 }
 
 /// Finds the runs of a line; none in a line that is too long.
-fn read_runs(line: Line, patterns: &mut Patterns, runs: &mut LineRuns)
+fn read_runs(line: NumberedLine, patterns: &mut Patterns, runs: &mut LineRuns)
     ensures { All (IsLineRun line.entry.text.now) runs.new.all.items }
 {
     if line.is_long {

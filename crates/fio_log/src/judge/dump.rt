@@ -4,7 +4,7 @@ ghost use Rattle.fio_log.specs.Frames.{AreJoined, Log};
 ghost use Rattle.fio_log.specs.Runs.{AreWords};
 
 use crate::around::Around;
-use crate::judge::Line;
+use crate::judge::NumberedLine;
 use crate::judge::join::{Going, Join, Joining};
 use crate::octets::Octets;
 use crate::offsets::{OffsetRow, offset_row};
@@ -17,7 +17,7 @@ const DUMP: u64 = 0x9e37_79b9_7f4a_7c15;
 impl Join {
     /// Begins with the first row of a dump. Returns whether the row has octets; `None` if the line is not
     /// such a row.
-    pub(crate) fn begin_dump(&mut self, line: Line) -> Option<bool>
+    pub(crate) fn begin_dump(&mut self, line: NumberedLine) -> Option<bool>
         ensures { (log : Log) → AreJoined log self.old.lines → line.entry.text.now ≡ log line.entry.number
             → AreJoined log self.new.lines }
     {

@@ -6,7 +6,7 @@ ghost use Rattle.fio_log.specs.Frames.{AreJoined, Log};
 ghost use Rattle.fio_log.specs.LineRuns.{IsLineRun};
 
 use crate::around::Around;
-use crate::judge::Line;
+use crate::judge::NumberedLine;
 use crate::judge::joined::Joined;
 use crate::judge::open::{is_all_of_line, is_octet_row, last_run, says_longer};
 use crate::judge::shapes::Shapes;
@@ -100,7 +100,7 @@ impl Join {
     pub(crate) fn begin(
         &mut self,
         joining: Joining,
-        line: Line,
+        line: NumberedLine,
         run: &LineRun,
         time: Option<u64>,
     ) -> bool
