@@ -8,7 +8,7 @@ use Rattle.fio_log.specs.Wordings.{SaysWords}
 use Rattle.fio_log.specs.declared.judge.joined.Joined.{Joined}
 use Rattle.fio_log.specs.declared.judge.joined.Row.{Row}
 use Rattle.fio_log.specs.declared.judge.entries.Entries.{Entries}
-use Rattle.fio_log.specs.declared.judge.entries.Entry.{Entry}
+use Rattle.fio_log.specs.declared.judge.entries.LogEntry.{LogEntry}
 use Rattle.fio_log.specs.declared.judge.Judge.{Judge}
 use Rattle.fio_log.specs.declared.judge.message_run.MessageRun.{MessageRun}
 use Rattle.fio_log.specs.declared.messages.Message.{Message}
@@ -83,7 +83,7 @@ IsRunOf log from rows run = AreFramesAt log (message_of run ∷ []) (run_places 
 
 -- What an entry keeps of a log is right: its messages are written where its runs are, and its first line says what the entry
 -- keeps of its words.
-pub record IsEntryOf (log : Log) (entry : Entry) : Type 0 where
+pub record IsEntryOf (log : Log) (entry : LogEntry) : Type 0 where
   pub written : All (IsRunOf log entry.from entry.rows.items) entry.runs.items
   pub words : SaysWords (log entry.from) entry.wording
 

@@ -4,7 +4,7 @@ use Rattle.std.specs.List.{All, Any}
 use Rattle.fio_log.specs.Frames.{message_of}
 use Rattle.fio_log.specs.Sayings.{message_said}
 use Rattle.fio_log.specs.declared.judge.entries.Entries.{Entries}
-use Rattle.fio_log.specs.declared.judge.entries.Entry.{Entry}
+use Rattle.fio_log.specs.declared.judge.entries.LogEntry.{LogEntry}
 use Rattle.fio_log.specs.declared.judge.entries.TheConstants.{ENTRY_RUNS}
 use Rattle.fio_log.specs.declared.judge.message_run.MessageRun.{MessageRun}
 use Rattle.fio_log.specs.declared.judge.slots.Slot.{Slot}
@@ -24,19 +24,19 @@ AreWith runs run after =
     (after ≡ runs ++ run ∷ []) ⊎ ((after ≡ runs) × (Any (IsSame run) runs ⊎ (ENTRY_RUNS ≤ length runs)))
 
 -- the entry in a slot
-abbrev pub entry_in : Entries → Slot → Entry → Entry
+abbrev pub entry_in : Entries → Slot → LogEntry → LogEntry
 entry_in entries slot none = slice_index_or entries.slots.all.items slot.index none
 
 -- A run of a line is given to the entry in a slot, if that is of the line alone.
 abbrev pub IsKeptIn : Entries → Slot → ℕ → MessageRun → Entries → Type 0
 IsKeptIn before slot line run after =
-    (none : Entry) → (entry_in before slot none).from ≡ line → (entry_in before slot none).rows.items ≡ []
+    (none : LogEntry) → (entry_in before slot none).from ≡ line → (entry_in before slot none).rows.items ≡ []
     → AreWith (entry_in before slot none).runs.items run (entry_in after slot none).runs.items
 
 -- the entry in a slot is of a line alone
 abbrev pub IsOfLine : Entries → Slot → ℕ → Type 0
 IsOfLine entries slot line =
-    (none : Entry) → ((entry_in entries slot none).from ≡ line) × ((entry_in entries slot none).rows.items ≡ [])
+    (none : LogEntry) → ((entry_in entries slot none).from ≡ line) × ((entry_in entries slot none).rows.items ≡ [])
 
 -- some runs say a message in a shape, or there is no room for more
 abbrev pub HaveMessage : List MessageRun → List ℕ → ℕ → Type 0
@@ -45,7 +45,7 @@ HaveMessage runs octets shape =
 
 -- the runs of the entry in a slot say a message in a shape, or there is no room for more
 abbrev pub HasMessage : Entries → Slot → List ℕ → ℕ → Type 0
-HasMessage entries slot octets shape = (none : Entry) → HaveMessage (entry_in entries slot none).runs.items octets shape
+HasMessage entries slot octets shape = (none : LogEntry) → HaveMessage (entry_in entries slot none).runs.items octets shape
 
 -- The entry in a slot stays an entry of this line alone, and keeps the messages that it has.
 pub record KeepsMessages (before : Entries) (slot : Slot) (number : ℕ) (after : Entries) : Type 0 where

@@ -1,7 +1,7 @@
 //! Lines that may have held a frame and gave none.
 use crate::judge::decide::Decider;
 use crate::judge::decision::State;
-use crate::judge::entries::{Entries, Entry};
+use crate::judge::entries::{Entries, LogEntry};
 use crate::judge::message_run::MessageRun;
 use crate::judge::slots::Slot;
 use crate::verdict::{Kind, Reason};
@@ -35,7 +35,7 @@ impl Decider {
     }
 
     /// Returns whether an entry says a message that is written as the frames of the log are, and is not strange.
-    fn says_in_style(&self, entry: &Entry) -> bool {
+    fn says_in_style(&self, entry: &LogEntry) -> bool {
         let shapes = &self.shapes;
         for run in entry.runs.as_slice() {
             if !self.is_strange(run)

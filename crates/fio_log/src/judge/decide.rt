@@ -1,7 +1,7 @@
 //! Decisions of the judge: which entries are frames, and which are skipped.
 use crate::around::Around;
 use crate::judge::decision::State;
-use crate::judge::entries::{Entries, Entry};
+use crate::judge::entries::{Entries, LogEntry};
 use crate::judge::pair::Above;
 use crate::judge::queue::Queue;
 use crate::judge::shapes::Shapes;
@@ -147,7 +147,7 @@ impl Decider {
 
     /// Returns whether an entry is decided at once: its only run is right by itself, the entry above does not wait for it, and
     /// there is nothing to learn from it. Then it makes no difference whether it pairs with the entry above.
-    fn is_usual(&self, entry: &Entry, slot: Slot) -> bool {
+    fn is_usual(&self, entry: &LogEntry, slot: Slot) -> bool {
         let [run] = entry.runs.as_slice() else {
             return false;
         };
@@ -159,7 +159,7 @@ impl Decider {
     }
 
     /// Takes the only run of an entry from which there is nothing to learn.
-    fn take_usual(&mut self, entry: &Entry, slot: Slot) {
+    fn take_usual(&mut self, entry: &LogEntry, slot: Slot) {
         self.settle(slot, State::Taken(0));
         self.count = self.count.saturating_add(1);
         for run in entry.runs.as_slice() {
@@ -198,7 +198,7 @@ impl Decider {
     }
 
     /// Counts a line that says a message, for the front of each run that says one.
-    fn tally_runs(&mut self, entry: &Entry) {
+    fn tally_runs(&mut self, entry: &LogEntry) {
         let runs = entry.runs.as_slice();
         for (index, run) in runs.iter().enumerate() {
             let is_first = !runs.iter().take(index).any(|other| other.is_long
@@ -227,7 +227,7 @@ impl Decider {
     }
 
     /// Judges an entry that waits.
-    fn judge_one(&mut self, entry: &Entry, slot: Slot) {
+    fn judge_one(&mut self, entry: &LogEntry, slot: Slot) {
         let decision = self.queue.get_mut(slot);
         if !decision.is_waiting() {
             return;
@@ -239,7 +239,7 @@ impl Decider {
     }
 
     /// Counts the frame of an entry, and learns the shapes of the sure runs that say it.
-    pub(crate) fn take(&mut self, entry: &Entry, slot: Slot) {
+    pub(crate) fn take(&mut self, entry: &LogEntry, slot: Slot) {
         self.count = self.count.saturating_add(1);
         let decision = self.queue.get(slot);
         for (index, run) in entry.runs.as_slice().iter().enumerate() {
@@ -262,7 +262,7 @@ impl Decider {
     }
 
     /// Skips an entry.
-    pub(crate) fn pass_over(&mut self, entry: &Entry, slot: Slot) {
+    pub(crate) fn pass_over(&mut self, entry: &LogEntry, slot: Slot) {
         let (kind, reason) = if entry.possible().is_some() {
             (Kind::Possible, Reason::ShortMessage)
         } else if !entry.runs.is_empty() {

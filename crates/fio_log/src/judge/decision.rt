@@ -3,7 +3,7 @@ ghost use Rattle.std.specs.Prelude.{◌≡◌, ◌↔◌, true};
 ghost use Rattle.fio_log.specs.declared.verdict.Kind.TheVariants.{Blank};
 
 use crate::around::Around;
-use crate::judge::entries::{ENTRY_RUNS, Entry};
+use crate::judge::entries::{ENTRY_RUNS, LogEntry};
 use crate::judge::shapes::Shapes;
 use crate::verdict::{Kind, Reason};
 
@@ -72,7 +72,7 @@ impl Decision {
     }
 
     /// Returns whether a run of the entry is sure, by itself or by other lines.
-    pub(crate) fn is_sure(&self, entry: &Entry, index: usize) -> bool {
+    pub(crate) fn is_sure(&self, entry: &LogEntry, index: usize) -> bool {
         self.sure.get(index).is_some_and(|is_sure| *is_sure)
             || entry
                 .runs
@@ -82,7 +82,7 @@ impl Decision {
     }
 
     /// Marks as sure the runs of the entry that say the same as one of them.
-    pub(crate) fn make_sure(&mut self, entry: &Entry, run: usize) {
+    pub(crate) fn make_sure(&mut self, entry: &LogEntry, run: usize) {
         for index in 0..ENTRY_RUNS {
             self.sure[index] |= entry.are_same(index, run);
         }
@@ -104,7 +104,7 @@ impl Decision {
     }
 
     /// Returns whether the message of a run is one of the frames of the entry.
-    pub(crate) fn is_of_frame(&self, entry: &Entry, run: usize) -> bool {
+    pub(crate) fn is_of_frame(&self, entry: &LogEntry, run: usize) -> bool {
         match self.state {
             State::Taken(index) => entry.are_same(index, run),
             State::Both(command, answer) => {
@@ -115,7 +115,7 @@ impl Decision {
     }
 
     /// Returns what the runs of the entry that are right say together, or those of them that are known.
-    fn only(&self, entry: &Entry, shapes: &Shapes, are_known: bool) -> Only {
+    fn only(&self, entry: &LogEntry, shapes: &Shapes, are_known: bool) -> Only {
         let mut only = Only::None;
         for (index, run) in entry.runs.as_slice().iter().enumerate() {
             let is_right = if are_known {
@@ -136,7 +136,7 @@ impl Decision {
     }
 
     /// Takes the one message that sure runs of the entry say, or runs of a known shape; or a command and its answer.
-    pub(crate) fn judge(&mut self, entry: &Entry, shapes: &Shapes) {
+    pub(crate) fn judge(&mut self, entry: &LogEntry, shapes: &Shapes) {
         if let Some((command, answer)) = entry.only_pair() {
             self.state = State::Both(command, answer);
             return;

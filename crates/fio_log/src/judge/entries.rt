@@ -20,7 +20,7 @@ pub(crate) const ENTRY_ROWS: usize = 98;
 
 /// Lines that have one decision. What is read of them does not change until the verdict of the entry is returned.
 #[derive(Debug, Drop)]
-pub(crate) struct Entry {
+pub(crate) struct LogEntry {
     /// The entry's first line.
     pub from: u64,
     /// The entry's time, in microseconds.
@@ -34,14 +34,14 @@ pub(crate) struct Entry {
     pub rows: ArrayVec<Row, ENTRY_ROWS>,
 }
 
-impl Default for Entry {
+impl Default for LogEntry {
     ghost use Rattle.std.specs.Prelude.{◌≡◌, []};
     ghost use Rattle.fio_log.specs.declared.verdict.Reason.TheVariants as reasons;
 
     ghost is_default = { λ entry. (entry.runs.items ≡ []) × (entry.wording ≡ reasons.None) };
 
-    fn default() -> Entry {
-        Entry {
+    fn default() -> LogEntry {
+        LogEntry {
             from: 0,
             time: None,
             wording: Reason::None,
@@ -51,7 +51,7 @@ impl Default for Entry {
     }
 }
 
-impl Entry {
+impl LogEntry {
     /// Begins an entry of one line, which has no runs yet. `wording` is why the line gives no frame, by its words.
     fn begin(&mut self, line: u64, time: Option<u64>, wording: Reason)
         ensures words { (log : Log) → SaysWords (log line) wording → IsEntryOf log self.new }
@@ -226,7 +226,7 @@ pub(crate) fn say_same(runs: &[MessageRun], one: usize, other: usize) -> bool {
 /// The entries of a log that are kept, each in its slot.
 #[derive(Drop)]
 pub(crate) struct Entries {
-    slots: Slots<Entry>,
+    slots: Slots<LogEntry>,
 }
 
 impl Entries {
@@ -247,7 +247,7 @@ impl Entries {
     }
 
     /// Returns the entry in a slot.
-    pub(crate) fn get(&self, slot: Slot) -> &Entry
+    pub(crate) fn get(&self, slot: Slot) -> &LogEntry
         ensures { (log : Log) → AreEntriesOf log self.now → IsEntryOf log result.now }
     {
         &self.slots.all.as_slice()[slot.index()]

@@ -10,7 +10,7 @@ ghost use Rattle.fio_log.specs.declared.verdict.Kind.TheVariants.{Blank};
 use crate::directions::Direction;
 use crate::judge::Judge;
 use crate::judge::decision::{Decision, State};
-use crate::judge::entries::{ENTRY_ROWS, Entry};
+use crate::judge::entries::{ENTRY_ROWS, LogEntry};
 use crate::judge::joined::Joined;
 use crate::judge::message_run::MessageRun;
 use crate::judge::slots::Slot;
@@ -117,7 +117,7 @@ impl Frames {
     }
 
     /// Takes the messages of an entry, if a line of this kind gives them.
-    fn fill(&mut self, entry: &Entry, kind: Kind, state: State)
+    fn fill(&mut self, entry: &LogEntry, kind: Kind, state: State)
         ensures { (log : Log) → AreFramesOf log self.old → IsEntryOf log entry.now → AreFramesOf log self.new }
     {
         if !gives_octets(kind) {
@@ -140,7 +140,7 @@ impl Frames {
     }
 
     /// Takes the message of a run of an entry, and its places. If there is no room, no frame is kept.
-    fn add(&mut self, entry: &Entry, index: usize)
+    fn add(&mut self, entry: &LogEntry, index: usize)
         ensures { (log : Log) → AreFramesOf log self.old → IsEntryOf log entry.now → AreFramesOf log self.new }
     {
         let Some(run) = entry.runs.as_slice().get(index) else {
@@ -161,7 +161,7 @@ impl Frames {
     }
 
     /// Appends the places of a run of an entry, and returns whether there was room.
-    fn add_places(&mut self, entry: &Entry, run: &MessageRun) -> bool
+    fn add_places(&mut self, entry: &LogEntry, run: &MessageRun) -> bool
         ensures messages { self.new.messages ≡ self.old.messages }
         ensures more { result ≡ true → self.new.places.items
             ≡ self.old.places.items ++ run_places entry.now.from entry.now.rows.items run.now }
@@ -264,7 +264,7 @@ impl Judge {
     }
 
     /// Returns the direction that the line of an entry says, if octets of a message are written in it.
-    fn said(&self, entry: &Entry, kind: Kind, state: State) -> Option<Direction> {
+    fn said(&self, entry: &LogEntry, kind: Kind, state: State) -> Option<Direction> {
         if !gives_octets(kind) {
             return None;
         }

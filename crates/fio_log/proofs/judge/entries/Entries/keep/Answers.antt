@@ -3,7 +3,7 @@ use Rattle.std.proofs.lemmas.List.{get_or-set_same, get_or_default}
 use Rattle.std.proofs.lemmas.List.Elements.{All-set}
 use Rattle.std.specs.List.{All, refill}
 use Rattle.fio_log.specs.Frames.{IsEntryOf}
-use Rattle.fio_log.specs.declared.judge.entries.Entry.{Entry}
+use Rattle.fio_log.specs.declared.judge.entries.LogEntry.{LogEntry}
 use Rattle.fio_log.proofs.SlotLemmas.{refill_whole, refilled}
 use Rattle.fio_log.proofs.judge.entries.Entries.keep.Goals as goal
 
@@ -31,5 +31,5 @@ returns-clause-kept c = λ none from rows.
     (get_or_default old index c.index-as_mut_slice-index.result none inside) in
     let now : get_or (refill (length old) old kept) index none ≡ new =
     rw (refill_whole old kept long, c.index.ensures.same) (get_or-set_same slice index new none within) in
-    let with-run = c.keep_of_line.ensures.kept (ap (λ (e : Entry). e.from) was ∙ from) (ap (λ (e : Entry). e.rows.items) was ∙ rows) in
+    let with-run = c.keep_of_line.ensures.kept (ap (λ (e : LogEntry). e.from) was ∙ from) (ap (λ (e : LogEntry). e.rows.items) was ∙ rows) in
     rw (now, ← was) with-run

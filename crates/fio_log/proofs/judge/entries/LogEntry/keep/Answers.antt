@@ -1,5 +1,5 @@
 use Rattle.std.proofs.Common.{◌≡◌, ◌<◌, length, get_or, refl, sym, inl, inr}
-use Rattle.fio_log.proofs.judge.entries.Entry.keep.Goals as goal
+use Rattle.fio_log.proofs.judge.entries.LogEntry.keep.Goals as goal
 
 pub returns-then-is_same-clause-kept : goal.returns-then-is_same-clause-kept
 returns-then-is_same-clause-kept c =

@@ -1,6 +1,6 @@
 use Rattle.std.proofs.Common.{rules, ◌≡◌, [], eqb-true}
 use Rattle.std.proofs.lemmas.List.{nil_from_length}
-use Rattle.fio_log.proofs.judge.entries.Entry.keep_of_line.Goals as goal
+use Rattle.fio_log.proofs.judge.entries.LogEntry.keep_of_line.Goals as goal
 
 pub returns-then-is_empty-clause-written : goal.returns-then-is_empty-clause-written
 returns-then-is_empty-clause-written c = λ log entry run.
