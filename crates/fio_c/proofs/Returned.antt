@@ -11,7 +11,7 @@ use Rattle.fio_log.specs.Wordings.{SaysWords}
 use Rattle.fio_log.specs.Telling.{HasTaken, HasTold, IsLineOf, IsReaderOf, Telling, frames_of, places_of}
 use Rattle.fio_log.specs.declared.own_texts.OwnForm.{OwnForm}
 use Rattle.fio_log.specs.declared.verdict.Form.TheVariants.{Auto}
-use Rattle.fio_log.specs.declared.verdict.Verdict.{Verdict}
+use Rattle.fio_log.specs.declared.verdict.LineVerdict.{LineVerdict}
 use Rattle.fio_c.specs.Logs.{AreNext, HasNoneDue, HasReadOn, HasRoomFirst, HasTakenAll, HasVerdicts, Holds, content_of, flat_told, has_room}
 use Rattle.fio_c.specs.Told.{AreLinesAfter, HasReadOf, IsTextOf, IsVerdictOf, Returns, ReturnsAll, Texts, Told, log_of, told_by}
 use Rattle.fio_c.specs.declared.log_batch.LogBatch.{LogBatch}
@@ -41,7 +41,7 @@ line_read texts before after text kept has = record {
 }
 
 -- a verdict that a reader of a log returns is of that log
-pub verdict_of : (texts : Texts) (before after : Telling) (verdict : Verdict) → HasTold before verdict after
+pub verdict_of : (texts : Texts) (before after : Telling) (verdict : LineVerdict) → HasTold before verdict after
     → ((log : Log) → IsReaderOf log before → IsReaderOf log after)
     → ((log : Log) → IsReaderOf log before → before.form ≡ Auto → AreFramesAt log (frames_of after) (places_of after))
     → ((log : Log) → IsReaderOf log before → before.form ≡ Auto → SaysWords (log verdict.line) verdict.reason)
@@ -75,7 +75,7 @@ returns_none first [] before after same none = same ∙ none
 returns_none first (next ∷ told) before after same (above, below, is, here, rest) = (above, below, is, here, returns_none below told before after same rest)
 
 -- a batch with a verdict more
-pub verdict_more : (first : Telling) (whole : List Text) (before after : Telling) (verdict : Verdict) (batch with : LogBatch)
+pub verdict_more : (first : Telling) (whole : List Text) (before after : Telling) (verdict : LineVerdict) (batch with : LogBatch)
     → HasTold before verdict after → All (λ frame. spells frame ≡ true) (frames_of after)
     → ((texts : Texts) → HasReadOf texts before → HasReadOf texts after × IsVerdictOf texts before.form (told_by verdict after))
     → ((told : List Told) → Holds batch (content_of told) → Holds with (content_of (told ++ told_by verdict after ∷ [])))

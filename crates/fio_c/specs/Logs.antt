@@ -13,7 +13,7 @@ use Rattle.fio_log.specs.declared.verdict.Kind.{Kind}
 use Rattle.fio_log.specs.declared.verdict.Kind.TheVariants as kinds
 use Rattle.fio_log.specs.declared.verdict.Reason.{Reason}
 use Rattle.fio_log.specs.declared.verdict.Reason.TheVariants as reasons
-use Rattle.fio_log.specs.declared.verdict.Verdict.{Verdict}
+use Rattle.fio_log.specs.declared.verdict.LineVerdict.{LineVerdict}
 use Rattle.fio_c.specs.Told.{AreLinesAfter, HasReadOf, IsTextOf, IsVerdictOf, ReturnsAll, Texts, Told}
 use Rattle.fio_c.specs.declared.log_batch.TheConstants.{LOG_OCTETS, LOG_VERDICTS, VERDICT_OCTETS}
 use Rattle.fio_c.specs.declared.log_batch.LogBatch.{LogBatch}
@@ -52,7 +52,7 @@ side_number (Some directions.Command) = 1
 side_number (Some directions.Answer) = 2
 
 -- a verdict as C sees it, with its numbers of frames and places
-abbrev pub flat_verdict : Verdict → ℕ → ℕ → LogVerdict
+abbrev pub flat_verdict : LineVerdict → ℕ → ℕ → LogVerdict
 flat_verdict verdict frames places = record {
   line = verdict.line;
   time = unwrap_or verdict.time 0;

@@ -11,16 +11,16 @@ use Rattle.fio_log.specs.declared.own_texts.OwnForm.{OwnForm}
 use Rattle.fio_log.specs.declared.places.Place.{Place}
 use Rattle.fio_log.specs.declared.verdict.Form.{Form}
 use Rattle.fio_log.specs.declared.verdict.Form.TheVariants.{Auto}
-use Rattle.fio_log.specs.declared.verdict.Verdict.{Verdict}
+use Rattle.fio_log.specs.declared.verdict.LineVerdict.{LineVerdict}
 
 -- what a reader returns of a line: its verdict, with its frames and their places
 pub record Told : Type 0 where
-  pub verdict : Verdict
+  pub verdict : LineVerdict
   pub frames : List (List ℕ)
   pub places : List Place
 
 -- a verdict with the frames and places that a reader then has
-abbrev pub told_by : Verdict → Telling → Told
+abbrev pub told_by : LineVerdict → Telling → Told
 told_by verdict telling =
     record { verdict = verdict; frames = frames_of telling; places = places_of telling }
 

@@ -9,7 +9,7 @@ ghost use Rattle.fio_c.specs.Logs.{Content, HasNoneDue, HasRoomFirst, HasVerdict
 ghost use Rattle.fio_c.specs.Told.{told_by};
 
 use crate::log_batch::{LOG_FRAMES, LOG_PLACES, LogBatch, LogPlace, LogVerdict};
-use fio_log::{Direction, Kind, Place, Reader, Reason, Verdict};
+use fio_log::{Direction, Kind, LineVerdict, Place, Reader, Reason};
 
 /// Puts the verdicts that are due into a batch, until it has no room for another one.
 pub(crate) fn fill(reader: &mut Reader, batch: &mut LogBatch)
@@ -30,7 +30,7 @@ pub(crate) fn fill(reader: &mut Reader, batch: &mut LogBatch)
 }
 
 /// Adds the verdict that a reader returned last, with its frames and places.
-fn add(verdict: &Verdict, reader: &Reader, batch: &mut LogBatch)
+fn add(verdict: &LineVerdict, reader: &Reader, batch: &mut LogBatch)
     requires room { has_room batch.old ≡ true }
     requires few { AreFew (frames_of reader.now) (places_of reader.now) }
     ensures told { (content : Content) → Holds batch.old content → Holds batch.new (record {
@@ -86,7 +86,7 @@ fn add_places(reader: &Reader, batch: &mut LogBatch) -> u32
 }
 
 /// Returns a verdict as C sees it.
-fn told_from(verdict: &Verdict, frames: u32, places: u32) -> LogVerdict
+fn told_from(verdict: &LineVerdict, frames: u32, places: u32) -> LogVerdict
     ensures { result ≡ flat_verdict verdict.now frames places }
 {
     LogVerdict {

@@ -15,7 +15,7 @@ use Rattle.fio_log.specs.declared.verdict.Kind.{Kind}
 use Rattle.fio_log.specs.declared.verdict.Kind.TheVariants as kinds
 use Rattle.fio_log.specs.declared.verdict.Reason.{Reason}
 use Rattle.fio_log.specs.declared.verdict.Reason.TheVariants as reasons
-use Rattle.fio_log.specs.declared.verdict.Verdict.{Verdict}
+use Rattle.fio_log.specs.declared.verdict.LineVerdict.{LineVerdict}
 
 -- the text whose lines are read by order
 abbrev pub own_form_of : Form → Option OwnForm
@@ -45,7 +45,7 @@ pub record IsOwnVerdict (form : OwnForm) (text : Text) (kind : Kind) (reason : R
   pub told : TellsOwn line text.is_long room kind reason frames
 
 -- The line that is made is whole, and what the reader will return of it is its verdict; the frames are not a chain.
-pub record IsToldByOrder (form : OwnForm) (line : ℕ) (making : Making) (told : Verdict) (frames : Frames) : Type 0 where
+pub record IsToldByOrder (form : OwnForm) (line : ℕ) (making : Making) (told : LineVerdict) (frames : Frames) : Type 0 where
   pub whole : is_whole making.ending ≡ true
   pub apart : frames.are_chain ≡ false
   pub agreed : AreAgreed line told.kind told.reason (map octets_in frames.messages.items) frames.places.items

@@ -14,7 +14,7 @@ use Rattle.fio_log.specs.declared.judge.tell.Frames.{Frames}
 use Rattle.fio_log.specs.declared.reader.TheConstants.{WAITING_LINES}
 use Rattle.fio_log.specs.declared.verdict.Form.{Form}
 use Rattle.fio_log.specs.declared.verdict.Form.TheVariants.{Auto}
-use Rattle.fio_log.specs.declared.verdict.Verdict.{Verdict}
+use Rattle.fio_log.specs.declared.verdict.LineVerdict.{LineVerdict}
 
 -- A reader: how it reads, the line that is being made, how many lines are read, how many verdicts are returned, whether the
 -- next one can be returned, and whether the log has ended; the frames of the last verdict, what is kept of the lines above,
@@ -88,7 +88,7 @@ pub record AreFew (told : List (List ℕ)) (written : List Place) : Type 0 where
   pub places : length written ≤ CHAIN_OCTETS
 
 -- A reader has returned the verdict of the next line.
-pub record HasTold (before : Telling) (verdict : Verdict) (after : Telling) : Type 0 where
+pub record HasTold (before : Telling) (verdict : LineVerdict) (after : Telling) : Type 0 where
   pub next : verdict.line ≡ before.told + 1
   pub told : after.told ≡ verdict.line
   pub within : after.told ≤ after.read

@@ -80,4 +80,4 @@ pub use places::{Notation, Place};
 pub use reader::Reader;
 pub use runs::{Run, Separator, next_run};
 pub use sayings::{Saying, read_saying};
-pub use verdict::{Form, Kind, Reason, Verdict};
+pub use verdict::{Form, Kind, LineVerdict, Reason};

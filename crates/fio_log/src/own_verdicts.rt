@@ -12,7 +12,7 @@ use crate::messages::Message;
 use crate::own_texts::{OwnForm, OwnLine, read_own_line};
 use crate::places::{Notation, Place};
 use crate::sides::said_at;
-use crate::verdict::{Form, Kind, Reason, Verdict};
+use crate::verdict::{Form, Kind, LineVerdict, Reason};
 use fio_message::FRAME_OCTETS;
 
 impl Form {
@@ -40,7 +40,7 @@ impl OwnForm {
 
 impl Frames {
     /// Returns the verdict on a line of an own text, and takes its frame.
-    pub(crate) fn tell_own(&mut self, form: OwnForm, line: NumberedLine) -> Verdict
+    pub(crate) fn tell_own(&mut self, form: OwnForm, line: NumberedLine) -> LineVerdict
         ensures own { IsOwnVerdict form (record { octets = line.entry.text.now; is_long = line.entry.is_long }) result.kind result.reason
             (map octets_in self.new.messages.items) }
         ensures agreed { AreAgreed line.entry.number result.kind result.reason (map octets_in self.new.messages.items) self.new.places.items }
@@ -53,10 +53,10 @@ impl Frames {
         let said = form.said(line.text);
         let mut room = [0; FRAME_OCTETS];
         match read_own_line(form, line.text, &mut room) {
-            OwnLine::Skipped => Verdict::of(line.number, Kind::Blank, Reason::None, said),
-            _ if line.is_long => Verdict::of(line.number, Kind::Damaged, Reason::TooLong, said),
-            OwnLine::Bad => Verdict::of(line.number, Kind::Damaged, Reason::BadLine, said),
-            OwnLine::Faulty { .. } => Verdict::of(
+            OwnLine::Skipped => LineVerdict::of(line.number, Kind::Blank, Reason::None, said),
+            _ if line.is_long => LineVerdict::of(line.number, Kind::Damaged, Reason::TooLong, said),
+            OwnLine::Bad => LineVerdict::of(line.number, Kind::Damaged, Reason::BadLine, said),
+            OwnLine::Faulty { .. } => LineVerdict::of(
                 line.number,
                 Kind::Damaged,
                 Reason::NoMessage,
@@ -64,7 +64,7 @@ impl Frames {
             ),
             OwnLine::Frame { count } => {
                 self.take_own(form, line, &room[..count]);
-                Verdict::of(line.number, Kind::Frames, Reason::None, said)
+                LineVerdict::of(line.number, Kind::Frames, Reason::None, said)
             }
         }
     }

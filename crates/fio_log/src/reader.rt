@@ -25,7 +25,7 @@ use crate::line_runs::read_line;
 use crate::lines::LineMaker;
 use crate::patterns::Patterns;
 use crate::places::Place;
-use crate::verdict::{Form, Kind, Reason, Verdict};
+use crate::verdict::{Form, Kind, LineVerdict, Reason};
 use std::marker::Model;
 
 /// The most lines that are read and still without a verdict when none can be fetched: the lines of all entries that are kept.
@@ -51,7 +51,7 @@ pub struct Reader {
     blanks: Blanks,
     form: Form,
     /// The verdict on the last line, if `form` names one of the program's own texts.
-    own: Verdict,
+    own: LineVerdict,
     read: u64,
     told: u64,
     /// Whether the last line is still to be read, after the verdicts that were ready at the end of the log are fetched.
@@ -119,7 +119,7 @@ impl Reader {
             frames: Frames::new(),
             blanks: Blanks::new(),
             form,
-            own: Verdict::of(0, Kind::Blank, Reason::None, None),
+            own: LineVerdict::of(0, Kind::Blank, Reason::None, None),
             read: 0,
             told: 0,
             is_unread: false,
@@ -145,7 +145,7 @@ impl Reader {
         self.judge.clear();
         self.frames.clear();
         self.blanks.clear();
-        self.own = Verdict::of(0, Kind::Blank, Reason::None, None);
+        self.own = LineVerdict::of(0, Kind::Blank, Reason::None, None);
         self.read = 0;
         self.told = 0;
         self.is_unread = false;
@@ -387,7 +387,7 @@ impl Reader {
 
     /// Returns the verdict on the next line; `None` if it depends on later octets, or if each line that is read has its
     /// verdict. After the end `None` means that each line of the log has one.
-    pub fn verdict(&mut self) -> Option<Verdict>
+    pub fn verdict(&mut self) -> Option<LineVerdict>
         ensures ready { self.old.is_ready ≡ true → IsSome result }
         ensures told { MatchOption result (HasNoMore self.old self.new) (λ verdict. HasTold self.old verdict self.new) }
         ensures all { self.old.is_ended ≡ true → result ≡ None → self.old.told ≡ self.old.read }
@@ -418,7 +418,7 @@ impl Reader {
                 || self.form != Form::Auto
                 || self.judge.is_decided(self.told + 1)
                 || are_many);
-        Some(Verdict {
+        Some(LineVerdict {
             line: self.told,
             frames,
             places,
@@ -427,7 +427,7 @@ impl Reader {
     }
 
     /// Returns the verdict of a line, and takes its frames.
-    fn tell_line(&mut self, line: u64) -> Verdict
+    fn tell_line(&mut self, line: u64) -> LineVerdict
         requires within { self.old.told < self.old.read }
         requires next { line ≡ self.old.told + 1 }
         ensures agreed { AreAgreed line result.kind result.reason (frames_of self.new) (places_of self.new) }
@@ -453,7 +453,7 @@ impl Reader {
     }
 
     /// Returns the verdict of a line that the judge has read, and takes its frames.
-    fn tell_judged(&mut self, line: u64) -> Verdict
+    fn tell_judged(&mut self, line: u64) -> LineVerdict
         requires { self.old.form ≡ Auto }
         ensures agreed { AreAgreed line result.kind result.reason (frames_of self.new) (places_of self.new) }
         ensures line { self.new.making ≡ self.old.making }
@@ -471,7 +471,7 @@ impl Reader {
     }
 
     /// Returns the verdict on the last line, a line of the program's own texts; its frames are taken.
-    fn tell_own(&self) -> Verdict
+    fn tell_own(&self) -> LineVerdict
         requires { self.now.told < self.now.read }
         ensures agreed { (own : OwnForm) → own_form_of self.now.form ≡ Some own → AreAgreed (self.now.told + 1)
             result.kind result.reason (frames_of self.now) (places_of self.now) }

@@ -63,7 +63,7 @@ pub enum Reason {
 
 /// What a reader says of a line.
 #[derive(Clone, Copy, Debug, PartialEq, Eq)]
-pub struct Verdict {
+pub struct LineVerdict {
     /// The number of the line, from 1.
     pub line: u64,
     /// What the line is.

@@ -16,7 +16,7 @@ use crate::judge::message_run::MessageRun;
 use crate::judge::slots::Slot;
 use crate::messages::Message;
 use crate::places::{Place, are_of_line};
-use crate::verdict::{Kind, Reason, Verdict};
+use crate::verdict::{Kind, LineVerdict, Reason};
 use arrayvec::ArrayVec;
 
 /// The most messages of a line that is not the first of a chain.
@@ -180,14 +180,14 @@ impl Frames {
     }
 }
 
-impl Verdict {
+impl LineVerdict {
     /// Returns a verdict on a line; its frames and places are still to be counted.
-    pub(crate) fn of(line: u64, kind: Kind, reason: Reason, said: Option<Direction>) -> Verdict
+    pub(crate) fn of(line: u64, kind: Kind, reason: Reason, said: Option<Direction>) -> LineVerdict
         ensures line { result.line ≡ line }
         ensures kind { result.kind ≡ kind }
         ensures reason { result.reason ≡ reason }
     {
-        Verdict {
+        LineVerdict {
             line,
             kind,
             reason,
@@ -220,7 +220,7 @@ impl Judge {
     }
 
     /// Returns the verdict on a line, and takes its messages. Removes the entries before it.
-    pub(crate) fn tell(&mut self, line: u64, is_blank: bool, frames: &mut Frames) -> Verdict
+    pub(crate) fn tell(&mut self, line: u64, is_blank: bool, frames: &mut Frames) -> LineVerdict
         ensures judge { (log : Log) → IsJudgeOf log self.old → IsJudgeOf log self.new }
         ensures frames { (log : Log) → IsJudgeOf log self.old → AreFramesOf log frames.new }
         ensures agreed { AreAgreed line result.kind result.reason
@@ -239,7 +239,7 @@ impl Judge {
     }
 
     /// Returns the verdict on a line of the entry in a slot, and takes its messages.
-    fn tell_entry(&self, slot: Slot, line: u64, is_blank: bool, frames: &mut Frames) -> Verdict
+    fn tell_entry(&self, slot: Slot, line: u64, is_blank: bool, frames: &mut Frames) -> LineVerdict
         ensures written { (log : Log) → IsJudgeOf log self.now → AreFramesOf log frames.old → AreFramesOf log frames.new }
         ensures agreed { AreAgreed line result.kind result.reason
             (frames_told self.now.join.lines frames.new) (places_told self.now.join.lines frames.new) }
@@ -253,13 +253,13 @@ impl Judge {
         let kind = frames.agree(decided, line, &self.join.lines);
         let reason = reason_for(kind, entry.reason_of(line, kind, reason));
         let said = self.said(entry, kind, decision.state);
-        Verdict {
+        LineVerdict {
             time: if kind == Kind::Blank {
                 None
             } else {
                 entry.time
             },
-            ..Verdict::of(line, kind, reason, said)
+            ..LineVerdict::of(line, kind, reason, said)
         }
     }
 
@@ -278,16 +278,16 @@ impl Judge {
 }
 
 /// Returns the verdict on a line that has no entry.
-fn verdict_without_entry(line: u64, is_blank: bool) -> Verdict
+fn verdict_without_entry(line: u64, is_blank: bool) -> LineVerdict
     ensures none { HasFrames result.kind 0 }
     ensures reason { HasReason result.kind result.reason }
     ensures words { (text : List ℕ) → SaysWords text result.reason }
     ensures blank { (result.kind ≡ Blank) ↔ (is_blank ≡ true) }
 {
     if is_blank {
-        Verdict::of(line, Kind::Blank, Reason::None, None)
+        LineVerdict::of(line, Kind::Blank, Reason::None, None)
     } else {
-        Verdict::of(line, Kind::PassedOver, Reason::NoOctets, None)
+        LineVerdict::of(line, Kind::PassedOver, Reason::NoOctets, None)
     }
 }
 
