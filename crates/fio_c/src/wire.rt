@@ -7,17 +7,17 @@ ghost use Rattle.fio_wire.specs.Octets.{IsWire, held_frame, lost, next, reading_
 ghost use Rattle.fio_wire.specs.Bits as line;
 ghost use Rattle.fio_c.specs.Wires.{heard_code};
 
-use fio_wire::{Heard, Wire, WireBits, frame_check, write};
+use fio_wire::{Wire, WireBits, WireHeard, frame_check, write};
 
 /// Returns what is heard as C has it.
-fn heard_code(heard: Heard) -> u8
+fn heard_code(heard: WireHeard) -> u8
     ensures { result ≡ heard_code heard }
 {
     match heard {
-        Heard::Nothing => 0,
-        Heard::Message => 1,
-        Heard::Other => 2,
-        Heard::Damaged => 3,
+        WireHeard::Nothing => 0,
+        WireHeard::Message => 1,
+        WireHeard::Other => 2,
+        WireHeard::Damaged => 3,
     }
 }
 

@@ -3,8 +3,8 @@ use Rattle.fio_ends.proofs.Names.{◌≡◌, ◌≢◌, ◌∙◌, drop, inl, in
 use Rattle.std.proofs.lemmas.Bool.{false≢true}
 use Rattle.std.proofs.lemmas.List.{same_from_push}
 use Rattle.fio_message.specs.Octets.{IsOctet}
-use Rattle.fio_wire.specs.declared.heard.Heard.{Heard}
-use Rattle.fio_wire.specs.declared.heard.Heard.TheVariants.{Nothing, Message, Other, Damaged}
+use Rattle.fio_wire.specs.declared.heard.WireHeard.{WireHeard}
+use Rattle.fio_wire.specs.declared.heard.WireHeard.TheVariants.{Nothing, Message, Other, Damaged}
 use Rattle.fio_wire.specs.declared.limits.TheConstants.{FLAG}
 use Rattle.fio_wire.specs.Frames.{Said, Frame, Damage, frame_of, heard_as, is_own, message_in, with_check}
 use Rattle.fio_wire.specs.Frames as frames
@@ -119,7 +119,7 @@ read_loss reading = deaf_lost reading.octets reading.phase
 
 -- ---- What is heard
 
-no_message : (heard : Heard) (reading : Reading) → heard ≢ Message → message_if heard reading ≡ None
+no_message : (heard : WireHeard) (reading : Reading) → heard ≢ Message → message_if heard reading ≡ None
 no_message Nothing reading other = refl
 no_message Message reading other = absurd (other refl)
 no_message Other reading other = refl

@@ -15,8 +15,8 @@ use Rattle.fio_cpu.specs.Hearing.{after_hearing}
 use Rattle.fio_link.specs.declared.event.Event.{Event}
 use Rattle.fio_link.specs.declared.event.Event.TheVariants.{Scan, LineSync, Raise, Poll, Send, ToModule, ToCpu, Restart}
 use Rattle.fio_link.specs.Link.{item_numbered, sending_refusal}
-use Rattle.fio_wire.specs.declared.heard.Heard.{Heard}
-use Rattle.fio_wire.specs.declared.heard.Heard.TheVariants.{Message}
+use Rattle.fio_wire.specs.declared.heard.WireHeard.{WireHeard}
+use Rattle.fio_wire.specs.declared.heard.WireHeard.TheVariants.{Message}
 use Rattle.fio_wire.specs.declared.limits.TheConstants.{FLAG}
 use Rattle.fio_wire.specs.Frames.{heard_as, is_own, message_in}
 use Rattle.fio_wire.specs.Frames as frames
@@ -161,7 +161,7 @@ line_after line brought =
     }
 
 -- the message that the decoder holds, if it has heard one of its own
-abbrev pub message_if : Heard → Reading → Option (List ℕ)
+abbrev pub message_if : WireHeard → Reading → Option (List ℕ)
 message_if Message reading = Some (message_in (held_frame reading))
 message_if _ reading = None
 

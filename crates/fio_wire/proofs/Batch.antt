@@ -6,8 +6,8 @@ use Rattle.std.proofs.lemmas.List.Sums.{fold-append}
 use Rattle.std.proofs.lemmas.Bool.{false≢true}
 use Rattle.std.proofs.lemmas.Grind.{common_steps}
 use Rattle.fio_wire.specs.Frames.{Said, Frame, Damage, Settings, heard_as, is_nothing, is_own, said_by_each}
-use Rattle.fio_wire.specs.declared.heard.Heard.{Heard}
-use Rattle.fio_wire.specs.declared.heard.Heard.TheVariants.{Message, Other}
+use Rattle.fio_wire.specs.declared.heard.WireHeard.{WireHeard}
+use Rattle.fio_wire.specs.declared.heard.WireHeard.TheVariants.{Message, Other}
 
 loud : {A : Type 0} (own : Bool) → is_nothing (if own then Message else Other) ≡ true → A
 loud true h = absurd (false≢true h)
@@ -62,7 +62,7 @@ read_more next d r q after line i h at on =
     ∙ sym (ap (fold next r) (take_next d line i h) ∙ fold-append next r (take i line) (get_or line i d ∷ []))
 
 -- what is heard of a line with one more
-pub heard_more : {R I : Type 0} (says : R → I → List Said) (next : R → I → R) (d : I) (settings now : Settings) (r q : R) (line : List I) (i : ℕ) (heard : Heard)
+pub heard_more : {R I : Type 0} (says : R → I → List Said) (next : R → I → R) (d : I) (settings now : Settings) (r q : R) (line : List I) (i : ℕ) (heard : WireHeard)
     → i < length line → said_by_each says next r (take i line) ≡ [] → q ≡ fold next r (take i line) → now ≡ settings
     → heard ≡ heard_as now (says q (get_or line i d)) → heard ≡ heard_as settings (said_by_each says next r (take (i + 1) line))
 heard_more says next d settings now r q line i heard h none at same is =

@@ -2,8 +2,8 @@
 -- flags next to each other.
 use Rattle.std.specs.Prelude.{ℕ, ◌+◌, ◌-◌, ◌/◌, ◌%◌, ◌^◌, ◌==◌, ◌&&◌, ◌||◌, nat_lt, Bool, true, false, if◌then◌else◌, List, [], ◌∷◌, ◌++◌, length, take, drop, fold, slice_index_or}
 use Rattle.fio_wire.specs.Checks.{frame_check_of, with_octet}
-use Rattle.fio_wire.specs.declared.heard.Heard.{Heard}
-use Rattle.fio_wire.specs.declared.heard.Heard.TheVariants.{Nothing, Message, Other, Damaged}
+use Rattle.fio_wire.specs.declared.heard.WireHeard.{WireHeard}
+use Rattle.fio_wire.specs.declared.heard.WireHeard.TheVariants.{Nothing, Message, Other, Damaged}
 use Rattle.fio_wire.specs.declared.limits.TheConstants.{GOOD, HELD_OCTETS}
 
 -- ---- What is sent
@@ -71,12 +71,12 @@ abbrev pub is_own : Settings → List ℕ → Bool
 is_own settings frame = admits settings.address (address_in frame) && admits settings.control (control_in frame)
 
 -- what is heard where a line says this
-abbrev pub heard_as : Settings → List Said → Heard
+abbrev pub heard_as : Settings → List Said → WireHeard
 heard_as settings [] = Nothing
 heard_as settings (Frame frame ∷ rest) = if is_own settings frame then Message else Other
 heard_as settings (Damage ∷ rest) = Damaged
 
 -- whether neither a frame nor damage is heard
-abbrev pub is_nothing : Heard → Bool
+abbrev pub is_nothing : WireHeard → Bool
 is_nothing Nothing = true
 is_nothing heard = false

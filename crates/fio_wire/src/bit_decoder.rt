@@ -1,12 +1,12 @@
 //! A decoder of a line of bits, in flat memory that C can hold.
 ghost use Rattle.std.specs.Prelude.{◌≡◌, ◌≢◌, ◌≤◌, ◌-◌, ◌^◌, List, [], drop, fold, length, not, take};
-ghost use Rattle.fio_wire.specs.declared.heard.Heard.TheVariants.{Nothing};
+ghost use Rattle.fio_wire.specs.declared.heard.WireHeard.TheVariants.{Nothing};
 ghost use Rattle.fio_message.specs.declared.limits.TheConstants.{FRAME_OCTETS};
 ghost use Rattle.fio_wire.specs.Frames.{Settings, address_in, control_in, heard_as, message_in};
 ghost use Rattle.fio_wire.specs.Bits.{IsWireBits, after_flag, after_one, after_zero, begun, flushed, fresh, held_frame, is_broken, is_none, lowest_bits, next, none_packed, packed, packing_of, phase_of, reading_of, said_of, says, says_flag, settings_of, start, wire_bits_at_start, with_ones, with_value};
 
 use crate::checks::with_octet;
-use crate::heard::{Heard, judge, message_of};
+use crate::heard::{WireHeard, judge, message_of};
 use crate::limits::HELD_OCTETS;
 
 /// Before the first flag, or on an idle line.
@@ -131,11 +131,11 @@ impl WireBits {
     }
 
     /// Returns what is heard at a flag.
-    fn judged(&self) -> Heard
+    fn judged(&self) -> WireHeard
         ensures { IsWireBits self.now → result ≡ heard_as (settings_of self.now) (says_flag (phase_of self.now.phase) (packing_of self.now)) }
     {
         if self.phase == HUNTING {
-            return Heard::Nothing;
+            return WireHeard::Nothing;
         }
         let is_broken = self.phase != WITHIN || self.count != 0 || self.full != 0;
         judge(
@@ -148,7 +148,7 @@ impl WireBits {
     }
 
     /// Reads the 0 at the end of a flag.
-    fn flag(&mut self) -> Heard
+    fn flag(&mut self) -> WireHeard
         ensures is { IsWireBits self.old → IsWireBits self.new }
         ensures heard { IsWireBits self.old → result ≡ heard_as (settings_of self.old) (says_flag (phase_of self.old.phase) (packing_of self.old)) }
         ensures next { IsWireBits self.old → reading_of self.new ≡ after_flag (says_flag (phase_of self.old.phase) (packing_of self.old)) (packing_of self.old) }
@@ -157,7 +157,7 @@ impl WireBits {
         let heard = self.judged();
         self.ones = 0;
         self.pending = 0;
-        if matches!(heard, Heard::Message | Heard::Other) {
+        if matches!(heard, WireHeard::Message | WireHeard::Other) {
             self.phase = WHOLE;
         } else {
             self.clear();
@@ -183,7 +183,7 @@ impl WireBits {
     }
 
     /// Reads the next bit of the line.
-    pub fn read(&mut self, bit: bool) -> Heard
+    pub fn read(&mut self, bit: bool) -> WireHeard
         ensures is { IsWireBits self.old → IsWireBits self.new }
         ensures heard { IsWireBits self.old → result ≡ heard_as (settings_of self.old) (says (reading_of self.old) bit) }
         ensures next { IsWireBits self.old → reading_of self.new ≡ next (reading_of self.old) bit }
@@ -192,18 +192,18 @@ impl WireBits {
         self.begin();
         if bit {
             self.one();
-            Heard::Nothing
+            WireHeard::Nothing
         } else if self.ones == 6 {
             self.flag()
         } else {
             self.zero();
-            Heard::Nothing
+            WireHeard::Nothing
         }
     }
 
     /// Reads bits of the line, each the lowest of an octet, up to the end of the next frame or of something damaged. Returns
     /// how many it read, and what the last of them ended.
-    pub fn read_many(&mut self, line: &[u8]) -> (usize, Heard)
+    pub fn read_many(&mut self, line: &[u8]) -> (usize, WireHeard)
         ensures within { result.0 ≤ length line.now }
         ensures is { IsWireBits self.old → IsWireBits self.new }
         ensures heard { IsWireBits self.old → result.1 ≡ heard_as (settings_of self.old) (said_of (reading_of self.old) (take result.0 (lowest_bits line.now))) }
@@ -220,7 +220,7 @@ impl WireBits {
                 return (count, heard);
             }
         }
-        (count, Heard::Nothing)
+        (count, WireHeard::Nothing)
     }
 
     /// Returns the frame that the last bit ended: address, control octet, message, frame check. None is empty.

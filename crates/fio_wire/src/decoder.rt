@@ -1,12 +1,12 @@
 //! A decoder of a line of octets, in flat memory that C can hold.
 ghost use Rattle.std.specs.Prelude.{◌≡◌, ◌≤◌, ◌-◌, List, [], drop, fold, length, take};
-ghost use Rattle.fio_wire.specs.declared.heard.Heard.TheVariants.{Nothing};
+ghost use Rattle.fio_wire.specs.declared.heard.WireHeard.TheVariants.{Nothing};
 ghost use Rattle.fio_message.specs.declared.limits.TheConstants.{FRAME_OCTETS};
 ghost use Rattle.fio_wire.specs.Frames.{Settings, address_in, control_in, heard_as, message_in};
 ghost use Rattle.fio_wire.specs.Octets.{IsWire, ended_by, ending, fresh, held_frame, kept, lost, next, phase_of, reading_of, said_of, says, settings_of, start, taken, wire_at_start};
 
 use crate::checks::with_octet;
-use crate::heard::{Heard, judge, message_of};
+use crate::heard::{WireHeard, judge, message_of};
 use crate::limits::{ESCAPE, FLAG, HELD_OCTETS, STUFFED};
 
 /// Before the first flag.
@@ -127,11 +127,11 @@ impl Wire {
     }
 
     /// Returns what is heard at a flag.
-    fn judged(&self) -> Heard
+    fn judged(&self) -> WireHeard
         ensures { IsWire self.now → result ≡ heard_as (settings_of self.now) (ending (phase_of self.now.phase) (reading_of self.now).octets) }
     {
         if self.phase == HUNTING {
-            return Heard::Nothing;
+            return WireHeard::Nothing;
         }
         judge(
             self.phase != WITHIN,
@@ -143,14 +143,14 @@ impl Wire {
     }
 
     /// Reads a flag.
-    fn end(&mut self) -> Heard
+    fn end(&mut self) -> WireHeard
         ensures is { IsWire self.old → IsWire self.new }
         ensures heard { IsWire self.old → result ≡ heard_as (settings_of self.old) (ending (phase_of self.old.phase) (reading_of self.old).octets) }
         ensures next { IsWire self.old → reading_of self.new ≡ ended_by (ending (phase_of self.old.phase) (reading_of self.old).octets) }
         ensures settings { settings_of self.new ≡ settings_of self.old }
     {
         let heard = self.judged();
-        if matches!(heard, Heard::Message | Heard::Other) {
+        if matches!(heard, WireHeard::Message | WireHeard::Other) {
             self.phase = WHOLE;
         } else {
             self.begin(WITHIN);
@@ -159,7 +159,7 @@ impl Wire {
     }
 
     /// Reads the next octet of the line.
-    pub fn read(&mut self, octet: u8) -> Heard
+    pub fn read(&mut self, octet: u8) -> WireHeard
         ensures is { IsWire self.old → IsWire self.new }
         ensures heard { IsWire self.old → result ≡ heard_as (settings_of self.old) (says (reading_of self.old) octet) }
         ensures next { IsWire self.old → reading_of self.new ≡ next (reading_of self.old) octet }
@@ -172,13 +172,13 @@ impl Wire {
             self.end()
         } else {
             self.take(octet);
-            Heard::Nothing
+            WireHeard::Nothing
         }
     }
 
     /// Reads octets of the line up to the end of the next frame or of something damaged. Returns how many it read, and what
     /// the last of them ended.
-    pub fn read_many(&mut self, octets: &[u8]) -> (usize, Heard)
+    pub fn read_many(&mut self, octets: &[u8]) -> (usize, WireHeard)
         ensures within { result.0 ≤ length octets.now }
         ensures is { IsWire self.old → IsWire self.new }
         ensures heard { IsWire self.old → result.1 ≡ heard_as (settings_of self.old) (said_of (reading_of self.old) (take result.0 octets.now)) }
@@ -195,7 +195,7 @@ impl Wire {
                 return (count, heard);
             }
         }
-        (count, Heard::Nothing)
+        (count, WireHeard::Nothing)
     }
 
     /// Marks the present part as damaged: an octet of it was lost, or came with a wrong parity or stop bit.

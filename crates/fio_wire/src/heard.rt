@@ -7,7 +7,7 @@ use crate::limits::{GOOD, HELD_OCTETS};
 
 /// What the next octet, or the next bit, of a line ends.
 #[derive(Clone, Copy, Debug, PartialEq, Eq)]
-pub enum Heard {
+pub enum WireHeard {
     /// No frame ends here.
     Nothing,
     /// A frame with one's own address and control octet ends here. It is held until the next octet or bit is read.
@@ -18,12 +18,12 @@ pub enum Heard {
     Damaged,
 }
 
-impl Heard {
+impl WireHeard {
     /// Returns whether no frame and no damage ends here.
     pub fn is_nothing(self) -> bool
         ensures { result ≡ is_nothing self }
     {
-        matches!(self, Heard::Nothing)
+        matches!(self, WireHeard::Nothing)
     }
 }
 
@@ -35,20 +35,26 @@ fn admits(setting: u16, octet: u8) -> bool
 }
 
 /// Returns what is heard at the end of a part with these octets. `check` is their register.
-pub(crate) fn judge(is_broken: bool, octets: &[u8], check: u16, address: u16, control: u16) -> Heard
+pub(crate) fn judge(
+    is_broken: bool,
+    octets: &[u8],
+    check: u16,
+    address: u16,
+    control: u16,
+) -> WireHeard
     ensures { check ≡ fold with_octet (2 ^ 16 - 1) octets.now → length octets.now ≤ HELD_OCTETS
         → result ≡ heard_as (record { address = address; control = control }) (judged is_broken octets.now) }
 {
     if is_broken {
-        Heard::Damaged
+        WireHeard::Damaged
     } else if octets.is_empty() {
-        Heard::Nothing
+        WireHeard::Nothing
     } else if octets.len() < 5 || check != GOOD {
-        Heard::Damaged
+        WireHeard::Damaged
     } else if admits(address, octets[0]) && admits(control, octets[1]) {
-        Heard::Message
+        WireHeard::Message
     } else {
-        Heard::Other
+        WireHeard::Other
     }
 }
 

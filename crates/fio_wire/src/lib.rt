@@ -18,12 +18,12 @@
 //! # Examples
 //!
 //! ```rust
-//! use fio_wire::{Heard, LONGEST, Wire, write};
+//! use fio_wire::{LONGEST, Wire, WireHeard, write};
 //!
 //! let mut line = [0; LONGEST];
 //! let count = write(0x14, 0x83, b"\x36\x05", &mut line);
 //! let mut wire = Wire::new(0x14, 0x83);
-//! assert!(rt; wire.read_many(&line[..count]) == (count, Heard::Message));
+//! assert!(rt; wire.read_many(&line[..count]) == (count, WireHeard::Message));
 //! assert_eq!(rt; wire.message(), b"\x36\x05".as_slice());
 //! ```
 #![tactic(auto)]
@@ -41,5 +41,5 @@ pub use bit_decoder::WireBits;
 pub use checks::frame_check;
 pub use decoder::Wire;
 pub use encoder::write;
-pub use heard::Heard;
+pub use heard::WireHeard;
 pub use limits::{FLAG, HELD_OCTETS, LONGEST};
