@@ -2,7 +2,7 @@
 use Rattle.std.proofs.Common.{◌≡◌, ℕ, Bool, true, false, Option, Some, None, refl}
 use Rattle.std.specs.Prelude.{◌==◌, not, is_some, unwrap_or}
 use Rattle.fio_message.specs.Bits.{bit_of}
-use Rattle.fio_check.specs.declared.checker.Checker.{Checker as CheckerOf}
+use Rattle.fio_check.specs.declared.checker.Checker.{Checker}
 use Rattle.fio_check.specs.declared.checker.Skips.{Skips}
 use Rattle.fio_check.specs.declared.checker.Skips.TheVariants.{Nothing, ToCommand, ToPoll}
 use Rattle.fio_c.specs.Checkers.{checker_in, flat_checker, flat_more, flat_skips, more_in, octet_in, skips_in}
@@ -25,7 +25,7 @@ skips-kept Nothing = refl
 skips-kept ToPoll = refl
 skips-kept ToCommand = refl
 
-pub checker_kept : (checker : CheckerOf) → checker_in (flat_checker checker) ≡ checker
+pub checker_kept : (checker : Checker) → checker_in (flat_checker checker) ≡ checker
 checker_kept checker =
     let facts = checker.facts in
     rw (octet-kept facts.awaited, truth-kept facts.absent_named, octet-kept facts.polled, truth-kept facts.answered, truth-kept facts.advanced, more-kept facts.more, skips-kept checker.skips) refl

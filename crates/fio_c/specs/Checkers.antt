@@ -1,22 +1,22 @@
 -- The checker of the rules as C sees it.
 use Rattle.std.specs.Prelude.{ℕ, ◌==◌, Bool, true, false, not, Option, Some, None, is_some, unwrap_or, if◌then◌else◌, replicate}
 use Rattle.fio_message.specs.Bits.{bit_of}
-use Rattle.fio_check.specs.declared.checker.Breach.{Breach as BreachOf}
-use Rattle.fio_check.specs.declared.checker.Checker.{Checker as CheckerOf}
+use Rattle.fio_check.specs.declared.checker.Breach.{Breach}
+use Rattle.fio_check.specs.declared.checker.Checker.{Checker}
 use Rattle.fio_check.specs.declared.checker.Due.{Due}
 use Rattle.fio_check.specs.declared.checker.Skips.{Skips}
 use Rattle.fio_check.specs.declared.checker.Skips.TheVariants.{Nothing, ToCommand, ToPoll}
-use Rattle.fio_check.specs.declared.limits.Limits.{Limits as LimitsOf}
-use Rattle.fio_flat.specs.declared.module.Limits.{Limits}
-use Rattle.fio_check.specs.declared.content.ContentBreach.{ContentBreach as ContentBreachOf}
+use Rattle.fio_check.specs.declared.limits.Limits.{Limits}
+use Rattle.fio_flat.specs.declared.module.FlatLimits.{FlatLimits}
+use Rattle.fio_check.specs.declared.content.ContentBreach.{ContentBreach}
 use Rattle.fio_check.specs.ContentRules.{content_rule_number}
 use Rattle.fio_check.specs.Rules.{rule_number}
-use Rattle.fio_c.specs.declared.checker.Breach.{Breach}
-use Rattle.fio_c.specs.declared.checker.Checker.{Checker}
-use Rattle.fio_c.specs.declared.content.ContentBreach.{ContentBreach}
+use Rattle.fio_c.specs.declared.checker.FlatBreach.{FlatBreach}
+use Rattle.fio_c.specs.declared.checker.FlatChecker.{FlatChecker}
+use Rattle.fio_c.specs.declared.content.FlatContentBreach.{FlatContentBreach}
 
 -- the limits of a module, from a struct of C
-abbrev pub limits_of : Limits → LimitsOf
+abbrev pub limits_of : FlatLimits → Limits
 limits_of limits = record { per_block = limits.per_block; waiting = limits.waiting }
 
 -- a number, if its flag is set
@@ -44,7 +44,7 @@ flat_skips ToPoll = 1
 flat_skips ToCommand = 2
 
 -- the checker that a struct of C represents, whatever its octets are
-abbrev pub checker_in : Checker → CheckerOf
+abbrev pub checker_in : FlatChecker → Checker
 checker_in flat = record {
   limits = record { per_block = flat.per_block; waiting = flat.waiting };
   facts = record {
@@ -59,7 +59,7 @@ checker_in flat = record {
 }
 
 -- the struct of C that represents a checker: a number that it lacks is 0
-abbrev pub flat_checker : CheckerOf → Checker
+abbrev pub flat_checker : Checker → FlatChecker
 flat_checker checker = record {
   has_awaited = bit_of (is_some checker.facts.awaited);
   awaited = unwrap_or checker.facts.awaited 0;
@@ -76,17 +76,17 @@ flat_checker checker = record {
 }
 
 -- a breach of this rule
-abbrev pub with_due : ℕ → Option Due → Breach
+abbrev pub with_due : ℕ → Option Due → FlatBreach
 with_due rule None = record { rule = rule; has_due = 0; due = 0; got = 0 }
 with_due rule (Some due) = record { rule = rule; has_due = 1; due = due.expected; got = due.actual }
 
 -- a breach as C sees it; without one all numbers are 0
-abbrev pub flat_breach : Option BreachOf → Breach
+abbrev pub flat_breach : Option Breach → FlatBreach
 flat_breach None = record { rule = 0; has_due = 0; due = 0; got = 0 }
 flat_breach (Some breach) = with_due (rule_number breach.rule) breach.due
 
 -- a breach of a rule on content as C sees it, with input 255 for none; without a breach all numbers are 0
-abbrev pub flat_content_breach : Option ContentBreachOf → ContentBreach
+abbrev pub flat_content_breach : Option ContentBreach → FlatContentBreach
 flat_content_breach None = record { rule = 0; input = 0; items = 0 }
 flat_content_breach (Some breach) = record {
   rule = content_rule_number breach.rule;

@@ -7,17 +7,17 @@ use Rattle.fio_message.specs.Commands.{command_code}
 use Rattle.fio_message.specs.Answers.{answer_code}
 use Rattle.fio_message.specs.declared.fields.TheConstants.{INPUT_NUMBERS}
 use Rattle.fio_message.specs.declared.limits.TheConstants.{BLOCK_ENTRIES, CONFIGURATION_ITEMS, INPUTS}
-use Rattle.fio_message.specs.declared.fields.Entry.{Entry as EntryOf}
+use Rattle.fio_message.specs.declared.fields.Entry.{Entry}
 use Rattle.fio_message.specs.declared.fields.InputItem.{InputItem}
-use Rattle.fio_message.specs.declared.commands.Command.{Command as CommandOf}
+use Rattle.fio_message.specs.declared.commands.Command.{Command}
 use Rattle.fio_message.specs.declared.commands.Command.TheVariants as commands
-use Rattle.fio_message.specs.declared.answers.Answer.{Answer as AnswerOf}
+use Rattle.fio_message.specs.declared.answers.Answer.{Answer}
 use Rattle.fio_message.specs.declared.answers.Answer.TheVariants as answers
 use Rattle.fio_c.specs.declared.blocks.BlockHeader.{BlockHeader}
-use Rattle.fio_c.specs.declared.blocks.Entry.{Entry}
+use Rattle.fio_c.specs.declared.blocks.FlatEntry.{FlatEntry}
 use Rattle.fio_c.specs.declared.commands.ConfigurationItem.{ConfigurationItem}
-use Rattle.fio_c.specs.declared.commands.Command.{Command}
-use Rattle.fio_c.specs.declared.answers.Answer.{Answer}
+use Rattle.fio_c.specs.declared.commands.FlatCommand.{FlatCommand}
+use Rattle.fio_c.specs.declared.answers.FlatAnswer.{FlatAnswer}
 use Rattle.fio_c.specs.declared.filters.Configured.{Configured}
 
 -- a block without its entries, but with their number
@@ -31,7 +31,7 @@ flat_header block = record {
 }
 
 -- an entry as C sees it; its state is 0 or 1
-abbrev pub flat_entry : EntryOf → Entry
+abbrev pub flat_entry : Entry → FlatEntry
 flat_entry entry = record {
   input = entry.input;
   state = bit_of entry.level;
@@ -52,7 +52,7 @@ abbrev pub no_octets : List ℕ
 no_octets = 0 ∷ 0 ∷ 0 ∷ 0 ∷ 0 ∷ 0 ∷ 0 ∷ 0 ∷ []
 
 -- a command of this type with all other fields 0
-abbrev pub command_of_type : ℕ → Command
+abbrev pub command_of_type : ℕ → FlatCommand
 command_of_type code = record {
   code = code;
   clear = 0;
@@ -67,7 +67,7 @@ command_of_type code = record {
 }
 
 -- the fields of a command, put into the flat form of its type
-abbrev pub with_command_fields : Command → CommandOf → Command
+abbrev pub with_command_fields : FlatCommand → Command → FlatCommand
 with_command_fields flat (commands.Status clear) = record flat { clear = clear }
 with_command_fields flat (commands.LoadCounter load) = record flat { load = load }
 with_command_fields flat (commands.ConfigureInputs items) = record flat { count = length items.items }
@@ -81,11 +81,11 @@ with_command_fields flat commands.Identify = flat
 with_command_fields flat (commands.Other kind body) = record flat { body = length body.items }
 
 -- a command as C sees it
-abbrev pub flat_command : CommandOf → Command
+abbrev pub flat_command : Command → FlatCommand
 flat_command command = with_command_fields (command_of_type (command_code command)) command
 
 -- the items of a command that is a configuration
-abbrev pub configured_items : Option CommandOf → Option (List InputItem)
+abbrev pub configured_items : Option Command → Option (List InputItem)
 configured_items (Some (commands.ConfigureInputs items)) = Some items.items
 configured_items other = None
 
@@ -120,7 +120,7 @@ abbrev pub outcome : ℕ → ℕ → Configured
 outcome kind place = record { kind = kind; reserved = replicate 7 0; place = place }
 
 -- an answer of this type with all other fields 0
-abbrev pub answer_of_type : ℕ → Answer
+abbrev pub answer_of_type : ℕ → FlatAnswer
 answer_of_type code = record {
   code = code;
   flags = 0;
@@ -136,7 +136,7 @@ answer_of_type code = record {
 }
 
 -- the fields of an answer, put into the flat form of its type
-abbrev pub with_answer_fields : Answer → AnswerOf → Answer
+abbrev pub with_answer_fields : FlatAnswer → Answer → FlatAnswer
 with_answer_fields flat (answers.Status flags receive_errors transmit_errors stamp) =
     record flat {
       flags = flags;
@@ -156,11 +156,11 @@ with_answer_fields flat (answers.Watchdog status) = record flat { status = statu
 with_answer_fields flat (answers.Other kind body) = record flat { body = length body.items }
 
 -- an answer as C sees it
-abbrev pub flat_answer : AnswerOf → Answer
+abbrev pub flat_answer : Answer → FlatAnswer
 flat_answer answer = with_answer_fields (answer_of_type (answer_code answer)) answer
 
 -- an entry of a block from C: any state other than 0 is 1
-abbrev pub read_entry : Entry → EntryOf
+abbrev pub read_entry : FlatEntry → Entry
 read_entry entry = record {
   input = entry.input;
   level = not (entry.state == 0);
@@ -168,10 +168,10 @@ read_entry entry = record {
 }
 
 -- the entries from C's entries
-abbrev pub read_entries : List Entry → List EntryOf
+abbrev pub read_entries : List FlatEntry → List Entry
 read_entries entries = map read_entry entries
 
 -- the entries of a block: at most 255, each of them of an input below 128
-abbrev pub are_entries : List Entry → Bool
+abbrev pub are_entries : List FlatEntry → Bool
 are_entries entries =
     nat_le (length entries) BLOCK_ENTRIES && list_all (λ entry. can_be_named entry.input) entries

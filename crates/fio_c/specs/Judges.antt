@@ -13,12 +13,12 @@ use Rattle.fio_check.specs.declared.outcome.Outcome.TheVariants.{Broken, BrokenC
 use Rattle.fio_check.specs.declared.outcome.Unjudged.{Unjudged}
 use Rattle.fio_check.specs.declared.outcome.Unjudged.TheVariants.{AboveCommand, PlaceLost}
 use Rattle.fio_c.specs.Checkers.{checker_in, octet_in, with_due}
-use Rattle.fio_c.specs.declared.checker.Breach.{Breach}
-use Rattle.fio_c.specs.declared.judge.Judge.{Judge}
+use Rattle.fio_c.specs.declared.checker.FlatBreach.{FlatBreach}
+use Rattle.fio_c.specs.declared.judge.FlatJudge.{FlatJudge}
 use Rattle.fio_c.specs.declared.judge.JudgeOutcome.{JudgeOutcome}
 
 -- the judge that a struct of C represents, whatever its octets are
-abbrev pub judge_in : Judge → Judging
+abbrev pub judge_in : FlatJudge → Judging
 judge_in flat = record {
   checker = checker_in flat.checker;
   content = content_checking flat.content;
@@ -47,7 +47,7 @@ without_breach kind why =
     record { kind = kind; why = why; rule = 0; has_due = 0; due = 0; got = 0; input = 255; reserved = 0; items = 0 }
 
 -- an outcome with a breach of a rule of transcripts
-abbrev pub with_breach : Breach → JudgeOutcome
+abbrev pub with_breach : FlatBreach → JudgeOutcome
 with_breach breach = record (without_breach 1 0) {
   rule = breach.rule;
   has_due = breach.has_due;

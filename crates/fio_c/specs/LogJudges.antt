@@ -15,7 +15,7 @@ use Rattle.fio_c.specs.Logs.{flat_told}
 use Rattle.fio_c.specs.Told.{Told}
 use Rattle.fio_c.specs.declared.judge.JudgeOutcome.{JudgeOutcome}
 use Rattle.fio_c.specs.declared.log_batch.LogVerdict.{LogVerdict}
-use Rattle.fio_c.specs.declared.log_judge.LogJudge.{LogJudge}
+use Rattle.fio_c.specs.declared.log_judge.FlatLogJudge.{FlatLogJudge}
 use Rattle.fio_message.specs.declared.types.TheConstants.{ANSWER}
 
 -- where a log was taken: 0 unknown, 1 at the CPU's end, 2 at the module, else on the bus
@@ -38,7 +38,7 @@ abbrev pub end_in : ℕ → Option Bool
 end_in said = if said == 1 then Some true else if said == 2 then Some false else None
 
 -- what decides which answers are late, if these are left out
-abbrev pub late_in : LogJudge → Option LateAnswers
+abbrev pub late_in : FlatLogJudge → Option LateAnswers
 late_in flat = if flat.has_late == 0 then None else Some (record {
   settled = not (flat.settled == 0);
   awaited = octet_in flat.has_awaited flat.awaited;
@@ -48,7 +48,7 @@ late_in flat = if flat.has_late == 0 then None else Some (record {
 })
 
 -- the judge that a struct of C represents, whatever its octets are
-abbrev pub log_judge_in : LogJudge → LogJudging
+abbrev pub log_judge_in : FlatLogJudge → LogJudging
 log_judge_in flat = record {
   link = judge_in flat.link;
   late = late_in flat;

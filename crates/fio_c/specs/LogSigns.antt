@@ -3,17 +3,17 @@ use Rattle.std.specs.Prelude.{ℕ, ◌==◌, not, take, Option, Some, None, if�
 use Rattle.fio_check.specs.declared.block_order.BlockSeen.{BlockSeen}
 use Rattle.fio_check.specs.declared.log_signs.LogSign.{LogSign}
 use Rattle.fio_check.specs.declared.log_signs.LogSign.TheVariants.{BothEnds, Reversed, Twice, TwoLinks}
-use Rattle.fio_check.specs.declared.log_signs.LogSigns.{LogSigns as Signs}
+use Rattle.fio_check.specs.declared.log_signs.LogSigns.{LogSigns}
 use Rattle.fio_c.specs.Checkers.{octet_in}
 use Rattle.fio_c.specs.LogJudges.{end_in}
-use Rattle.fio_c.specs.declared.log_signs.LogSigns.{LogSigns}
+use Rattle.fio_c.specs.declared.log_signs.FlatLogSigns.{FlatLogSigns}
 
 -- the latest block answer
-abbrev pub block_seen_of : LogSigns → Option BlockSeen
+abbrev pub block_seen_of : FlatLogSigns → Option BlockSeen
 block_seen_of flat = if flat.has_block == 0 then None else Some (record { number = flat.number; stamp = flat.stamp })
 
 -- the counts that a struct of C represents, whatever its octets are
-abbrev pub log_signs_in : LogSigns → Signs
+abbrev pub log_signs_in : FlatLogSigns → LogSigns
 log_signs_in flat = record {
   frames = record {
     above = record { items = take flat.length flat.above };

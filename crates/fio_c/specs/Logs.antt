@@ -17,7 +17,7 @@ use Rattle.fio_log.specs.declared.verdict.LineVerdict.{LineVerdict}
 use Rattle.fio_c.specs.Told.{AreLinesAfter, HasReadOf, IsTextOf, IsVerdictOf, ReturnsAll, Texts, Told}
 use Rattle.fio_c.specs.declared.log_batch.TheConstants.{LOG_OCTETS, LOG_VERDICTS, VERDICT_OCTETS}
 use Rattle.fio_c.specs.declared.log_batch.LogBatch.{LogBatch}
-use Rattle.fio_c.specs.declared.log_batch.LogPlace.{LogPlace}
+use Rattle.fio_c.specs.declared.log_batch.FlatLogPlace.{FlatLogPlace}
 use Rattle.fio_c.specs.declared.log_batch.LogVerdict.{LogVerdict}
 
 -- the number of a kind
@@ -66,7 +66,7 @@ flat_verdict verdict frames places = record {
 }
 
 -- a place as C sees it: an index of 2^32 or more is 2^32 - 1
-abbrev pub flat_place : Place → LogPlace
+abbrev pub flat_place : Place → FlatLogPlace
 flat_place place =
     record { line = place.line; start = min place.start (2 ^ 32 - 1); end = min place.end (2 ^ 32 - 1) }
 
@@ -78,7 +78,7 @@ flat_told one = flat_verdict one.verdict (length one.frames) (length one.places)
 pub record Content : Type 0 where
   pub verdicts : List LogVerdict
   pub frames : List (List ℕ)
-  pub places : List LogPlace
+  pub places : List FlatLogPlace
 
 -- what a batch says of verdicts: each of them, all frames of each, and all places of each, in their order
 abbrev pub content_of : List Told → Content

@@ -10,7 +10,7 @@ ghost use Rattle.fio_message.specs.declared.answers.OtherAnswer.{OtherAnswer as 
 ghost use Rattle.fio_c.specs.Flat.{are_entries, can_be_named, read_entry, read_entries};
 ghost use Rattle.fio_flat.specs.Written.{Writes, WritesNoMessage, buffer_with};
 
-use crate::blocks::Entry;
+use crate::blocks::FlatEntry;
 use crate::parts::{FlatPart, are_parts, write_with_parts};
 use crate::written::{write_front, write_with_body};
 use fio_flat::NO_MESSAGE;
@@ -96,7 +96,7 @@ pub extern "C" fn fio2070_encode_filtered_inputs_answer(
 #[unsafe(no_mangle)]
 pub extern "C" fn fio2070_encode_block_answer(
     block: u8,
-    entries: &[Entry],
+    entries: &[FlatEntry],
     status: u8,
     stamp: u32,
     out: &mut [u8],
@@ -114,7 +114,7 @@ pub extern "C" fn fio2070_encode_block_answer(
     write_with_parts(&before, entries, &status_and_stamp(status, stamp), out)
 }
 
-impl FlatPart for Entry {
+impl FlatPart for FlatEntry {
     ghost use Rattle.std.proofs.Common.{refl};
 
     ghost named = { λ entry. entry.input };

@@ -12,7 +12,7 @@ use fio_message::{AnswerView, read_answer};
 /// An answer of the module: the fields of its type, the others 0.
 #[derive(Clone, Copy)]
 #[repr(C)]
-pub struct Answer {
+pub struct FlatAnswer {
     /// The type: 177 to 188 (TEES 2009).
     pub code: u8,
     /// Type 177: the flags that are left.
@@ -39,10 +39,10 @@ pub struct Answer {
 }
 
 /// Returns an answer of this type with all its fields 0.
-const fn answer_of_type(code: u8) -> Answer
+const fn answer_of_type(code: u8) -> FlatAnswer
     ensures { result ≡ answer_of_type code }
 {
-    Answer {
+    FlatAnswer {
         code,
         flags: 0,
         receive_errors: 0,
@@ -58,7 +58,7 @@ const fn answer_of_type(code: u8) -> Answer
 }
 
 /// Returns an answer in its flat form.
-fn flat_answer(answer: AnswerView<'_>) -> Answer
+fn flat_answer(answer: AnswerView<'_>) -> FlatAnswer
     ensures { result ≡ flat_answer (answer_of answer.entry) }
 {
     let mut flat = answer_of_type(answer.code());
@@ -100,7 +100,7 @@ fn flat_answer(answer: AnswerView<'_>) -> Answer
 /// Reads any answer. The entries of a block and the octets of a body are not copied. After a fault
 /// `answer` is unchanged.
 #[unsafe(no_mangle)]
-pub extern "C" fn fio2070_decode_answer(octets: &[u8], answer: &mut Answer) -> Fault
+pub extern "C" fn fio2070_decode_answer(octets: &[u8], answer: &mut FlatAnswer) -> Fault
     ensures { Reads flat_answer (decoded_answer octets.now) answer.old answer.new result }
 {
     match read_answer(octets) {

@@ -32,7 +32,7 @@ pub struct BlockHeader {
 /// A transition, as a block carries it (TEES 2009).
 #[derive(Clone, Copy)]
 #[repr(C)]
-pub struct Entry {
+pub struct FlatEntry {
     /// The input that changed, from 0 to 127.
     pub input: u8,
     /// The filtered state after the transition, 0 or 1. Calls that are given an entry take any number
@@ -56,10 +56,10 @@ fn header_of(view: &BlockView) -> BlockHeader
 }
 
 /// Returns an entry in its flat form.
-fn entry_of(entry: fio_message::Entry) -> Entry
+fn entry_of(entry: fio_message::Entry) -> FlatEntry
     ensures { result ≡ flat_entry entry }
 {
-    Entry {
+    FlatEntry {
         input: entry.input.get(),
         state: u8::from(entry.level),
         stamp: entry.stamp,
@@ -83,7 +83,7 @@ pub extern "C" fn fio2070_read_block(octets: &[u8], header: &mut BlockHeader) ->
 /// Copies the entries of a block answer if there is room for all of them, and returns how many they
 /// are. If the octets are no block answer, nothing is copied, and the result is `NO_MESSAGE`.
 #[unsafe(no_mangle)]
-pub extern "C" fn fio2070_block_entries(octets: &[u8], entries: &mut [Entry]) -> usize
+pub extern "C" fn fio2070_block_entries(octets: &[u8], entries: &mut [FlatEntry]) -> usize
     ensures block { (block : Block) → SpellsBlock block octets.now
         → Writes (map flat_entry block.entries) entries.old entries.new result }
     ensures refused { (error : DecodeError) → Refuses (block_length octets.now) octets.now error
@@ -102,7 +102,7 @@ pub extern "C" fn fio2070_block_entries(octets: &[u8], entries: &mut [Entry]) ->
 }
 
 /// Copies the entries of a block, for which there is room.
-fn copy_entries(view: &BlockView, entries: &mut [Entry])
+fn copy_entries(view: &BlockView, entries: &mut [FlatEntry])
     requires { length view.now.entries ≤ length entries.old }
     ensures { entries.new
         ≡ map flat_entry view.now.entries ++ drop (length view.now.entries) entries.old }

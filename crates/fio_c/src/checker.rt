@@ -5,14 +5,14 @@ ghost use Rattle.fio_check.specs.Observations.{observation_in};
 ghost use Rattle.fio_flat.specs.Module.{are_limits};
 ghost use Rattle.fio_c.specs.Checkers.{checker_in, flat_breach, flat_checker, flat_more, flat_skips, limits_of, more_in, octet_in, skips_in};
 
-use fio_check::{Breach as BreachFound, Checker as CheckerOf, Facts, Limits as LimitsOf, Skips};
-use fio_flat::Limits;
+use fio_check::{Breach, Checker, Facts, Limits, Skips};
+use fio_flat::FlatLimits;
 use fio_module::MOST_WAITING;
 
 /// A checker. Its fields are the library's own: what it keeps of the frames that it took.
 #[derive(Clone, Copy)]
 #[repr(C)]
-pub struct Checker {
+pub struct FlatChecker {
     /// 1 if a command is directly above.
     pub has_awaited: u8,
     /// The type of the answer to it.
@@ -43,7 +43,7 @@ pub struct Checker {
 /// The first rule that a frame breaks, and what was due.
 #[derive(Clone, Copy)]
 #[repr(C)]
-pub struct Breach {
+pub struct FlatBreach {
     /// 0 for none, else the number of the rule: one of `FIO2070_RULE_READABLE` and those after it.
     pub rule: u8,
     /// 1 if `due` and `got` are set: for advance and number, and for pair below a command.
@@ -55,7 +55,7 @@ pub struct Breach {
 }
 
 /// A frame that keeps the rules.
-const NO_BREACH: Breach = Breach {
+const NO_BREACH: FlatBreach = FlatBreach {
     rule: 0,
     has_due: 0,
     due: 0,
@@ -64,17 +64,17 @@ const NO_BREACH: Breach = Breach {
 
 /// Starts a checker above the first frame, of a module with the limits of TEES 2009. Each octet of the struct is set.
 #[unsafe(no_mangle)]
-pub extern "C" fn fio2070_checker_start(checker: &mut Checker)
+pub extern "C" fn fio2070_checker_start(checker: &mut FlatChecker)
     ensures made { checker_in checker.new ≡ new_checker }
     ensures octets { checker.new ≡ flat_checker new_checker }
 {
-    *checker = flat_from(&CheckerOf::new());
+    *checker = flat_from(&Checker::new());
 }
 
 /// Starts a checker above the first frame, of a module with these limits. Each octet of the struct is set. Returns 0, or 1
 /// without any change if a limit is out of its range.
 #[unsafe(no_mangle)]
-pub extern "C" fn fio2070_checker_start_within(checker: &mut Checker, limits: Limits) -> u8
+pub extern "C" fn fio2070_checker_start_within(checker: &mut FlatChecker, limits: FlatLimits) -> u8
     ensures made { are_limits limits ≡ true → checker_in checker.new ≡ checker_within (limits_of limits) }
     ensures octets { are_limits limits ≡ true → (result ≡ 0) × (checker.new ≡ flat_checker (checker_within (limits_of limits))) }
     ensures refused { are_limits limits ≡ false → (result ≡ 1) × (checker.new ≡ checker.old) }
@@ -82,14 +82,17 @@ pub extern "C" fn fio2070_checker_start_within(checker: &mut Checker, limits: Li
     let Some(limits) = limits_from(limits) else {
         return 1;
     };
-    *checker = flat_from(&CheckerOf::within(limits));
+    *checker = flat_from(&Checker::within(limits));
     0
 }
 
 /// Starts a checker above the first frame of a log that begins anywhere: what the CPU's end heard above the first frame that
 /// it sent is skipped. Returns as `fio2070_checker_start_within` does.
 #[unsafe(no_mangle)]
-pub extern "C" fn fio2070_checker_start_anywhere(checker: &mut Checker, limits: Limits) -> u8
+pub extern "C" fn fio2070_checker_start_anywhere(
+    checker: &mut FlatChecker,
+    limits: FlatLimits,
+) -> u8
     ensures made { are_limits limits ≡ true → checker_in checker.new ≡ checker_anywhere (limits_of limits) }
     ensures octets { are_limits limits ≡ true → (result ≡ 0) × (checker.new ≡ flat_checker (checker_anywhere (limits_of limits))) }
     ensures refused { are_limits limits ≡ false → (result ≡ 1) × (checker.new ≡ checker.old) }
@@ -97,19 +100,19 @@ pub extern "C" fn fio2070_checker_start_anywhere(checker: &mut Checker, limits: 
     let Some(limits) = limits_from(limits) else {
         return 1;
     };
-    *checker = flat_from(&CheckerOf::anywhere(limits));
+    *checker = flat_from(&Checker::anywhere(limits));
     0
 }
 
 /// Returns the limits in a struct of C; `None` if one is out of its range.
-pub(crate) fn limits_from(limits: Limits) -> Option<LimitsOf>
+pub(crate) fn limits_from(limits: FlatLimits) -> Option<Limits>
     ensures none { IfNone result (are_limits limits ≡ false) }
     ensures some { IfSome result (λ found. (are_limits limits ≡ true) × (found ≡ limits_of limits)) }
 {
     if limits.waiting == 0 || limits.waiting > MOST_WAITING || limits.per_block == 0 {
         return None;
     }
-    Some(LimitsOf {
+    Some(Limits {
         per_block: limits.per_block,
         waiting: limits.waiting,
     })
@@ -119,9 +122,9 @@ pub(crate) fn limits_from(limits: Limits) -> Option<LimitsOf>
 /// keeps the rules. After a breach it continues like a checker that starts at the next poll.
 #[unsafe(no_mangle)]
 pub extern "C" fn fio2070_checker_sent(
-    checker: &mut Checker,
+    checker: &mut FlatChecker,
     octets: &[u8],
-    breach: &mut Breach,
+    breach: &mut FlatBreach,
 ) -> u8
     ensures next { checker_in checker.new ≡ checker_with (checker_in checker.old) true (observation_in true octets.now) }
     ensures breach { breach.new ≡ flat_breach (found_by (checker_in checker.old) true (observation_in true octets.now)) }
@@ -135,9 +138,9 @@ pub extern "C" fn fio2070_checker_sent(
 /// As `fio2070_checker_sent`, for a frame that the CPU's end heard.
 #[unsafe(no_mangle)]
 pub extern "C" fn fio2070_checker_heard(
-    checker: &mut Checker,
+    checker: &mut FlatChecker,
     octets: &[u8],
-    breach: &mut Breach,
+    breach: &mut FlatBreach,
 ) -> u8
     ensures next { checker_in checker.new ≡ checker_with (checker_in checker.old) false (observation_in false octets.now) }
     ensures breach { breach.new ≡ flat_breach (found_by (checker_in checker.old) false (observation_in false octets.now)) }
@@ -149,11 +152,11 @@ pub extern "C" fn fio2070_checker_heard(
 }
 
 /// Returns the checker that a struct of C represents, whatever its octets are.
-pub(crate) fn checker_from(flat: &Checker) -> CheckerOf
+pub(crate) fn checker_from(flat: &FlatChecker) -> Checker
     ensures { result ≡ checker_in flat.now }
 {
-    CheckerOf {
-        limits: LimitsOf {
+    Checker {
+        limits: Limits {
             per_block: flat.per_block,
             waiting: flat.waiting,
         },
@@ -173,10 +176,10 @@ pub(crate) fn checker_from(flat: &Checker) -> CheckerOf
 /// breach's rule, 0 without a breach.
 #[tactic(auto, using(crate::proofs::Checkers::checker_kept))]
 fn keep(
-    kept: &CheckerOf,
-    found: Option<BreachFound>,
-    checker: &mut Checker,
-    breach: &mut Breach,
+    kept: &Checker,
+    found: Option<Breach>,
+    checker: &mut FlatChecker,
+    breach: &mut FlatBreach,
 ) -> u8
     ensures kept { checker_in checker.new ≡ kept.now }
     ensures breach { breach.new ≡ flat_breach found }
@@ -188,11 +191,11 @@ fn keep(
 }
 
 /// Returns the struct of C that represents a checker.
-pub(crate) fn flat_from(checker: &CheckerOf) -> Checker
+pub(crate) fn flat_from(checker: &Checker) -> FlatChecker
     ensures { result ≡ flat_checker checker.now }
 {
     let facts = &checker.facts;
-    Checker {
+    FlatChecker {
         has_awaited: u8::from(facts.awaited.is_some()),
         awaited: facts.awaited.unwrap_or(0),
         absent_named: u8::from(facts.absent_named),
@@ -256,7 +259,7 @@ fn flat_skips(skips: Skips) -> u8
 }
 
 /// Returns a breach as C sees it.
-pub(crate) fn breach_from(found: Option<BreachFound>) -> Breach
+pub(crate) fn breach_from(found: Option<Breach>) -> FlatBreach
     ensures { result ≡ flat_breach found }
 {
     match found {
@@ -264,8 +267,8 @@ pub(crate) fn breach_from(found: Option<BreachFound>) -> Breach
         Some(breach) => {
             let rule = breach.rule.number();
             match breach.due {
-                None => Breach { rule, ..NO_BREACH },
-                Some(due) => Breach {
+                None => FlatBreach { rule, ..NO_BREACH },
+                Some(due) => FlatBreach {
                     rule,
                     has_due: 1,
                     due: due.expected,

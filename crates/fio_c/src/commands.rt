@@ -14,7 +14,7 @@ use fio_message::{CommandView, InputItem, ItemsView, read_command};
 /// A command of the CPU: the fields of its type, the others 0.
 #[derive(Clone, Copy)]
 #[repr(C)]
-pub struct Command {
+pub struct FlatCommand {
     /// The type: 49 to 60 (TEES 2009).
     pub code: u8,
     /// Type 49: the flags to clear.
@@ -53,10 +53,10 @@ pub struct ConfigurationItem {
 }
 
 /// Returns a command of this type with all its fields 0.
-const fn command_of_type(code: u8) -> Command
+const fn command_of_type(code: u8) -> FlatCommand
     ensures { result ≡ command_of_type code }
 {
-    Command {
+    FlatCommand {
         code,
         clear: 0,
         block: 0,
@@ -71,7 +71,7 @@ const fn command_of_type(code: u8) -> Command
 }
 
 /// Returns a command in its flat form.
-fn flat_command(command: CommandView<'_>) -> Command
+fn flat_command(command: CommandView<'_>) -> FlatCommand
     ensures { result ≡ flat_command (command_of command.entry) }
 {
     let mut flat = command_of_type(command.code());
@@ -82,7 +82,7 @@ fn flat_command(command: CommandView<'_>) -> Command
         CommandView::RawInputs | CommandView::FilteredInputs | CommandView::Identify => {}
         CommandView::Poll { block } => flat.block = block,
         CommandView::SetOutputs { levels, controls } => {
-            flat = Command {
+            flat = FlatCommand {
                 levels: *levels,
                 controls: *controls,
                 ..flat
@@ -97,7 +97,7 @@ fn flat_command(command: CommandView<'_>) -> Command
 /// Reads any command. The items of a configuration and the octets of a body are not copied. After a
 /// fault `command` is unchanged.
 #[unsafe(no_mangle)]
-pub extern "C" fn fio2070_decode_command(octets: &[u8], command: &mut Command) -> Fault
+pub extern "C" fn fio2070_decode_command(octets: &[u8], command: &mut FlatCommand) -> Fault
     ensures { Reads flat_command (decoded_command octets.now) command.old command.new result }
 {
     match read_command(octets) {

@@ -4,7 +4,7 @@ ghost use Rattle.fio_check.specs.ContentCheckers.{checking_at_start, checking_wi
 ghost use Rattle.fio_check.specs.ContentKept.{content_checking};
 ghost use Rattle.fio_c.specs.Checkers.{flat_content_breach};
 
-use fio_check::{ContentBreach as BreachFound, ContentChecker};
+use fio_check::{ContentBreach, ContentChecker};
 
 /// The value of `input` in a breach without an input.
 const NO_INPUT: u8 = 255;
@@ -12,7 +12,7 @@ const NO_INPUT: u8 = 255;
 /// The first rule on content that a frame breaks.
 #[derive(Clone, Copy)]
 #[repr(C)]
-pub struct ContentBreach {
+pub struct FlatContentBreach {
     /// 0 for none, else the number of the rule: one of `FIO2070_CONTENT_ORDER` and those after it.
     pub rule: u8,
     /// The input of the entry that breaks the rule, or the input with another state; 255 for an answer.
@@ -23,7 +23,7 @@ pub struct ContentBreach {
 }
 
 /// A frame that breaks no rule on content.
-const NO_BREACH: ContentBreach = ContentBreach {
+const NO_BREACH: FlatContentBreach = FlatContentBreach {
     rule: 0,
     input: 0,
     items: 0,
@@ -61,7 +61,7 @@ pub extern "C" fn fio2070_content_sent(content: &mut ContentChecker, octets: &[u
 pub extern "C" fn fio2070_content_heard(
     content: &mut ContentChecker,
     octets: &[u8],
-    breach: &mut ContentBreach,
+    breach: &mut FlatContentBreach,
 ) -> u8
     ensures next { content_checking content.new ≡ checking_with (content_checking content.old) false octets.now }
     ensures breach { breach.new ≡ flat_content_breach (found_in_frame (content_checking content.old) false octets.now) }
@@ -72,12 +72,12 @@ pub extern "C" fn fio2070_content_heard(
 }
 
 /// Returns a breach as C sees it.
-fn breach_from(found: Option<BreachFound>) -> ContentBreach
+fn breach_from(found: Option<ContentBreach>) -> FlatContentBreach
     ensures { result ≡ flat_content_breach found }
 {
     match found {
         None => NO_BREACH,
-        Some(breach) => ContentBreach {
+        Some(breach) => FlatContentBreach {
             rule: breach.rule.number(),
             input: breach.input.unwrap_or(NO_INPUT),
             items: breach.items,

@@ -6,9 +6,9 @@ ghost use Rattle.fio_flat.specs.Module.{are_limits};
 ghost use Rattle.fio_c.specs.Checkers.{limits_of, octet_in};
 ghost use Rattle.fio_c.specs.Judges.{excuse_number, flat_outcome, judge_in, place_in, unjudged_number, without_breach};
 
-use crate::checker::{Checker, breach_from, checker_from, flat_from, limits_from};
+use crate::checker::{FlatChecker, breach_from, checker_from, flat_from, limits_from};
 use fio_check::{ContentChecker, Excuse, LinkJudge, LogPlace, Outcome, Unjudged};
-use fio_flat::Limits;
+use fio_flat::FlatLimits;
 
 /// The value of `input` in an outcome without an input.
 const NO_INPUT: u8 = 255;
@@ -16,11 +16,11 @@ const NO_INPUT: u8 = 255;
 /// A judge of a link. Its fields are the library's own: what it keeps of the frames that it took.
 #[derive(Clone, Copy)]
 #[repr(C)]
-pub struct Judge {
+pub struct FlatJudge {
     /// The checker of the rules on content.
     pub content: ContentChecker,
     /// The checker of the rules of transcripts.
-    pub checker: Checker,
+    pub checker: FlatChecker,
     /// The latest stamp that was judged, but not that of a repeated block.
     pub latest: u32,
     /// The latest stamp at the time of the first poll for the block that is due.
@@ -64,7 +64,7 @@ pub struct JudgeOutcome {
 /// Starts a judge above the first frame of a log that begins anywhere, of a module with these limits. What the CPU's end heard
 /// above the first frame that it sent is not judged. Returns 0, or 1 without any change if a limit is out of its range.
 #[unsafe(no_mangle)]
-pub extern "C" fn fio2070_judge_start_anywhere(judge: &mut Judge, limits: Limits) -> u8
+pub extern "C" fn fio2070_judge_start_anywhere(judge: &mut FlatJudge, limits: FlatLimits) -> u8
     ensures made { are_limits limits ≡ true → (result ≡ 0) × (judge_in judge.new ≡ judging_anywhere (limits_of limits)) }
     ensures refused { are_limits limits ≡ false → (result ≡ 1) × (judge.new ≡ judge.old) }
 {
@@ -78,7 +78,7 @@ pub extern "C" fn fio2070_judge_start_anywhere(judge: &mut Judge, limits: Limits
 /// Starts a judge above the first frame of a log that begins with both ends; then more is found. Returns as
 /// `fio2070_judge_start_anywhere` does.
 #[unsafe(no_mangle)]
-pub extern "C" fn fio2070_judge_start_begun(judge: &mut Judge, limits: Limits) -> u8
+pub extern "C" fn fio2070_judge_start_begun(judge: &mut FlatJudge, limits: FlatLimits) -> u8
     ensures made { are_limits limits ≡ true → (result ≡ 0) × (judge_in judge.new ≡ judging_begun (limits_of limits)) }
     ensures refused { are_limits limits ≡ false → (result ≡ 1) × (judge.new ≡ judge.old) }
 {
@@ -92,7 +92,7 @@ pub extern "C" fn fio2070_judge_start_begun(judge: &mut Judge, limits: Limits) -
 /// Takes a place where lines of the log are lost, or where a part of it ends and another begins: nothing is judged until the
 /// next poll, and what the lost lines may explain accuses nobody.
 #[unsafe(no_mangle)]
-pub extern "C" fn fio2070_judge_lose(judge: &mut Judge)
+pub extern "C" fn fio2070_judge_lose(judge: &mut FlatJudge)
     ensures { judge_in judge.new ≡ judging_lost (judge_in judge.old) }
 {
     let mut kept = judge_from(judge);
@@ -104,7 +104,7 @@ pub extern "C" fn fio2070_judge_lose(judge: &mut Judge)
 /// bus. Writes its outcome, each octet of it, and returns its kind.
 #[unsafe(no_mangle)]
 pub extern "C" fn fio2070_judge_sent(
-    judge: &mut Judge,
+    judge: &mut FlatJudge,
     at: u8,
     octets: &[u8],
     outcome: &mut JudgeOutcome,
@@ -120,7 +120,7 @@ pub extern "C" fn fio2070_judge_sent(
 /// As `fio2070_judge_sent`, for a frame that the CPU's end heard, or was sent.
 #[unsafe(no_mangle)]
 pub extern "C" fn fio2070_judge_heard(
-    judge: &mut Judge,
+    judge: &mut FlatJudge,
     at: u8,
     octets: &[u8],
     outcome: &mut JudgeOutcome,
@@ -134,7 +134,7 @@ pub extern "C" fn fio2070_judge_heard(
 }
 
 /// Takes a frame, and returns its outcome as C sees it.
-fn take(judge: &mut Judge, at: u8, from_cpu: bool, octets: &[u8]) -> JudgeOutcome
+fn take(judge: &mut FlatJudge, at: u8, from_cpu: bool, octets: &[u8]) -> JudgeOutcome
     ensures next { judge_in judge.new ≡ judging_with (judge_in judge.old) (place_in at) from_cpu octets.now }
     ensures outcome { result ≡ flat_outcome (outcome_in (judge_in judge.old) (place_in at) from_cpu octets.now) }
 {
@@ -145,7 +145,7 @@ fn take(judge: &mut Judge, at: u8, from_cpu: bool, octets: &[u8]) -> JudgeOutcom
 }
 
 /// Returns the judge that a struct of C represents, whatever its octets are.
-pub(crate) fn judge_from(flat: &Judge) -> LinkJudge
+pub(crate) fn judge_from(flat: &FlatJudge) -> LinkJudge
     ensures { judging result ≡ judge_in flat.now }
 {
     LinkJudge {
@@ -166,10 +166,10 @@ fn stamp_in(has: u8, stamp: u32) -> Option<u32>
 
 /// Returns the struct of C that represents a judge.
 #[tactic(auto, using(crate::proofs::Checkers::checker_kept))]
-pub(crate) fn flat_of(judge: &LinkJudge) -> Judge
+pub(crate) fn flat_of(judge: &LinkJudge) -> FlatJudge
     ensures { judge_in result ≡ judging judge.now }
 {
-    Judge {
+    FlatJudge {
         content: judge.content,
         checker: flat_from(&judge.checker),
         latest: judge.latest.unwrap_or(0),

@@ -47,7 +47,7 @@ pub struct LogVerdict {
 /// and byte order marks.
 #[derive(Clone, Copy)]
 #[repr(C)]
-pub struct LogPlace {
+pub struct FlatLogPlace {
     /// The number of the line, from 1.
     pub line: u64,
     /// The index of the first octet in the line, with its mark, bracket or quote.
@@ -71,7 +71,7 @@ pub struct LogBatch {
     /// The verdicts.
     pub verdicts: [LogVerdict; LOG_VERDICTS],
     /// The places of all verdicts, verdict after verdict.
-    pub places: [LogPlace; LOG_PLACES],
+    pub places: [FlatLogPlace; LOG_PLACES],
     /// How many octets each frame has.
     pub lengths: [u16; LOG_FRAMES],
     /// The octets of all frames, frame after frame.
@@ -136,7 +136,7 @@ impl LogBatch {
     }
 
     /// Adds a place.
-    pub(crate) fn push_place(&mut self, place: LogPlace)
+    pub(crate) fn push_place(&mut self, place: FlatLogPlace)
         requires { self.old.place_count < LOG_PLACES }
         ensures added { (content : Content) → Holds self.old content
             → Holds self.new (record content { places = content.places ++ place ∷ [] }) }

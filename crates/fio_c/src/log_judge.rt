@@ -6,16 +6,16 @@ ghost use Rattle.fio_c.specs.Checkers.{limits_of, octet_in};
 ghost use Rattle.fio_c.specs.LogJudges.{end_in, flat_log_outcome, late_in, log_judge_in, place_number, place_taken, start_in};
 
 use crate::checker::limits_from;
-use crate::judge::{Judge, JudgeOutcome, flat_of, judge_from, outcome_from, without_breach};
-use fio_check::{LateAnswers, LogJudge as JudgeOfLog, LogOutcome, LogPlace, LogStart};
-use fio_flat::Limits;
+use crate::judge::{FlatJudge, JudgeOutcome, flat_of, judge_from, outcome_from, without_breach};
+use fio_check::{LateAnswers, LogJudge, LogOutcome, LogPlace, LogStart};
+use fio_flat::FlatLimits;
 
 /// A judge of a log. Its fields are the library's own: what it keeps of the lines that it took.
 #[derive(Clone, Copy)]
 #[repr(C)]
-pub struct LogJudge {
+pub struct FlatLogJudge {
     /// The judge of the link.
-    pub link: Judge,
+    pub link: FlatJudge,
     /// How many frames were sent by the end that their line names.
     pub agreeing: u32,
     /// How many frames were sent by the other end.
@@ -52,8 +52,8 @@ pub struct LogJudge {
 /// limit is out of its range.
 #[unsafe(no_mangle)]
 pub extern "C" fn fio2070_log_judge_start(
-    judge: &mut LogJudge,
-    limits: Limits,
+    judge: &mut FlatLogJudge,
+    limits: FlatLimits,
     place: u8,
     start: u8,
 ) -> u8
@@ -64,13 +64,13 @@ pub extern "C" fn fio2070_log_judge_start(
     let Some(limits) = limits_from(limits) else {
         return 1;
     };
-    *judge = log_flat_of(&JudgeOfLog::new(limits, place_taken(place), start_from(start)));
+    *judge = log_flat_of(&LogJudge::new(limits, place_taken(place), start_from(start)));
     0
 }
 
 /// Takes a line that may have held a frame: nothing is judged until the next poll.
 #[unsafe(no_mangle)]
-pub extern "C" fn fio2070_log_judge_lose(judge: &mut LogJudge)
+pub extern "C" fn fio2070_log_judge_lose(judge: &mut FlatLogJudge)
     ensures { log_judge_in judge.new ≡ log_lost (log_judge_in judge.old) }
 {
     let mut kept = log_judge_from(judge);
@@ -81,7 +81,7 @@ pub extern "C" fn fio2070_log_judge_lose(judge: &mut LogJudge)
 /// Takes a line that says a message which nothing confirms, or that is the heading of a part of the log: if a frame is above,
 /// it acts as `fio2070_log_judge_lose`.
 #[unsafe(no_mangle)]
-pub extern "C" fn fio2070_log_judge_possible(judge: &mut LogJudge)
+pub extern "C" fn fio2070_log_judge_possible(judge: &mut FlatLogJudge)
     ensures { log_judge_in judge.new ≡ log_possible (log_judge_in judge.old) }
 {
     let mut kept = log_judge_from(judge);
@@ -92,7 +92,7 @@ pub extern "C" fn fio2070_log_judge_possible(judge: &mut LogJudge)
 /// Takes a line without octets that speaks of loss: up to the next poll or block answer, what a lost frame explains accuses
 /// nobody.
 #[unsafe(no_mangle)]
-pub extern "C" fn fio2070_log_judge_miss(judge: &mut LogJudge)
+pub extern "C" fn fio2070_log_judge_miss(judge: &mut FlatLogJudge)
     ensures { log_judge_in judge.new ≡ log_missing (log_judge_in judge.old) }
 {
     let mut kept = log_judge_from(judge);
@@ -105,7 +105,7 @@ pub extern "C" fn fio2070_log_judge_miss(judge: &mut LogJudge)
 /// its kind.
 #[unsafe(no_mangle)]
 pub extern "C" fn fio2070_log_judge_frame(
-    judge: &mut LogJudge,
+    judge: &mut FlatLogJudge,
     from_cpu: u8,
     said: u8,
     octets: &[u8],
@@ -120,7 +120,7 @@ pub extern "C" fn fio2070_log_judge_frame(
 }
 
 /// Takes a frame, and returns its outcome as C sees it.
-fn take(judge: &mut LogJudge, from_cpu: bool, said: Option<bool>, octets: &[u8]) -> JudgeOutcome
+fn take(judge: &mut FlatLogJudge, from_cpu: bool, said: Option<bool>, octets: &[u8]) -> JudgeOutcome
     ensures next { log_judge_in judge.new ≡ log_with (log_judge_in judge.old) from_cpu said octets.now }
     ensures outcome { result ≡ flat_log_outcome (outcome_in_log (log_judge_in judge.old) from_cpu said octets.now) }
 {
@@ -142,10 +142,10 @@ pub(crate) fn log_outcome_from(outcome: LogOutcome) -> JudgeOutcome
 }
 
 /// Returns the judge that a struct of C represents, whatever its octets are.
-pub(crate) fn log_judge_from(flat: &LogJudge) -> JudgeOfLog
+pub(crate) fn log_judge_from(flat: &FlatLogJudge) -> LogJudge
     ensures { log_judging result ≡ log_judge_in flat.now }
 {
-    JudgeOfLog {
+    LogJudge {
         link: judge_from(&flat.link),
         late: late_from(flat),
         place: place_taken(flat.place),
@@ -157,7 +157,7 @@ pub(crate) fn log_judge_from(flat: &LogJudge) -> JudgeOfLog
 }
 
 /// Returns what decides which answers are late, if these are left out.
-fn late_from(flat: &LogJudge) -> Option<LateAnswers>
+fn late_from(flat: &FlatLogJudge) -> Option<LateAnswers>
     ensures { result ≡ late_in flat.now }
 {
     if flat.has_late == 0 {
@@ -180,7 +180,7 @@ pub(crate) fn octet_from(has: u8, octet: u8) -> Option<u8>
 }
 
 /// Returns the struct of C that represents a judge.
-pub(crate) fn log_flat_of(judge: &JudgeOfLog) -> LogJudge
+pub(crate) fn log_flat_of(judge: &LogJudge) -> FlatLogJudge
     ensures { log_judge_in result ≡ log_judging judge.now }
 {
     let flat = flat_without_late(judge);
@@ -192,10 +192,10 @@ pub(crate) fn log_flat_of(judge: &JudgeOfLog) -> LogJudge
 
 /// Returns the struct of a judge that leaves out no late answer.
 #[tactic(auto, using(crate::proofs::LogJudges::place_kept))]
-fn flat_without_late(judge: &JudgeOfLog) -> LogJudge
+fn flat_without_late(judge: &LogJudge) -> FlatLogJudge
     ensures { log_judge_in result ≡ (record (log_judging judge.now) { late = None }) }
 {
-    LogJudge {
+    FlatLogJudge {
         link: flat_of(&judge.link),
         agreeing: judge.agreeing,
         contrary: judge.contrary,
@@ -215,10 +215,10 @@ fn flat_without_late(judge: &JudgeOfLog) -> LogJudge
 }
 
 /// Returns the struct with what decides which answers are late.
-fn flat_with_late(flat: LogJudge, late: LateAnswers) -> LogJudge
+fn flat_with_late(flat: FlatLogJudge, late: LateAnswers) -> FlatLogJudge
     ensures { log_judge_in result ≡ (record (log_judge_in flat) { late = Some late }) }
 {
-    LogJudge {
+    FlatLogJudge {
         has_late: 1,
         settled: u8::from(late.settled),
         has_awaited: u8::from(late.awaited.is_some()),

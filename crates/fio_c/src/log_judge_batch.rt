@@ -9,8 +9,8 @@ ghost use Rattle.fio_c.specs.Told.{Told};
 
 use crate::judge::{JudgeOutcome, without_breach};
 use crate::log_batch::{LOG_FRAMES, LOG_VERDICTS, LogBatch, LogVerdict};
-use crate::log_judge::{LogJudge, end_from, log_flat_of, log_judge_from, log_outcome_from};
-use fio_check::LogJudge as JudgeOfLog;
+use crate::log_judge::{FlatLogJudge, end_from, log_flat_of, log_judge_from, log_outcome_from};
+use fio_check::LogJudge;
 use fio_message::types::ANSWER;
 
 /// The kind of a line that gives frames.
@@ -22,7 +22,7 @@ const FRAMES: u8 = 1;
 /// is not judged. The outcomes after those that are written are unchanged.
 #[unsafe(no_mangle)]
 pub extern "C" fn fio2070_log_judge_batch(
-    judge: &mut LogJudge,
+    judge: &mut FlatLogJudge,
     as_said: u8,
     batch: &LogBatch,
     outcomes: &mut [JudgeOutcome; LOG_FRAMES],
@@ -58,7 +58,7 @@ pub extern "C" fn fio2070_log_judge_batch(
 
 /// Judges the frames of verdicts, which have these lengths, and returns how many they are.
 fn judge_verdicts(
-    judge: &mut JudgeOfLog,
+    judge: &mut LogJudge,
     as_said: bool,
     verdicts: &[LogVerdict],
     lengths: &[u16],
@@ -90,7 +90,7 @@ fn judge_verdicts(
 
 /// Takes a verdict, judges its frames, which have these lengths, and returns the octets below them.
 fn judge_verdict<'a>(
-    judge: &mut JudgeOfLog,
+    judge: &mut LogJudge,
     as_said: bool,
     verdict: &LogVerdict,
     lengths: &[u16],
@@ -120,7 +120,7 @@ fn judge_verdict<'a>(
 
 /// Judges frames with these lengths, by who sent them, and returns the octets below them.
 fn judge_frames<'a>(
-    judge: &mut JudgeOfLog,
+    judge: &mut LogJudge,
     as_said: bool,
     said: Option<bool>,
     lengths: &[u16],
@@ -145,7 +145,7 @@ fn judge_frames<'a>(
 
 /// Judges a frame, by who sent it, and returns its outcome as C sees it.
 fn judge_frame(
-    judge: &mut JudgeOfLog,
+    judge: &mut LogJudge,
     as_said: bool,
     said: Option<bool>,
     octets: &[u8],
@@ -167,7 +167,7 @@ fn is_sent_frame(as_said: bool, said: Option<bool>, octets: &[u8]) -> bool
 }
 
 /// Takes a line that gives no frame, by its kind and its reason.
-fn take_line(judge: &mut JudgeOfLog, kind: u8, reason: u8)
+fn take_line(judge: &mut LogJudge, kind: u8, reason: u8)
     ensures { log_judging judge.new ≡ log_below_events (log_judging judge.old) (event_of_line kind reason) }
 {
     match (kind, reason) {

@@ -5,15 +5,13 @@ ghost use Rattle.fio_c.specs.LogJudges.{end_in};
 ghost use Rattle.fio_c.specs.LogSigns.{block_seen_of, log_signs_in, sign_number};
 
 use crate::log_judge::{end_from, octet_from};
-use fio_check::{
-    BlockOrder, BlockRows, BlockSeen, LogSign, LogSigns as SignsOfLog, RepeatedFrames,
-};
+use fio_check::{BlockOrder, BlockRows, BlockSeen, LogSign, LogSigns, RepeatedFrames};
 use fio_message::{FRAME_OCTETS, Frame};
 
 /// Counts of the frames of a log. Its fields are the library's own: what it keeps of the frames that it took.
 #[derive(Clone, Copy)]
 #[repr(C)]
-pub struct LogSigns {
+pub struct FlatLogSigns {
     /// The number of answers.
     pub answers: u32,
     /// How many of them are the second of equal frames.
@@ -56,17 +54,17 @@ pub struct LogSigns {
 
 /// Starts above the first frame of a log.
 #[unsafe(no_mangle)]
-pub extern "C" fn fio2070_log_signs_start(signs: &mut LogSigns)
+pub extern "C" fn fio2070_log_signs_start(signs: &mut FlatLogSigns)
     ensures { log_signs_in signs.new ≡ no_signs }
 {
-    *signs = flat_signs_of(&SignsOfLog::new());
+    *signs = flat_signs_of(&LogSigns::new());
 }
 
 /// Takes a frame that the CPU's end sent, if `from_cpu` is not 0, or the module. `said` is who sent it by its line: 1 the CPU's end,
 /// 2 the module, any other number if the line does not say it.
 #[unsafe(no_mangle)]
 pub extern "C" fn fio2070_log_signs_frame(
-    signs: &mut LogSigns,
+    signs: &mut FlatLogSigns,
     from_cpu: u8,
     said: u8,
     octets: &[u8],
@@ -81,7 +79,7 @@ pub extern "C" fn fio2070_log_signs_frame(
 /// Returns what kind of log the log looks like: 0 the log of one link in order, or one with too few frames to say; 1 each frame
 /// occurs twice; 2 the logs of both ends are merged; 3 the last line is first; 4 it has two links.
 #[unsafe(no_mangle)]
-pub extern "C" fn fio2070_log_signs_sign(signs: &LogSigns) -> u8
+pub extern "C" fn fio2070_log_signs_sign(signs: &FlatLogSigns) -> u8
     ensures { result ≡ sign_number (sign_of (log_signs_in signs.now)) }
 {
     match signs_from(signs).sign() {
@@ -94,10 +92,10 @@ pub extern "C" fn fio2070_log_signs_sign(signs: &LogSigns) -> u8
 }
 
 /// Returns the counts that a struct of C represents, whatever its octets are.
-fn signs_from(flat: &LogSigns) -> SignsOfLog
+fn signs_from(flat: &FlatLogSigns) -> LogSigns
     ensures { result ≡ log_signs_in flat.now }
 {
-    SignsOfLog {
+    LogSigns {
         frames: RepeatedFrames {
             above: frame_from(flat),
             said: end_from(flat.said),
@@ -121,7 +119,7 @@ fn signs_from(flat: &LogSigns) -> SignsOfLog
 }
 
 /// Returns the octets that are kept of the frame directly above.
-fn frame_from(flat: &LogSigns) -> Frame
+fn frame_from(flat: &FlatLogSigns) -> Frame
     ensures { result.items ≡ take flat.now.length flat.now.above }
 {
     let length = usize::from(flat.length).min(FRAME_OCTETS);
@@ -132,7 +130,7 @@ fn frame_from(flat: &LogSigns) -> Frame
 }
 
 /// Returns the latest block answer, if there is one.
-fn block_from(flat: &LogSigns) -> Option<BlockSeen>
+fn block_from(flat: &FlatLogSigns) -> Option<BlockSeen>
     ensures { result ≡ block_seen_of flat.now }
 {
     if flat.has_block == 0 {
@@ -145,11 +143,11 @@ fn block_from(flat: &LogSigns) -> Option<BlockSeen>
 }
 
 /// Returns the struct of C that represents counts.
-fn flat_signs_of(signs: &SignsOfLog) -> LogSigns
+fn flat_signs_of(signs: &LogSigns) -> FlatLogSigns
     ensures { log_signs_in result ≡ signs.now }
 {
     let (frames, order, rows) = (&signs.frames, &signs.order, &signs.rows);
-    LogSigns {
+    FlatLogSigns {
         answers: frames.answers,
         repeated: frames.repeated,
         contrary: frames.contrary,

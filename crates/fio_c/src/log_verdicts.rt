@@ -8,7 +8,7 @@ ghost use Rattle.fio_c.specs.declared.log_batch.TheConstants.{LOG_OCTETS, LOG_VE
 ghost use Rattle.fio_c.specs.Logs.{Content, HasNoneDue, HasRoomFirst, HasVerdicts, Holds, flat_place, flat_told, flat_verdict, has_room, kind_number, reason_number, side_number};
 ghost use Rattle.fio_c.specs.Told.{told_by};
 
-use crate::log_batch::{LOG_FRAMES, LOG_PLACES, LogBatch, LogPlace, LogVerdict};
+use crate::log_batch::{FlatLogPlace, LOG_FRAMES, LOG_PLACES, LogBatch, LogVerdict};
 use fio_log::{Direction, Kind, LineVerdict, Place, Reader, Reason};
 
 /// Puts the verdicts that are due into a batch, until it has no room for another one.
@@ -149,10 +149,10 @@ fn side_number(said: Option<Direction>) -> u8
 }
 
 /// Returns a place as C sees it.
-fn flat_place(place: Place) -> LogPlace
+fn flat_place(place: Place) -> FlatLogPlace
     ensures { result ≡ flat_place place }
 {
-    LogPlace {
+    FlatLogPlace {
         line: place.line,
         start: place.start.min(u32::MAX as usize) as u32,
         end: place.end.min(u32::MAX as usize) as u32,

@@ -14,7 +14,7 @@ ghost use Rattle.fio_flat.specs.Written.{Writes};
 use crate::command_frames::fio2070_encode_poll;
 use crate::faults::{NO_FAULT, fault_from};
 use fio_cpu::{BlockItems, Item, Record, hear_read_answer};
-use fio_flat::{Heard, Poller, RecordItem};
+use fio_flat::{FlatHeard, FlatPoller, RecordItem};
 use fio_message::{AnswerView, BlockStatus, read_answer};
 
 /// A gap mark.
@@ -28,7 +28,7 @@ const GAP: RecordItem = RecordItem {
 };
 
 /// A struct for what was heard with all numbers 0.
-const HEARD_NOTHING: Heard = Heard {
+const HEARD_NOTHING: FlatHeard = FlatHeard {
     kind: 0,
     code: 0,
     number: 0,
@@ -44,16 +44,16 @@ const HEARD_NOTHING: Heard = Heard {
 /// with the number that it kept loses nothing and records nothing twice. A CPU that starts anew with the
 /// number of the module's last poll gets that poll's block again, with E, and records it a second time.
 #[unsafe(no_mangle)]
-pub extern "C" fn fio2070_poller_start(poller: &mut Poller, number: u8)
+pub extern "C" fn fio2070_poller_start(poller: &mut FlatPoller, number: u8)
     ensures { poller.new ≡ record { number = number } }
 {
-    *poller = Poller { number };
+    *poller = FlatPoller { number };
 }
 
 /// Writes a poll with the present block number (TEES 2009, command 54). Returns how many octets it has;
 /// without room for it nothing is written.
 #[unsafe(no_mangle)]
-pub extern "C" fn fio2070_poller_poll(poller: &Poller, out: &mut [u8]) -> usize
+pub extern "C" fn fio2070_poller_poll(poller: &FlatPoller, out: &mut [u8]) -> usize
     ensures { Writes (command_octets (commands.Poll poller.now.number)) out.old out.new result }
 {
     fio2070_encode_poll(poller.number, out)
@@ -68,15 +68,15 @@ pub extern "C" fn fio2070_poller_poll(poller: &Poller, out: &mut [u8]) -> usize
 #[unsafe(no_mangle)]
 #[tactic(auto, using(crate::proofs::Decoded::block_decoded))]
 pub extern "C" fn fio2070_poller_hear(
-    poller: &mut Poller,
+    poller: &mut FlatPoller,
     octets: &[u8],
     items: &mut [RecordItem],
-) -> Heard
+) -> FlatHeard
     ensures { Hears poller.old.number octets.now items.old items.new poller.new.number result }
 {
     match read_answer(octets) {
         Ok(answer) => hear_answer(poller, &answer, items),
-        Err(error) => Heard {
+        Err(error) => FlatHeard {
             kind: 1,
             fault: fault_from(error),
             ..HEARD_NOTHING
@@ -85,14 +85,18 @@ pub extern "C" fn fio2070_poller_hear(
 }
 
 /// Hears a decoded answer.
-fn hear_answer(poller: &mut Poller, answer: &AnswerView<'_>, items: &mut [RecordItem]) -> Heard
+fn hear_answer(
+    poller: &mut FlatPoller,
+    answer: &AnswerView<'_>,
+    items: &mut [RecordItem],
+) -> FlatHeard
     ensures { HearsAs poller.old.number (heard_answer poller.old.number (answer_of answer.now))
         (answered_block (Some (answer_of answer.now))) items.old items.new poller.new.number result }
 {
     let mut places = ItemSlots { items };
     let heard = match hear_read_answer(&mut poller.number, &mut places, answer) {
         Ok(heard) => flat_heard(heard),
-        Err(count) => Heard {
+        Err(count) => FlatHeard {
             kind: 4,
             items: count,
             ..HEARD_NOTHING
@@ -102,11 +106,11 @@ fn hear_answer(poller: &mut Poller, answer: &AnswerView<'_>, items: &mut [Record
 }
 
 /// Returns what was heard, with the number and the stamp of the answer, if it is a block.
-fn with_block(heard: Heard, answer: &AnswerView<'_>) -> Heard
+fn with_block(heard: FlatHeard, answer: &AnswerView<'_>) -> FlatHeard
     ensures { result ≡ with_block (answered_block (Some (answer_of answer.now))) heard }
 {
     match *answer {
-        AnswerView::Block { block, stamp, .. } => Heard {
+        AnswerView::Block { block, stamp, .. } => FlatHeard {
             number: block,
             stamp,
             ..heard
@@ -116,29 +120,29 @@ fn with_block(heard: Heard, answer: &AnswerView<'_>) -> Heard
 }
 
 /// Returns what was heard in its flat form, with the number of items that it adds to the record.
-fn flat_heard(heard: fio_cpu::Heard) -> Heard
+fn flat_heard(heard: fio_cpu::Heard) -> FlatHeard
     requires few { HasFewEntries heard }
     requires need { (error : DecodeError) → heard ≡ outcomes.Unreadable error → NeedFitsFrame error }
     ensures { result ≡ flat_heard (items_added heard) heard }
 {
     match heard {
-        fio_cpu::Heard::Block { entries, status } => Heard {
+        fio_cpu::Heard::Block { entries, status } => FlatHeard {
             status,
             entries: entries as u8,
             items: u16::from(BlockStatus::from_octet(status).lost()) + entries as u16,
             ..HEARD_NOTHING
         },
-        fio_cpu::Heard::Unreadable(error) => Heard {
+        fio_cpu::Heard::Unreadable(error) => FlatHeard {
             kind: 1,
             fault: fault_from(error),
             ..HEARD_NOTHING
         },
-        fio_cpu::Heard::Other { code } => Heard {
+        fio_cpu::Heard::Other { code } => FlatHeard {
             kind: 2,
             code,
             ..HEARD_NOTHING
         },
-        fio_cpu::Heard::Stale { .. } => Heard {
+        fio_cpu::Heard::Stale { .. } => FlatHeard {
             kind: 3,
             ..HEARD_NOTHING
         },

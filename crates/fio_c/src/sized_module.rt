@@ -22,7 +22,7 @@ ghost use Rattle.fio_flat.specs.declared.written.TheConstants.{NO_MESSAGE};
 ghost use Rattle.fio_flat.specs.Module.{AddsEvent, AddsEventAlone, DeviceHistory, ErrorsChanged, IsDeviceAfter, OneMoreInReceiving, OneMoreInTransmitting, Reached, Replies, Set, are_limits, errors_of, events_reached, module_at_start, settings_of};
 
 use crate::answering::{answer, scan};
-use fio_flat::{ErrorCounts, Limits, NO_MESSAGE, SizedModule};
+use fio_flat::{ErrorCounts, FlatLimits, NO_MESSAGE, SizedModule};
 use fio_message::{EntryOctets, read_command};
 use fio_module::{MOST_WAITING, ModuleState, Outputs, RingPlace};
 
@@ -37,7 +37,11 @@ const NO_ERRORS: ErrorCounts = ErrorCounts {
 /// 255). Each octet of the struct is set. Returns 0, or 1 without any change if a limit is out of its
 /// range.
 #[unsafe(no_mangle)]
-pub extern "C" fn fio2070_sized_module_start(device: &mut SizedModule, id: u8, limits: Limits) -> u8
+pub extern "C" fn fio2070_sized_module_start(
+    device: &mut SizedModule,
+    id: u8,
+    limits: FlatLimits,
+) -> u8
     ensures made { are_limits limits ≡ true → (slots : List (List ℕ)) → limits.waiting ≤ length slots
         → IsDeviceAfter (settings_of id limits) device.new slots [] }
     ensures octets { are_limits limits ≡ true → (result ≡ 0) × (device.new ≡ module_at_start id limits) }

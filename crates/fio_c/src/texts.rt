@@ -6,13 +6,13 @@ ghost use Rattle.fio_flat.specs.Faults.{error_in, fault_of, text_of_fault};
 ghost use Rattle.fio_flat.specs.Written.{WritesText};
 ghost use Rattle.fio_c.specs.declared.texts.TheConstants.{FAULT_WORDS, LONGEST_TEXT};
 ghost use Rattle.fio_c.specs.Texts.{heard_in, text_of_content_rule, text_of_heard, text_of_rule};
-ghost use Rattle.fio_cpu.specs.declared.poller.Heard.{Heard as HeardOf};
+ghost use Rattle.fio_cpu.specs.declared.poller.Heard.{Heard};
 ghost use Rattle.fio_show.specs.HeardWords.{heard_text};
 ghost use Rattle.fio_text.specs.declared.pieces.TheConstants.{LINE_OCTETS};
 
 use crate::written::write_text;
 use fio_check::{ContentRule, Rule};
-use fio_flat::{Fault, Heard};
+use fio_flat::{Fault, FlatHeard};
 use fio_message::DecodeError;
 use fio_show::{LINE_OCTETS, put_heard};
 use fio_text::{line_end, put_pieces};
@@ -89,7 +89,7 @@ pub extern "C" fn fio2070_content_rule_text(rule: u8, text: &mut [u8]) -> usize
 /// room; the empty text if the kind is none of 0 to 4. Returns how many octets it has, at most 61; without
 /// room for it and a zero octet nothing is written.
 #[unsafe(no_mangle)]
-pub extern "C" fn fio2070_heard_text(heard: &Heard, text: &mut [u8]) -> usize
+pub extern "C" fn fio2070_heard_text(heard: &FlatHeard, text: &mut [u8]) -> usize
     ensures words { WritesText (text_of_heard heard.now) text.old text.new result }
     ensures short { result < LONGEST_TEXT }
 {
@@ -103,7 +103,7 @@ pub extern "C" fn fio2070_heard_text(heard: &Heard, text: &mut [u8]) -> usize
 
 /// Puts at the end of the room how many items need room, if that was heard, otherwise nothing. Returns where
 /// the text starts.
-fn put_no_room(line: &mut [u8; LINE_OCTETS], heard: &Heard) -> usize
+fn put_no_room(line: &mut [u8; LINE_OCTETS], heard: &FlatHeard) -> usize
     ensures start { result ≤ LINE_OCTETS }
     ensures words { drop result line.new
         ≡ (if heard.now.kind == 4 then codes "no room needed " ++ decimal heard.now.items else []) }
@@ -118,9 +118,9 @@ fn put_no_room(line: &mut [u8; LINE_OCTETS], heard: &Heard) -> usize
 }
 
 /// Returns what was heard, by the kind in a struct, if it was readable.
-fn heard_in(heard: Heard) -> Option<fio_cpu::Heard>
+fn heard_in(heard: FlatHeard) -> Option<fio_cpu::Heard>
     ensures heard { result ≡ heard_in heard }
-    ensures short { (heard : HeardOf) → result ≡ Some heard → length (heard_text heard) < LONGEST_TEXT }
+    ensures short { (heard : Heard) → result ≡ Some heard → length (heard_text heard) < LONGEST_TEXT }
 {
     match heard.kind {
         0 => Some(fio_cpu::Heard::Block {

@@ -21,7 +21,7 @@ use Rattle.fio_module.specs.Replies.{reply_to}
 use Rattle.fio_cpu.specs.Hearing.{new_items, next_number, heard_as}
 use Rattle.fio_cpu.specs.Record.{items_of_block}
 use Rattle.fio_cpu.specs.declared.record.Item.{Item}
-use Rattle.fio_cpu.specs.declared.poller.Heard.{Heard as HeardOf}
+use Rattle.fio_cpu.specs.declared.poller.Heard.{Heard}
 use Rattle.fio_cpu.specs.declared.poller.Heard.TheVariants as outcomes
 use Rattle.fio_link.specs.declared.event.Event.{Event}
 use Rattle.fio_link.specs.declared.event.Event.TheVariants.{Scan, LineSync, Raise, Poll, Send, ToModule, ToCpu, Restart}
@@ -29,11 +29,11 @@ use Rattle.fio_link.specs.Link.{Machine, SentFrame, start, refusal, after, after
 use Rattle.fio_link.proofs.Promises.{runs_are_sound}
 use Rattle.fio_link.proofs.RoundNumbers.{number_of-next}
 use Rattle.fio_link.proofs.Spelled.{no_block_in}
-use Rattle.fio_flat.specs.declared.poller.Heard.{Heard}
+use Rattle.fio_flat.specs.declared.poller.FlatHeard.{FlatHeard}
 use Rattle.fio_flat.specs.declared.poller.RecordItem.{RecordItem}
 use Rattle.fio_flat.specs.Module as module_events
 use Rattle.fio_flat.specs.Module.{DeviceHistory, Reached, ErrorsChanged, ErrorChange, IsDeviceAfter, WritesReply, are_limits, events_reached, errors_of, with_errors, settings_of}
-use Rattle.fio_flat.specs.declared.module.Limits.{Limits}
+use Rattle.fio_flat.specs.declared.module.FlatLimits.{FlatLimits}
 use Rattle.fio_flat.specs.declared.module.ErrorCounts.{ErrorCounts}
 use Rattle.fio_flat.specs.Written.{Writes}
 use Rattle.fio_flat.specs.Hearing.{Hears, flat_record_item, flat_heard, heard_no_room, with_block}
@@ -177,23 +177,23 @@ numbered_block frames (suc place) = slice_get-map block_of frames place
 -- ---- what is heard
 
 -- how many items are written to the front of the places, where there is room
-count_written : (count : ℕ) (what : HeardOf) → (flat_heard count what).items ≡ count
+count_written : (count : ℕ) (what : Heard) → (flat_heard count what).items ≡ count
 count_written count (outcomes.Block entries status) = refl
 count_written count (outcomes.Unreadable error) = refl
 count_written count (outcomes.Other code) = refl
 count_written count (outcomes.Stale block) = refl
 
 -- what is said of a block leaves the kind and the items
-kind_kept : (found : Option Block) (heard : Heard) → (with_block found heard).kind ≡ heard.kind
+kind_kept : (found : Option Block) (heard : FlatHeard) → (with_block found heard).kind ≡ heard.kind
 kind_kept None heard = refl
 kind_kept (Some block) heard = refl
 
-items_kept : (found : Option Block) (heard : Heard) → (with_block found heard).items ≡ heard.items
+items_kept : (found : Option Block) (heard : FlatHeard) → (with_block found heard).items ≡ heard.items
 items_kept None heard = refl
 items_kept (Some block) heard = refl
 
 -- the items that were written, where there was room
-items_written : (number next : ℕ) (octets : List ℕ) (before after : List RecordItem) (heard : Heard)
+items_written : (number next : ℕ) (octets : List ℕ) (before after : List RecordItem) (heard : FlatHeard)
     → Hears number octets before after next heard → heard.kind ≢ 4
     → (next ≡ next_number number (block_in octets))
     × (take heard.items after ≡ map flat_record_item (new_items number (block_in octets)))
@@ -202,11 +202,11 @@ items_written number next octets before after heard hears room =
     elim (cases_lt (length before) (length new)) as
     (λ _. (next ≡ next_number number (block_in octets)) × (take heard.items after ≡ map flat_record_item new)) [
       | inl short ↦
-          absurd (room (ap (λ (h : Heard). h.kind) (hears.no_room short).0 ∙ kind_kept (block_in octets) (heard_no_room (length new))))
+          absurd (room (ap (λ (h : FlatHeard). h.kind) (hears.no_room short).0 ∙ kind_kept (block_in octets) (heard_no_room (length new))))
       | inr long ↦
           let said = hears.room long in
           let count : heard.items ≡ length (map flat_record_item new) =
-          ap (λ (h : Heard). h.items) said.0
+          ap (λ (h : FlatHeard). h.items) said.0
           ∙ items_kept (block_in octets) (flat_heard (length new) (heard_as number (decoded_answer octets)))
           ∙ count_written (length new) (heard_as number (decoded_answer octets))
           ∙ sym (length-map new flat_record_item) in (
@@ -371,7 +371,7 @@ follow_all settings first (ChangeErrors change ∷ calls) machine held last f ca
     follow_all settings first calls machine called.0 last
     (follows_errors settings first machine held called.0 f change called.1) called.2
 
-some_entries : (limits : Limits) → are_limits limits ≡ true → 1 ≤ limits.per_block
+some_entries : (limits : FlatLimits) → are_limits limits ≡ true → 1 ≤ limits.per_block
 some_entries limits are = grind (arith, nat_tests)
 
 pub calls_are_runs : CallsAreRuns

@@ -16,9 +16,9 @@ use Rattle.fio_flat.specs.Module as module_events
 use Rattle.fio_flat.specs.Module.{Reached, ErrorsChanged, ErrorChange, AddsEvent, Replies, IsDeviceAfter, are_limits, settings_of}
 use Rattle.fio_flat.specs.Written.{Writes}
 use Rattle.fio_flat.specs.Hearing.{Hears, flat_record_item}
-use Rattle.fio_flat.specs.declared.module.Limits.{Limits}
+use Rattle.fio_flat.specs.declared.module.FlatLimits.{FlatLimits}
 use Rattle.fio_flat.specs.declared.module.SizedModule.{SizedModule}
-use Rattle.fio_flat.specs.declared.poller.Heard.{Heard}
+use Rattle.fio_flat.specs.declared.poller.FlatHeard.{FlatHeard}
 use Rattle.fio_flat.specs.declared.poller.RecordItem.{RecordItem}
 
 -- what a caller has: the module and its ring; the poller's number; the frames that each end has sent, oldest first; the
@@ -106,7 +106,7 @@ pub record HasHeard (index : ℕ) (octets : List ℕ) (old new : CallerState) : 
   pub before : List RecordItem
   pub after : List RecordItem
   pub number : ℕ
-  pub heard : Heard
+  pub heard : FlatHeard
   pub hears : Hears old.number octets before after number heard
   pub room : heard.kind ≢ 4
   pub rest :
@@ -160,7 +160,7 @@ pub record AreRun (settings : Settings) (first : ℕ) (events : List Event) (las
 -- Any calls, from the start of a module and of a poller on, are a run, whatever the limits of the module.
 abbrev pub CallsAreRuns : Type 0
 CallsAreRuns =
-    (id first : ℕ) (limits : Limits) (device : SizedModule) (ring : List (List ℕ)) (calls : List Call)
+    (id first : ℕ) (limits : FlatLimits) (device : SizedModule) (ring : List (List ℕ)) (calls : List Call)
     (last : CallerState)
     → id < 256 → first < 256 → limits.per_block < 256 → are_limits limits ≡ true
     → IsDeviceAfter (settings_of id limits) device ring []

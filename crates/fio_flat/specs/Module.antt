@@ -12,7 +12,7 @@ use Rattle.fio_module.specs.Rings.{empty_place, ring_in}
 use Rattle.fio_module.specs.Replies.{reply_to}
 use Rattle.fio_module.specs.State.{IsAfterHistory, state_at_start}
 use Rattle.fio_flat.specs.declared.module.ErrorCounts.{ErrorCounts}
-use Rattle.fio_flat.specs.declared.module.Limits.{Limits}
+use Rattle.fio_flat.specs.declared.module.FlatLimits.{FlatLimits}
 use Rattle.fio_flat.specs.declared.module.SizedModule.{SizedModule}
 
 -- what the firmware does to the error counts: it sets them, or counts one more
@@ -65,16 +65,16 @@ reply_after settings history octets =
     with_errors (errors_of history) (reply_to settings (events_reached history) octets)
 
 -- 1 to 8,192 entries may wait, and a block takes at most 1 to 255, the largest octet
-abbrev pub are_limits : Limits → Bool
+abbrev pub are_limits : FlatLimits → Bool
 are_limits limits =
     nat_le 1 limits.waiting && (nat_le limits.waiting MOST_WAITING && nat_le 1 limits.per_block)
 
 -- the settings that a module is made with
-abbrev pub settings_of : ℕ → Limits → Settings
+abbrev pub settings_of : ℕ → FlatLimits → Settings
 settings_of id limits = record { id = id; per_block = limits.per_block; waiting = limits.waiting }
 
 -- a module as it is started, with each of its octets given
-abbrev pub module_at_start : ℕ → Limits → SizedModule
+abbrev pub module_at_start : ℕ → FlatLimits → SizedModule
 module_at_start id limits = record {
   state = state_at_start id limits.per_block;
   place = empty_place;

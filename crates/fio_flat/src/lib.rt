@@ -1,6 +1,9 @@
 //! The flat structs of the two ends and of faults, in the form that C uses, and definitions of what calls do to them and to
 //! the arrays of a caller. Nothing here runs: the calls are the exports of `fio_c`.
 //!
+//! A struct whose name a type of another crate has is called `Flat` and that name, here and in `fio_c`. C calls it by the name
+//! alone: `FlatLimits` is `struct fio2070_limits`.
+//!
 //! The definitions are in `specs/`: faults and what reading does (`Faults`), octets and lists in the caller's arrays
 //! (`Written`), what a poller does (`Hearing`), and the history that a module has been through (`Module`).
 #![tactic(auto)]
@@ -11,6 +14,6 @@ mod poller;
 mod written;
 
 pub use faults::Fault;
-pub use module::{ErrorCounts, Limits, SizedModule};
-pub use poller::{Heard, Poller, RecordItem};
+pub use module::{ErrorCounts, FlatLimits, SizedModule};
+pub use poller::{FlatHeard, FlatPoller, RecordItem};
 pub use written::NO_MESSAGE;

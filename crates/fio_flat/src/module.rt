@@ -4,7 +4,7 @@ use fio_module::{ModuleState, RingPlace};
 /// The limits of a module (own profile; TEES 2009 has 1,024 and 255).
 #[derive(Clone, Copy)]
 #[repr(C)]
-pub struct Limits {
+pub struct FlatLimits {
     /// The most entries that wait for a poll, 1 to 8,192.
     pub waiting: u16,
     /// The most entries of a block, 1 to 255.

@@ -4,7 +4,7 @@ use crate::faults::Fault;
 /// The CPU's end of the link. Its record is kept by the caller.
 #[derive(Clone, Copy)]
 #[repr(C)]
-pub struct Poller {
+pub struct FlatPoller {
     /// The block number of the next poll.
     pub number: u8,
 }
@@ -30,7 +30,7 @@ pub struct RecordItem {
 /// The outcome of hearing a frame; `kind` is the first that applies (own profile).
 #[derive(Clone, Copy)]
 #[repr(C)]
-pub struct Heard {
+pub struct FlatHeard {
     /// 0 a block that was taken, with `entries` and `status`; 1 no answer, with `fault`; 2 another
     /// answer, with its type `code`; 3 a stale block; 4 a block with no room for its `items`.
     pub kind: u8,
