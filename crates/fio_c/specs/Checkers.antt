@@ -6,7 +6,7 @@ use Rattle.fio_check.specs.declared.checker.Checker.{Checker}
 use Rattle.fio_check.specs.declared.checker.Due.{Due}
 use Rattle.fio_check.specs.declared.checker.Skips.{Skips}
 use Rattle.fio_check.specs.declared.checker.Skips.TheVariants.{Nothing, ToCommand, ToPoll}
-use Rattle.fio_check.specs.declared.limits.Limits.{Limits}
+use Rattle.fio_check.specs.declared.limits.RuleLimits.{RuleLimits}
 use Rattle.fio_flat.specs.declared.module.FlatLimits.{FlatLimits}
 use Rattle.fio_check.specs.declared.content.ContentBreach.{ContentBreach}
 use Rattle.fio_check.specs.ContentRules.{content_rule_number}
@@ -16,7 +16,7 @@ use Rattle.fio_c.specs.declared.checker.FlatChecker.{FlatChecker}
 use Rattle.fio_c.specs.declared.content.FlatContentBreach.{FlatContentBreach}
 
 -- the limits of a module, from a struct of C
-abbrev pub limits_of : FlatLimits → Limits
+abbrev pub limits_of : FlatLimits → RuleLimits
 limits_of limits = record { per_block = limits.per_block; waiting = limits.waiting }
 
 -- a number, if its flag is set

@@ -5,7 +5,7 @@ ghost use Rattle.fio_check.specs.Observations.{observation_in};
 ghost use Rattle.fio_flat.specs.Module.{are_limits};
 ghost use Rattle.fio_c.specs.Checkers.{checker_in, flat_breach, flat_checker, flat_more, flat_skips, limits_of, more_in, octet_in, skips_in};
 
-use fio_check::{Breach, Checker, Facts, Limits, Skips};
+use fio_check::{Breach, Checker, Facts, RuleLimits, Skips};
 use fio_flat::FlatLimits;
 use fio_module::MOST_WAITING;
 
@@ -105,14 +105,14 @@ pub extern "C" fn fio2070_checker_start_anywhere(
 }
 
 /// Returns the limits in a struct of C; `None` if one is out of its range.
-pub(crate) fn limits_from(limits: FlatLimits) -> Option<Limits>
+pub(crate) fn limits_from(limits: FlatLimits) -> Option<RuleLimits>
     ensures none { IfNone result (are_limits limits ≡ false) }
     ensures some { IfSome result (λ found. (are_limits limits ≡ true) × (found ≡ limits_of limits)) }
 {
     if limits.waiting == 0 || limits.waiting > MOST_WAITING || limits.per_block == 0 {
         return None;
     }
-    Some(Limits {
+    Some(RuleLimits {
         per_block: limits.per_block,
         waiting: limits.waiting,
     })
@@ -156,7 +156,7 @@ pub(crate) fn checker_from(flat: &FlatChecker) -> Checker
     ensures { result ≡ checker_in flat.now }
 {
     Checker {
-        limits: Limits {
+        limits: RuleLimits {
             per_block: flat.per_block,
             waiting: flat.waiting,
         },

@@ -5,7 +5,7 @@ use Rattle.fio_check.specs.declared.checker.Skips.TheVariants.{Nothing, ToComman
 use Rattle.fio_check.specs.declared.checker.Breach.{Breach}
 use Rattle.fio_check.specs.declared.checker.Checker.{Checker}
 use Rattle.fio_check.specs.declared.facts.Facts.{Facts}
-use Rattle.fio_check.specs.declared.limits.Limits.{Limits}
+use Rattle.fio_check.specs.declared.limits.RuleLimits.{RuleLimits}
 use Rattle.fio_check.specs.Rules.{first_broken_within, standard_limits}
 use Rattle.fio_check.specs.declared.observation.Observation.{Observation}
 use Rattle.fio_check.specs.declared.observation.Observation.TheVariants.{Unreadable, Poll, Command, Block, Answer}
@@ -16,21 +16,21 @@ use Rattle.fio_check.proofs.Verdicts.{below-or-at, breach-is}
 -- ---- from the start on, through the first breach
 
 -- a checker that passes over nothing
-abbrev pub taking : Limits → Facts → Checker
+abbrev pub taking : RuleLimits → Facts → Checker
 taking limits facts = record { limits = limits; facts = facts; skips = Nothing }
 
-takes-it : (limits : Limits) (facts : Facts) (from_cpu : Bool) (observation : Observation) → passes_over (taking limits facts) from_cpu observation ≡ false
+takes-it : (limits : RuleLimits) (facts : Facts) (from_cpu : Bool) (observation : Observation) → passes_over (taking limits facts) from_cpu observation ≡ false
 takes-it limits facts from_cpu (Poll number) = refl
 takes-it limits facts from_cpu (Command answer absent) = refl
 takes-it limits facts from_cpu (Block number status entries absent) = refl
 takes-it limits facts from_cpu (Answer code accepted) = refl
 takes-it limits facts from_cpu Unreadable = refl
 
-pub found-taking : (limits : Limits) (facts : Facts) (from_cpu : Bool) (observation : Observation)
+pub found-taking : (limits : RuleLimits) (facts : Facts) (from_cpu : Bool) (observation : Observation)
     → found_by (taking limits facts) from_cpu observation ≡ breach_of limits facts observation
 found-taking limits facts from_cpu observation = rw (takes-it limits facts from_cpu observation) refl
 
-pub with-taking : (limits : Limits) (facts : Facts) (from_cpu : Bool) (observation : Observation) → first_broken_within limits facts observation ≡ None
+pub with-taking : (limits : RuleLimits) (facts : Facts) (from_cpu : Bool) (observation : Observation) → first_broken_within limits facts observation ≡ None
     → checker_with (taking limits facts) from_cpu observation ≡ taking limits (facts_with facts observation)
 with-taking limits facts from_cpu observation none = rw (takes-it limits facts from_cpu observation, none) refl
 
@@ -95,13 +95,13 @@ finds_the_first_breach lines =
 
 -- ---- below a breach
 
-pub with-breach : (limits : Limits) (checker taken : Checker) (passes : Bool) (breach : Option Breach) → is_some (if passes then None else breach) ≡ true
+pub with-breach : (limits : RuleLimits) (checker taken : Checker) (passes : Bool) (breach : Option Breach) → is_some (if passes then None else breach) ≡ true
     → (if passes then checker else (if is_some breach then checker_below_breach limits else taken)) ≡ checker_below_breach limits
 with-breach limits checker taken true breach is = absurd (cc)
 with-breach limits checker taken false None is = absurd (cc)
 with-breach limits checker taken false (Some breach) is = refl
 
-pub passes-it : (limits : Limits) (from_cpu : Bool) (observation : Observation) → number_polled observation ≡ None
+pub passes-it : (limits : RuleLimits) (from_cpu : Bool) (observation : Observation) → number_polled observation ≡ None
     → passes_over (checker_below_breach limits) from_cpu observation ≡ true
 passes-it limits from_cpu (Poll number) none = absurd (cc)
 passes-it limits from_cpu (Command answer absent) none = refl
@@ -110,11 +110,11 @@ passes-it limits from_cpu (Answer code accepted) none = refl
 passes-it limits from_cpu Unreadable none = refl
 
 -- what a checker below a breach keeps, and finds, until the next poll
-with-passing : (limits : Limits) (from_cpu : Bool) (observation : Observation) → number_polled observation ≡ None
+with-passing : (limits : RuleLimits) (from_cpu : Bool) (observation : Observation) → number_polled observation ≡ None
     → checker_with (checker_below_breach limits) from_cpu observation ≡ checker_below_breach limits
 with-passing limits from_cpu observation none = rw (passes-it limits from_cpu observation none) refl
 
-found-passing : (limits : Limits) (from_cpu : Bool) (observation : Observation) → number_polled observation ≡ None
+found-passing : (limits : RuleLimits) (from_cpu : Bool) (observation : Observation) → number_polled observation ≡ None
     → found_by (checker_below_breach limits) from_cpu observation ≡ None
 found-passing limits from_cpu observation none = rw (passes-it limits from_cpu observation none) refl
 
@@ -129,11 +129,11 @@ limits-kept checker false (Some found) facts = refl
 pub limits-stay : (checker : Checker) (from_cpu : Bool) (observation : Observation) → (checker_with checker from_cpu observation).limits ≡ checker.limits
 limits-stay checker from_cpu observation = limits-kept checker (passes_over checker from_cpu observation) (breach_of checker.limits checker.facts observation) (facts_with checker.facts observation)
 
-limits-at : (limits : Limits) (lines : List TranscriptLine) (place : ℕ) → (checker_at limits lines place).limits ≡ limits
+limits-at : (limits : RuleLimits) (lines : List TranscriptLine) (place : ℕ) → (checker_at limits lines place).limits ≡ limits
 limits-at limits lines zero = refl
 limits-at limits lines (suc place) = limits-stay (checker_at limits lines place) (is_sent_at lines place) (observation_at lines place) ∙ limits-at limits lines place
 
-module _ (limits : Limits) (lines : List TranscriptLine) (breach : ℕ) (broken : is_some (found_at limits lines breach) ≡ true) where
+module _ (limits : RuleLimits) (lines : List TranscriptLine) (breach : ℕ) (broken : is_some (found_at limits lines breach) ≡ true) where
   still-below : (place : ℕ) → breach < place → HasNoPollBetween lines breach place → checker_at limits lines place ≡ checker_below_breach limits
   still-below zero below none = absurd (omega (arith, below))
   still-below (suc place) below none =
@@ -150,7 +150,7 @@ module _ (limits : Limits) (lines : List TranscriptLine) (breach : ℕ) (broken 
       ]
 
 -- a poll is taken alike by a checker below a breach and a new one
-found-alike : (limits : Limits) (from_cpu : Bool) (observation : Observation) → is_some (number_polled observation) ≡ true
+found-alike : (limits : RuleLimits) (from_cpu : Bool) (observation : Observation) → is_some (number_polled observation) ≡ true
     → found_by (checker_below_breach limits) from_cpu observation ≡ found_by (checker_within limits) from_cpu observation
 found-alike limits from_cpu (Poll number) is = refl
 found-alike limits from_cpu (Command answer absent) is = absurd (cc)
@@ -158,7 +158,7 @@ found-alike limits from_cpu (Block number status entries absent) is = absurd (cc
 found-alike limits from_cpu (Answer code accepted) is = absurd (cc)
 found-alike limits from_cpu Unreadable is = absurd (cc)
 
-with-alike : (limits : Limits) (from_cpu : Bool) (observation : Observation) → is_some (number_polled observation) ≡ true
+with-alike : (limits : RuleLimits) (from_cpu : Bool) (observation : Observation) → is_some (number_polled observation) ≡ true
     → checker_with (checker_below_breach limits) from_cpu observation ≡ checker_with (checker_within limits) from_cpu observation
 with-alike limits from_cpu (Poll number) is = refl
 with-alike limits from_cpu (Command answer absent) is = absurd (cc)
@@ -223,7 +223,7 @@ module _ (one other : Checker) (lines others : List TranscriptLine) (start : ℕ
       ∙ ap (λ checker. found_by checker (is_sent_at lines (suc start + further)) (observation_at lines (suc start + further))) (same-further further)
       ∙ ap₂ (found_by (checker_from other others (suc further))) line.sent line.said
 
-pub goes_on : (limits : Limits) (lines : List TranscriptLine) → GoesOn limits lines
+pub goes_on : (limits : RuleLimits) (lines : List TranscriptLine) → GoesOn limits lines
 goes_on limits lines = record {
   passes = λ breach place broken below none.
       ap (λ checker. found_by checker (is_sent_at lines place) (observation_at lines place))
@@ -244,21 +244,21 @@ goes_on limits lines = record {
 -- ---- a log that begins anywhere
 
 -- what is heard above the first command is passed over
-above-heard : (limits : Limits) (observation : Observation) → number_polled observation ≡ None → passes_over (checker_skipping ToCommand limits) false observation ≡ true
+above-heard : (limits : RuleLimits) (observation : Observation) → number_polled observation ≡ None → passes_over (checker_skipping ToCommand limits) false observation ≡ true
 above-heard limits (Poll number) none = absurd (cc)
 above-heard limits (Command answer absent) none = refl
 above-heard limits (Block number status entries absent) none = refl
 above-heard limits (Answer code accepted) none = refl
 above-heard limits Unreadable none = refl
 
-command-alike : (limits : Limits) (observation : Observation) → TakesAlike (checker_skipping ToCommand limits) (checker_within limits) true observation
+command-alike : (limits : RuleLimits) (observation : Observation) → TakesAlike (checker_skipping ToCommand limits) (checker_within limits) true observation
 command-alike limits (Poll number) = record { found = refl; kept = refl }
 command-alike limits (Command answer absent) = record { found = refl; kept = refl }
 command-alike limits (Block number status entries absent) = record { found = refl; kept = refl }
 command-alike limits (Answer code accepted) = record { found = refl; kept = refl }
 command-alike limits Unreadable = record { found = refl; kept = refl }
 
-module _ (limits : Limits) (lines : List TranscriptLine) (below : IsBelowHeard lines (from_first_command lines)) where
+module _ (limits : RuleLimits) (lines : List TranscriptLine) (below : IsBelowHeard lines (from_first_command lines)) where
   still-above : (place : ℕ) → place ≤ below.above → checker_from (checker_anywhere limits) lines place ≡ checker_anywhere limits
   still-above zero within = refl
   still-above (suc place) within =
@@ -295,7 +295,7 @@ module _ (limits : Limits) (lines : List TranscriptLine) (below : IsBelowHeard l
       })
       further
 
-pub begins_anywhere : (limits : Limits) (lines : List TranscriptLine) → BeginsAnywhere limits lines
+pub begins_anywhere : (limits : RuleLimits) (lines : List TranscriptLine) → BeginsAnywhere limits lines
 begins_anywhere limits lines =
     let below = below_heard lines in
     let count = below.count in

@@ -17,7 +17,7 @@ use Rattle.fio_check.specs.declared.checker.Skips.TheVariants.{Nothing, ToComman
 use Rattle.fio_check.specs.declared.content.ContentBreach.{ContentBreach}
 use Rattle.fio_check.specs.declared.content_rules.ContentRule.{ContentRule}
 use Rattle.fio_check.specs.declared.content_rules.ContentRule.TheVariants as rule
-use Rattle.fio_check.specs.declared.limits.Limits.{Limits}
+use Rattle.fio_check.specs.declared.limits.RuleLimits.{RuleLimits}
 use Rattle.fio_check.specs.declared.observation.Observation.{Observation}
 use Rattle.fio_check.specs.declared.observation.Observation.TheVariants.{Unreadable, Poll, Command as OtherCommand, Block, Answer}
 use Rattle.fio_check.specs.declared.outcome.Excuse.TheVariants.{Load, Unheard}
@@ -41,7 +41,7 @@ has_outcomes judging (Lost ∷ lines) = has_outcomes (judging_lost judging) line
 -- ---- a place that is lost
 
 -- a judge where the place is lost
-abbrev lost_at : Limits → ContentChecking → Option ℕ → Option ℕ → Bool → Judging
+abbrev lost_at : RuleLimits → ContentChecking → Option ℕ → Option ℕ → Bool → Judging
 lost_at limits content latest asked lost = record {
   checker = checker_below_breach limits;
   content = content;
@@ -63,7 +63,7 @@ abbrev content-passed : ContentChecking → Bool → List ℕ → ContentCheckin
 content-passed content true octets = checking_with content true octets
 content-passed content false octets = content
 
-module _ (limits : Limits) (latest asked : Option ℕ) where
+module _ (limits : RuleLimits) (latest asked : Option ℕ) where
   outcome-lost : (content : ContentChecking) (lost : Bool) (at : LogPlace) (from_cpu : Bool) (octets : List ℕ)
       → is_poll from_cpu octets ≡ false
       → outcome_in (lost_at limits content latest asked lost) at from_cpu octets ≡ NotJudged PlaceLost
@@ -141,7 +141,7 @@ poll-is (Block number status entries absent) is = absurd (cc)
 poll-is (Answer code accepted) is = absurd (cc)
 poll-is Unreadable is = absurd (cc)
 
-module _ (limits : Limits) (latest asked : Option ℕ) (content : ContentChecking) (lost : Bool) where
+module _ (limits : RuleLimits) (latest asked : Option ℕ) (content : ContentChecking) (lost : Bool) where
   abbrev here : Judging
   here = lost_at limits content latest asked lost
 
@@ -302,7 +302,7 @@ passes-sent checker (Block number status entries absent) closed = ap (λ skips. 
 passes-sent checker (Answer code accepted) closed = ap (λ skips. skips_frame skips true) closed
 passes-sent checker Unreadable closed = ap (λ skips. skips_frame skips true) closed
 
-taken-is : (limits : Limits) (checker taken : Checker) (passes : Bool) (breach : Option Breach) → passes ≡ false
+taken-is : (limits : RuleLimits) (checker taken : Checker) (passes : Bool) (breach : Option Breach) → passes ≡ false
     → (if passes then None else breach) ≡ None
     → (if passes then checker else (if is_some breach then checker_below_breach limits else taken)) ≡ taken
 taken-is limits checker taken true breach is none = absurd (cc)
@@ -452,7 +452,7 @@ says judging (line ∷ lines) aligned runs =
           ∙ sym (ap₂ (λ b c. option_or (option_map (broken_on line.number) b) (option_or (option_map (content_on line.number) c) rest)) quiet.broken quiet.content)
     ]
 
-pub says_the_same : (limits : Limits) (lines : List TranscriptLine) → SaysTheSame limits lines
+pub says_the_same : (limits : RuleLimits) (lines : List TranscriptLine) → SaysTheSame limits lines
 says_the_same limits lines = record {
   anywhere = λ runs. says (judging_anywhere limits) lines (inr (refl, refl)) runs;
   begun = λ runs. says (judging_begun limits) lines (inl refl) runs;

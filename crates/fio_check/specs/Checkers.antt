@@ -12,7 +12,7 @@ use Rattle.fio_check.specs.declared.checker.Due.{Due}
 use Rattle.fio_check.specs.declared.checker.Skips.{Skips}
 use Rattle.fio_check.specs.declared.checker.Skips.TheVariants.{Nothing, ToCommand, ToPoll}
 use Rattle.fio_check.specs.declared.facts.Facts.{Facts}
-use Rattle.fio_check.specs.declared.limits.Limits.{Limits}
+use Rattle.fio_check.specs.declared.limits.RuleLimits.{RuleLimits}
 use Rattle.fio_check.specs.declared.observation.Observation.{Observation}
 use Rattle.fio_check.specs.declared.observation.Observation.TheVariants.{Poll, Block, Answer}
 use Rattle.fio_check.specs.declared.rules.Rule.{Rule}
@@ -36,17 +36,17 @@ due_in facts (Poll number) Advance = instead_of (number_due facts) number
 due_in facts observation rule = None
 
 -- the first rule that a line with this observation breaks, with these limits, and what was due
-abbrev pub breach_of : Limits → Facts → Observation → Option Breach
+abbrev pub breach_of : RuleLimits → Facts → Observation → Option Breach
 breach_of limits facts observation =
     option_map (λ rule. record { rule = rule; due = due_in facts observation rule })
     (first_broken_within limits facts observation)
 
 -- a checker of a module with these limits that skips these frames, and knows nothing of the lines above
-abbrev pub checker_skipping : Skips → Limits → Checker
+abbrev pub checker_skipping : Skips → RuleLimits → Checker
 checker_skipping skips limits = record { limits = limits; facts = no_facts; skips = skips }
 
 -- a checker above the first line, of a module with these limits
-abbrev pub checker_within : Limits → Checker
+abbrev pub checker_within : RuleLimits → Checker
 checker_within limits = checker_skipping Nothing limits
 
 -- a checker above the first line, with the limits of TEES 2009
@@ -54,11 +54,11 @@ abbrev pub new_checker : Checker
 new_checker = checker_within standard_limits
 
 -- a checker above the first line of a log that begins anywhere
-abbrev pub checker_anywhere : Limits → Checker
+abbrev pub checker_anywhere : RuleLimits → Checker
 checker_anywhere limits = checker_skipping ToCommand limits
 
 -- a checker below a breach
-abbrev pub checker_below_breach : Limits → Checker
+abbrev pub checker_below_breach : RuleLimits → Checker
 checker_below_breach limits = checker_skipping ToPoll limits
 
 -- whether a checker skips a frame that the CPU sent or heard: frames heard above the first command, or all frames above
@@ -99,11 +99,11 @@ found_from checker lines place =
     found_by (checker_from checker lines place) (is_sent_at lines place) (observation_at lines place)
 
 -- the checker at a place, started above the first line, of a module with these limits
-abbrev pub checker_at : Limits → List TranscriptLine → ℕ → Checker
+abbrev pub checker_at : RuleLimits → List TranscriptLine → ℕ → Checker
 checker_at limits = checker_from (checker_within limits)
 
 -- what the checker started above the first line finds in the line at the place
-abbrev pub found_at : Limits → List TranscriptLine → ℕ → Option Breach
+abbrev pub found_at : RuleLimits → List TranscriptLine → ℕ → Option Breach
 found_at limits = found_from (checker_within limits)
 
 -- that finding as a verdict, with the limits of TEES 2009
@@ -124,7 +124,7 @@ HasNoPollBetween lines above below = (between : ℕ) → above < between → bet
 
 -- Below a breach nothing is found above the next poll. From that poll on, a checker finds what a checker started there
 -- finds.
-pub record GoesOn (limits : Limits) (lines : List TranscriptLine) : Type 0 where
+pub record GoesOn (limits : RuleLimits) (lines : List TranscriptLine) : Type 0 where
   pub passes : (breach place : ℕ) → is_some (found_at limits lines breach) ≡ true → breach < place
       → HasNoPollBetween lines breach (suc place) → found_at limits lines place ≡ None
   pub starts : (breach poll further : ℕ) → is_some (found_at limits lines breach) ≡ true → breach < poll
@@ -134,7 +134,7 @@ pub record GoesOn (limits : Limits) (lines : List TranscriptLine) : Type 0 where
 
 -- In a log that begins anywhere a checker finds nothing above the first command. From that command on, it finds what a
 -- checker started there finds.
-pub record BeginsAnywhere (limits : Limits) (lines : List TranscriptLine) : Type 0 where
+pub record BeginsAnywhere (limits : RuleLimits) (lines : List TranscriptLine) : Type 0 where
   pub passes : (place : ℕ) → place + length (from_first_command lines) < length lines
       → found_from (checker_anywhere limits) lines place ≡ None
   pub starts : (above further : ℕ) → above + length (from_first_command lines) ≡ length lines

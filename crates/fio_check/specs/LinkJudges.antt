@@ -23,7 +23,7 @@ use Rattle.fio_check.specs.declared.content.ContentBreach.{ContentBreach}
 use Rattle.fio_check.specs.declared.content_rules.ContentRule.{ContentRule}
 use Rattle.fio_check.specs.declared.content_rules.ContentRule.TheVariants.{Watchdog}
 use Rattle.fio_check.specs.declared.facts.Facts.{Facts}
-use Rattle.fio_check.specs.declared.limits.Limits.{Limits}
+use Rattle.fio_check.specs.declared.limits.RuleLimits.{RuleLimits}
 use Rattle.fio_check.specs.declared.observation.Observation.{Observation}
 use Rattle.fio_check.specs.declared.observation.Observation.TheVariants.{Poll}
 use Rattle.fio_check.specs.declared.outcome.Excuse.TheVariants.{Load, Unheard}
@@ -48,7 +48,7 @@ pub record Judging : Type 0 where
 -- ---- where it begins
 
 -- a judge above the first line of a log that begins anywhere, of a module with these limits
-abbrev pub judging_anywhere : Limits → Judging
+abbrev pub judging_anywhere : RuleLimits → Judging
 judging_anywhere limits = record {
   checker = checker_anywhere limits;
   content = checking_at_start false;
@@ -58,7 +58,7 @@ judging_anywhere limits = record {
 }
 
 -- a judge above the first line of a log that begins with both ends
-abbrev pub judging_begun : Limits → Judging
+abbrev pub judging_begun : RuleLimits → Judging
 judging_begun limits = record {
   checker = checker_within limits;
   content = checking_at_start true;

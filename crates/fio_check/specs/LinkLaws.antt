@@ -15,7 +15,7 @@ use Rattle.fio_check.specs.Places.{earliest_above, is_some_and}
 use Rattle.fio_check.specs.declared.checker.Breach.{Breach}
 use Rattle.fio_check.specs.declared.checker.Checker.{Checker}
 use Rattle.fio_check.specs.declared.checker.Skips.TheVariants.{ToCommand}
-use Rattle.fio_check.specs.declared.limits.Limits.{Limits}
+use Rattle.fio_check.specs.declared.limits.RuleLimits.{RuleLimits}
 use Rattle.fio_check.specs.declared.content.ContentBreach.{ContentBreach}
 use Rattle.fio_check.specs.declared.content_rules.ContentRule.{ContentRule}
 use Rattle.fio_check.specs.declared.content_rules.ContentRule.TheVariants.{Watchdog}
@@ -182,7 +182,7 @@ RunsOn judging (line ∷ lines) = (is_set_back judging line.from_cpu line.octets
 
 -- In a whole log at the CPU's end in which the counter runs on, the judge accuses first what the checker of transcripts and
 -- that of the rules on content find first.
-pub record SaysTheSame (limits : Limits) (lines : List TranscriptLine) : Type 0 where
+pub record SaysTheSame (limits : RuleLimits) (lines : List TranscriptLine) : Type 0 where
   pub anywhere : RunsOn (judging_anywhere limits) lines → accused_first (judging_anywhere limits) lines
       ≡ both_find_first (checker_anywhere limits) (checking_at_start false) lines
   pub begun : RunsOn (judging_begun limits) lines → accused_first (judging_begun limits) lines

@@ -13,7 +13,7 @@ use Rattle.fio_check.specs.declared.late_answers.LateAnswers.{LateAnswers}
 use Rattle.fio_check.specs.declared.late_answers.Lateness.{Lateness}
 use Rattle.fio_check.specs.declared.late_answers.Lateness.TheVariants.{InTime, LateButTaken}
 use Rattle.fio_check.specs.declared.late_answers.Lateness.TheVariants.{Late as LateOne}
-use Rattle.fio_check.specs.declared.limits.Limits.{Limits}
+use Rattle.fio_check.specs.declared.limits.RuleLimits.{RuleLimits}
 use Rattle.fio_check.specs.declared.log_judge.LogJudge.{LogJudge}
 use Rattle.fio_check.specs.declared.log_judge.LogOutcome.{LogOutcome}
 use Rattle.fio_check.specs.declared.log_judge.LogOutcome.TheVariants.{Late, LateAbove, Link}
@@ -59,7 +59,7 @@ log_judging judge = record {
 -- ---- where it begins
 
 -- the judge of its link
-abbrev pub link_starting : Limits → LogStart → Judging
+abbrev pub link_starting : RuleLimits → LogStart → Judging
 link_starting limits Begun = judging_begun limits
 link_starting limits start = judging_anywhere limits
 
@@ -69,7 +69,7 @@ late_starting StartLate = Some late_above
 late_starting start = None
 
 -- a judge above the first line of a log of a module with these limits
-abbrev pub log_starting : Limits → Option LogPlace → LogStart → LogJudging
+abbrev pub log_starting : RuleLimits → Option LogPlace → LogStart → LogJudging
 log_starting limits place start = record {
   link = link_starting limits start;
   late = late_starting start;

@@ -12,28 +12,28 @@ use Rattle.fio_check.specs.Lines.{TranscriptLine}
 use Rattle.fio_check.specs.Observations.{observation_at}
 use Rattle.fio_check.specs.Places.{is_some_and}
 use Rattle.fio_check.specs.declared.facts.Facts.{Facts}
-use Rattle.fio_check.specs.declared.limits.Limits.{Limits}
+use Rattle.fio_check.specs.declared.limits.RuleLimits.{RuleLimits}
 use Rattle.fio_check.specs.declared.observation.Observation.{Observation}
 use Rattle.fio_check.specs.declared.observation.Observation.TheVariants.{Unreadable, Poll, Block, Answer}
 use Rattle.fio_check.specs.declared.rules.Rule.{Rule}
-use Rattle.fio_check.specs.declared.rules.Rule.TheVariants.{Readable, Pair, Number, Advance, Same, Sequence, Limits as LimitsRule, Rest, Refusal}
+use Rattle.fio_check.specs.declared.rules.Rule.TheVariants.{Readable, Pair, Number, Advance, Same, Sequence, RuleLimits as LimitsRule, Rest, Refusal}
 
 -- directly above is no command that an answer of this type answers
 abbrev pub is_unasked : Facts → ℕ → Bool
 is_unasked facts answer = not (is_some_and facts.awaited (λ awaited. awaited == answer))
 
 -- the limits of TEES 2009
-abbrev pub standard_limits : Limits
+abbrev pub standard_limits : RuleLimits
 standard_limits = record { per_block = BLOCK_ENTRIES; waiting = 1024 }
 
 -- F without C, if more entries may wait than a block takes; or C with another count than a block takes
-abbrev pub is_overfull_within : Limits → ℕ → ℕ → Bool
+abbrev pub is_overfull_within : RuleLimits → ℕ → ℕ → Bool
 is_overfull_within limits status entries =
     (nat_lt limits.per_block limits.waiting && (says_lost status && not (says_more status)))
     || (says_more status && not (entries == limits.per_block))
 
 -- A line breaks a rule, if the module has these limits:
-abbrev pub breaks_within : Limits → Facts → Observation → Rule → Bool
+abbrev pub breaks_within : RuleLimits → Facts → Observation → Rule → Bool
 -- Readable: its octets are no message of its direction.
 breaks_within limits facts Unreadable Readable = true
 -- Pair: it is an answer, and directly above is no command that it answers.
@@ -97,7 +97,7 @@ abbrev pub rule_of_number : ℕ → Option Rule
 rule_of_number number = find (λ rule. rule_number rule == number) rules
 
 -- the first rule that a line with this observation breaks, given the facts above it, with these limits
-abbrev pub first_broken_within : Limits → Facts → Observation → Option Rule
+abbrev pub first_broken_within : RuleLimits → Facts → Observation → Option Rule
 first_broken_within limits facts observation = find (breaks_within limits facts observation) rules
 
 -- the first rule that a line with this observation breaks, with the limits of TEES 2009

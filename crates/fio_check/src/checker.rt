@@ -4,7 +4,7 @@ ghost use Rattle.fio_check.specs.Checkers.{breach_of, checker_anywhere, checker_
 ghost use Rattle.fio_check.specs.Observations.{observation_in};
 
 use crate::facts::Facts;
-use crate::limits::Limits;
+use crate::limits::RuleLimits;
 use crate::observation::Observation;
 use crate::rules::{Rule, rule_broken_within};
 use fio_message::types::BLOCK_ANSWER;
@@ -43,7 +43,7 @@ pub enum Skips {
 #[derive(Clone, Copy, Debug, PartialEq, Eq, Hash)]
 pub struct Checker {
     /// The limits of the module.
-    pub limits: Limits,
+    pub limits: RuleLimits,
     /// What is above the next frame.
     pub facts: Facts,
     /// What the checker skips.
@@ -55,11 +55,11 @@ impl Checker {
     pub fn new() -> Checker
         ensures { result ≡ new_checker }
     {
-        Checker::within(Limits::standard())
+        Checker::within(RuleLimits::standard())
     }
 
     /// Returns a checker above the first frame, of a module with these limits.
-    pub fn within(limits: Limits) -> Checker
+    pub fn within(limits: RuleLimits) -> Checker
         ensures { result ≡ checker_within limits }
     {
         Checker::skipping(Skips::Nothing, limits)
@@ -67,13 +67,13 @@ impl Checker {
 
     /// Returns a checker above the first frame of a log that begins anywhere, of a module with these limits. It skips what
     /// the CPU's end hears above the first frame that it sends.
-    pub fn anywhere(limits: Limits) -> Checker
+    pub fn anywhere(limits: RuleLimits) -> Checker
         ensures { result ≡ checker_anywhere limits }
     {
         Checker::skipping(Skips::ToCommand, limits)
     }
 
-    pub(crate) fn skipping(skips: Skips, limits: Limits) -> Checker
+    pub(crate) fn skipping(skips: Skips, limits: RuleLimits) -> Checker
         ensures { result ≡ checker_skipping skips limits }
     {
         Checker {
@@ -143,7 +143,7 @@ impl Skips {
 }
 
 /// Returns the breach of a frame with this observation, given the facts above it and the limits.
-fn breach_of(limits: Limits, facts: &Facts, observation: Observation) -> Option<Breach>
+fn breach_of(limits: RuleLimits, facts: &Facts, observation: Observation) -> Option<Breach>
     ensures { result ≡ breach_of limits facts.now observation }
 {
     match rule_broken_within(limits, facts, observation) {

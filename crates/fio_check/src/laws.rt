@@ -16,7 +16,7 @@ ghost use Rattle.fio_check.specs.LogLaws.{SaysAsLink};
 ghost use Rattle.fio_check.specs.Observations.{observation_at};
 ghost use Rattle.fio_check.specs.Verdicts.{verdict_on};
 ghost use Rattle.fio_check.specs.declared.checker.Checker.{Checker};
-ghost use Rattle.fio_check.specs.declared.limits.Limits.{Limits};
+ghost use Rattle.fio_check.specs.declared.limits.RuleLimits.{RuleLimits};
 
 /// The latest poll above a line is the latest that is sent above it, and so are the latest block
 /// answer and the latest of both.
@@ -49,13 +49,13 @@ pub fn checkers_find_the_first_breach()
 
 /// After a breach a checker continues like a checker that starts at the next poll.
 pub fn checkers_go_on()
-    ensures { (limits : Limits) (lines : List TranscriptLine) → GoesOn limits lines }
+    ensures { (limits : RuleLimits) (lines : List TranscriptLine) → GoesOn limits lines }
 {}
 
 /// In a log that begins anywhere a checker finds nothing above the first command, and from that command on what a checker
 /// started there finds.
 pub fn checkers_begin_anywhere()
-    ensures { (limits : Limits) (lines : List TranscriptLine) → BeginsAnywhere limits lines }
+    ensures { (limits : RuleLimits) (lines : List TranscriptLine) → BeginsAnywhere limits lines }
 {}
 
 /// What a checker of the rules on content updates event by event equals what is defined by the events above the next one.
@@ -121,7 +121,7 @@ pub fn judges_go_on()
 /// In a whole log at the CPU's end the judge accuses first what the two checkers find first.
 #[tactic(auto, using(crate::proofs::LinkLaws::says_the_same))]
 pub fn judges_say_what_checkers_find()
-    ensures { (limits : Limits) (lines : List TranscriptLine) → SaysTheSame limits lines }
+    ensures { (limits : RuleLimits) (lines : List TranscriptLine) → SaysTheSame limits lines }
 {}
 
 /// If one of two checkers finds nothing, both together find first what the other finds first.

@@ -65,7 +65,7 @@ pub use content::{ContentBreach, ContentChecker};
 pub use content_rules::{BrokenRule, ContentRule};
 pub use facts::Facts;
 pub use late_answers::{LateAnswers, Lateness};
-pub use limits::Limits;
+pub use limits::RuleLimits;
 pub use line::Line;
 pub use link_judge::LinkJudge;
 pub use log_counts::LogCounts;

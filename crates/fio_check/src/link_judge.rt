@@ -15,7 +15,7 @@ use crate::content_rules::ContentRule;
 use crate::content_times::is_before;
 use crate::facts::Facts;
 use crate::frame_stamps::{any_stamp_in, any_stamp_of, stamp_in};
-use crate::limits::Limits;
+use crate::limits::RuleLimits;
 use crate::observation::Observation;
 use crate::outcome::{Excuse, LogPlace, Outcome, Unjudged};
 use fio_message::{AnswerView, BlockStatus, read_answer};
@@ -29,9 +29,9 @@ use fio_message::{AnswerView, BlockStatus, read_answer};
 /// # Examples
 ///
 /// ```rust
-/// use fio_check::{Limits, LinkJudge, LogPlace, Outcome, Unjudged};
+/// use fio_check::{LinkJudge, LogPlace, Outcome, RuleLimits, Unjudged};
 ///
-/// let mut judge = LinkJudge::anywhere(Limits::standard());
+/// let mut judge = LinkJudge::anywhere(RuleLimits::standard());
 /// assert_eq!(rt; judge.frame(LogPlace::Cpu, true, &[0x36, 5]), Outcome::Kept);
 /// judge.lose();
 /// let answer = judge.frame(LogPlace::Cpu, false, &[0xb3, 0]);
@@ -54,14 +54,14 @@ pub struct LinkJudge {
 
 impl LinkJudge {
     /// Returns a judge above the first line of a log that begins anywhere, of a module with these limits.
-    pub fn anywhere(limits: Limits) -> LinkJudge
+    pub fn anywhere(limits: RuleLimits) -> LinkJudge
         ensures { judging result ≡ judging_anywhere limits }
     {
         LinkJudge::above(Checker::anywhere(limits), ContentChecker::new())
     }
 
     /// Returns a judge above the first line of a log that begins with both ends, of a module with these limits.
-    pub fn begun(limits: Limits) -> LinkJudge
+    pub fn begun(limits: RuleLimits) -> LinkJudge
         ensures { judging result ≡ judging_begun limits }
     {
         LinkJudge::above(Checker::within(limits), ContentChecker::begun())

@@ -7,7 +7,7 @@ ghost use Rattle.fio_check.specs.Observations.{observation_in};
 ghost use Rattle.fio_check.specs.declared.log_judge.LogOutcome.TheVariants.{Late};
 
 use crate::late_answers::{LateAnswers, Lateness};
-use crate::limits::Limits;
+use crate::limits::RuleLimits;
 use crate::link_judge::LinkJudge;
 use crate::observation::Observation;
 use crate::outcome::{Excuse, LogPlace, Outcome};
@@ -45,9 +45,9 @@ pub enum LogOutcome {
 /// frames were lost:
 ///
 /// ```rust
-/// use fio_check::{Limits, LogJudge, LogOutcome, LogStart, Outcome};
+/// use fio_check::{LogJudge, LogOutcome, LogStart, Outcome, RuleLimits};
 ///
-/// let mut judge = LogJudge::new(Limits::standard(), None, LogStart::Anywhere);
+/// let mut judge = LogJudge::new(RuleLimits::standard(), None, LogStart::Anywhere);
 /// assert_eq!(rt; judge.frame(true, Some(true), &[0x36, 5]), LogOutcome::Link(Outcome::Kept));
 /// judge.miss();
 /// assert_eq!(rt; judge.frame(true, Some(true), &[0x36, 6]), LogOutcome::Link(Outcome::Kept));
@@ -79,7 +79,7 @@ pub struct LogJudge {
 impl LogJudge {
     /// Returns a judge above the first line of a log of a module with these limits. `place` says where the log was taken, if
     /// that is known.
-    pub fn new(limits: Limits, place: Option<LogPlace>, start: LogStart) -> LogJudge
+    pub fn new(limits: RuleLimits, place: Option<LogPlace>, start: LogStart) -> LogJudge
         ensures { log_judging result ≡ log_starting limits place start }
     {
         let (link, late) = match start {

@@ -3,7 +3,7 @@ ghost use Rattle.std.specs.Prelude.{◌≡◌};
 ghost use Rattle.fio_check.specs.Rules.{breaks_within, first_broken, first_broken_within, is_overfull_within, rule_name, rule_number, rule_of_number};
 
 use crate::facts::Facts;
-use crate::limits::Limits;
+use crate::limits::RuleLimits;
 use crate::observation::Observation;
 use fio_message::BlockStatus;
 use fio_message::types::BLOCK_ANSWER;
@@ -36,7 +36,7 @@ pub enum Rule {
     /// Broken by a line that is a block answer with F and without C, or with C and a count other
     /// than 255, or with an input above 63. With other limits of the module: F without C only if more
     /// entries may wait than a block takes, and C with any other count than a block takes.
-    Limits,
+    RuleLimits,
     /// Broken by a line that is a block answer without entries, and the block answer before it has C.
     Rest,
     /// Broken by a line that is an answer 179 that says done (bit 0 is 0) to a configuration 51 that
@@ -53,7 +53,7 @@ impl Rule {
         Rule::Advance,
         Rule::Same,
         Rule::Sequence,
-        Rule::Limits,
+        Rule::RuleLimits,
         Rule::Rest,
         Rule::Refusal,
     ];
@@ -69,7 +69,7 @@ impl Rule {
             Rule::Advance => "advance",
             Rule::Same => "same",
             Rule::Sequence => "sequence",
-            Rule::Limits => "limits",
+            Rule::RuleLimits => "limits",
             Rule::Rest => "rest",
             Rule::Refusal => "refusal",
         }
@@ -86,7 +86,7 @@ impl Rule {
             Rule::Advance => 4,
             Rule::Same => 5,
             Rule::Sequence => 6,
-            Rule::Limits => 7,
+            Rule::RuleLimits => 7,
             Rule::Rest => 8,
             Rule::Refusal => 9,
         }
@@ -103,7 +103,7 @@ impl Rule {
             4 => Some(Rule::Advance),
             5 => Some(Rule::Same),
             6 => Some(Rule::Sequence),
-            7 => Some(Rule::Limits),
+            7 => Some(Rule::RuleLimits),
             8 => Some(Rule::Rest),
             9 => Some(Rule::Refusal),
             _ => None,
@@ -113,7 +113,7 @@ impl Rule {
     /// Returns whether a line with this observation breaks the rule, given the facts above it, of a module with these
     /// limits.
     #[inline(always)]
-    pub fn is_broken(self, limits: Limits, facts: &Facts, observation: Observation) -> bool
+    pub fn is_broken(self, limits: RuleLimits, facts: &Facts, observation: Observation) -> bool
         ensures { result ≡ breaks_within limits facts.now observation self }
     {
         match (self, observation) {
@@ -134,7 +134,7 @@ impl Rule {
                 status.out_of_sequence() && (status.again() || facts.more.is_some())
             }
             (
-                Rule::Limits,
+                Rule::RuleLimits,
                 Observation::Block {
                     status,
                     entries,
@@ -157,12 +157,16 @@ impl Rule {
 pub fn rule_broken(facts: &Facts, observation: Observation) -> Option<Rule>
     ensures { result ≡ first_broken facts.now observation }
 {
-    rule_broken_within(Limits::standard(), facts, observation)
+    rule_broken_within(RuleLimits::standard(), facts, observation)
 }
 
 /// As `rule_broken`, of a module with these limits.
 #[inline(always)]
-pub fn rule_broken_within(limits: Limits, facts: &Facts, observation: Observation) -> Option<Rule>
+pub fn rule_broken_within(
+    limits: RuleLimits,
+    facts: &Facts,
+    observation: Observation,
+) -> Option<Rule>
     ensures { result ≡ first_broken_within limits facts.now observation }
 {
     'rules: for rule in Rule::ALL {
@@ -175,7 +179,7 @@ pub fn rule_broken_within(limits: Limits, facts: &Facts, observation: Observatio
 
 /// Returns whether a block answer has F without C, if more entries may wait than a block takes, or C with another count
 /// than a block takes.
-fn is_overfull(limits: Limits, status: u8, entries: usize) -> bool
+fn is_overfull(limits: RuleLimits, status: u8, entries: usize) -> bool
     ensures { result ≡ is_overfull_within limits status entries }
 {
     let status = BlockStatus::from_octet(status);

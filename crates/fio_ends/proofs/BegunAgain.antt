@@ -1,5 +1,5 @@
 -- The checkers begin anew at any command of a prompt run, below loads of the counter that may take effect, and go on.
-use Rattle.fio_ends.proofs.Names.{◌≡◌, ◌+◌, inr, ℕ, Bool, false, true, List, [], ◌∷◌, ◌++◌, map, Option, None, refl, ap, ap₂, sym, subst, arith, AllByRecursion, option_map, if◌then◌else◌, Life, life_of, loads_of, Settings, AreInRange, ContentKept, kept_with, no_facts, Done, Facts, Limits, Event, Machine, start, refusal, after, Leads, IsNotRestart, HaveNoRestart, kept, kept_all, CpuFrame, TranscriptLine, frame_on, frames_at, frames_from, due_after, ArePrompt, IsPrompt, IsWithinRanges, SuitModule}
+use Rattle.fio_ends.proofs.Names.{◌≡◌, ◌+◌, inr, ℕ, Bool, false, true, List, [], ◌∷◌, ◌++◌, map, Option, None, refl, ap, ap₂, sym, subst, arith, AllByRecursion, option_map, if◌then◌else◌, Life, life_of, loads_of, Settings, AreInRange, ContentKept, kept_with, no_facts, Done, Facts, RuleLimits, Event, Machine, start, refusal, after, Leads, IsNotRestart, HaveNoRestart, kept, kept_all, CpuFrame, TranscriptLine, frame_on, frames_at, frames_from, due_after, ArePrompt, IsPrompt, IsWithinRanges, SuitModule}
 use Rattle.std.specs.Option.{option_or}
 use Rattle.fio_check.specs.ContentCheckers.{checking_with, content_found, found_first, found_in_frame, found_on}
 use Rattle.fio_check.specs.Lines.{from_first_command}
@@ -26,7 +26,7 @@ use Rattle.fio_ends.proofs.TimesKept.{AsksTimes, TimeState, time_after}
 -- what an event of a run keeps: its frames break no rule, and all is known below them
 pub record Went (settings : Settings) (first : ℕ) (begin : Machine) (above : Option ℕ) (s : TimeState) (from : Life) (due : ℕ) (facts : Facts) (kept : ContentKept)
     (frames : List CpuFrame) (machine : Machine) : Type 0 where
-  pub rules : (limits : Limits) → SuitModule settings limits → KeepRules limits facts frames
+  pub rules : (limits : RuleLimits) → SuitModule settings limits → KeepRules limits facts frames
   pub follows : Follows settings first from machine due (facts_below facts frames)
   pub content : AllKeep settings first begin above s from facts kept frames machine
   pub known : IsKnown settings first begin from machine

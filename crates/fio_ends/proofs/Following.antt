@@ -1,5 +1,5 @@
 -- What a prompt run keeps of its transcript and its machine.
-use Rattle.fio_ends.proofs.Names.{◌≡◌, ◌∙◌, ◌+◌, ◌<◌, ◌≤◌, ◌⊎◌, inl, inr, ℕ, Bool, true, false, List, [], ◌∷◌, ◌++◌, length, Some, refl, ap, sym, subst, arith, append_assoc, slice_get, AllByRecursion, Command, block_in, command_in, says_again, Settings, Life, Occurrence, Commanded, Event, life_of, newest_poll, is_new, MadeBlock, blocks_of, facts_with, no_facts, number_due, answer_type_to, names_absent, Facts, Limits, SentFrame, Machine, start, number_of, HasPoll, next_round, CpuFrame, SuitModule}
+use Rattle.fio_ends.proofs.Names.{◌≡◌, ◌∙◌, ◌+◌, ◌<◌, ◌≤◌, ◌⊎◌, inl, inr, ℕ, Bool, true, false, List, [], ◌∷◌, ◌++◌, length, Some, refl, ap, sym, subst, arith, append_assoc, slice_get, AllByRecursion, Command, block_in, command_in, says_again, Settings, Life, Occurrence, Commanded, Event, life_of, newest_poll, is_new, MadeBlock, blocks_of, facts_with, no_facts, number_due, answer_type_to, names_absent, Facts, RuleLimits, SentFrame, Machine, start, number_of, HasPoll, next_round, CpuFrame, SuitModule}
 use Rattle.fio_message.specs.declared.commands.Command.TheVariants as commands
 use Rattle.fio_message.specs.Blocks.{Block as BlockOf}
 use Rattle.fio_module.specs.Life.{History}
@@ -141,7 +141,7 @@ facts_below facts (frame ∷ frames) = facts_below (facts_with facts (said_by fr
 
 -- what an event keeps: the lines that it adds break no rule with limits that suit the module, and all is kept below them
 pub record Keeps (settings : Settings) (first : ℕ) (from : Life) (facts : Facts) (frames : List CpuFrame) (machine : Machine) (due : ℕ) : Type 0 where
-  pub rules : (limits : Limits) → SuitModule settings limits → KeepRules limits facts frames
+  pub rules : (limits : RuleLimits) → SuitModule settings limits → KeepRules limits facts frames
   pub follows : Follows settings first from machine due (facts_below facts frames)
 
 -- each life goes on from itself

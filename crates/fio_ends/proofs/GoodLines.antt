@@ -1,5 +1,5 @@
 -- In frames that break no rule, one after the other, a checker finds nothing.
-use Rattle.fio_ends.proofs.Names.{◌≡◌, ◌∙◌, ◌+◌, ◌<◌, ◌≤◌, inl, inr, ℕ, zero, suc, List, [], ◌∷◌, ◌++◌, length, map, Option, Some, None, refl, ap, ap₂, sym, arith, length-append, append_assoc, slice_get, eqb_tells, facts_with, no_facts, TranscriptLine, observation_in, observation_on, first_broken_within, standard_limits, verdict_on, Facts, Limits, Observation, Good, seen_at, CpuFrame, frame_on}
+use Rattle.fio_ends.proofs.Names.{◌≡◌, ◌∙◌, ◌+◌, ◌<◌, ◌≤◌, inl, inr, ℕ, zero, suc, List, [], ◌∷◌, ◌++◌, length, map, Option, Some, None, refl, ap, ap₂, sym, arith, length-append, append_assoc, slice_get, eqb_tells, facts_with, no_facts, TranscriptLine, observation_in, observation_on, first_broken_within, standard_limits, verdict_on, Facts, RuleLimits, Observation, Good, seen_at, CpuFrame, frame_on}
 use Rattle.std.specs.Option.{option_or}
 use Rattle.std.specs.Prelude.{option_and_then, option_map, unwrap_or}
 use Rattle.fio_check.specs.Checkers.{checker_at, checker_with, found_at, found_by, verdict_found_at}
@@ -14,7 +14,7 @@ abbrev pub said_by : CpuFrame → Observation
 said_by frame = observation_in frame.from_cpu frame.octets
 
 -- each of these frames breaks no rule with these limits, below lines of which these facts hold
-abbrev pub KeepRules : Limits → Facts → List CpuFrame → Type 0
+abbrev pub KeepRules : RuleLimits → Facts → List CpuFrame → Type 0
 KeepRules limits facts [] = Unit {0}
 KeepRules limits facts (frame ∷ frames) =
     (first_broken_within limits facts (said_by frame) ≡ None) × KeepRules limits (facts_with facts (said_by frame)) frames
@@ -25,7 +25,7 @@ line_here [] rest line = refl
 line_here (first ∷ before) rest line = line_here before rest line
 
 -- a checker of the lines above a place finds nothing from there on, if the lines left keep the rules
-none_from : (limits : Limits) (lines before rest : List TranscriptLine) (place : ℕ) (facts : Facts) → lines ≡ before ++ rest
+none_from : (limits : RuleLimits) (lines before rest : List TranscriptLine) (place : ℕ) (facts : Facts) → lines ≡ before ++ rest
     → place ≡ length before → checker_at limits lines place ≡ taking limits facts → KeepRules limits facts (map frame_on rest)
     → (above : ℕ) → place ≤ above → above < length lines → found_at limits lines above ≡ None
 none_from limits lines before [] place facts is at checker kept above low high =
@@ -48,7 +48,7 @@ none_from limits lines before (line ∷ rest) place facts is at checker kept abo
     ]
 
 -- in lines whose frames break no rule a checker finds nothing
-pub nothing_found : (limits : Limits) (lines : List TranscriptLine) → KeepRules limits no_facts (map frame_on lines)
+pub nothing_found : (limits : RuleLimits) (lines : List TranscriptLine) → KeepRules limits no_facts (map frame_on lines)
     → (place : ℕ) → place < length lines → found_at limits lines place ≡ None
 nothing_found limits lines kept place within = none_from limits lines [] lines 0 no_facts refl refl refl kept place (omega arith) within
 

@@ -1,5 +1,5 @@
 -- The CPU hears the answer that is due: its line breaks no rule.
-use Rattle.fio_ends.proofs.Names.{◌≡◌, ◌∙◌, ◌+◌, ◌%◌, ◌<◌, ◌≤◌, ◌&&◌, ◌||◌, inl, inr, ℕ, Bool, true, false, List, [], ◌∷◌, length, map, Option, Some, None, refl, ap, sym, subst, arith, if◌then◌else◌, ◌==◌, not, nat_le, nat_lt, option_map, slice_get, AllByRecursion, list_any, option_map_or, nat_tests, same_Some, Answer, Command, answer_in, answered_block, block_in, says_again, says_lost, says_more, Settings, AreInRange, Life, life_of, Transition, entry_of, MadeBlock, blocks_of, facts_with, answer_type_to, is_absent, observation_in, observation_of, first_broken_within, Facts, Limits, ToCpu, SentFrame, Machine, number_of, after_delivered_block, after_delivery_to_cpu, refusal, after, item_numbered, HasBlock, next_round, CarriesBlockOf, number_of-next, HasInput, each-at, after_taken, in_order, same_round, after_delivery, IsKept, carries_own, frame_heard, SuitModule}
+use Rattle.fio_ends.proofs.Names.{◌≡◌, ◌∙◌, ◌+◌, ◌%◌, ◌<◌, ◌≤◌, ◌&&◌, ◌||◌, inl, inr, ℕ, Bool, true, false, List, [], ◌∷◌, length, map, Option, Some, None, refl, ap, sym, subst, arith, if◌then◌else◌, ◌==◌, not, nat_le, nat_lt, option_map, slice_get, AllByRecursion, list_any, option_map_or, nat_tests, same_Some, Answer, Command, answer_in, answered_block, block_in, says_again, says_lost, says_more, Settings, AreInRange, Life, life_of, Transition, entry_of, MadeBlock, blocks_of, facts_with, answer_type_to, is_absent, observation_in, observation_of, first_broken_within, Facts, RuleLimits, ToCpu, SentFrame, Machine, number_of, after_delivered_block, after_delivery_to_cpu, refusal, after, item_numbered, HasBlock, next_round, CarriesBlockOf, number_of-next, HasInput, each-at, after_taken, in_order, same_round, after_delivery, IsKept, carries_own, frame_heard, SuitModule}
 use Rattle.std.specs.Prelude.{is_some}
 use Rattle.std.proofs.lemmas.List.{length-map}
 use Rattle.fio_message.specs.declared.answers.Answer.TheVariants as answers
@@ -24,7 +24,7 @@ is_asked awaited code is =
 
 -- an answer to the command directly above, which takes no configuration of an absent input, breaks no rule
 answer_keeps : (facts : Facts) (code : ℕ) (accepted : Bool) → facts.awaited ≡ Some code
-    → (accepted && facts.absent_named) ≡ false → (limits : Limits) → KeepsRules limits facts (seen.Answer code accepted)
+    → (accepted && facts.absent_named) ≡ false → (limits : RuleLimits) → KeepsRules limits facts (seen.Answer code accepted)
 answer_keeps facts code accepted asked fair limits tried.Pair = is_asked facts.awaited code asked
 answer_keeps facts code accepted asked fair limits tried.Refusal = fair
 answer_keeps facts code accepted asked fair limits rule = refl
@@ -140,7 +140,7 @@ module _ (settings : Settings) (range : AreInRange settings) (first : ℕ) (mach
   entries_of_made b c = ap length c.carried.entries ∙ length-map c.block.transitions entry_of
 
   -- what the rules ask of a block answer that carries the block of the CPU's round
-  block_keeps : (limits : Limits) → SuitModule settings limits → (number : ℕ) (b : BlockOf) → IsAsked first facts machine.round (commands.Poll number)
+  block_keeps : (limits : RuleLimits) → SuitModule settings limits → (number : ℕ) (b : BlockOf) → IsAsked first facts machine.round (commands.Poll number)
       → b.number ≡ number → (facts.advanced ≡ true → says_again b.status ≡ false)
       → CarriesBlockOf first blocks b machine.round
       → KeepsRules limits facts (seen.Block b.number b.status (length b.entries) (list_any (λ entry. is_absent entry.input) b.entries))
@@ -151,7 +151,7 @@ module _ (settings : Settings) (range : AreInRange settings) (first : ℕ) (mach
   block_keeps limits suit number b asked numbered again c tried.Same = not_both facts.advanced (says_again b.status) again
   block_keeps limits suit number b asked numbered again c tried.Sequence =
       ap (λ out. out && (says_again b.status || is_some facts.more)) c.in_sequence
-  block_keeps limits suit number b asked numbered again c tried.Limits =
+  block_keeps limits suit number b asked numbered again c tried.RuleLimits =
       let m = c.block in
       let keeps = each-at (KeepsLimits settings) blocks machine.round m (blocks_keep settings life) c.is_made in
       let over : is_overfull_within limits b.status (length b.entries) ≡ false =

@@ -1,5 +1,5 @@
 -- Where the place is lost in the log of a prompt run: what the judge of a link knows there, and how it goes on.
-use Rattle.fio_ends.proofs.Names.{◌≡◌, ◌∙◌, ◌+◌, ◌-◌, ◌≤◌, ◌⊎◌, inl, inr, ℕ, true, false, List, [], ◌∷◌, map, Option, Some, None, refl, ap, sym, subst, arith, fold, AllByRecursion, Command, IsCommand, command_octets, command_in, Life, life_of, loads_of, Settings, AreInRange, ContentFacts, content_with, content_step, Sent, kept_with, content_events, Facts, Limits, observation_in, Event, Machine, SentFrame, sending_refusal, refusal, after, after_delivery_to_module, item_numbered, IsNotRestart, IsKept, kept_all, CpuFrame, frame_heard, frames_at, due_after, IsPrompt, IsWithinRanges, Done, answer_in}
+use Rattle.fio_ends.proofs.Names.{◌≡◌, ◌∙◌, ◌+◌, ◌-◌, ◌≤◌, ◌⊎◌, inl, inr, ℕ, true, false, List, [], ◌∷◌, map, Option, Some, None, refl, ap, sym, subst, arith, fold, AllByRecursion, Command, IsCommand, command_octets, command_in, Life, life_of, loads_of, Settings, AreInRange, ContentFacts, content_with, content_step, Sent, kept_with, content_events, Facts, RuleLimits, observation_in, Event, Machine, SentFrame, sending_refusal, refusal, after, after_delivery_to_module, item_numbered, IsNotRestart, IsKept, kept_all, CpuFrame, frame_heard, frames_at, due_after, IsPrompt, IsWithinRanges, Done, answer_in}
 use Rattle.std.specs.Prelude.{max}
 use Rattle.std.proofs.Math.Nat.{le-max_left}
 use Rattle.fio_check.specs.Checkers.{checker_skipping, passes_over}
@@ -84,7 +84,7 @@ has_later sent jumps later excuses more h = record { enough = by h.enough }
     by (inl full) = inl full
     by (inr enough) = inr (omega (arith, enough, more))
 
-module _ (settings : Settings) (range : AreInRange settings) (first : ℕ) (limits : Limits) (begin : Machine) where
+module _ (settings : Settings) (range : AreInRange settings) (first : ℕ) (limits : RuleLimits) (begin : Machine) where
   abbrev pub began : ℕ
   began = loads_of (life_of begin.history)
 

@@ -1,5 +1,5 @@
 -- What the judge of a link does with a frame in which no breach is found.
-use Rattle.fio_ends.proofs.Names.{◌≡◌, ◌∙◌, ℕ, Bool, true, false, List, [], ◌∷◌, ◌++◌, ◌⊎◌, inl, inr, Option, Some, None, refl, ap, sym, subst, if◌then◌else◌, nat_lt, AllByRecursion, ContentKept, kept_with, facts_with, no_facts, first_broken_within, Facts, Limits, Observation, observation_in, observation_of}
+use Rattle.fio_ends.proofs.Names.{◌≡◌, ◌∙◌, ℕ, Bool, true, false, List, [], ◌∷◌, ◌++◌, ◌⊎◌, inl, inr, Option, Some, None, refl, ap, sym, subst, if◌then◌else◌, nat_lt, AllByRecursion, ContentKept, kept_with, facts_with, no_facts, first_broken_within, Facts, RuleLimits, Observation, observation_in, observation_of}
 use Rattle.std.specs.Prelude.{◌||◌}
 use Rattle.fio_check.specs.Checkers.{checker_skipping, checker_with, found_by, passes_over}
 use Rattle.fio_check.specs.ContentCheckers.{checking_with, content_found, found_in_frame}
@@ -83,12 +83,12 @@ module _ (judging : Judging) (at : LogPlace) (from_cpu : Bool) (octets : List �
 
 -- ---- what is passed over
 
-pub takes_all : (limits : Limits) (facts : Facts) (from_cpu : Bool) (said : Observation) → passes_over (taking limits facts) from_cpu said ≡ false
+pub takes_all : (limits : RuleLimits) (facts : Facts) (from_cpu : Bool) (said : Observation) → passes_over (taking limits facts) from_cpu said ≡ false
 takes_all limits facts from_cpu (seen.Poll number) = refl
 takes_all limits facts from_cpu other = refl
 
 -- what is heard where the place is lost
-pub heard_passed : (skips : Skips) (limits : Limits) → (skips ≡ Nothing → ⊥) → (answer : Option Answer)
+pub heard_passed : (skips : Skips) (limits : RuleLimits) → (skips ≡ Nothing → ⊥) → (answer : Option Answer)
     → passes_over (checker_skipping skips limits) false (observation_of None answer) ≡ true
 heard_passed Nothing limits lost answer = absurd (lost refl)
 heard_passed ToCommand limits lost None = refl
@@ -99,7 +99,7 @@ heard_passed ToPoll limits lost (Some (answers.Block number entries status stamp
 heard_passed ToPoll limits lost (Some other) = refl
 
 -- a command above which nothing was sent
-pub command_taken : (limits : Limits) (said : Observation) → passes_over (checker_skipping ToCommand limits) true said ≡ false
+pub command_taken : (limits : RuleLimits) (said : Observation) → passes_over (checker_skipping ToCommand limits) true said ≡ false
 command_taken limits (seen.Poll number) = refl
 command_taken limits other = refl
 
@@ -124,7 +124,7 @@ module _ (judging : Judging) (from_cpu : Bool) (octets : List ℕ) where
   kept_content = at_content taken (stamp_in from_cpu octets)
 
 -- the judge takes a frame that keeps all rules, and both checkers go on below it
-pub record KeepsFrame (limits : Limits) (judging : Judging) (at : LogPlace) (frame : CpuFrame) (facts : Facts) (below : ContentKept) : Type 0 where
+pub record KeepsFrame (limits : RuleLimits) (judging : Judging) (at : LogPlace) (frame : CpuFrame) (facts : Facts) (below : ContentKept) : Type 0 where
   pub outcome : outcome_in judging at frame.from_cpu frame.octets ≡ Kept
   pub is : judging_with judging at frame.from_cpu frame.octets ≡ judging_kept judging frame.from_cpu frame.octets
   pub checker : (judging_with judging at frame.from_cpu frame.octets).checker ≡ taking limits facts
@@ -140,7 +140,7 @@ finds_on : (kept : ContentKept) (from_cpu : Bool) (octets : List ℕ) → conten
 finds_on kept true octets none = none
 finds_on kept false octets none = none
 
-module _ (limits : Limits) (judging : Judging) (at : LogPlace) (frame : CpuFrame) where
+module _ (limits : RuleLimits) (judging : Judging) (at : LogPlace) (frame : CpuFrame) where
   abbrev sent : Bool
   sent = frame.from_cpu
 
@@ -173,7 +173,7 @@ module _ (limits : Limits) (judging : Judging) (at : LogPlace) (frame : CpuFrame
       (ap (λ c. checking_with c sent frame.octets) on ∙ checking_on kept sent frame.octets)
 
 -- a command at which both checkers begin anew
-pub frame_again : (limits : Limits) (judging : Judging) (at : LogPlace) (octets : List ℕ) (skips : Skips) (kept : ContentKept) → judging.checker ≡ checker_skipping skips limits
+pub frame_again : (limits : RuleLimits) (judging : Judging) (at : LogPlace) (octets : List ℕ) (skips : Skips) (kept : ContentKept) → judging.checker ≡ checker_skipping skips limits
     → content_above judging skips ≡ record { begun = false; kept = kept } → passes_over (checker_skipping skips limits) true (observation_in true octets) ≡ false
     → first_broken_within limits no_facts (observation_in true octets) ≡ None → content_found kept true octets ≡ None
     → KeepsFrame limits judging at (record { from_cpu = true; octets = octets }) (facts_with no_facts (observation_in true octets)) (kept_with kept true octets)

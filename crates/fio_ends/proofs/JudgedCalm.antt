@@ -1,6 +1,6 @@
 -- Where no frame is missing, and no load takes effect, each frame of a right link keeps all rules for the judge, from the first
 -- command on.
-use Rattle.fio_ends.proofs.Names.{◌≡◌, ◌∙◌, ◌+◌, ◌<◌, ◌≤◌, inr, ℕ, Bool, true, false, List, [], ◌∷◌, ◌++◌, map, Option, Some, None, refl, ap, ap₂, sym, subst, arith, ◌==◌, AllByRecursion, if◌then◌else◌, option_and_then, Life, life_of, loads_of, Settings, AreInRange, Answer, answer_in, ContentFacts, ContentKept, kept_with, facts_with, no_facts, is_some_and, Facts, Limits, observation_in, observation_of, answer_type_to, names_absent, says_again, Done, Event, Machine, SentFrame, start, number_of, number_of-fits, refusal, after, Leads, item_numbered, IsNotRestart, HaveNoRestart, IsKept, kept, CpuFrame, frame_heard, frames_at, due_after, ArePrompt, IsPrompt, IsWithinRanges, SuitModule, command_octets}
+use Rattle.fio_ends.proofs.Names.{◌≡◌, ◌∙◌, ◌+◌, ◌<◌, ◌≤◌, inr, ℕ, Bool, true, false, List, [], ◌∷◌, ◌++◌, map, Option, Some, None, refl, ap, ap₂, sym, subst, arith, ◌==◌, AllByRecursion, if◌then◌else◌, option_and_then, Life, life_of, loads_of, Settings, AreInRange, Answer, answer_in, ContentFacts, ContentKept, kept_with, facts_with, no_facts, is_some_and, Facts, RuleLimits, observation_in, observation_of, answer_type_to, names_absent, says_again, Done, Event, Machine, SentFrame, start, number_of, number_of-fits, refusal, after, Leads, item_numbered, IsNotRestart, HaveNoRestart, IsKept, kept, CpuFrame, frame_heard, frames_at, due_after, ArePrompt, IsPrompt, IsWithinRanges, SuitModule, command_octets}
 use Rattle.std.specs.Option.{option_or}
 use Rattle.std.specs.Prelude.{◌||◌}
 use Rattle.fio_message.specs.declared.answers.Answer.TheVariants as answers
@@ -128,7 +128,7 @@ sent_stamps judging s facts octets answer absent says h = record {
 right_of : (outcome : Outcome) → outcome ≡ Kept → IsRight outcome
 right_of outcome is = subst IsRight (sym is) tt
 
-module _ (settings : Settings) (range : AreInRange settings) (first : ℕ) (limits : Limits) (suit : SuitModule settings limits) (begin : Machine) where
+module _ (settings : Settings) (range : AreInRange settings) (first : ℕ) (limits : RuleLimits) (suit : SuitModule settings limits) (begin : Machine) where
   abbrev loads_at : ℕ
   loads_at = loads_of (life_of begin.history)
 
@@ -294,7 +294,7 @@ none_loaded settings range first (event ∷ later) machine last most leads none 
     )
 
 -- what is heard above the first command
-heard_above : (limits : Limits) (judging : Judging) → judging.checker ≡ checker_skipping ToCommand limits → (at : LogPlace) (frames : List CpuFrame) → AreHeard frames
+heard_above : (limits : RuleLimits) (judging : Judging) → judging.checker ≡ checker_skipping ToCommand limits → (at : LogPlace) (frames : List CpuFrame) → AreHeard frames
     → AllByRecursion IsRight (outcomes_of judging (map (logged_at at) frames)) × (judging_below judging (map (logged_at at) frames) ≡ judging)
 heard_above limits judging checker at [] heard = (tt, refl)
 heard_above limits judging checker at (frame ∷ frames) heard =
@@ -313,7 +313,7 @@ heard_above limits judging checker at (frame ∷ frames) heard =
       ap (λ j. judging_below j (map (logged_at at) frames)) same ∙ below.1,
     )
 
-module _ (settings : Settings) (range : AreInRange settings) (first : ℕ) (limits : Limits) (suit : SuitModule settings limits) (last : Machine) where
+module _ (settings : Settings) (range : AreInRange settings) (first : ℕ) (limits : RuleLimits) (suit : SuitModule settings limits) (last : Machine) where
   abbrev AtStart : Judging
   AtStart = judging_anywhere limits
 

@@ -1,5 +1,5 @@
 -- The judge of a link accuses no right link: event by event of a prompt run, where frames may be missing at marks.
-use Rattle.fio_ends.proofs.Names.{◌≡◌, ◌∙◌, ◌+◌, ◌<◌, ◌≤◌, ◌⊎◌, inl, inr, ℕ, Bool, true, false, List, [], ◌∷◌, ◌++◌, map, Option, Some, None, refl, ap, sym, subst, arith, is_some, AllByRecursion, if◌then◌else◌, Life, life_of, loads_of, Settings, AreInRange, ContentKept, kept_with, facts_with, no_facts, Facts, Limits, Observation, observation_in, Event, Machine, SentFrame, start, number_of, number_of-fits, refusal, after, Leads, item_numbered, IsNotRestart, HaveNoRestart, kept, kept_at_start, CpuFrame, frame_heard, frames_at, due_after, ArePrompt, IsPrompt, IsWithinRanges, SuitModule}
+use Rattle.fio_ends.proofs.Names.{◌≡◌, ◌∙◌, ◌+◌, ◌<◌, ◌≤◌, ◌⊎◌, inl, inr, ℕ, Bool, true, false, List, [], ◌∷◌, ◌++◌, map, Option, Some, None, refl, ap, sym, subst, arith, is_some, AllByRecursion, if◌then◌else◌, Life, life_of, loads_of, Settings, AreInRange, ContentKept, kept_with, facts_with, no_facts, Facts, RuleLimits, Observation, observation_in, Event, Machine, SentFrame, start, number_of, number_of-fits, refusal, after, Leads, item_numbered, IsNotRestart, HaveNoRestart, kept, kept_at_start, CpuFrame, frame_heard, frames_at, due_after, ArePrompt, IsPrompt, IsWithinRanges, SuitModule}
 use Rattle.std.specs.Prelude.{max}
 use Rattle.std.proofs.Math.Nat.{le-max_left}
 use Rattle.fio_message.specs.declared.commands.Command.TheVariants as commands
@@ -64,7 +64,7 @@ below_none event = by (is_command event) None refl
     by true begins none = refl
     by false begins none = none
 
-module _ (settings : Settings) (range : AreInRange settings) (first : ℕ) (limits : Limits) (suit : SuitModule settings limits) (begin : Machine)
+module _ (settings : Settings) (range : AreInRange settings) (first : ℕ) (limits : RuleLimits) (suit : SuitModule settings limits) (begin : Machine)
     (begun : Bool) (above : Option ℕ) where
   abbrev loads_at : ℕ
   loads_at = loads_of (life_of begin.history)
@@ -397,7 +397,7 @@ module _ (settings : Settings) (range : AreInRange settings) (first : ℕ) (limi
 
 -- ---- from its first line on
 
-module _ (settings : Settings) (range : AreInRange settings) (first : ℕ) (limits : Limits) (suit : SuitModule settings limits) (last : Machine) where
+module _ (settings : Settings) (range : AreInRange settings) (first : ℕ) (limits : RuleLimits) (suit : SuitModule settings limits) (last : Machine) where
   -- above its first command, below this many loads that may take effect
   record IsAbove (excuses : ℕ) (judging : Judging) : Type 0 where
     pub checker : judging.checker ≡ checker_skipping ToCommand limits
@@ -487,7 +487,7 @@ module _ (settings : Settings) (range : AreInRange settings) (first : ℕ) (limi
       }) near))))
 
 -- of one that begins with both ends
-begun_whole : (settings : Settings) (range : AreInRange settings) (first : ℕ) (limits : Limits) (suit : SuitModule settings limits) (last : Machine) (steps : List LogStep)
+begun_whole : (settings : Settings) (range : AreInRange settings) (first : ℕ) (limits : RuleLimits) (suit : SuitModule settings limits) (last : Machine) (steps : List LogStep)
     → IsPromptRun settings first (events_of steps) last → AreMarked false steps → FewAreUnderWay settings first start None steps → AreTimesNear true settings first start (events_of steps) last
     → AllByRecursion AccusesNeither (outcomes_of (judging_begun limits) (log_from settings first start steps))
 begun_whole settings range first limits suit last steps run marks few near =

@@ -51,7 +51,7 @@ pub use Rattle.fio_check.specs.Verdicts.{verdict_on}
 pub use Rattle.fio_check.specs.declared.content_rules.ContentRule.{ContentRule}
 pub use Rattle.fio_check.specs.declared.content_rules.ContentRule.TheVariants.{Accepted, Alternate, Apart, Cleared, Clock, Done, Fresh, Ignored, Order, State, Watchdog}
 pub use Rattle.fio_check.specs.declared.facts.Facts.{Facts}
-pub use Rattle.fio_check.specs.declared.limits.Limits.{Limits}
+pub use Rattle.fio_check.specs.declared.limits.RuleLimits.{RuleLimits}
 pub use Rattle.fio_check.specs.declared.observation.Observation.{Observation}
 pub use Rattle.fio_check.specs.declared.verdict.Verdict.TheVariants.{Good}
 pub use Rattle.fio_link.proofs.Events.{after_delivery}

@@ -1,5 +1,5 @@
 -- In the transcript of a prompt run a checker finds nothing.
-use Rattle.fio_ends.proofs.Names.{◌≡◌, arith, ℕ, List, [], ◌∷◌, ◌++◌, None, refl, sym, subst, AllByRecursion, Settings, AreInRange, facts_with, no_facts, standard_limits, Facts, Limits, Event, Machine, start, refusal, after, Leads, IsNotRestart, HaveNoRestart, IsKept, kept_all, kept, CpuFrame, frames_at, frames_from, due_after, IsPrompt, ArePrompt, IsWithinRanges, Life, Scanned, LineSynced, Raised, SuitModule}
+use Rattle.fio_ends.proofs.Names.{◌≡◌, arith, ℕ, List, [], ◌∷◌, ◌++◌, None, refl, sym, subst, AllByRecursion, Settings, AreInRange, facts_with, no_facts, standard_limits, Facts, RuleLimits, Event, Machine, start, refusal, after, Leads, IsNotRestart, HaveNoRestart, IsKept, kept_all, kept, CpuFrame, frames_at, frames_from, due_after, IsPrompt, ArePrompt, IsWithinRanges, Life, Scanned, LineSynced, Raised, SuitModule}
 use Rattle.fio_module.specs.Life as module_events
 use Rattle.fio_link.specs.declared.event.Event.TheVariants as events
 use Rattle.fio_ends.specs.PromptRuns.{HasNoBreach, IsGood, NeverAccuses}
@@ -44,14 +44,14 @@ module _ (settings : Settings) (range : AreInRange settings) (first : ℕ) where
       keeps-to_cpu settings range first machine k from due facts f index fine (omega arith) (omega arith)
 
   -- frames that keep the rules, one part after another
-  both_keep : (limits : Limits) (facts : Facts) (frames more : List CpuFrame) → KeepRules limits facts frames
+  both_keep : (limits : RuleLimits) (facts : Facts) (frames more : List CpuFrame) → KeepRules limits facts frames
       → KeepRules limits (facts_below facts frames) more → KeepRules limits facts (frames ++ more)
   both_keep limits facts [] more above rest = rest
   both_keep limits facts (frame ∷ frames) more above rest =
       (above.0, both_keep limits (facts_with facts (said_by frame)) frames more above.1 rest)
 
   -- so all events do
-  all_keep : (limits : Limits) → SuitModule settings limits → (events : List Event) (from : Life) (machine last : Machine) (due : ℕ) (facts : Facts) → IsKept settings first machine
+  all_keep : (limits : RuleLimits) → SuitModule settings limits → (events : List Event) (from : Life) (machine last : Machine) (due : ℕ) (facts : Facts) → IsKept settings first machine
       → Follows settings first from machine due facts
       → Leads settings first machine events last → HaveNoRestart events → AllByRecursion IsWithinRanges events
       → ArePrompt settings first machine due events
@@ -94,7 +94,7 @@ module _ (settings : Settings) (range : AreInRange settings) (first : ℕ) where
       here.1 leads.1 none.1 within.1 prompt.1
 
   -- a command, and what is below it
-  after_command : (limits : Limits) → SuitModule settings limits → (event : Event) (rest : List Event) (machine last : Machine) → (r : ReachesLater machine last (event ∷ rest))
+  after_command : (limits : RuleLimits) → SuitModule settings limits → (event : Event) (rest : List Event) (machine last : Machine) → (r : ReachesLater machine last (event ∷ rest))
       → Keeps settings first (from_after machine r.from event) no_facts (frames_at first machine event) (after settings first machine event) (due_after machine r.due event)
       → KeepRules limits no_facts (frames_from settings first machine (event ∷ rest))
   after_command limits suit event rest machine last r here =
@@ -105,7 +105,7 @@ module _ (settings : Settings) (range : AreInRange settings) (first : ℕ) where
       now here.follows r.leads.1 r.no_restart.1 r.within.1 r.prompt.1)
 
   -- a log that begins with a command keeps the rules
-  pub later_keep : (limits : Limits) → SuitModule settings limits → (later : List Event) (machine last : Machine) → BeginsWithCommand later
+  pub later_keep : (limits : RuleLimits) → SuitModule settings limits → (later : List Event) (machine last : Machine) → BeginsWithCommand later
       → ReachesLater machine last later → KeepRules limits no_facts (frames_from settings first machine later)
   later_keep limits suit [] machine last begins r = absurd begins
   later_keep limits suit (events.Poll ∷ rest) machine last begins r =

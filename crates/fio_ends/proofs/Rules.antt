@@ -1,5 +1,5 @@
 -- No first rule is broken exactly if none is.
-use Rattle.fio_ends.proofs.Names.{◌≡◌, ◌∙◌, ◌-◌, slice_get, Bool, true, false, List, [], ◌∷◌, Some, None, refl, ap, if◌then◌else◌, AllByRecursion, first_broken, first_broken_within, standard_limits, Facts, Limits, Observation, each-at}
+use Rattle.fio_ends.proofs.Names.{◌≡◌, ◌∙◌, ◌-◌, slice_get, Bool, true, false, List, [], ◌∷◌, Some, None, refl, ap, if◌then◌else◌, AllByRecursion, first_broken, first_broken_within, standard_limits, Facts, RuleLimits, Observation, each-at}
 use Rattle.std.specs.Prelude.{find}
 use Rattle.fio_check.specs.Rules.{breaks_within, rule_number, rules}
 use Rattle.fio_check.specs.declared.rules.Rule.{Rule}
@@ -39,7 +39,7 @@ kept_of : (broken : Rule → Bool) → KeepsEachOf broken rules → (rule : Rule
 kept_of broken kept rule = each-at (λ one. broken one ≡ false) rules (rule_number rule - 1) rule kept (at_number rule)
 
 -- a line that says this breaks none of the rules of transcripts with these limits, below lines of which these facts hold
-abbrev pub KeepsRules : Limits → Facts → Observation → Type 0
+abbrev pub KeepsRules : RuleLimits → Facts → Observation → Type 0
 KeepsRules limits facts observation = (rule : Rule) → breaks_within limits facts observation rule ≡ false
 
 -- if no first rule is broken with the limits of TEES 2009, none is
@@ -49,7 +49,7 @@ rules_kept facts observation none =
     kept_of (breaks_within standard_limits facts observation) (each_kept (breaks_within standard_limits facts observation) rules none)
 
 -- and conversely, with any limits
-pub no_rule_broken : (limits : Limits) (facts : Facts) (observation : Observation) → KeepsRules limits facts observation
+pub no_rule_broken : (limits : RuleLimits) (facts : Facts) (observation : Observation) → KeepsRules limits facts observation
     → first_broken_within limits facts observation ≡ None
 no_rule_broken limits facts observation kept =
     none_broken (breaks_within limits facts observation) rules (kept_each (breaks_within limits facts observation) rules kept)

@@ -1,5 +1,5 @@
 -- The CPU's end sends a command: its line breaks no rule.
-use Rattle.fio_ends.proofs.Names.{◌≡◌, ◌∙◌, ◌+◌, ◌%◌, ◌<◌, inl, inr, ℕ, Bool, true, false, List, [], ◌∷◌, ◌++◌, length, Option, Some, None, refl, ap, sym, subst, arith, length-append, if◌then◌else◌, ◌==◌, not, option_map, option_map_or, nat_tests, same_Some, slice_get_within, Command, command_octets, IsCommand, command_in, poll_in, Settings, facts_with, number_due, answer_type_to, names_absent, observation_in, observation_of, first_broken_within, Facts, Limits, Observation, SentFrame, Machine, number_of, sending_refusal, after_sending, get_after_push, get_push, number_of-fits, none_more, CpuFrame, life_of}
+use Rattle.fio_ends.proofs.Names.{◌≡◌, ◌∙◌, ◌+◌, ◌%◌, ◌<◌, inl, inr, ℕ, Bool, true, false, List, [], ◌∷◌, ◌++◌, length, Option, Some, None, refl, ap, sym, subst, arith, length-append, if◌then◌else◌, ◌==◌, not, option_map, option_map_or, nat_tests, same_Some, slice_get_within, Command, command_octets, IsCommand, command_in, poll_in, Settings, facts_with, number_due, answer_type_to, names_absent, observation_in, observation_of, first_broken_within, Facts, RuleLimits, Observation, SentFrame, Machine, number_of, sending_refusal, after_sending, get_after_push, get_push, number_of-fits, none_more, CpuFrame, life_of}
 use Rattle.fio_message.specs.declared.commands.Command.TheVariants as commands
 use Rattle.fio_message.proofs.MessageLaws.{command_back}
 use Rattle.fio_check.specs.Observations.{observation_of_command}
@@ -51,7 +51,7 @@ is_due (Some n) number same = let is : n ≡ number = same n refl in grind (arit
 
 -- a poll with the number that is due breaks no rule
 poll_keeps : (facts : Facts) (number : ℕ) → ((n : ℕ) → number_due facts ≡ Some n → n ≡ number)
-    → (limits : Limits) → KeepsRules limits facts (seen.Poll number)
+    → (limits : RuleLimits) → KeepsRules limits facts (seen.Poll number)
 poll_keeps facts number same limits tried.Advance = is_due (number_due facts) number same
 poll_keeps facts number same limits rule = refl
 

@@ -3,7 +3,7 @@ use Rattle.std.specs.Prelude.{◌≢◌, ℕ, Bool, List, ◌++◌, None}
 use Rattle.fio_module.specs.Settings.{Settings, AreInRange}
 use Rattle.fio_check.specs.ContentFaults.{content_fault_in}
 use Rattle.fio_check.specs.Lines.{TranscriptLine}
-use Rattle.fio_check.specs.declared.limits.Limits.{Limits}
+use Rattle.fio_check.specs.declared.limits.RuleLimits.{RuleLimits}
 use Rattle.fio_link.specs.declared.event.Event.{Event}
 use Rattle.fio_link.specs.Link.{Machine, Leads, start}
 use Rattle.fio_ends.specs.ContentPremises.{HasNearTimes}
@@ -14,7 +14,7 @@ use Rattle.fio_ends.specs.Transcripts.{HaveFrames, frames_from}
 -- A right link explains a log: there is a prompt run, from its start or with anything before, whose CPU's end logs these lines
 -- from there on. Its times are as near as a log requires, and no more loads of the counter take effect in the log than are sent
 -- in it. Its module has these limits, or more entries may wait in it.
-pub record IsExplainable (limits : Limits) (begun : Bool) (lines : List TranscriptLine) : Type 0 where
+pub record IsExplainable (limits : RuleLimits) (begun : Bool) (lines : List TranscriptLine) : Type 0 where
   pub settings : Settings
   pub range : AreInRange settings
   pub suits : SuitModule settings limits
@@ -33,5 +33,5 @@ pub record IsExplainable (limits : Limits) (begun : Bool) (lines : List Transcri
 -- each accused log is one that no right link explains
 unfoldable pub AccusedAreNotExplainable : Type 0
 AccusedAreNotExplainable =
-    (limits : Limits) (begun : Bool) (lines : List TranscriptLine) →
+    (limits : RuleLimits) (begun : Bool) (lines : List TranscriptLine) →
     content_fault_in begun lines ≢ None → IsExplainable limits begun lines → ⊥

@@ -6,7 +6,7 @@ use Rattle.fio_module.specs.Life.{life_of, loads_of, scans_of}
 use Rattle.fio_check.specs.ContentCheckers.{found_first}
 use Rattle.fio_check.specs.Lines.{TranscriptLine}
 use Rattle.fio_check.specs.LinkJudges.{Judging, LogLine, Frame, Lost, checking_again, judging_anywhere, judging_begun, outcomes_of}
-use Rattle.fio_check.specs.declared.limits.Limits.{Limits}
+use Rattle.fio_check.specs.declared.limits.RuleLimits.{RuleLimits}
 use Rattle.fio_check.specs.declared.outcome.LogPlace.{LogPlace}
 use Rattle.fio_check.specs.declared.outcome.Outcome.{Outcome}
 use Rattle.fio_check.specs.declared.outcome.Outcome.TheVariants.{Broken, BrokenContent, Kept, NotJudged}
@@ -103,7 +103,7 @@ AccusesNeither (BrokenContent breach) = ⊥
 AccusesNeither outcome = Unit {0}
 
 -- the judge above the first line of a log, by whether it begins with both ends
-abbrev pub judging_at_start : Bool → Limits → Judging
+abbrev pub judging_at_start : Bool → RuleLimits → Judging
 judging_at_start begun limits = if begun then judging_begun limits else judging_anywhere limits
 
 -- how many loads may be under way where a log begins: none. Nothing is required of a log that begins with both ends.
@@ -116,7 +116,7 @@ loads_at_start begun = if begun then None else Some 0
 -- near.
 unfoldable pub JudgeAccusesNone : Type 0
 JudgeAccusesNone =
-    (begun : Bool) (settings : Settings) (limits : Limits) (first : ℕ) (before : List Event) (steps : List LogStep) (machine last : Machine) →
+    (begun : Bool) (settings : Settings) (limits : RuleLimits) (first : ℕ) (before : List Event) (steps : List LogStep) (machine last : Machine) →
     AreInRange settings → SuitModule settings limits →
     IsPromptRun settings first (before ++ events_of steps) last →
     Leads settings first start before machine → MayBegin begun before →
@@ -149,7 +149,7 @@ IsRight outcome = ⊥
 -- each frame keeps all rules. No load of the counter takes effect in the log, and it lasts fewer than 2^31 scans.
 unfoldable pub JudgeKeepsAll : Type 0
 JudgeKeepsAll =
-    (settings : Settings) (limits : Limits) (first : ℕ) (before : List Event) (steps : List LogStep) (machine last : Machine) →
+    (settings : Settings) (limits : RuleLimits) (first : ℕ) (before : List Event) (steps : List LogStep) (machine last : Machine) →
     AreInRange settings → SuitModule settings limits →
     IsPromptRun settings first (before ++ events_of steps) last →
     Leads settings first start before machine →

@@ -7,7 +7,7 @@ use Rattle.fio_check.specs.Checkers.{checker_anywhere, found_at, found_from}
 use Rattle.fio_check.specs.Lines.{TranscriptLine, from_first_command}
 use Rattle.fio_check.specs.Rules.{standard_limits}
 use Rattle.fio_check.specs.Verdicts.{verdict_on}
-use Rattle.fio_check.specs.declared.limits.Limits.{Limits}
+use Rattle.fio_check.specs.declared.limits.RuleLimits.{RuleLimits}
 use Rattle.fio_check.specs.declared.verdict.Verdict.TheVariants.{Good}
 use Rattle.fio_link.specs.declared.event.Event.{Event}
 use Rattle.fio_link.specs.declared.event.Event.TheVariants.{Poll, Send, ToModule, ToCpu}
@@ -55,14 +55,14 @@ pub record IsPromptRun (settings : Settings) (first : ℕ) (events : List Event)
 -- ---- what is found
 
 -- limits that a checker may use for a module: the module's own, or those of a module in which fewer entries may wait
-pub record SuitModule (settings : Settings) (limits : Limits) : Type 0 where
+pub record SuitModule (settings : Settings) (limits : RuleLimits) : Type 0 where
   pub per_block : settings.per_block ≡ limits.per_block
   pub waiting : limits.waiting ≤ settings.waiting
 
 -- a checker with such limits finds nothing in these lines
 abbrev pub HasNoBreach : Settings → List TranscriptLine → Type 0
 HasNoBreach settings lines =
-    (limits : Limits) → SuitModule settings limits →
+    (limits : RuleLimits) → SuitModule settings limits →
     (place : ℕ) → place < length lines → found_at limits lines place ≡ None
 
 -- if the limits of TEES 2009 are such limits, the transcript is good
@@ -100,7 +100,7 @@ machine_at_command settings first machine (event ∷ events) = if is_command eve
 -- a checker that was started for a log that begins anywhere finds nothing in these lines, with such limits
 abbrev pub HasNoBreachAnywhere : Settings → List TranscriptLine → Type 0
 HasNoBreachAnywhere settings lines =
-    (limits : Limits) → SuitModule settings limits →
+    (limits : RuleLimits) → SuitModule settings limits →
     (place : ℕ) → place < length lines → found_from (checker_anywhere limits) lines place ≡ None
 
 -- a statement holds for the lines from the first command on
