@@ -8,8 +8,8 @@ use Rattle.fio_check.specs.declared.outcome.Excuse.{Excuse}
 use Rattle.fio_check.specs.declared.outcome.Excuse.TheVariants.{Load, Unheard}
 use Rattle.fio_check.specs.declared.outcome.LogPlace.{LogPlace}
 use Rattle.fio_check.specs.declared.outcome.LogPlace.TheVariants.{Bus, Cpu, Module}
-use Rattle.fio_check.specs.declared.outcome.Outcome.{Outcome}
-use Rattle.fio_check.specs.declared.outcome.Outcome.TheVariants.{Broken, BrokenContent, Excused, Kept, NotJudged, Restarted}
+use Rattle.fio_check.specs.declared.outcome.FrameOutcome.{FrameOutcome}
+use Rattle.fio_check.specs.declared.outcome.FrameOutcome.TheVariants.{Broken, BrokenContent, Excused, Kept, NotJudged, Restarted}
 use Rattle.fio_check.specs.declared.outcome.Unjudged.{Unjudged}
 use Rattle.fio_check.specs.declared.outcome.Unjudged.TheVariants.{AboveCommand, PlaceLost}
 use Rattle.fio_c.specs.Checkers.{checker_in, octet_in, with_due}
@@ -56,7 +56,7 @@ with_breach breach = record (without_breach 1 0) {
 }
 
 -- the outcome of a frame as C sees it
-abbrev pub flat_outcome : Outcome → JudgeOutcome
+abbrev pub flat_outcome : FrameOutcome → JudgeOutcome
 flat_outcome Kept = without_breach 0 0
 flat_outcome (Broken breach) = with_breach (with_due (rule_number breach.rule) breach.due)
 flat_outcome (BrokenContent breach) = record (without_breach 2 0) {

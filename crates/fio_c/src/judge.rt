@@ -7,7 +7,7 @@ ghost use Rattle.fio_c.specs.Checkers.{limits_of, octet_in};
 ghost use Rattle.fio_c.specs.Judges.{excuse_number, flat_outcome, judge_in, place_in, unjudged_number, without_breach};
 
 use crate::checker::{FlatChecker, breach_from, checker_from, flat_from, limits_from};
-use fio_check::{ContentChecker, Excuse, LinkJudge, LogPlace, Outcome, Unjudged};
+use fio_check::{ContentChecker, Excuse, FrameOutcome, LinkJudge, LogPlace, Unjudged};
 use fio_flat::FlatLimits;
 
 /// The value of `input` in an outcome without an input.
@@ -193,12 +193,12 @@ fn place_from(at: u8) -> LogPlace
 }
 
 /// Returns the outcome of a frame as C sees it.
-pub(crate) fn outcome_from(outcome: Outcome) -> JudgeOutcome
+pub(crate) fn outcome_from(outcome: FrameOutcome) -> JudgeOutcome
     ensures { result ≡ flat_outcome outcome }
 {
     match outcome {
-        Outcome::Kept => without_breach(0, 0),
-        Outcome::Broken(breach) => {
+        FrameOutcome::Kept => without_breach(0, 0),
+        FrameOutcome::Broken(breach) => {
             let flat = breach_from(Some(breach));
             JudgeOutcome {
                 rule: flat.rule,
@@ -208,15 +208,15 @@ pub(crate) fn outcome_from(outcome: Outcome) -> JudgeOutcome
                 ..without_breach(1, 0)
             }
         }
-        Outcome::BrokenContent(breach) => JudgeOutcome {
+        FrameOutcome::BrokenContent(breach) => JudgeOutcome {
             rule: breach.rule.number(),
             input: breach.input.unwrap_or(NO_INPUT),
             items: breach.items,
             ..without_breach(2, 0)
         },
-        Outcome::Excused(excuse) => without_breach(3, excuse_number(excuse)),
-        Outcome::Restarted => without_breach(4, 0),
-        Outcome::NotJudged(reason) => without_breach(5, unjudged_number(reason)),
+        FrameOutcome::Excused(excuse) => without_breach(3, excuse_number(excuse)),
+        FrameOutcome::Restarted => without_breach(4, 0),
+        FrameOutcome::NotJudged(reason) => without_breach(5, unjudged_number(reason)),
     }
 }
 

@@ -23,8 +23,8 @@ use Rattle.fio_check.specs.declared.observation.Observation.TheVariants.{Unreada
 use Rattle.fio_check.specs.declared.outcome.Excuse.TheVariants.{Load, Unheard}
 use Rattle.fio_check.specs.declared.outcome.LogPlace.{LogPlace}
 use Rattle.fio_check.specs.declared.outcome.LogPlace.TheVariants.{Cpu, Module, Bus}
-use Rattle.fio_check.specs.declared.outcome.Outcome.{Outcome}
-use Rattle.fio_check.specs.declared.outcome.Outcome.TheVariants.{Kept, Broken, BrokenContent, Excused, NotJudged, Restarted}
+use Rattle.fio_check.specs.declared.outcome.FrameOutcome.{FrameOutcome}
+use Rattle.fio_check.specs.declared.outcome.FrameOutcome.TheVariants.{Kept, Broken, BrokenContent, Excused, NotJudged, Restarted}
 use Rattle.fio_check.specs.declared.outcome.Unjudged.{Unjudged}
 use Rattle.fio_check.specs.declared.outcome.Unjudged.TheVariants.{PlaceLost}
 use Rattle.fio_check.proofs.Checkers.{limits-stay, passes-it, with-breach}
@@ -233,7 +233,7 @@ found-is unheard None (Some content) breach is = absurd (content-is content cont
 found-is true None None breach is = absurd (cc)
 found-is false None None breach is = absurd (cc)
 
-in-is : (passes back : Bool) (reason : Unjudged) (set judged : Outcome) (breach : Breach) → (set ≡ Broken breach → ⊥)
+in-is : (passes back : Bool) (reason : Unjudged) (set judged : FrameOutcome) (breach : Breach) → (set ≡ Broken breach → ⊥)
     → (if passes then NotJudged reason else (if back then set else judged)) ≡ Broken breach → judged ≡ Broken breach
 in-is true back reason set judged breach other is = absurd (cc)
 in-is false true reason set judged breach other is = absurd (other is)
@@ -255,7 +255,7 @@ module _ (judging : Judging) (at : LogPlace) (from_cpu : Bool) (octets : List �
       (found-is (is_unheard judging at says_it) (found_by judging.checker from_cpu says_it)
       (found_in_frame (content_here judging) from_cpu octets) breach judged)
 
-  outcome-loses : (outcome : Outcome) → outcome_in judging at from_cpu octets ≡ outcome → loses_place outcome ≡ true
+  outcome-loses : (outcome : FrameOutcome) → outcome_in judging at from_cpu octets ≡ outcome → loses_place outcome ≡ true
       → IsLost (judging_below_outcome outcome judging from_cpu octets)
   outcome-loses Kept is loses = absurd (cc)
   outcome-loses (BrokenContent breach) is loses = absurd (cc)

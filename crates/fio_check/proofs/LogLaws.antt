@@ -12,7 +12,7 @@ use Rattle.fio_check.specs.declared.late_answers.LateAnswers.{LateAnswers}
 use Rattle.fio_check.specs.declared.log_judge.LogOutcome.{LogOutcome}
 use Rattle.fio_check.specs.declared.log_judge.LogOutcome.TheVariants.{Link}
 use Rattle.fio_check.specs.declared.outcome.LogPlace.{LogPlace}
-use Rattle.fio_check.specs.declared.outcome.Outcome.{Outcome}
+use Rattle.fio_check.specs.declared.outcome.FrameOutcome.{FrameOutcome}
 
 -- ---- lines and others below them
 
@@ -20,7 +20,7 @@ use Rattle.fio_check.specs.declared.outcome.Outcome.{Outcome}
 outcomes_both : (judging : Judging) (lines more : List LogLine) → outcomes_of judging (lines ++ more) ≡ outcomes_of judging lines ++ outcomes_of (judging_below judging lines) more
 outcomes_both judging [] more = refl
 outcomes_both judging (line ∷ lines) more =
-    ap (λ (left : List Outcome). outcome_on judging line ++ left) (outcomes_both (judging_with_line judging line) lines more)
+    ap (λ (left : List FrameOutcome). outcome_on judging line ++ left) (outcomes_both (judging_with_line judging line) lines more)
     ∙ sym (append_assoc (outcome_on judging line) (outcomes_of (judging_with_line judging line) lines) (outcomes_of (judging_below (judging_with_line judging line) lines) more))
 
 -- the judge below both

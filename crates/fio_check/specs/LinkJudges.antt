@@ -29,8 +29,8 @@ use Rattle.fio_check.specs.declared.observation.Observation.TheVariants.{Poll}
 use Rattle.fio_check.specs.declared.outcome.Excuse.TheVariants.{Load, Unheard}
 use Rattle.fio_check.specs.declared.outcome.LogPlace.{LogPlace}
 use Rattle.fio_check.specs.declared.outcome.LogPlace.TheVariants.{Cpu}
-use Rattle.fio_check.specs.declared.outcome.Outcome.{Outcome}
-use Rattle.fio_check.specs.declared.outcome.Outcome.TheVariants.{Kept, Broken, BrokenContent, Excused, Restarted, NotJudged}
+use Rattle.fio_check.specs.declared.outcome.FrameOutcome.{FrameOutcome}
+use Rattle.fio_check.specs.declared.outcome.FrameOutcome.TheVariants.{Kept, Broken, BrokenContent, Excused, Restarted, NotJudged}
 use Rattle.fio_check.specs.declared.outcome.Unjudged.{Unjudged}
 use Rattle.fio_check.specs.declared.outcome.Unjudged.TheVariants.{AboveCommand, PlaceLost}
 
@@ -170,29 +170,29 @@ unjudged_by ToCommand = AboveCommand
 unjudged_by skips = PlaceLost
 
 -- A stamp is set back: by a load of the counter, if one may take effect; else the module was restarted.
-abbrev pub outcome_set_back : Judging → Outcome
+abbrev pub outcome_set_back : Judging → FrameOutcome
 outcome_set_back judging = if judging.lost || nat_lt 0 (loads_left judging) then Excused Load else Restarted
 
 -- A rule on content is broken. A breach of the rule on the watchdog means that the module was restarted.
-abbrev pub outcome_of_content : ContentBreach → ContentRule → Outcome
+abbrev pub outcome_of_content : ContentBreach → ContentRule → FrameOutcome
 outcome_of_content breach Watchdog = Restarted
 outcome_of_content breach rule = BrokenContent breach
 
 -- the outcome of a frame with these breaches, by whether it may be right because an answer was not heard
-abbrev pub outcome_found : Bool → Option Breach → Option ContentBreach → Outcome
+abbrev pub outcome_found : Bool → Option Breach → Option ContentBreach → FrameOutcome
 outcome_found true (Some breach) content = Excused Unheard
 outcome_found false (Some breach) content = Broken breach
 outcome_found unheard None (Some breach) = outcome_of_content breach breach.rule
 outcome_found unheard None None = Kept
 
 -- the outcome of a frame that is judged, without a look at its stamp
-abbrev pub outcome_judged : Judging → LogPlace → Bool → List ℕ → Outcome
+abbrev pub outcome_judged : Judging → LogPlace → Bool → List ℕ → FrameOutcome
 outcome_judged judging at from_cpu octets = outcome_found (is_unheard judging at (observation_in from_cpu octets))
     (found_by judging.checker from_cpu (observation_in from_cpu octets))
     (found_in_frame (content_here judging) from_cpu octets)
 
 -- the outcome of a frame logged at this place that the CPU sent or heard
-abbrev pub outcome_in : Judging → LogPlace → Bool → List ℕ → Outcome
+abbrev pub outcome_in : Judging → LogPlace → Bool → List ℕ → FrameOutcome
 outcome_in judging at from_cpu octets = if passes_over judging.checker from_cpu (observation_in from_cpu octets)
     then NotJudged (unjudged_by judging.checker.skips)
     else (if is_set_back judging from_cpu octets
@@ -237,7 +237,7 @@ judging_kept judging from_cpu octets =
     judging_at (judging_taken judging judging.checker from_cpu octets) (stamp_in from_cpu octets)
 
 -- the judge after a frame with this outcome
-abbrev pub judging_below_outcome : Outcome → Judging → Bool → List ℕ → Judging
+abbrev pub judging_below_outcome : FrameOutcome → Judging → Bool → List ℕ → Judging
 judging_below_outcome Kept judging from_cpu octets = judging_kept judging from_cpu octets
 judging_below_outcome (BrokenContent breach) judging from_cpu octets = judging_kept judging from_cpu octets
 judging_below_outcome (Broken breach) judging from_cpu octets =
@@ -275,12 +275,12 @@ judging_below judging [] = judging
 judging_below judging (line ∷ lines) = judging_below (judging_with_line judging line) lines
 
 -- the outcome of a line, if it is a frame
-abbrev pub outcome_on : Judging → LogLine → List Outcome
+abbrev pub outcome_on : Judging → LogLine → List FrameOutcome
 outcome_on judging (Frame at from_cpu octets) = outcome_in judging at from_cpu octets ∷ []
 outcome_on judging Lost = []
 
 -- the outcomes of the frames among lines, in order
-abbrev pub outcomes_of : Judging → List LogLine → List Outcome
+abbrev pub outcomes_of : Judging → List LogLine → List FrameOutcome
 outcomes_of judging [] = []
 outcomes_of judging (line ∷ lines) =
     outcome_on judging line ++ outcomes_of (judging_with_line judging line) lines

@@ -22,8 +22,8 @@ use Rattle.fio_check.specs.declared.content_rules.ContentRule.TheVariants.{Watch
 use Rattle.fio_check.specs.declared.outcome.LogPlace.{LogPlace}
 use Rattle.fio_check.specs.declared.outcome.LogPlace.TheVariants.{Cpu}
 use Rattle.fio_check.specs.declared.outcome.Excuse.TheVariants.{Load}
-use Rattle.fio_check.specs.declared.outcome.Outcome.{Outcome}
-use Rattle.fio_check.specs.declared.outcome.Outcome.TheVariants.{Broken, BrokenContent, Excused, NotJudged, Restarted}
+use Rattle.fio_check.specs.declared.outcome.FrameOutcome.{FrameOutcome}
+use Rattle.fio_check.specs.declared.outcome.FrameOutcome.TheVariants.{Broken, BrokenContent, Excused, NotJudged, Restarted}
 use Rattle.fio_check.specs.declared.outcome.Unjudged.TheVariants.{PlaceLost}
 
 -- ---- each frame
@@ -44,7 +44,7 @@ abbrev pub IsLost : Judging → Type 0
 IsLost judging = judging.checker ≡ checker_below_breach judging.checker.limits
 
 -- the place is lost after a frame with this outcome
-abbrev pub loses_place : Outcome → Bool
+abbrev pub loses_place : FrameOutcome → Bool
 loses_place (Broken breach) = true
 loses_place Restarted = true
 loses_place (Excused Load) = true
@@ -111,10 +111,10 @@ pub record LosesPlace (judging : Judging) : Type 0 where
 -- a breach, and the number of its line
 pub record Accused : Type 0 where
   pub line : ℕ
-  pub outcome : Outcome
+  pub outcome : FrameOutcome
 
 -- the breach, if an outcome accuses an end
-abbrev pub accused : ℕ → Outcome → Option Accused
+abbrev pub accused : ℕ → FrameOutcome → Option Accused
 accused line (Broken breach) = Some (record { line = line; outcome = Broken breach })
 accused line (BrokenContent breach) = Some (record { line = line; outcome = BrokenContent breach })
 accused line outcome = None
@@ -144,7 +144,7 @@ both_find_first checker content (line ∷ lines) =
     (checking_with content line.from_cpu line.octets) lines))
 
 -- a breach of a rule on content, in a line with this number
-abbrev pub fault_in : ℕ → Outcome → Option FoundFault
+abbrev pub fault_in : ℕ → FrameOutcome → Option FoundFault
 fault_in line (BrokenContent breach) = Some (found_on line breach)
 fault_in line outcome = None
 

@@ -24,8 +24,8 @@ use Rattle.fio_check.specs.declared.observation.Observation.TheVariants.{Block, 
 use Rattle.fio_check.specs.declared.outcome.Excuse.TheVariants.{Load}
 use Rattle.fio_check.specs.declared.outcome.LogPlace.{LogPlace}
 use Rattle.fio_check.specs.declared.outcome.LogPlace.TheVariants.{Bus, Cpu, Module}
-use Rattle.fio_check.specs.declared.outcome.Outcome.{Outcome}
-use Rattle.fio_check.specs.declared.outcome.Outcome.TheVariants.{Broken, BrokenContent, Excused, Restarted, NotJudged}
+use Rattle.fio_check.specs.declared.outcome.FrameOutcome.{FrameOutcome}
+use Rattle.fio_check.specs.declared.outcome.FrameOutcome.TheVariants.{Broken, BrokenContent, Excused, Restarted, NotJudged}
 use Rattle.fio_check.specs.declared.rules.Rule.{Rule}
 use Rattle.fio_check.specs.declared.rules.Rule.TheVariants.{Pair, Number, Advance, Same, Refusal}
 
@@ -173,7 +173,7 @@ without_content judging =
     record judging { content = checking_again (loads_left judging); latest = None; asked = None }
 
 -- the outcome of an answer that is kept from the rules on content
-abbrev pub outcome_without_content : Judging → Observation → Outcome
+abbrev pub outcome_without_content : Judging → Observation → FrameOutcome
 outcome_without_content judging observation = if passes_over judging.checker false observation
     then NotJudged (unjudged_by judging.checker.skips)
     else outcome_found false (found_by judging.checker false observation) None
@@ -185,7 +185,7 @@ is_told false (Block number status entries absent) = true
 is_told false observation = false
 
 -- the outcome of a frame that is not a late answer
-abbrev pub outcome_in_time : Judging → LogPlace → Bool → List ℕ → Outcome
+abbrev pub outcome_in_time : Judging → LogPlace → Bool → List ℕ → FrameOutcome
 outcome_in_time judging at from_cpu octets = if is_told from_cpu (observation_in from_cpu octets)
     then outcome_in judging at from_cpu octets
     else outcome_without_content judging (observation_in from_cpu octets)
@@ -203,24 +203,24 @@ is_rule_of_late Refusal = true
 is_rule_of_late rule = false
 
 -- a frame breaks a rule that late answers may break
-abbrev pub is_of_late : Outcome → Bool
+abbrev pub is_of_late : FrameOutcome → Bool
 is_of_late (Broken breach) = is_rule_of_late breach.rule
 is_of_late outcome = false
 
 -- a frame with this outcome of the judge of the link is excused: content is judged only if no answer to a command above can
 -- still come
-abbrev pub is_excused_late : Bool → Outcome → Bool
+abbrev pub is_excused_late : Bool → FrameOutcome → Bool
 is_excused_late settled (BrokenContent breach) = not settled
 is_excused_late settled Restarted = not settled
 is_excused_late settled (Excused Load) = not settled
 is_excused_late settled outcome = is_of_late outcome
 
 -- no answer to a command above can still come after a frame with this outcome
-abbrev pub late_settled : LateAnswers → Outcome → Bool
+abbrev pub late_settled : LateAnswers → FrameOutcome → Bool
 late_settled late outcome = late.settled && not (is_of_late outcome)
 
 -- the outcome of a frame that is not a late answer, by what is kept of the answers
-abbrev pub outcome_kept_late : LateAnswers → Outcome → LogOutcome
+abbrev pub outcome_kept_late : LateAnswers → FrameOutcome → LogOutcome
 outcome_kept_late late outcome = if is_excused_late (late_settled late outcome) outcome then LateAbove else Link outcome
 
 -- the judge after a late answer, or where one can still come
@@ -228,13 +228,13 @@ abbrev pub log_forgetting : LogJudging → LateAnswers → LogJudging
 log_forgetting log late = record log { link = without_content log.link; late = Some late }
 
 -- the judge after a frame that is not a late answer, by what is kept of the answers
-abbrev pub log_kept_late : LogJudging → LateAnswers → Outcome → LogJudging
+abbrev pub log_kept_late : LogJudging → LateAnswers → FrameOutcome → LogJudging
 log_kept_late log late outcome = if late_settled late outcome
     then record log { late = Some (record late { settled = true }) }
     else log_forgetting log (unsettled late)
 
 -- the outcome of a frame, by whether it is late
-abbrev pub outcome_by_lateness : Lateness → LateAnswers → Outcome → LogOutcome
+abbrev pub outcome_by_lateness : Lateness → LateAnswers → FrameOutcome → LogOutcome
 outcome_by_lateness InTime late outcome = outcome_kept_late late outcome
 outcome_by_lateness lateness late outcome = Late
 

@@ -72,7 +72,7 @@ pub use log_counts::LogCounts;
 pub use log_judge::{LogJudge, LogOutcome, LogStart};
 pub use log_signs::{LogSign, LogSigns};
 pub use observation::Observation;
-pub use outcome::{Excuse, LogPlace, Outcome, Unjudged};
+pub use outcome::{Excuse, FrameOutcome, LogPlace, Unjudged};
 pub use repeated_frames::RepeatedFrames;
 pub use rules::{Rule, rule_broken, rule_broken_within};
 pub use verdict::{Verdict, check_trace};

@@ -17,7 +17,7 @@ use crate::facts::Facts;
 use crate::frame_stamps::{any_stamp_in, any_stamp_of, stamp_in};
 use crate::limits::RuleLimits;
 use crate::observation::Observation;
-use crate::outcome::{Excuse, LogPlace, Outcome, Unjudged};
+use crate::outcome::{Excuse, FrameOutcome, LogPlace, Unjudged};
 use fio_message::{AnswerView, BlockStatus, read_answer};
 
 /// The judge of a link: it takes a log frame by frame, and returns the outcome of each. What lost lines may explain accuses
@@ -29,14 +29,14 @@ use fio_message::{AnswerView, BlockStatus, read_answer};
 /// # Examples
 ///
 /// ```rust
-/// use fio_check::{LinkJudge, LogPlace, Outcome, RuleLimits, Unjudged};
+/// use fio_check::{FrameOutcome, LinkJudge, LogPlace, RuleLimits, Unjudged};
 ///
 /// let mut judge = LinkJudge::anywhere(RuleLimits::standard());
-/// assert_eq!(rt; judge.frame(LogPlace::Cpu, true, &[0x36, 5]), Outcome::Kept);
+/// assert_eq!(rt; judge.frame(LogPlace::Cpu, true, &[0x36, 5]), FrameOutcome::Kept);
 /// judge.lose();
 /// let answer = judge.frame(LogPlace::Cpu, false, &[0xb3, 0]);
-/// assert_eq!(rt; answer, Outcome::NotJudged(Unjudged::PlaceLost));
-/// assert_eq!(rt; judge.frame(LogPlace::Cpu, true, &[0x36, 9]), Outcome::Kept);
+/// assert_eq!(rt; answer, FrameOutcome::NotJudged(Unjudged::PlaceLost));
+/// assert_eq!(rt; judge.frame(LogPlace::Cpu, true, &[0x36, 9]), FrameOutcome::Kept);
 /// ```
 #[derive(Clone, Copy, Debug)]
 pub struct LinkJudge {
@@ -92,7 +92,7 @@ impl LinkJudge {
     }
 
     /// Takes a frame that was logged at `at` and that the CPU's end sent or heard, and returns its outcome.
-    pub fn frame(&mut self, at: LogPlace, from_cpu: bool, octets: &[u8]) -> Outcome
+    pub fn frame(&mut self, at: LogPlace, from_cpu: bool, octets: &[u8]) -> FrameOutcome
         ensures outcome { result ≡ outcome_in (judging self.old) at from_cpu octets.now }
         ensures next { judging self.new ≡ judging_with (judging self.old) at from_cpu octets.now }
     {
@@ -107,14 +107,14 @@ impl LinkJudge {
     }
 
     /// Takes a frame that is not judged: a command may be a load of the counter.
-    fn pass_over(&mut self, from_cpu: bool, octets: &[u8]) -> Outcome
-        ensures outcome { result ≡ Outcome.NotJudged (unjudged_by self.old.checker.skips) }
+    fn pass_over(&mut self, from_cpu: bool, octets: &[u8]) -> FrameOutcome
+        ensures outcome { result ≡ FrameOutcome.NotJudged (unjudged_by self.old.checker.skips) }
         ensures next { judging self.new ≡ judging_passed (judging self.old) from_cpu octets.now }
     {
         if from_cpu {
             self.content.sent(octets);
         }
-        Outcome::NotJudged(unjudged_by(self.checker.skips))
+        FrameOutcome::NotJudged(unjudged_by(self.checker.skips))
     }
 
     // ---- Stamps
@@ -155,7 +155,7 @@ impl LinkJudge {
     }
 
     /// Takes a frame whose stamp is set back.
-    fn set_back(&mut self, from_cpu: bool, octets: &[u8]) -> Outcome
+    fn set_back(&mut self, from_cpu: bool, octets: &[u8]) -> FrameOutcome
         ensures outcome { result ≡ outcome_set_back (judging self.old) }
         ensures next { judging self.new ≡ place_lost (judging self.old)
             (loads_below (judging self.old) from_cpu octets.now) (any_stamp_in from_cpu octets.now) }
@@ -164,9 +164,9 @@ impl LinkJudge {
         let _excused = take_content(&mut self.content, from_cpu, octets);
         self.lose_place(any_stamp_in(from_cpu, octets));
         if loaded {
-            Outcome::Excused(Excuse::Load)
+            FrameOutcome::Excused(Excuse::Load)
         } else {
-            Outcome::Restarted
+            FrameOutcome::Restarted
         }
     }
 
@@ -193,18 +193,18 @@ impl LinkJudge {
     // ---- Frames that are judged
 
     /// Takes an answer with this observation, keeps it from the rules on content, and returns its outcome.
-    pub(crate) fn answer_without_content(&mut self, observation: Observation) -> Outcome
+    pub(crate) fn answer_without_content(&mut self, observation: Observation) -> FrameOutcome
         ensures outcome { result ≡ outcome_without_content (judging self.old) observation }
         ensures next { judging self.new ≡ (record (judging self.old) {
           checker = checker_with self.old.checker false observation;
         }) }
     {
         if self.checker.passes_over(false, observation) {
-            return Outcome::NotJudged(unjudged_by(self.checker.skips));
+            return FrameOutcome::NotJudged(unjudged_by(self.checker.skips));
         }
         match self.checker.take(false, observation) {
-            Some(breach) => Outcome::Broken(breach),
-            None => Outcome::Kept,
+            Some(breach) => FrameOutcome::Broken(breach),
+            None => FrameOutcome::Kept,
         }
     }
 
@@ -215,7 +215,7 @@ impl LinkJudge {
         from_cpu: bool,
         octets: &[u8],
         observation: Observation,
-    ) -> Outcome
+    ) -> FrameOutcome
         requires { observation ≡ observation_in from_cpu octets.now }
         ensures outcome { result ≡ outcome_judged (judging self.old) at from_cpu octets.now }
         ensures next { judging self.new ≡ judging_below_outcome result (judging self.old) from_cpu octets.now }
@@ -228,11 +228,11 @@ impl LinkJudge {
                 let mut anew = Checker::within(self.checker.limits);
                 let _none = anew.take(from_cpu, observation);
                 let _nothing = self.take(anew, asked, from_cpu, octets);
-                Outcome::Excused(Excuse::Unheard)
+                FrameOutcome::Excused(Excuse::Unheard)
             }
             Some(breach) => {
                 self.checker = checker;
-                Outcome::Broken(breach)
+                FrameOutcome::Broken(breach)
             }
         }
     }
@@ -244,7 +244,7 @@ impl LinkJudge {
         asked: Option<u32>,
         from_cpu: bool,
         octets: &[u8],
-    ) -> Outcome
+    ) -> FrameOutcome
         requires checker { checker ≡ checker_with self.old.checker from_cpu (observation_in from_cpu octets.now) }
         requires asked { asked ≡ asked_below (judging self.old) (observation_in from_cpu octets.now) }
         ensures outcome { (unheard : Bool) → result
@@ -254,15 +254,15 @@ impl LinkJudge {
         match self.take(checker, asked, from_cpu, octets) {
             Some(breach) if breach.rule == ContentRule::Watchdog => {
                 self.lose_place(any_stamp_in(from_cpu, octets));
-                Outcome::Restarted
+                FrameOutcome::Restarted
             }
             Some(breach) => {
                 self.set_latest(stamp_in(from_cpu, octets));
-                Outcome::BrokenContent(breach)
+                FrameOutcome::BrokenContent(breach)
             }
             None => {
                 self.set_latest(stamp_in(from_cpu, octets));
-                Outcome::Kept
+                FrameOutcome::Kept
             }
         }
     }

@@ -10,7 +10,7 @@ use crate::late_answers::{LateAnswers, Lateness};
 use crate::limits::RuleLimits;
 use crate::link_judge::LinkJudge;
 use crate::observation::Observation;
-use crate::outcome::{Excuse, LogPlace, Outcome};
+use crate::outcome::{Excuse, FrameOutcome, LogPlace};
 use crate::rules::Rule;
 
 /// How a log begins, and what is in it.
@@ -29,7 +29,7 @@ pub enum LogStart {
 #[derive(Clone, Copy, Debug, PartialEq, Eq, Hash)]
 pub enum LogOutcome {
     /// The outcome that the judge of a link gives.
-    Link(Outcome),
+    Link(FrameOutcome),
     /// The frame is a late answer.
     Late,
     /// The frame would break a rule, but a late answer above may be the reason.
@@ -45,12 +45,12 @@ pub enum LogOutcome {
 /// frames were lost:
 ///
 /// ```rust
-/// use fio_check::{LogJudge, LogOutcome, LogStart, Outcome, RuleLimits};
+/// use fio_check::{FrameOutcome, LogJudge, LogOutcome, LogStart, RuleLimits};
 ///
 /// let mut judge = LogJudge::new(RuleLimits::standard(), None, LogStart::Anywhere);
-/// assert_eq!(rt; judge.frame(true, Some(true), &[0x36, 5]), LogOutcome::Link(Outcome::Kept));
+/// assert_eq!(rt; judge.frame(true, Some(true), &[0x36, 5]), LogOutcome::Link(FrameOutcome::Kept));
 /// judge.miss();
-/// assert_eq!(rt; judge.frame(true, Some(true), &[0x36, 6]), LogOutcome::Link(Outcome::Kept));
+/// assert_eq!(rt; judge.frame(true, Some(true), &[0x36, 6]), LogOutcome::Link(FrameOutcome::Kept));
 /// ```
 ///
 /// # Where the log was taken
@@ -237,7 +237,7 @@ impl LogJudge {
         from_cpu: bool,
         octets: &[u8],
         observation: Observation,
-    ) -> Outcome
+    ) -> FrameOutcome
         requires { observation ≡ observation_in from_cpu octets.now }
         ensures outcome { result ≡ outcome_in_time (judging self.old.link) at from_cpu octets.now }
         ensures next { log_judging self.new ≡ (record (log_judging self.old) {
@@ -253,7 +253,7 @@ impl LogJudge {
 
     /// Goes on after a frame with this outcome of the judge of the link, with what is kept of the answers, and returns the
     /// outcome of the frame.
-    fn keep_late(&mut self, below: LateAnswers, outcome: Outcome) -> LogOutcome
+    fn keep_late(&mut self, below: LateAnswers, outcome: FrameOutcome) -> LogOutcome
         ensures outcome { result ≡ outcome_kept_late below outcome }
         ensures next { log_judging self.new ≡ log_kept_late (log_judging self.old) below outcome }
     {
@@ -289,22 +289,24 @@ fn is_of_lost(rule: Rule) -> bool
 }
 
 /// Returns whether a frame breaks a rule that late answers may break.
-fn is_of_late(outcome: Outcome) -> bool
+fn is_of_late(outcome: FrameOutcome) -> bool
     ensures { result ≡ is_of_late outcome }
 {
     match outcome {
-        Outcome::Broken(breach) => matches!(breach.rule, Rule::Same | Rule::Refusal),
+        FrameOutcome::Broken(breach) => matches!(breach.rule, Rule::Same | Rule::Refusal),
         _ => false,
     }
 }
 
 /// Returns whether a frame with this outcome of the judge of the link is excused. `settled` says that no answer to a command
 /// above can still come.
-fn is_excused_late(settled: bool, outcome: Outcome) -> bool
+fn is_excused_late(settled: bool, outcome: FrameOutcome) -> bool
     ensures { result ≡ is_excused_late settled outcome }
 {
     match outcome {
-        Outcome::BrokenContent(_) | Outcome::Restarted | Outcome::Excused(Excuse::Load) => !settled,
+        FrameOutcome::BrokenContent(_)
+        | FrameOutcome::Restarted
+        | FrameOutcome::Excused(Excuse::Load) => !settled,
         _ => is_of_late(outcome),
     }
 }

@@ -34,7 +34,7 @@ pub enum Unjudged {
 
 /// The outcome of a frame.
 #[derive(Clone, Copy, Debug, PartialEq, Eq, Hash)]
-pub enum Outcome {
+pub enum FrameOutcome {
     /// The frame keeps all rules.
     Kept,
     /// The frame breaks a rule of transcripts.

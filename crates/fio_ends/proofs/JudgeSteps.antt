@@ -10,8 +10,8 @@ use Rattle.fio_check.specs.declared.checker.Skips.TheVariants.{Nothing, ToComman
 use Rattle.fio_check.specs.declared.observation.Observation.TheVariants as seen
 use Rattle.fio_check.specs.declared.outcome.Excuse.TheVariants.{Load}
 use Rattle.fio_check.specs.declared.outcome.LogPlace.{LogPlace}
-use Rattle.fio_check.specs.declared.outcome.Outcome.{Outcome}
-use Rattle.fio_check.specs.declared.outcome.Outcome.TheVariants.{Kept, Excused, Restarted, NotJudged}
+use Rattle.fio_check.specs.declared.outcome.FrameOutcome.{FrameOutcome}
+use Rattle.fio_check.specs.declared.outcome.FrameOutcome.TheVariants.{Kept, Excused, Restarted, NotJudged}
 use Rattle.fio_check.proofs.Checkers.{found-taking, taking, with-taking}
 use Rattle.fio_message.specs.declared.answers.Answer.{Answer}
 use Rattle.fio_message.specs.declared.answers.Answer.TheVariants as answers
@@ -34,10 +34,10 @@ module _ (judging : Judging) (at : LogPlace) (from_cpu : Bool) (octets : List �
   abbrev said : Observation
   said = observation_in from_cpu octets
 
-  abbrev here : Outcome → Bool → Bool → Outcome
+  abbrev here : FrameOutcome → Bool → Bool → FrameOutcome
   here judged over back = if over then NotJudged (unjudged_by judging.checker.skips) else (if back then outcome_set_back judging else judged)
 
-  by_outcome : (outcome : Outcome) → outcome_in judging at from_cpu octets ≡ outcome → AccusesNeither outcome
+  by_outcome : (outcome : FrameOutcome) → outcome_in judging at from_cpu octets ≡ outcome → AccusesNeither outcome
       → Judged judging at from_cpu octets (judging_below_outcome outcome judging from_cpu octets)
   by_outcome outcome is fine = record { fine = subst AccusesNeither (sym is) fine; is = ap (λ o. judging_below_outcome o judging from_cpu octets) is }
 
@@ -76,7 +76,7 @@ module _ (judging : Judging) (at : LogPlace) (from_cpu : Bool) (octets : List �
       excused_or_restarted true = inl refl
       excused_or_restarted false = inr refl
 
-      by : (outcome : Outcome) → outcome_set_back judging ≡ outcome → (outcome ≡ Excused Load) ⊎ (outcome ≡ Restarted)
+      by : (outcome : FrameOutcome) → outcome_set_back judging ≡ outcome → (outcome ≡ Excused Load) ⊎ (outcome ≡ Restarted)
           → (stamp : Option ℕ) × Judged judging at from_cpu octets (place_lost judging (loads_below judging from_cpu octets) stamp)
       by outcome is (inl excused) = (_, by_outcome (Excused Load) (rw (over, back) (is ∙ excused)) tt)
       by outcome is (inr restarted) = (_, by_outcome Restarted (rw (over, back) (is ∙ restarted)) tt)
@@ -189,7 +189,7 @@ frame_again limits judging at octets skips kept checker above over none finds =
 -- ---- lines
 
 -- what holds of the outcomes of lines, and of those below
-pub outcomes-append : (P : Outcome → Type 0) (front rest : List LogLine) (judging : Judging) → AllByRecursion P (outcomes_of judging front)
+pub outcomes-append : (P : FrameOutcome → Type 0) (front rest : List LogLine) (judging : Judging) → AllByRecursion P (outcomes_of judging front)
     → AllByRecursion P (outcomes_of (judging_below judging front) rest) → AllByRecursion P (outcomes_of judging (front ++ rest))
 outcomes-append P [] rest judging fine below = below
 outcomes-append P (Frame at from_cpu octets ∷ front) rest judging fine below = (fine.0, outcomes-append P front rest (judging_with judging at from_cpu octets) fine.1 below)

@@ -12,8 +12,8 @@ use Rattle.fio_check.specs.declared.checker.Checker.{Checker}
 use Rattle.fio_check.specs.declared.checker.Skips.TheVariants.{ToCommand}
 use Rattle.fio_check.specs.declared.observation.Observation.TheVariants as seen
 use Rattle.fio_check.specs.declared.outcome.LogPlace.{LogPlace}
-use Rattle.fio_check.specs.declared.outcome.Outcome.{Outcome}
-use Rattle.fio_check.specs.declared.outcome.Outcome.TheVariants.{Kept, NotJudged}
+use Rattle.fio_check.specs.declared.outcome.FrameOutcome.{FrameOutcome}
+use Rattle.fio_check.specs.declared.outcome.FrameOutcome.TheVariants.{Kept, NotJudged}
 use Rattle.fio_check.specs.declared.outcome.Unjudged.TheVariants.{AboveCommand}
 use Rattle.fio_check.proofs.Checkers.{taking}
 use Rattle.fio_link.specs.declared.event.Event.TheVariants as events
@@ -125,7 +125,7 @@ sent_stamps judging s facts octets answer absent says h = record {
 
 -- ---- a run
 
-right_of : (outcome : Outcome) → outcome ≡ Kept → IsRight outcome
+right_of : (outcome : FrameOutcome) → outcome ≡ Kept → IsRight outcome
 right_of outcome is = subst IsRight (sym is) tt
 
 module _ (settings : Settings) (range : AreInRange settings) (first : ℕ) (limits : RuleLimits) (suit : SuitModule settings limits) (begin : Machine) where

@@ -8,8 +8,8 @@ use Rattle.fio_check.specs.Lines.{TranscriptLine}
 use Rattle.fio_check.specs.LinkJudges.{Judging, LogLine, Frame, Lost, checking_again, judging_anywhere, judging_begun, outcomes_of}
 use Rattle.fio_check.specs.declared.limits.RuleLimits.{RuleLimits}
 use Rattle.fio_check.specs.declared.outcome.LogPlace.{LogPlace}
-use Rattle.fio_check.specs.declared.outcome.Outcome.{Outcome}
-use Rattle.fio_check.specs.declared.outcome.Outcome.TheVariants.{Broken, BrokenContent, Kept, NotJudged}
+use Rattle.fio_check.specs.declared.outcome.FrameOutcome.{FrameOutcome}
+use Rattle.fio_check.specs.declared.outcome.FrameOutcome.TheVariants.{Broken, BrokenContent, Kept, NotJudged}
 use Rattle.fio_check.specs.declared.outcome.Unjudged.TheVariants.{AboveCommand}
 use Rattle.fio_link.specs.declared.event.Event.{Event}
 use Rattle.fio_link.specs.Link.{Machine, Leads, after, start}
@@ -97,7 +97,7 @@ FewAreUnderWay settings first machine begins (Missing event ∷ steps) =
 FewAreUnderWay settings first machine begins (Marked ∷ steps) = FewAreUnderWay settings first machine (Some 1) steps
 
 -- an outcome accuses neither end
-abbrev pub AccusesNeither : Outcome → Type 0
+abbrev pub AccusesNeither : FrameOutcome → Type 0
 AccusesNeither (Broken breach) = ⊥
 AccusesNeither (BrokenContent breach) = ⊥
 AccusesNeither outcome = Unit {0}
@@ -140,7 +140,7 @@ pub record IsCalm (begin last : Machine) : Type 0 where
   pub short : scans_of (life_of last.history) < scans_of (life_of begin.history) + 2 ^ 31
 
 -- a frame keeps all rules, or is heard above the first command
-abbrev pub IsRight : Outcome → Type 0
+abbrev pub IsRight : FrameOutcome → Type 0
 IsRight Kept = Unit {0}
 IsRight (NotJudged AboveCommand) = Unit {0}
 IsRight outcome = ⊥
