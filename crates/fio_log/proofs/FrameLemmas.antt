@@ -5,7 +5,7 @@ use Rattle.std.specs.Prelude.{slice_range}
 use Rattle.std.proofs.lemmas.List.{drop-append-le, length-drop, length-take-le, take-append-le, take_all, take_more}
 use Rattle.std.proofs.lemmas.List.Elements.{All-append, All-nil}
 use Rattle.std.proofs.Math.Seq.{drop-append-add}
-use Rattle.fio_log.specs.Frames.{AreAt, AreFramesAt, IsWithin, Log, row_place, row_places}
+use Rattle.fio_log.specs.Frames.{AreAt, AreFramesAt, AreWithin, Log, row_place, row_places}
 use Rattle.fio_log.specs.LineRuns.{IsWrittenAt}
 use Rattle.fio_log.specs.Readings.{octets_of}
 use Rattle.fio_log.specs.Runs.{AreLongWords}
@@ -43,7 +43,7 @@ row_places-append line notation (first ∷ rows) row =
     ap (λ ps. row_place line notation first ∷ ps) (rw below at (row_places-append (line + 1) notation rows row))
 
 -- a part of octets is one of these with others after them
-pub within-left : (octets others part : List ℕ) → IsWithin octets part → IsWithin (octets ++ others) part
+pub within-left : (octets others part : List ℕ) → AreWithin octets part → AreWithin (octets ++ others) part
 within-left octets others part is =
     let room : is.end - is.start ≤ length (drop is.start octets) =
     omega (arith, length-drop is.start octets, is.within, is.order) in
@@ -57,7 +57,7 @@ within-left octets others part is =
     }
 
 -- and with others before them
-pub within-right : (octets others part : List ℕ) → IsWithin others part → IsWithin (octets ++ others) part
+pub within-right : (octets others part : List ℕ) → AreWithin others part → AreWithin (octets ++ others) part
 within-right octets others part is =
     let long : (length octets + is.end) - (length octets + is.start) ≡ is.end - is.start = omega arith in
     record {
@@ -69,7 +69,7 @@ within-right octets others part is =
     }
 
 -- octets are a part of themselves
-pub within-all : (octets : List ℕ) → IsWithin octets octets
+pub within-all : (octets : List ℕ) → AreWithin octets octets
 within-all octets = record {
   start = 0;
   end = length octets;
@@ -79,8 +79,8 @@ within-all octets = record {
 }
 
 all-within : (octets others : List ℕ) (frames : List (List ℕ))
-    → ((part : List ℕ) → IsWithin octets part → IsWithin others part)
-    → All (IsWithin octets) frames → All (IsWithin others) frames
+    → ((part : List ℕ) → AreWithin octets part → AreWithin others part)
+    → All (AreWithin octets) frames → All (AreWithin others) frames
 all-within octets others frames more all = λ k d inside. more (get_or frames k d) (all k d inside)
 
 -- frames at some places, and others at more places
@@ -89,14 +89,14 @@ pub AreFramesAt-append : (log : Log) (frames more : List (List ℕ)) (places oth
 AreFramesAt-append log frames more places others are next = record {
   octets = are.octets ++ next.octets;
   written = AreAt-append log are.octets next.octets places others are.written next.written;
-  parts = All-append (IsWithin (are.octets ++ next.octets)) frames more
+  parts = All-append (AreWithin (are.octets ++ next.octets)) frames more
       (all-within are.octets (are.octets ++ next.octets) frames (within-left are.octets next.octets) are.parts)
       (all-within next.octets (are.octets ++ next.octets) more (within-right are.octets next.octets) next.parts);
 }
 
 -- no frames at no places
 pub AreFramesAt-none : (log : Log) → AreFramesAt log [] []
-AreFramesAt-none log = record { octets = []; written = refl; parts = All-nil (IsWithin []) }
+AreFramesAt-none log = record { octets = []; written = refl; parts = All-nil (AreWithin []) }
 
 -- no octets are written at the beginning of a line
 pub empty_row : (line : List ℕ) (notation : Notation) → notation ≡ Words → IsWrittenAt line notation 0 0 []

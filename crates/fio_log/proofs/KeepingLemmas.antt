@@ -3,7 +3,7 @@ use Rattle.std.proofs.Common.{◌≡◌, ◌∙◌, ℕ, List, [], ◌∷◌, in
 use Rattle.std.proofs.lemmas.List.{get_or_append_left}
 use Rattle.std.proofs.lemmas.List.Quantifiers.{Any-push}
 use Rattle.fio_log.specs.Frames.{message_of}
-use Rattle.fio_log.specs.Keeping.{AreWith, HasMessage, HaveMessage, IsKeptIn, IsOfLine, KeepsMessages, entry_in}
+use Rattle.fio_log.specs.Keeping.{AreWith, SlotHasMessage, HaveMessage, IsKeptIn, IsOfLine, KeepsMessages, entry_in}
 use Rattle.fio_log.specs.declared.judge.entries.Entries.{Entries}
 use Rattle.fio_log.specs.declared.judge.message_run.MessageRun.{MessageRun}
 use Rattle.fio_log.specs.declared.judge.slots.Slot.{Slot}
@@ -36,5 +36,5 @@ keeps_given before slot line run after kept stays = record {
 
 -- and has its message
 pub has_given : (before : Entries) (slot : Slot) (line : ℕ) (run : MessageRun) (after : Entries)
-    → IsKeptIn before slot line run after → IsOfLine before slot line → HasMessage after slot (message_of run) run.around.whole
+    → IsKeptIn before slot line run after → IsOfLine before slot line → SlotHasMessage after slot (message_of run) run.around.whole
 has_given before slot line run after kept of none = have_new (entry_in before slot none).runs.items run _ (kept none (of none).0 (of none).1)

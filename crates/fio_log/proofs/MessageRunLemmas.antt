@@ -3,7 +3,7 @@ use Rattle.std.proofs.Common.{◌≡◌, ℕ, List, [], ◌∷◌, ◌++◌, Opt
 use Rattle.std.specs.Prelude.{IfSome}
 use Rattle.std.specs.List.{All}
 use Rattle.std.proofs.lemmas.List.Elements.{All-cons, All-nil, All-push}
-use Rattle.fio_log.specs.Frames.{AreFramesAt, IsMessageOf, IsRunOf, IsWithin, Log, line_place, message_of}
+use Rattle.fio_log.specs.Frames.{AreFramesAt, IsMessageOf, IsRunOf, AreWithin, Log, line_place, message_of}
 use Rattle.fio_log.specs.LineRuns.{IsWrittenAt}
 use Rattle.fio_log.specs.Sayings.{IsSaid, IsSaying, SaysPart}
 use Rattle.fio_log.specs.declared.judge.joined.Row.{Row}
@@ -15,12 +15,12 @@ use Rattle.fio_log.proofs.FrameLemmas.{AreAt-one}
 
 -- a message that is part of the octets at a place
 pub frame-at : (log : Log) (octets : List ℕ) (place : Place) (message : List ℕ)
-    → IsWrittenAt (log place.line) place.notation place.start place.end octets → IsWithin octets message
+    → IsWrittenAt (log place.line) place.notation place.start place.end octets → AreWithin octets message
     → AreFramesAt log (message ∷ []) (place ∷ [])
 frame-at log octets place message written within = record {
   octets = octets;
   written = AreAt-one log octets place written;
-  parts = All-cons (IsWithin octets) message [] within (All-nil (IsWithin octets));
+  parts = All-cons (AreWithin octets) message [] within (All-nil (AreWithin octets));
 }
 
 -- the message of a run that is found in a line is written there

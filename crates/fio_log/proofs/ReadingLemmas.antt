@@ -4,7 +4,7 @@ use Rattle.std.specs.Prelude.{MatchOption, option_to_list, slice_index}
 use Rattle.std.proofs.lemmas.List.{take_all, take-append-le}
 use Rattle.fio_log.specs.Digits.{digit_of}
 use Rattle.std.proofs.lemmas.List.Sums.{fold_more}
-use Rattle.fio_log.specs.Readings.{Reading, made_whole, no_reading, octets_of, paired, reading_of, waits_then, with_reading}
+use Rattle.fio_log.specs.Readings.{DigitReading, made_whole, no_reading, octets_of, paired, reading_of, waits_then, with_reading}
 
 -- what was cut before is cut as if it was not
 pub take-cut : (most : ℕ) (xs ys : List ℕ) → take most (take most xs ++ ys) ≡ take most (xs ++ ys)
@@ -38,7 +38,7 @@ kept-more most kept xs after None is same = same ∙ is ∙ ap (take most) (sym 
 kept-more most kept xs after (Some x) is more = more ∙ ap (λ l. take most (l ++ x ∷ [])) is ∙ take-cut most xs (x ∷ [])
 
 -- what is kept of a reading with one character more
-pub next-octets : (most : ℕ) (kept : List ℕ) (reading : Reading) (character : ℕ) (waiting digit made : Option ℕ)
+pub next-octets : (most : ℕ) (kept : List ℕ) (reading : DigitReading) (character : ℕ) (waiting digit made : Option ℕ)
     (after : List ℕ) → kept ≡ take most reading.octets → waiting ≡ reading.waiting → digit ≡ digit_of character
     → made ≡ made_whole waiting digit character
     → MatchOption made (after ≡ kept) (λ x. after ≡ take most (kept ++ x ∷ []))

@@ -2,7 +2,7 @@
 use Rattle.std.proofs.Common.{◌≡◌, ℕ, zero, suc, ◌+◌, ◌-◌, ◌≤◌, List, [], ◌∷◌, Option, Some, None, length, take, drop, refl, ap, sym, ◌∙◌, arith}
 use Rattle.std.specs.Prelude.{IfSome, slice_range}
 use Rattle.std.proofs.lemmas.List.{drop-take}
-use Rattle.fio_log.specs.Runs.{IsRun}
+use Rattle.fio_log.specs.Runs.{IsRunAfter}
 use Rattle.fio_log.specs.declared.runs.Run.{Run}
 
 -- what is taken of what was taken
@@ -26,7 +26,7 @@ inside-front line front until start end is order within =
 -- a run of the front of a line is one of the line
 pub run-inside : (line front : List ℕ) (until from : ℕ) (kept : List ℕ) (found : Option Run)
     → front ≡ slice_range line 0 until → length front + 0 ≡ until → until ≤ length line
-    → IfSome found (IsRun front from kept) → IfSome found (IsRun line from kept)
+    → IfSome found (IsRunAfter front from kept) → IfSome found (IsRunAfter line from kept)
 run-inside line front until from kept None is long within none = none
 run-inside line front until from kept (Some run) is long within found =
     let last : run.end ≤ until = omega (arith, long, found.span.within) in

@@ -2,14 +2,14 @@
 use Rattle.std.proofs.Common.{◌≡◌, ℕ, Bool, true, false, List, refl, if◌then◌else◌, map}
 use Rattle.std.proofs.lemmas.List.Elements.{All-map}
 use Rattle.fio_log.specs.Chains.{IsPart, part_of}
-use Rattle.fio_log.specs.Frames.{AreFramesAt, AreJoined, IsWithin, Log, octets_in, row_places}
+use Rattle.fio_log.specs.Frames.{AreFramesAt, AreJoined, AreWithin, Log, octets_in, row_places}
 use Rattle.fio_log.specs.Telling.{IsReaderOf, Telling, frames_of, places_of}
 use Rattle.fio_log.specs.declared.chains.ChainPart.{ChainPart}
 use Rattle.fio_log.specs.declared.judge.joined.Joined.{Joined}
 use Rattle.fio_log.specs.declared.places.Place.{Place}
 use Rattle.fio_log.specs.declared.verdict.Form.TheVariants.{Auto}
 
-within-part : (octets : List ℕ) (part : ChainPart) → IsPart octets part → IsWithin octets (part_of octets part)
+within-part : (octets : List ℕ) (part : ChainPart) → IsPart octets part → AreWithin octets (part_of octets part)
 within-part octets part is = record {
   start = part.start;
   end = part.end;
@@ -25,7 +25,7 @@ chain-frames : (log : Log) (joined : Joined) → AreJoined log joined
 chain-frames log joined are = record {
   octets = joined.chain.octets.items;
   written = are;
-  parts = All-map (IsWithin joined.chain.octets.items) (part_of joined.chain.octets.items) joined.chain.parts.items
+  parts = All-map (AreWithin joined.chain.octets.items) (part_of joined.chain.octets.items) joined.chain.parts.items
       (λ k part inside. within-part joined.chain.octets.items _ (joined.chain.spelled k part inside));
 }
 

@@ -28,7 +28,7 @@ AreAt log octets (place ∷ places) =
     × IsWrittenAt (log place.line) place.notation place.start place.end first × AreAt log rest places
 
 -- octets are a part of others
-pub record IsWithin (octets part : List ℕ) : Type 0 where
+pub record AreWithin (octets part : List ℕ) : Type 0 where
   pub start : ℕ
   pub end : ℕ
   pub order : start ≤ end
@@ -39,7 +39,7 @@ pub record IsWithin (octets part : List ℕ) : Type 0 where
 pub record AreFramesAt (log : Log) (frames : List (List ℕ)) (places : List Place) : Type 0 where
   pub octets : List ℕ
   pub written : AreAt log octets places
-  pub parts : All (IsWithin octets) frames
+  pub parts : All (AreWithin octets) frames
 
 -- the place of a row in a line
 abbrev pub row_place : ℕ → Notation → Row → Place
@@ -75,7 +75,7 @@ message_of run = octets_in run.message
 
 -- the message of a run is a part of octets
 abbrev pub IsMessageOf : List ℕ → MessageRun → Type 0
-IsMessageOf octets run = IsWithin octets (message_of run)
+IsMessageOf octets run = AreWithin octets (message_of run)
 
 -- the message of a run is written at the places of the run
 abbrev pub IsRunOf : Log → ℕ → List Row → MessageRun → Type 0

@@ -44,14 +44,14 @@ HaveMessage runs octets shape =
     Any (λ run. (message_of run ≡ octets) × (run.around.whole ≡ shape)) runs ⊎ (ENTRY_RUNS ≤ length runs)
 
 -- the runs of the entry in a slot say a message in a shape, or there is no room for more
-abbrev pub HasMessage : Entries → Slot → List ℕ → ℕ → Type 0
-HasMessage entries slot octets shape = (none : LogEntry) → HaveMessage (entry_in entries slot none).runs.items octets shape
+abbrev pub SlotHasMessage : Entries → Slot → List ℕ → ℕ → Type 0
+SlotHasMessage entries slot octets shape = (none : LogEntry) → HaveMessage (entry_in entries slot none).runs.items octets shape
 
 -- The entry in a slot stays an entry of this line alone, and keeps the messages that it has.
 pub record KeepsMessages (before : Entries) (slot : Slot) (number : ℕ) (after : Entries) : Type 0 where
   pub line : IsOfLine before slot number → IsOfLine after slot number
-  pub messages : IsOfLine before slot number → (octets : List ℕ) (shape : ℕ) → HasMessage before slot octets shape
-      → HasMessage after slot octets shape
+  pub messages : IsOfLine before slot number → (octets : List ℕ) (shape : ℕ) → SlotHasMessage before slot octets shape
+      → SlotHasMessage after slot octets shape
 
 -- whether octets say a message that is sure by itself
 abbrev pub says_sure : Saying → Bool
@@ -73,7 +73,7 @@ pub record IsGiven (runs : LineRuns) (run : LineRun) (octets : List ℕ) : Type 
 -- the entry in a slot has each message that these runs of a line give to it
 abbrev pub HasEach : Entries → Slot → LineRuns → List LineRun → Type 0
 HasEach entries slot runs some =
-    All (λ run. (octets : List ℕ) → IsGiven runs run octets → HasMessage entries slot octets run.around.whole) some
+    All (λ run. (octets : List ℕ) → IsGiven runs run octets → SlotHasMessage entries slot octets run.around.whole) some
 
 -- an entry is of a line alone, and has each message that the line's runs give to it
 pub record HasLine (entries : Entries) (line : ℕ) (runs : LineRuns) : Type 0 where

@@ -3,12 +3,12 @@ use Rattle.std.specs.Prelude.{ℕ, ◌+◌, ◌*◌, ◌||◌, ◌==◌, if◌th
 use Rattle.fio_log.specs.Digits.{digit_of}
 
 -- the octets that are whole, and a digit that waits for its second one
-pub record Reading : Type 0 where
+pub record DigitReading : Type 0 where
   pub octets : List ℕ
   pub waiting : Option ℕ
 
 -- the reading of no text
-abbrev pub no_reading : Reading
+abbrev pub no_reading : DigitReading
 no_reading = record { octets = []; waiting = None }
 
 -- The octet that a character completes: of the digit that waits and its own, or of the digit that waits alone. What
@@ -29,14 +29,14 @@ waits_then None digit = digit
 waits_then (Some high) digit = None
 
 -- a reading with one character more
-abbrev pub with_reading : Reading → ℕ → Reading
+abbrev pub with_reading : DigitReading → ℕ → DigitReading
 with_reading reading character = record {
   octets = reading.octets ++ option_to_list (made_whole reading.waiting (digit_of character) character);
   waiting = waits_then reading.waiting (digit_of character);
 }
 
 -- the reading of a text
-abbrev pub reading_of : List ℕ → Reading
+abbrev pub reading_of : List ℕ → DigitReading
 reading_of text = fold with_reading no_reading text
 
 -- All octets of a text: two digits each, or one alone.

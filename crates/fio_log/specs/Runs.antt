@@ -41,7 +41,7 @@ pub record IsSpan (line : List ℕ) (from : ℕ) (run : Run) : Type 0 where
   pub within : run.end ≤ length line
 
 -- A run is in a line at a place or after it, and its octets are those that are written there.
-pub record IsRun (line : List ℕ) (from : ℕ) (kept : List ℕ) (run : Run) : Type 0 where
+pub record IsRunAfter (line : List ℕ) (from : ℕ) (kept : List ℕ) (run : Run) : Type 0 where
   pub span : IsSpan line from run
   pub words : AreWords line run.start run.end kept
 

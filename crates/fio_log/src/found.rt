@@ -1,6 +1,6 @@
 //! Runs that are found in a line, in one of the notations.
 ghost use Rattle.std.specs.Prelude.{◌≡◌, ◌<◌, ◌≤◌, length, IfSome};
-ghost use Rattle.fio_log.specs.Runs.{IsRun};
+ghost use Rattle.fio_log.specs.Runs.{IsRunAfter};
 ghost use Rattle.fio_log.specs.LineRuns.{IsWrittenAt};
 
 use crate::around::{LITERAL_MARK, NUMBERS_MARK};
@@ -69,7 +69,7 @@ fn run_before(
     is_short: bool,
     octets: &mut Octets,
 ) -> Option<Run>
-    ensures { IfSome result (IsRun line.now place octets.new.items) }
+    ensures { IfSome result (IsRunAfter line.now place octets.new.items) }
 {
     let part = line.get(..until)?;
     next_run(part, place, mark, is_short, octets)

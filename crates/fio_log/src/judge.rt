@@ -8,7 +8,7 @@ ghost use Rattle.fio_log.specs.declared.judge.slots.TheConstants.{ENTRIES};
 ghost use Rattle.std.specs.List.{All};
 ghost use Rattle.fio_log.specs.Blanks.{are_blanks};
 ghost use Rattle.fio_log.specs.Frames.{IsJudgeOf, Log};
-ghost use Rattle.fio_log.specs.Keeping.{HasEach, HasLine, HasMessage, IsGiven, IsOfLine, KeepsMessages};
+ghost use Rattle.fio_log.specs.Keeping.{HasEach, HasLine, SlotHasMessage, IsGiven, IsOfLine, KeepsMessages};
 ghost use Rattle.fio_log.specs.LineRuns.{IsLineRun};
 ghost use Rattle.fio_log.specs.Wordings.{SaysWords};
 
@@ -263,7 +263,7 @@ impl Judge {
         ensures written { (log : Log) → IsJudgeOf log self.old → IsLineRun (log line) run.now → IsJudgeOf log self.new }
         ensures kept { KeepsMessages self.old.entries slot line self.new.entries }
         ensures given { IsOfLine self.old.entries slot line → (octets : List ℕ) → IsGiven runs.now run.now octets
-            → HasMessage self.new.entries slot octets run.now.around.whole }
+            → SlotHasMessage self.new.entries slot octets run.now.around.whole }
     {
         let key = RunKey::of(&run.around, run.octets.as_slice(), run.saying);
         let _room = self.decider.keys.try_push(key);

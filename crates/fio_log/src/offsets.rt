@@ -1,6 +1,6 @@
 //! Rows of dumps: an offset, and octets after it.
 ghost use Rattle.std.specs.Prelude.{◌≡◌, ◌≤◌, length, true, IfSome};
-ghost use Rattle.fio_log.specs.Runs.{AreWords, IsRun};
+ghost use Rattle.fio_log.specs.Runs.{AreWords, IsRunAfter};
 
 use crate::around::LITERAL_MARK;
 use crate::digits::digit;
@@ -157,7 +157,7 @@ fn offset_end(line: &[u8], end: usize) -> Option<usize>
 /// Returns the longest run of words without single digits that begins at a place of a line, and its mark, and writes its
 /// octets. `None` if a word of one digit continues it: a digit may be lost there.
 fn longest_run(line: &[u8], place: usize, octets: &mut Octets) -> Option<(u8, Run)>
-    ensures { IfSome result (λ found. IsRun line.now place octets.new.items found.1) }
+    ensures { IfSome result (λ found. IsRunAfter line.now place octets.new.items found.1) }
 {
     let (mark, is_short) = longest_at(line, place, octets)?;
     if is_short {

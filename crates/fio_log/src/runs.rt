@@ -1,6 +1,6 @@
 //! Runs: the longest sequences of octets in a line that are written as hexadecimal words.
 ghost use Rattle.std.specs.Prelude.{◌≡◌, ◌≤◌, ◌<◌, ◌+◌, ◌-◌, ◌%◌, IfNone, IfSome, MatchOption, false, length, true};
-ghost use Rattle.fio_log.specs.Runs.{AreOctetWords, AreOdd, AreSeparators, IsBehind, IsOfWords, IsRun, IsSingle, IsSpan, is_marked};
+ghost use Rattle.fio_log.specs.Runs.{AreOctetWords, AreOdd, AreSeparators, IsBehind, IsOfWords, IsRunAfter, IsSingle, IsSpan, is_marked};
 ghost use Rattle.fio_log.specs.Words.{IsWord, is_first, may_begin};
 ghost use Rattle.fio_log.specs.declared.marks.Word.{Word};
 
@@ -58,7 +58,7 @@ pub fn next_run(
     is_short: bool,
     octets: &mut Octets,
 ) -> Option<Run>
-    ensures run { IfSome result (IsRun line.now from octets.new.items) }
+    ensures run { IfSome result (IsRunAfter line.now from octets.new.items) }
     ensures words { IfSome result (IsOfWords line.now mark.before.now mark.after.now is_short) }
     ensures first { is_short ≡ false → MatchOption result
         (AreOdd line.now mark.before.now mark.after.now from (length line.now))

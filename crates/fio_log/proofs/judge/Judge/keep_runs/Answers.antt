@@ -2,7 +2,7 @@ use Rattle.std.proofs.Common.{◌≡◌, ◌∙◌, ◌<◌, ◌≤◌, ◌+◌,
 use Rattle.std.proofs.lemmas.List.{take_all, take_more}
 use Rattle.std.proofs.lemmas.List.Elements.{All-push}
 use Rattle.std.specs.List.{All}
-use Rattle.fio_log.specs.Keeping.{HasEach, HasMessage, IsGiven}
+use Rattle.fio_log.specs.Keeping.{HasEach, SlotHasMessage, IsGiven}
 use Rattle.fio_log.specs.LineRuns.{IsLineRun}
 use Rattle.fio_log.specs.declared.line_run.LineRun.{LineRun}
 use Rattle.fio_log.proofs.judge.Judge.keep_runs.Goals as goal
@@ -16,7 +16,7 @@ loop-run-preserved c =
     let more : take (index + 1) all ≡ take index all ++ run ∷ [] =
     take_more all index run inside ∙ ap (λ (r : LineRun). take index all ++ r ∷ []) (sym is) in
     let P = λ (r : LineRun). (octets : List ℕ) → IsGiven c.args.runs.now r octets
-    → HasMessage c.keep_message.new.self.entries c.args.slot octets r.around.whole in
+    → SlotHasMessage c.keep_message.new.self.entries c.args.slot octets r.around.whole in
     record {
       written = λ log judge lines. c.keep_message.ensures.written log (before.written log judge lines)
           (subst (IsLineRun (log c.args.line)) (sym is) (lines index run inside));
