@@ -2,7 +2,7 @@
 ghost use Rattle.std.specs.Prelude.{◌≡◌, ◌≤◌, ◌<◌, ◌+◌, ◌-◌, ◌*◌, ◌%◌, ◌==◌, ◌⊎◌, [], fold, length, take, drop};
 ghost use Rattle.fio_message.specs.declared.limits.TheConstants.{FRAME_OCTETS};
 ghost use Rattle.fio_wire.specs.Checks.{frame_check_of};
-ghost use Rattle.fio_wire.specs.Frames.{Settings, address_in, control_in, heard_as, message_in};
+ghost use Rattle.fio_wire.specs.Frames.{WireSettings, address_in, control_in, heard_as, message_in};
 ghost use Rattle.fio_wire.specs.Octets.{IsWire, held_frame, lost, next, reading_of, said_of, says, sent, settings_of, start, wire_at_start};
 ghost use Rattle.fio_wire.specs.Bits as line;
 ghost use Rattle.fio_c.specs.Wires.{heard_code};

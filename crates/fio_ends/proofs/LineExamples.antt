@@ -17,14 +17,14 @@ use Rattle.fio_wire.specs.Octets as wire
 use Rattle.fio_module.specs.Life as lives
 use Rattle.fio_ends.proofs.LinePremises.{at_module, at_cpu, frame_comes, struck_comes}
 use Rattle.fio_wire.specs.Laws.{Octet, Loss}
-use Rattle.fio_ends.specs.Lines.{Framing, Ends, ends_at_start, EndOf, LineEvent, IsStruck, Happens, AtModule, AtCpu, events_of_lines, after_line_event, Arrives}
+use Rattle.fio_ends.specs.Lines.{Framing, WiredEnds, ends_at_start, EndOf, WireEvent, IsStruck, Happens, AtModule, AtCpu, events_of_lines, after_line_event, Arrives}
 use Rattle.fio_ends.specs.LineRuns.{LinesBringRecords, MayFollow, LeadOverLines, part_brought}
 
 abbrev framing : Framing
 framing = record { address = 20; control = 131; own = record { address = 20; control = 131 } }
 
 -- the ends after these events
-abbrev done : Ends → List LineEvent → Ends
+abbrev done : WiredEnds → List WireEvent → WiredEnds
 done ends [] = ends
 done ends (event ∷ events) = done (after_line_event (standard_settings 2) framing ends event) events
 
@@ -73,56 +73,56 @@ abbrev answer : List ℕ
 answer = 182 ∷ 125 ∷ 1 ∷ 0 ∷ 0 ∷ 1 ∷ 0 ∷ 0 ∷ 0 ∷ 0 ∷ 1 ∷ []
 
 -- a configuration is sent; noise comes before the first flag, and then the frame whole
-abbrev sent_first : List LineEvent
+abbrev sent_first : List WireEvent
 sent_first = Happens opened ∷ AtModule (Arrives (Octet 85)) ∷ AtModule (Arrives (Octet FLAG)) ∷ []
 
-abbrev configured : List LineEvent
+abbrev configured : List WireEvent
 configured = part_brought AtModule (between_flags (51 ∷ 1 ∷ 0 ∷ 1 ∷ 1 ∷ [])) (EndOf 1)
 
 -- input 0 changes, and a poll is sent, which is struck
-abbrev polled : List LineEvent
+abbrev polled : List WireEvent
 polled = Happens (Scan zero_low) ∷ Happens Poll ∷ part_brought AtModule struck (Arrives (Octet FLAG))
 
 -- it is sent again, and comes whole
-abbrev polled_again : List LineEvent
+abbrev polled_again : List WireEvent
 polled_again = Happens Poll ∷ part_brought AtModule (between_flags (54 ∷ 125 ∷ [])) (EndOf 3)
 
 -- on the line to the CPU an octet is lost; then the answer comes, twice
-abbrev answered : List LineEvent
+abbrev answered : List WireEvent
 answered = AtCpu (Arrives (Octet FLAG)) ∷ AtCpu (Arrives (Octet 20)) ∷ AtCpu (Arrives Loss) ∷ AtCpu (Arrives (Octet FLAG)) ∷ part_brought AtCpu (between_flags answer) (EndOf 2)
 
-abbrev answered_again : List LineEvent
+abbrev answered_again : List WireEvent
 answered_again = part_brought AtCpu (between_flags answer) (EndOf 2)
 
 -- ---- they may come
 
-abbrev Follow : Ends → List LineEvent → Type 0
+abbrev Follow : WiredEnds → List WireEvent → Type 0
 Follow ends events = LeadOverLines (standard_settings 2) framing ends events (done ends events)
 
-leads_done : (events : List LineEvent) (ends last : Ends) → LeadOverLines (standard_settings 2) framing ends events last → last ≡ done ends events
+leads_done : (events : List WireEvent) (ends last : WiredEnds) → LeadOverLines (standard_settings 2) framing ends events last → last ≡ done ends events
 leads_done [] ends last lead = lead
 leads_done (event ∷ events) ends last lead = leads_done events (after_line_event (standard_settings 2) framing ends event) last lead.1
 
-follows : (ends : Ends) (events : List LineEvent) → MayFollow (standard_settings 2) framing ends events → Follow ends events
+follows : (ends : WiredEnds) (events : List WireEvent) → MayFollow (standard_settings 2) framing ends events → Follow ends events
 follows ends events may = subst (LeadOverLines (standard_settings 2) framing ends events) (leads_done events ends may.0 may.1) may.1
 
-join : (front back : List LineEvent) (ends middle last : Ends) → LeadOverLines (standard_settings 2) framing ends front middle
+join : (front back : List WireEvent) (ends middle last : WiredEnds) → LeadOverLines (standard_settings 2) framing ends front middle
     → LeadOverLines (standard_settings 2) framing middle back last → LeadOverLines (standard_settings 2) framing ends (front ++ back) last
 join [] back ends middle last a b = subst (λ e. LeadOverLines (standard_settings 2) framing e back last) a b
 join (event ∷ front) back ends middle last a b =
     (a.0, join front back (after_line_event (standard_settings 2) framing ends event) middle last a.1 b)
 
-abbrev ends_1 : Ends
+abbrev ends_1 : WiredEnds
 ends_1 = done (ends_at_start 125) sent_first
 
-abbrev ends_2 : Ends
+abbrev ends_2 : WiredEnds
 ends_2 = done ends_1 configured
 
-abbrev ends_3 : Ends
+abbrev ends_3 : WiredEnds
 ends_3 = done ends_2 polled
 
 -- what there is when the poll has been answered
-abbrev ends_4 : Ends
+abbrev ends_4 : WiredEnds
 ends_4 = record {
   history = lives.Received (54 ∷ 125 ∷ []) ∷ lives.Scan zero_low ∷ lives.Received (51 ∷ 1 ∷ 0 ∷ 1 ∷ 1 ∷ []) ∷ [];
   polling = record { number = 125; items = [] };
@@ -145,7 +145,7 @@ has_answered : done ends_3 polled_again ≡ ends_4
 unfolding message_in is_set wide_time_of transitions_below divided with_octet
 has_answered = refl
 
-abbrev ends_5 : Ends
+abbrev ends_5 : WiredEnds
 ends_5 = done ends_4 answered
 
 -- an octet that is no flag
@@ -209,10 +209,10 @@ leads_6 : Follow ends_5 answered_again
 unfolding divided with_octet
 leads_6 = follows ends_5 answered_again (frame_comes at_cpu (standard_settings 2) framing ends_5 2 answer refl last_before refl)
 
-abbrev all_events : List LineEvent
+abbrev all_events : List WireEvent
 all_events = sent_first ++ (configured ++ (polled ++ (polled_again ++ (answered ++ answered_again))))
 
-abbrev ends_6 : Ends
+abbrev ends_6 : WiredEnds
 ends_6 = done ends_5 answered_again
 
 leads : LeadOverLines (standard_settings 2) framing (ends_at_start 125) all_events ends_6

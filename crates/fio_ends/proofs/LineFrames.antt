@@ -7,7 +7,7 @@ use Rattle.fio_link.specs.Link.{item_numbered, delivery_refusal, answer_frames}
 use Rattle.fio_wire.specs.declared.limits.TheConstants.{FLAG}
 use Rattle.fio_wire.specs.Octets.{sent}
 use Rattle.fio_wire.specs.Laws.{Octet, Loss}
-use Rattle.fio_ends.specs.Lines.{Framing, IsFraming, Line, EndOf, ComesWhole, MayBring, line_after, message_heard, with_written, with_answer, Arrives}
+use Rattle.fio_ends.specs.Lines.{Framing, IsFraming, WireLine, EndOf, ComesWhole, MayBring, line_after, message_heard, with_written, with_answer, Arrives}
 use Rattle.fio_ends.specs.LineRuns.{written_of}
 use Rattle.fio_ends.proofs.LineMessages.{IsMessage}
 use Rattle.fio_ends.proofs.LineParts.{IsReading, octet_heard, whole_heard, read_flag, read_loss}
@@ -17,7 +17,7 @@ abbrev pub AreMessages : List SentFrame → Type 0
 AreMessages frames = AllByRecursion (λ frame. IsMessage frame.octets) frames
 
 -- A line has what the machine has of it, and the decoder has read what came since the latest flag.
-pub record IsLine (framing : Framing) (frames : List SentFrame) (last : ℕ) (line : Line) : Type 0 where
+pub record IsLine (framing : Framing) (frames : List SentFrame) (last : ℕ) (line : WireLine) : Type 0 where
   pub written : line.written ≡ written_of framing frames
   pub same_last : line.last ≡ last
   pub messages : AreMessages frames
@@ -55,7 +55,7 @@ not_refused frames last (suc place) frame is le =
     let order : nat_lt (suc place) last ≡ false = grind (arith, nat_tests) in
     rw (there, order) refl
 
-module _ (framing : Framing) (is_framing : IsFraming framing) (frames : List SentFrame) (last : ℕ) (line : Line) (l : IsLine framing frames last line) where
+module _ (framing : Framing) (is_framing : IsFraming framing) (frames : List SentFrame) (last : ℕ) (line : WireLine) (l : IsLine framing frames last line) where
   -- one message more is written
   pub line_written : (frame : SentFrame) → IsMessage frame.octets
       → IsLine framing (frames ++ frame ∷ []) last (with_written framing line frame.octets)

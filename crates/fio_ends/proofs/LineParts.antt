@@ -12,7 +12,7 @@ use Rattle.fio_wire.specs.Octets.{HasNoFlag, Phase, Hunting, Within, Escaped, Lo
 use Rattle.fio_wire.specs.Laws.{Octet, Struck}
 use Rattle.fio_wire.proofs.Lines.{no_flag, part_said}
 use Rattle.fio_wire.proofs.Sent.{arrive, message_again, sent_frame}
-use Rattle.fio_ends.specs.Lines.{Framing, IsFraming, Line, Arrives, IsStruck, IsNoise, ComesWhole, MayBring, message_if, message_heard, part_after}
+use Rattle.fio_ends.specs.Lines.{Framing, IsFraming, WireLine, Arrives, IsStruck, IsNoise, ComesWhole, MayBring, message_if, message_heard, part_after}
 use Rattle.fio_ends.proofs.LineMessages.{IsMessage}
 
 -- ---- What is known of lines
@@ -98,7 +98,7 @@ flag_says : (part : List ℕ) (reading : Reading) → HasRead part reading → s
 flag_says part reading r =
     sym (append-nil (says reading FLAG)) ∙ r.same (FLAG ∷ []) ∙ flag_said part r.free
 
-deaf_flag : (own : frames.Settings) (octets : List ℕ) (phase : Phase) → IsDeaf phase
+deaf_flag : (own : frames.WireSettings) (octets : List ℕ) (phase : Phase) → IsDeaf phase
     → heard_as own (says (record { octets = octets; phase = phase }) FLAG) ≢ Message
 deaf_flag own octets Hunting deaf e = absurd (cc e)
 deaf_flag own octets Lost deaf e = absurd (cc e)
@@ -126,7 +126,7 @@ no_message Other reading other = refl
 no_message Damaged reading other = refl
 
 -- at a flag after which a line may bring no frame whole
-flag_heard : (own : frames.Settings) (part : Option (List ℕ)) (reading : Reading) → IsReading part reading
+flag_heard : (own : frames.WireSettings) (part : Option (List ℕ)) (reading : Reading) → IsReading part reading
     → ((octets : List ℕ) → part ≡ Some octets → IsStruck octets ⊎ IsNoise own octets)
     → heard_as own (says reading FLAG) ≢ Message
 flag_heard own None reading deaf brings e = deaf_flag own reading.octets reading.phase deaf e
@@ -138,7 +138,7 @@ flag_heard own (Some part) reading r brings e =
     ]
 
 -- An octet that ends no frame whole is heard as no message.
-pub octet_heard : (own : frames.Settings) (line : Line) (o : ℕ) → IsReading line.part line.reading → MayBring own line (Arrives (Octet o))
+pub octet_heard : (own : frames.WireSettings) (line : WireLine) (o : ℕ) → IsReading line.part line.reading → MayBring own line (Arrives (Octet o))
     → (message_heard own line.reading (Octet o) ≡ None) × IsReading (part_after line.part (Octet o)) (next line.reading o)
 octet_heard own line o r brings =
     elim (eqb_tells o FLAG) as (λ _. (message_heard own line.reading (Octet o) ≡ None) × IsReading (part_after line.part (Octet o)) (next line.reading o)) [
@@ -156,16 +156,16 @@ octet_heard own line o r brings =
     ]
 
 -- the message that is heard where a line says this at a flag
-abbrev message_said : frames.Settings → List Said → Option (List ℕ)
+abbrev message_said : frames.WireSettings → List Said → Option (List ℕ)
 message_said own said = message_if (heard_as own said) (ended_by said)
 
-own_heard : (own : frames.Settings) (is : Bool) (frame : List ℕ) → is ≡ true
+own_heard : (own : frames.WireSettings) (is : Bool) (frame : List ℕ) → is ≡ true
     → message_if (if is then Message else Other) (record { octets = frame; phase = Whole }) ≡ Some (message_in frame)
 own_heard own true frame e = refl
 own_heard own false frame e = absurd (false≢true e)
 
 -- The flag that ends a frame whole is heard as its message.
-pub whole_heard : (framing : Framing) → IsFraming framing → (line : Line) (number : ℕ) (message : List ℕ) → IsMessage message
+pub whole_heard : (framing : Framing) → IsFraming framing → (line : WireLine) (number : ℕ) (message : List ℕ) → IsMessage message
     → IsReading line.part line.reading → (whole : ComesWhole line number)
     → FLAG ∷ whole.part ++ FLAG ∷ [] ≡ sent framing.address framing.control message
     → message_heard framing.own line.reading (Octet FLAG) ≡ Some message

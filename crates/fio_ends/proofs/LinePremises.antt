@@ -6,22 +6,22 @@ use Rattle.fio_wire.specs.Frames.{frame_of}
 use Rattle.fio_wire.specs.Octets.{HasNoFlag, sent, stuffed}
 use Rattle.fio_wire.proofs.Sent.{free_of_flags}
 use Rattle.fio_wire.specs.Laws.{Octet}
-use Rattle.fio_ends.specs.Lines.{Framing, Line, Ends, Brought, EndOf, LineEvent, AtModule, AtCpu, IsStruck, MayBring, MayCome, line_after, part_after, message_heard, after_receipt, after_message, after_line_event, Arrives, arrival_of}
+use Rattle.fio_ends.specs.Lines.{Framing, WireLine, WiredEnds, Brought, EndOf, WireEvent, AtModule, AtCpu, IsStruck, MayBring, MayCome, line_after, part_after, message_heard, after_receipt, after_message, after_line_event, Arrives, arrival_of}
 use Rattle.fio_ends.specs.LineRuns.{MayFollow, part_brought, EachFrameMayCome, EachStruckFrameMayCome}
 use Rattle.fio_wire.proofs.Lines.{no_flag}
 
 -- a direction: what its events bring, and the line that they change
-pub record IsDirection (line_of : Ends → Line) (at : Brought → LineEvent) : Type 0 where
-  pub may : (framing : Framing) (ends : Ends) (brought : Brought) → MayBring framing.own (line_of ends) brought → MayCome framing ends (at brought)
-  pub goes : (settings : Settings) (framing : Framing) (ends : Ends) (brought : Brought)
+pub record IsDirection (line_of : WiredEnds → WireLine) (at : Brought → WireEvent) : Type 0 where
+  pub may : (framing : Framing) (ends : WiredEnds) (brought : Brought) → MayBring framing.own (line_of ends) brought → MayCome framing ends (at brought)
+  pub goes : (settings : Settings) (framing : Framing) (ends : WiredEnds) (brought : Brought)
       → line_of (after_line_event settings framing ends (at brought)) ≡ line_after (line_of ends) brought
 
-received : (settings : Settings) (framing : Framing) (ends : Ends) (heard : Option (List ℕ))
+received : (settings : Settings) (framing : Framing) (ends : WiredEnds) (heard : Option (List ℕ))
     → (after_receipt settings framing ends heard).to_module ≡ ends.to_module
 received settings framing ends None = refl
 received settings framing ends (Some message) = refl
 
-heard_by_cpu : (ends : Ends) (heard : Option (List ℕ)) → (after_message ends heard).to_cpu ≡ ends.to_cpu
+heard_by_cpu : (ends : WiredEnds) (heard : Option (List ℕ)) → (after_message ends heard).to_cpu ≡ ends.to_cpu
 heard_by_cpu ends None = refl
 heard_by_cpu ends (Some message) = refl
 
@@ -40,15 +40,15 @@ at_cpu = record {
 }
 
 -- a line as another, but for these octets since the latest flag
-record HasPart (part : List ℕ) (before line : Line) : Type 0 where
+record HasPart (part : List ℕ) (before line : WireLine) : Type 0 where
   same_part : line.part ≡ Some part
   same_last : line.last ≡ before.last
   same_written : line.written ≡ before.written
 
-module _ {line_of : Ends → Line} {at : Brought → LineEvent} (d : IsDirection line_of at) (settings : Settings) (framing : Framing) where
+module _ {line_of : WiredEnds → WireLine} {at : Brought → WireEvent} (d : IsDirection line_of at) (settings : Settings) (framing : Framing) where
   -- the octets of a part come, and what ends it if that may come then
-  part_comes : (before : Line) (held part : List ℕ) (ending : Brought) (ends : Ends) → HasNoFlag part → HasPart held before (line_of ends)
-      → ((line : Line) → HasPart (held ++ part) before line → MayBring framing.own line ending)
+  part_comes : (before : WireLine) (held part : List ℕ) (ending : Brought) (ends : WiredEnds) → HasNoFlag part → HasPart held before (line_of ends)
+      → ((line : WireLine) → HasPart (held ++ part) before line → MayBring framing.own line ending)
       → MayFollow settings framing ends (part_brought at part ending)
   part_comes before held [] ending ends free has may = (
     after_line_event settings framing ends (at ending),
@@ -68,9 +68,9 @@ module _ {line_of : Ends → Line} {at : Brought → LineEvent} (d : IsDirection
       ap (λ b. if b then Some [] else option_map (λ octets. octets ++ o ∷ []) (line_of ends).part) (no_flag o free.0)
       ∙ ap (option_map (λ octets. octets ++ o ∷ [])) has.same_part in
       let rest = part_comes before (held ++ o ∷ []) part ending later free.1 (record {
-        same_part = ap (λ (l : Line). l.part) goes ∙ one;
-        same_last = ap (λ (l : Line). l.last) goes ∙ has.same_last;
-        same_written = ap (λ (l : Line). l.written) goes ∙ has.same_written;
+        same_part = ap (λ (l : WireLine). l.part) goes ∙ one;
+        same_last = ap (λ (l : WireLine). l.last) goes ∙ has.same_last;
+        same_written = ap (λ (l : WireLine). l.written) goes ∙ has.same_written;
       }) (λ line h. may line (record {
         same_part = h.same_part ∙ ap Some (append_assoc held (o ∷ []) part);
         same_last = h.same_last;
@@ -78,7 +78,7 @@ module _ {line_of : Ends → Line} {at : Brought → LineEvent} (d : IsDirection
       })) in
       (rest.0, (d.may framing ends (Arrives (Octet o)) (λ flag octets is. absurd (free.0 flag)), rest.1))
 
-  pub frame_comes : (ends : Ends) (number : ℕ) (message : List ℕ) → (line_of ends).part ≡ Some [] → (line_of ends).last ≤ number
+  pub frame_comes : (ends : WiredEnds) (number : ℕ) (message : List ℕ) → (line_of ends).part ≡ Some [] → (line_of ends).last ≤ number
       → item_numbered (line_of ends).written number ≡ Some (sent framing.address framing.control message)
       → MayFollow settings framing ends (part_brought at (stuffed (frame_of framing.address framing.control message)) (EndOf number))
   frame_comes ends number message begun order is =
@@ -92,7 +92,7 @@ module _ {line_of : Ends → Line} {at : Brought → LineEvent} (d : IsDirection
         in_order = omega (arith, order, h.same_last);
       })
 
-  pub struck_comes : (ends : Ends) (part : List ℕ) → (line_of ends).part ≡ Some [] → IsStruck part
+  pub struck_comes : (ends : WiredEnds) (part : List ℕ) → (line_of ends).part ≡ Some [] → IsStruck part
       → MayFollow settings framing ends (part_brought at part (Arrives (Octet FLAG)))
   struck_comes ends part begun struck =
       part_comes (line_of ends) [] part (Arrives (Octet FLAG)) ends struck.2.0 (record { same_part = begun; same_last = refl; same_written = refl })

@@ -13,31 +13,31 @@ use Rattle.fio_link.proofs.Promises.{runs_are_sound, headline}
 use Rattle.fio_link.proofs.RoundNumbers.{number_of-fits, number_of-next}
 use Rattle.fio_wire.specs.declared.limits.TheConstants.{FLAG}
 use Rattle.fio_wire.specs.Laws.{Octet, Loss}
-use Rattle.fio_ends.specs.Lines.{Framing, IsFraming, Line, Ends, ends_at_start, EndOf, LineEvent, Happens, AtModule, AtCpu, events_of_lines, MayHappen, line_after, message_heard, with_written, with_answer, after_receipt, after_message, after_happening, after_line_event, Arrives}
+use Rattle.fio_ends.specs.Lines.{Framing, IsFraming, WireLine, WiredEnds, ends_at_start, EndOf, WireEvent, Happens, AtModule, AtCpu, events_of_lines, MayHappen, line_after, message_heard, with_written, with_answer, after_receipt, after_message, after_happening, after_line_event, Arrives}
 use Rattle.fio_ends.specs.LineRuns.{HoldsOverLines, LeadOverLines, LinesAreRuns, HeadlineOverLines}
 use Rattle.fio_ends.proofs.LineMessages.{command_is_message, reply_is_message}
 use Rattle.fio_ends.proofs.LineFrames.{IsLine, Ended, line_written, line_answered, line_octet, line_lost, line_ended}
 
 -- The ends have what the machine has.
-record Follows (framing : Framing) (first : ℕ) (machine : Machine) (ends : Ends) : Type 0 where
+record Follows (framing : Framing) (first : ℕ) (machine : Machine) (ends : WiredEnds) : Type 0 where
   history : ends.history ≡ machine.history
   polling : ends.polling ≡ polling_of first machine
   to_module : IsLine framing machine.to_module machine.last_to_module ends.to_module
   to_cpu : IsLine framing machine.to_cpu machine.last_to_cpu ends.to_cpu
 
 module _ (settings : Settings) (range : AreInRange settings) (framing : Framing) (is_framing : IsFraming framing) (first : ℕ) where
-  abbrev Goes : Machine → Event → Ends → Type 0
+  abbrev Goes : Machine → Event → WiredEnds → Type 0
   Goes machine event next = (refusal machine event ≡ None) × Follows framing first (after settings first machine event) next
 
   -- a line brings to the module what is no end of a frame
-  module_quiet : (machine : Machine) (ends : Ends) (line : Line) (heard : Option (List ℕ)) → Follows framing first machine ends
+  module_quiet : (machine : Machine) (ends : WiredEnds) (line : WireLine) (heard : Option (List ℕ)) → Follows framing first machine ends
       → IsLine framing machine.to_module machine.last_to_module line → heard ≡ None
       → Follows framing first machine (after_receipt settings framing (record ends { to_module = line }) heard)
   module_quiet machine ends line heard f l none =
       subst (λ h. Follows framing first machine (after_receipt settings framing (record ends { to_module = line }) h)) (sym none)
       (record { history = f.history; polling = f.polling; to_module = l; to_cpu = f.to_cpu })
 
-  cpu_quiet : (machine : Machine) (ends : Ends) (line : Line) (heard : Option (List ℕ)) → Follows framing first machine ends
+  cpu_quiet : (machine : Machine) (ends : WiredEnds) (line : WireLine) (heard : Option (List ℕ)) → Follows framing first machine ends
       → IsLine framing machine.to_cpu machine.last_to_cpu line → heard ≡ None
       → Follows framing first machine (after_message (record ends { to_cpu = line }) heard)
   cpu_quiet machine ends line heard f l none =
@@ -45,7 +45,7 @@ module _ (settings : Settings) (range : AreInRange settings) (framing : Framing)
       (record { history = f.history; polling = f.polling; to_module = f.to_module; to_cpu = l })
 
   -- a frame ends at the module, which replies
-  module_ended : (machine : Machine) (ends : Ends) (number : ℕ) (f : Follows framing first machine ends)
+  module_ended : (machine : Machine) (ends : WiredEnds) (number : ℕ) (f : Follows framing first machine ends)
       → Ended framing is_framing machine.to_module machine.last_to_module ends.to_module f.to_module number
       → Goes machine (ToModule number) (after_line_event settings framing ends (AtModule (EndOf number)))
   module_ended machine ends number f e =
@@ -74,12 +74,12 @@ module _ (settings : Settings) (range : AreInRange settings) (framing : Framing)
       )
 
   -- a frame ends at the CPU, which takes its block or does not
-  module _ (machine : Machine) (ends : Ends) (number : ℕ) (f : Follows framing first machine ends)
+  module _ (machine : Machine) (ends : WiredEnds) (number : ℕ) (f : Follows framing first machine ends)
       (e : Ended framing is_framing machine.to_cpu machine.last_to_cpu ends.to_cpu f.to_cpu number) where
     abbrev delivered : Machine
     delivered = record machine { last_to_cpu = number }
 
-    abbrev hearing : Polling → Ends
+    abbrev hearing : Polling → WiredEnds
     hearing polling = record ends { polling = polling; to_cpu = line_after ends.to_cpu (EndOf number) }
 
     taken_if : (taken : Bool) (block : Block)
@@ -118,7 +118,7 @@ module _ (settings : Settings) (range : AreInRange settings) (framing : Framing)
         )
 
   -- a command is written
-  sends : (machine : Machine) (ends : Ends) (command : Command) → Follows framing first machine ends → IsCommand command
+  sends : (machine : Machine) (ends : WiredEnds) (command : Command) → Follows framing first machine ends → IsCommand command
       → Follows framing first (after_sending machine command)
       (record ends { to_module = with_written framing ends.to_module (command_octets command) })
   sends machine ends command f fits = record {
@@ -131,7 +131,7 @@ module _ (settings : Settings) (range : AreInRange settings) (framing : Framing)
   }
 
   -- something reaches the module that is no frame
-  reaches : (machine : Machine) (ends : Ends) (event : lives.Event) → Follows framing first machine ends
+  reaches : (machine : Machine) (ends : WiredEnds) (event : lives.Event) → Follows framing first machine ends
       → Follows framing first (record machine { history = event ∷ machine.history }) (record ends { history = event ∷ ends.history })
   reaches machine ends event f = record {
     history = ap (λ (h : History). event ∷ h) f.history;
@@ -140,7 +140,7 @@ module _ (settings : Settings) (range : AreInRange settings) (framing : Framing)
     to_cpu = f.to_cpu;
   }
 
-  happens : (machine : Machine) (ends : Ends) (event : Event) → Follows framing first machine ends → MayHappen event
+  happens : (machine : Machine) (ends : WiredEnds) (event : Event) → Follows framing first machine ends → MayHappen event
       → Goes machine event (after_happening framing ends event)
   happens machine ends (Scan raw) f may = (refl, reaches machine ends (lives.Scan raw) f)
   happens machine ends LineSync f may = (refl, reaches machine ends lives.LineSync f)
@@ -167,18 +167,18 @@ module _ (settings : Settings) (range : AreInRange settings) (framing : Framing)
   happens machine ends (ToCpu number) f may = absurd may
 
   -- the machine to which the events of the link lead
-  abbrev LeadsOn : Machine → List LineEvent → Ends → Type 0
+  abbrev LeadsOn : Machine → List WireEvent → WiredEnds → Type 0
   LeadsOn machine events last =
       (end : Machine) × Leads settings first machine (events_of_lines events) end × Follows framing first end last
 
-  on : (machine : Machine) (event : Event) (events : List LineEvent) (next last : Ends) → Goes machine event next
+  on : (machine : Machine) (event : Event) (events : List WireEvent) (next last : WiredEnds) → Goes machine event next
       → (Follows framing first (after settings first machine event) next → LeadsOn (after settings first machine event) events last)
       → (end : Machine) × Leads settings first machine (event ∷ events_of_lines events) end × Follows framing first end last
   on machine event events later last goes rest =
       let last_machine = rest goes.1 in
       (last_machine.0, (goes.0, last_machine.1), last_machine.2)
 
-  follow_all : (events : List LineEvent) (machine : Machine) (ends last : Ends) → Follows framing first machine ends
+  follow_all : (events : List WireEvent) (machine : Machine) (ends last : WiredEnds) → Follows framing first machine ends
       → LeadOverLines settings framing ends events last → LeadsOn machine events last
   follow_all [] machine ends last f lead = (machine, refl, subst (Follows framing first machine) (sym lead) f)
   follow_all (Happens event ∷ events) machine ends last f lead =
@@ -225,7 +225,7 @@ module _ (settings : Settings) (range : AreInRange settings) (framing : Framing)
       }
 
 -- the machine to which the events of the link lead
-record IsFollowed (settings : Settings) (framing : Framing) (first : ℕ) (events : List LineEvent) (last : Ends) : Type 0 where
+record IsFollowed (settings : Settings) (framing : Framing) (first : ℕ) (events : List WireEvent) (last : WiredEnds) : Type 0 where
   machine : Machine
   is_run : IsRun settings first (events_of_lines events) machine
   follows : Follows framing first machine last

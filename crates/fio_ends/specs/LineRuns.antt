@@ -10,10 +10,10 @@ use Rattle.fio_wire.specs.declared.limits.TheConstants.{FLAG}
 use Rattle.fio_wire.specs.Frames.{frame_of}
 use Rattle.fio_wire.specs.Laws.{Octet}
 use Rattle.fio_wire.specs.Octets.{sent, stuffed}
-use Rattle.fio_ends.specs.Lines.{Framing, IsFraming, Line, Ends, ends_at_start, Brought, LineEvent, events_of_lines, IsStruck, MayCome, after_line_event, Arrives, EndOf}
+use Rattle.fio_ends.specs.Lines.{Framing, IsFraming, WireLine, WiredEnds, ends_at_start, Brought, WireEvent, events_of_lines, IsStruck, MayCome, after_line_event, Arrives, EndOf}
 
 -- these events may come one after the other, and lead from some ends to others
-abbrev pub LeadOverLines : Settings → Framing → Ends → List LineEvent → Ends → Type 0
+abbrev pub LeadOverLines : Settings → Framing → WiredEnds → List WireEvent → WiredEnds → Type 0
 LeadOverLines settings framing ends [] last = last ≡ ends
 LeadOverLines settings framing ends (event ∷ events) last =
     MayCome framing ends event
@@ -27,7 +27,7 @@ written_of framing sent_frames =
     map (λ frame. sent framing.address framing.control frame.octets) sent_frames
 
 -- The ends are those of a run of the link: what holds of each run holds of this machine, and they have what it has.
-pub record AreOfRun (settings : Settings) (framing : Framing) (first : ℕ) (events : List Event) (ends : Ends) : Type 0 where
+pub record AreOfRun (settings : Settings) (framing : Framing) (first : ℕ) (events : List Event) (ends : WiredEnds) : Type 0 where
   pub machine : Machine
   pub sound : IsSoundRun settings first events machine
   pub history : ends.history ≡ machine.history
@@ -36,9 +36,9 @@ pub record AreOfRun (settings : Settings) (framing : Framing) (first : ℕ) (eve
   pub to_cpu : ends.to_cpu.written ≡ written_of framing machine.to_cpu
 
 -- a promise holds for both ends over two lines, from their start on
-abbrev pub HoldsOverLines : (Settings → Framing → ℕ → List LineEvent → Ends → Type 0) → Type 0
+abbrev pub HoldsOverLines : (Settings → Framing → ℕ → List WireEvent → WiredEnds → Type 0) → Type 0
 HoldsOverLines Holds =
-    (settings : Settings) (framing : Framing) (first : ℕ) (events : List LineEvent) (last : Ends)
+    (settings : Settings) (framing : Framing) (first : ℕ) (events : List WireEvent) (last : WiredEnds)
     → AreInRange settings → IsFraming framing → IsOctet first
     → LeadOverLines settings framing (ends_at_start first) events last
     → Holds settings framing first events last
@@ -56,32 +56,32 @@ HeadlineOverLines =
 -- ---- What the premise leaves open
 
 -- what a line brings for a part: its octets one by one, and what ends it
-abbrev pub part_brought : (Brought → LineEvent) → List ℕ → Brought → List LineEvent
+abbrev pub part_brought : (Brought → WireEvent) → List ℕ → Brought → List WireEvent
 part_brought at [] ending = at ending ∷ []
 part_brought at (octet ∷ part) ending = at (Arrives (Octet octet)) ∷ part_brought at part ending
 
 -- these events may come, one after the other
-abbrev pub MayFollow : Settings → Framing → Ends → List LineEvent → Type 0
-MayFollow settings framing ends events = (later : Ends) × LeadOverLines settings framing ends events later
+abbrev pub MayFollow : Settings → Framing → WiredEnds → List WireEvent → Type 0
+MayFollow settings framing ends events = (later : WiredEnds) × LeadOverLines settings framing ends events later
 
 -- Directly after a flag a line may bring each frame that was written to it whole, if none after it came before.
-abbrev pub EachFrameMayCome : (Ends → Line) → (Brought → LineEvent) → Type 0
+abbrev pub EachFrameMayCome : (WiredEnds → WireLine) → (Brought → WireEvent) → Type 0
 EachFrameMayCome line_of at =
-    (settings : Settings) (framing : Framing) (ends : Ends) (number : ℕ) (message : List ℕ)
+    (settings : Settings) (framing : Framing) (ends : WiredEnds) (number : ℕ) (message : List ℕ)
     → (line_of ends).part ≡ Some [] → (line_of ends).last ≤ number
     → item_numbered (line_of ends).written number ≡ Some (sent framing.address framing.control message)
     → MayFollow settings framing ends
     (part_brought at (stuffed (frame_of framing.address framing.control message)) (EndOf number))
 
 -- Directly after a flag a line may bring each frame that was struck.
-abbrev pub EachStruckFrameMayCome : (Ends → Line) → (Brought → LineEvent) → Type 0
+abbrev pub EachStruckFrameMayCome : (WiredEnds → WireLine) → (Brought → WireEvent) → Type 0
 EachStruckFrameMayCome line_of at =
-    (settings : Settings) (framing : Framing) (ends : Ends) (part : List ℕ)
+    (settings : Settings) (framing : Framing) (ends : WiredEnds) (part : List ℕ)
     → (line_of ends).part ≡ Some [] → IsStruck part
     → MayFollow settings framing ends (part_brought at part (Arrives (Octet FLAG)))
 
 -- There are lines over which the CPU's record gains something.
 abbrev pub LinesBringRecords : Type 0
 LinesBringRecords =
-    (framing : Framing) × IsFraming framing × (events : List LineEvent) × (last : Ends)
+    (framing : Framing) × IsFraming framing × (events : List WireEvent) × (last : WiredEnds)
     × LeadOverLines (standard_settings 2) framing (ends_at_start 125) events last × (last.polling.items ≢ [])

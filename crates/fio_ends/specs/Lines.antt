@@ -30,7 +30,7 @@ use Rattle.fio_wire.specs.Octets as octets
 pub record Framing : Type 0 where
   pub address : ℕ
   pub control : ℕ
-  pub own : frames.Settings
+  pub own : frames.WireSettings
 
 -- both are octets, and a frame with them is the decoders' own
 pub record IsFraming (framing : Framing) : Type 0 where
@@ -39,7 +39,7 @@ pub record IsFraming (framing : Framing) : Type 0 where
   pub own : is_own framing.own (framing.address ∷ framing.control ∷ []) ≡ true
 
 -- one of the two lines, from its sender to its receiver
-pub record Line : Type 0 where
+pub record WireLine : Type 0 where
   -- what the sender has written, frame by frame with its flags, oldest first
   pub written : List (List ℕ)
   -- the number of the frame that came whole last, 0 for none
@@ -50,20 +50,20 @@ pub record Line : Type 0 where
   pub reading : Reading
 
 -- both ends, and the lines between them
-pub record Ends : Type 0 where
+pub record WiredEnds : Type 0 where
   -- what has reached the module, newest first
   pub history : History
   -- the CPU's number and record
   pub polling : Polling
-  pub to_module : Line
-  pub to_cpu : Line
+  pub to_module : WireLine
+  pub to_cpu : WireLine
 
 -- a line before its first octet
-abbrev pub silent_line : Line
+abbrev pub silent_line : WireLine
 silent_line = record { written = []; last = 0; part = None; reading = octets.start }
 
 -- both ends at their start, for a CPU whose first number is this one
-abbrev pub ends_at_start : ℕ → Ends
+abbrev pub ends_at_start : ℕ → WiredEnds
 ends_at_start first = record {
   history = [];
   polling = record { number = first; items = [] };
@@ -86,13 +86,13 @@ arrival_of (EndOf number) = Octet FLAG
 
 -- a line brings something to the module or to the CPU, or something happens at the ends: an event of the link other than the
 -- delivery of a frame
-pub data LineEvent : Type 0 where
-  Happens : (event : Event) → LineEvent
-  AtModule : (brought : Brought) → LineEvent
-  AtCpu : (brought : Brought) → LineEvent
+pub data WireEvent : Type 0 where
+  Happens : (event : Event) → WireEvent
+  AtModule : (brought : Brought) → WireEvent
+  AtCpu : (brought : Brought) → WireEvent
 
 -- the events of the link: a frame that comes whole is delivered, and whatever else a line brings is nothing
-abbrev pub events_of_lines : List LineEvent → List Event
+abbrev pub events_of_lines : List WireEvent → List Event
 events_of_lines [] = []
 events_of_lines (Happens event ∷ events) = event ∷ events_of_lines events
 events_of_lines (AtModule (EndOf number) ∷ events) = ToModule number ∷ events_of_lines events
@@ -106,11 +106,11 @@ abbrev pub IsStruck : List ℕ → Type 0
 IsStruck part = (frame : List ℕ) × (errors : List Bool) × IsFate (Struck frame errors part)
 
 -- octets between two flags that are not a frame of the decoder's own: no octets, octets with a wrong check, or another's frame
-abbrev pub IsNoise : frames.Settings → List ℕ → Type 0
+abbrev pub IsNoise : frames.WireSettings → List ℕ → Type 0
 IsNoise own part = heard_as own (said_in part) ≢ Message
 
 -- octets between two flags that are the frame with this number, as it was written, before any later frame
-pub record ComesWhole (line : Line) (number : ℕ) : Type 0 where
+pub record ComesWhole (line : WireLine) (number : ℕ) : Type 0 where
   pub part : List ℕ
   pub is_part : line.part ≡ Some part
   pub is_written : item_numbered line.written number ≡ Some (FLAG ∷ part ++ FLAG ∷ [])
@@ -118,7 +118,7 @@ pub record ComesWhole (line : Line) (number : ℕ) : Type 0 where
 
 -- What a line may bring: any octets, if between two flags they are a frame, whole and in order, a struck frame, or noise. A
 -- frame that does not come is lost.
-abbrev pub MayBring : frames.Settings → Line → Brought → Type 0
+abbrev pub MayBring : frames.WireSettings → WireLine → Brought → Type 0
 MayBring own line (Arrives (Octet octet)) =
     octet ≡ FLAG → (part : List ℕ) → line.part ≡ Some part → IsStruck part ⊎ IsNoise own part
 MayBring own line (Arrives Loss) = Unit {0}
@@ -133,7 +133,7 @@ MayHappen (ToCpu number) = ⊥
 MayHappen other = Unit {0}
 
 -- what may come: what the lines may bring, and what may happen at the ends
-abbrev pub MayCome : Framing → Ends → LineEvent → Type 0
+abbrev pub MayCome : Framing → WiredEnds → WireEvent → Type 0
 MayCome framing ends (Happens event) = MayHappen event
 MayCome framing ends (AtModule brought) = MayBring framing.own ends.to_module brought
 MayCome framing ends (AtCpu brought) = MayBring framing.own ends.to_cpu brought
@@ -152,7 +152,7 @@ last_after last (Arrives arrival) = last
 last_after last (EndOf number) = number
 
 -- a line after it has brought something
-abbrev pub line_after : Line → Brought → Line
+abbrev pub line_after : WireLine → Brought → WireLine
 line_after line brought =
     record line {
       last = last_after line.last brought;
@@ -166,22 +166,22 @@ message_if Message reading = Some (message_in (held_frame reading))
 message_if _ reading = None
 
 -- the message that the receiver hears at what arrives
-abbrev pub message_heard : frames.Settings → Reading → Arrival → Option (List ℕ)
+abbrev pub message_heard : frames.WireSettings → Reading → Arrival → Option (List ℕ)
 message_heard own reading arrival =
     message_if (heard_as own (arrival_says reading arrival)) (after_arrival reading arrival)
 
 -- a line to which a message is written
-abbrev pub with_written : Framing → Line → List ℕ → Line
+abbrev pub with_written : Framing → WireLine → List ℕ → WireLine
 with_written framing line message =
     record line { written = line.written ++ sent framing.address framing.control message ∷ [] }
 
 -- a line to which an answer is written, if there is one
-abbrev pub with_answer : Framing → Line → Option Answer → Line
+abbrev pub with_answer : Framing → WireLine → Option Answer → WireLine
 with_answer framing line None = line
 with_answer framing line (Some answer) = with_written framing line (answer_octets answer)
 
 -- the ends after the module has received a message, if it has received one: it writes its reply
-abbrev pub after_receipt : Settings → Framing → Ends → Option (List ℕ) → Ends
+abbrev pub after_receipt : Settings → Framing → WiredEnds → Option (List ℕ) → WiredEnds
 after_receipt settings framing ends None = ends
 after_receipt settings framing ends (Some message) =
     record ends {
@@ -190,12 +190,12 @@ after_receipt settings framing ends (Some message) =
     }
 
 -- the ends after the CPU has heard a message, if it has heard one
-abbrev pub after_message : Ends → Option (List ℕ) → Ends
+abbrev pub after_message : WiredEnds → Option (List ℕ) → WiredEnds
 after_message ends None = ends
 after_message ends (Some message) = record ends { polling = after_hearing ends.polling (block_in message) }
 
 -- the ends after an event: the decoder of a module that restarts begins anew
-abbrev pub after_happening : Framing → Ends → Event → Ends
+abbrev pub after_happening : Framing → WiredEnds → Event → WiredEnds
 after_happening framing ends (Scan raw) = record ends { history = lives.Scan raw ∷ ends.history }
 after_happening framing ends LineSync = record ends { history = lives.LineSync ∷ ends.history }
 after_happening framing ends (Raise mask) = record ends { history = lives.Raise mask ∷ ends.history }
@@ -213,7 +213,7 @@ after_happening framing ends (Send command) =
 after_happening framing ends other = ends
 
 -- the ends after the lines have brought something, or something has happened
-abbrev pub after_line_event : Settings → Framing → Ends → LineEvent → Ends
+abbrev pub after_line_event : Settings → Framing → WiredEnds → WireEvent → WiredEnds
 after_line_event settings framing ends (Happens event) = after_happening framing ends event
 after_line_event settings framing ends (AtModule brought) =
     after_receipt settings framing

@@ -3,7 +3,7 @@ use Rattle.std.specs.Prelude.{ℕ, ◌+◌, ◌-◌, ◌/◌, ◌%◌, ◌^◌, 
 use Prim.Native.Nat.{zero, suc}
 use Rattle.fio_wire.specs.Checks.{with_octet}
 use Rattle.fio_wire.specs.Detection.{low_bits}
-use Rattle.fio_wire.specs.Frames.{Said, Frame, Damage, Settings, judged, said_by_each}
+use Rattle.fio_wire.specs.Frames.{Said, Frame, Damage, WireSettings, judged, said_by_each}
 use Rattle.fio_wire.specs.declared.bit_decoder.WireBits.{WireBits}
 use Rattle.fio_wire.specs.declared.limits.TheConstants.{HELD_OCTETS}
 
@@ -196,7 +196,7 @@ abbrev pub reading_of : WireBits → Reading
 reading_of wire = record { packing = packing_of wire; ones = wire.ones; is_pending = not (wire.pending == 0); phase = phase_of wire.phase }
 
 -- which frames are its own
-abbrev pub settings_of : WireBits → Settings
+abbrev pub settings_of : WireBits → WireSettings
 settings_of wire = record { address = wire.address; control = wire.control }
 
 -- the memory of a decoder before the first flag

@@ -58,7 +58,7 @@ said_by_each says next reading (one ∷ line) = says reading one ++ said_by_each
 -- ---- What is heard
 
 -- Which frames are one's own: those with this address and this control octet. Above 255 is any.
-pub record Settings : Type 0 where
+pub record WireSettings : Type 0 where
   pub address : ℕ
   pub control : ℕ
 
@@ -67,11 +67,11 @@ abbrev pub admits : ℕ → ℕ → Bool
 admits setting octet = nat_lt 255 setting || (setting == octet)
 
 -- whether a frame is one's own
-abbrev pub is_own : Settings → List ℕ → Bool
+abbrev pub is_own : WireSettings → List ℕ → Bool
 is_own settings frame = admits settings.address (address_in frame) && admits settings.control (control_in frame)
 
 -- what is heard where a line says this
-abbrev pub heard_as : Settings → List Said → WireHeard
+abbrev pub heard_as : WireSettings → List Said → WireHeard
 heard_as settings [] = Nothing
 heard_as settings (Frame frame ∷ rest) = if is_own settings frame then Message else Other
 heard_as settings (Damage ∷ rest) = Damaged

@@ -3,7 +3,7 @@ use Rattle.std.specs.Prelude.{ℕ, ◌==◌, ◌||◌, nat_lt, ◌≡◌, ◌≢
 use Rattle.std.specs.List.{AllByRecursion}
 use Prim.Native.Nat.{zero, suc}
 use Rattle.fio_wire.specs.Checks.{with_octet}
-use Rattle.fio_wire.specs.Frames.{Said, Frame, Damage, Settings, frame_of, judged, said_by_each}
+use Rattle.fio_wire.specs.Frames.{Said, Frame, Damage, WireSettings, frame_of, judged, said_by_each}
 use Rattle.fio_wire.specs.declared.decoder.Wire.{Wire}
 use Rattle.fio_wire.specs.declared.limits.TheConstants.{FLAG, ESCAPE, STUFFED, HELD_OCTETS}
 
@@ -149,7 +149,7 @@ abbrev pub reading_of : Wire → Reading
 reading_of wire = record { octets = take wire.held wire.octets; phase = phase_of wire.phase }
 
 -- which frames are its own
-abbrev pub settings_of : Wire → Settings
+abbrev pub settings_of : Wire → WireSettings
 settings_of wire = record { address = wire.address; control = wire.control }
 
 -- the memory of a decoder before the first flag

@@ -2,7 +2,7 @@
 ghost use Rattle.std.specs.Prelude.{◌≡◌, ◌≢◌, ◌≤◌, ◌-◌, ◌^◌, List, [], drop, fold, length, not, take};
 ghost use Rattle.fio_wire.specs.declared.heard.WireHeard.TheVariants.{Nothing};
 ghost use Rattle.fio_message.specs.declared.limits.TheConstants.{FRAME_OCTETS};
-ghost use Rattle.fio_wire.specs.Frames.{Settings, address_in, control_in, heard_as, message_in};
+ghost use Rattle.fio_wire.specs.Frames.{WireSettings, address_in, control_in, heard_as, message_in};
 ghost use Rattle.fio_wire.specs.Bits.{IsWireBits, after_flag, after_one, after_zero, begun, flushed, fresh, held_frame, is_broken, is_none, lowest_bits, next, none_packed, packed, packing_of, phase_of, reading_of, said_of, says, says_flag, settings_of, start, wire_bits_at_start, with_ones, with_value};
 
 use crate::checks::with_octet;

@@ -2,7 +2,7 @@
 ghost use Rattle.std.specs.Prelude.{◌≡◌, ◌≤◌, ◌-◌, List, [], drop, fold, length, take};
 ghost use Rattle.fio_wire.specs.declared.heard.WireHeard.TheVariants.{Nothing};
 ghost use Rattle.fio_message.specs.declared.limits.TheConstants.{FRAME_OCTETS};
-ghost use Rattle.fio_wire.specs.Frames.{Settings, address_in, control_in, heard_as, message_in};
+ghost use Rattle.fio_wire.specs.Frames.{WireSettings, address_in, control_in, heard_as, message_in};
 ghost use Rattle.fio_wire.specs.Octets.{IsWire, ended_by, ending, fresh, held_frame, kept, lost, next, phase_of, reading_of, said_of, says, settings_of, start, taken, wire_at_start};
 
 use crate::checks::with_octet;

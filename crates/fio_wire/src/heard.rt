@@ -1,7 +1,7 @@
 //! What is heard of a line.
 ghost use Rattle.std.specs.Prelude.{◌≡◌, ◌≤◌, ◌-◌, ◌^◌, ◌&&◌, fold, length};
 ghost use Rattle.fio_wire.specs.Checks.{with_octet};
-ghost use Rattle.fio_wire.specs.Frames.{Settings, admits, heard_as, is_nothing, is_own, judged, message_in};
+ghost use Rattle.fio_wire.specs.Frames.{WireSettings, admits, heard_as, is_nothing, is_own, judged, message_in};
 
 use crate::limits::{GOOD, HELD_OCTETS};
 
