@@ -3,17 +3,18 @@ use Rattle.std.proofs.Common.{◌≡◌, ℕ, ◌+◌, ◌-◌, ◌^◌, ◌≤�
 use Rattle.std.proofs.lemmas.List.{map-append}
 use Rattle.std.proofs.lemmas.List.Elements.{All-nil, All-push}
 use Rattle.std.specs.List.{All}
+use Rattle.fio_log.specs.Blanks.{Texts}
 use Rattle.fio_log.specs.Frames.{AreFramesAt, Log}
 use Rattle.fio_log.specs.Lines.{Making, Text, is_whole, no_line}
 use Rattle.fio_log.specs.OwnVerdicts.{IsOwnVerdict, own_form_of}
 use Rattle.fio_log.specs.Sayings.{spells}
 use Rattle.fio_log.specs.Wordings.{SaysWords}
-use Rattle.fio_log.specs.Telling.{HasTaken, HasTold, IsLineOf, IsReaderOf, Telling, frames_of, places_of}
+use Rattle.fio_log.specs.Telling.{HasTaken, HasTold, IsLineOf, IsReaderOf, IsTextOf, Telling, frames_of, places_of}
 use Rattle.fio_log.specs.declared.own_texts.OwnForm.{OwnForm}
 use Rattle.fio_log.specs.declared.verdict.Form.TheVariants.{Auto}
 use Rattle.fio_log.specs.declared.verdict.LineVerdict.{LineVerdict}
 use Rattle.fio_c.specs.Logs.{AreNext, HasNoneDue, HasReadOn, HasRoomFirst, HasTakenAll, HasVerdicts, Holds, content_of, flat_told, has_room}
-use Rattle.fio_c.specs.Told.{AreLinesAfter, HasReadOf, IsTextOf, IsVerdictOf, Returns, ReturnsAll, Texts, Told, log_of, told_by}
+use Rattle.fio_c.specs.Told.{AreLinesAfter, HasReadOf, IsVerdictOf, Returns, ReturnsAll, Told, log_of, told_by}
 use Rattle.fio_c.specs.declared.log_batch.LogBatch.{LogBatch}
 use Rattle.fio_c.proofs.Batches.{next_more}
 

@@ -2,8 +2,9 @@
 use Rattle.std.specs.Prelude.{◌≡◌, ℕ, ◌+◌, ◌≤◌, ◌<◌, ◌-◌, ◌^◌, ◌==◌, ◌&&◌, Bool, true, false, nat_le, nat_lt, if◌then◌else◌, List, [], ◌∷◌, length, map, take, Option, Some, None, unwrap_or, is_some, min}
 use Rattle.std.specs.List.{All, concat, flat_map}
 use Rattle.fio_message.specs.Bits.{bit_of}
+use Rattle.fio_log.specs.Blanks.{Texts}
 use Rattle.fio_log.specs.Lines.{Text, finished, lines_after, no_line, only}
-use Rattle.fio_log.specs.Telling.{KeepsVerdict, Telling, has_told_all, read_at_end}
+use Rattle.fio_log.specs.Telling.{IsTextOf, KeepsVerdict, Telling, has_told_all, read_at_end}
 use Rattle.fio_log.specs.declared.directions.Direction.{Direction}
 use Rattle.fio_log.specs.declared.directions.Direction.TheVariants as directions
 use Rattle.fio_log.specs.declared.places.Place.{Place}
@@ -14,7 +15,7 @@ use Rattle.fio_log.specs.declared.verdict.Kind.TheVariants as kinds
 use Rattle.fio_log.specs.declared.verdict.Reason.{Reason}
 use Rattle.fio_log.specs.declared.verdict.Reason.TheVariants as reasons
 use Rattle.fio_log.specs.declared.verdict.LineVerdict.{LineVerdict}
-use Rattle.fio_c.specs.Told.{AreLinesAfter, HasReadOf, IsTextOf, IsVerdictOf, ReturnsAll, Texts, Told}
+use Rattle.fio_c.specs.Told.{AreLinesAfter, HasReadOf, IsVerdictOf, ReturnsAll, Told}
 use Rattle.fio_c.specs.declared.log_batch.TheConstants.{LOG_OCTETS, LOG_VERDICTS, VERDICT_OCTETS}
 use Rattle.fio_c.specs.declared.log_batch.LogBatch.{LogBatch}
 use Rattle.fio_c.specs.declared.log_batch.FlatLogPlace.{FlatLogPlace}

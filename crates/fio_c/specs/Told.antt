@@ -1,11 +1,12 @@
 -- The verdicts that a reader of logs returns, one after another, and the log that they are of.
 use Rattle.std.specs.Prelude.{◌≡◌, ℕ, ◌+◌, true, List, [], ◌∷◌, Some}
 use Rattle.std.specs.List.{All}
+use Rattle.fio_log.specs.Blanks.{Texts}
 use Rattle.fio_log.specs.Frames.{AreFramesAt, Log}
 use Rattle.fio_log.specs.Lines.{Text, is_whole}
 use Rattle.fio_log.specs.OwnVerdicts.{IsOwnVerdict, own_form_of}
 use Rattle.fio_log.specs.Sayings.{spells}
-use Rattle.fio_log.specs.Telling.{HasTold, IsReaderOf, Telling, frames_of, places_of}
+use Rattle.fio_log.specs.Telling.{HasTold, IsReaderOf, IsTextOf, Telling, frames_of, places_of}
 use Rattle.fio_log.specs.Wordings.{SaysWords}
 use Rattle.fio_log.specs.declared.own_texts.OwnForm.{OwnForm}
 use Rattle.fio_log.specs.declared.places.Place.{Place}
@@ -36,17 +37,9 @@ ReturnsAll first [] last = last.told ≡ first.told
 ReturnsAll first (one ∷ more) last =
     (before : Telling) × (after : Telling) × (before.told ≡ first.told) × Returns before one after × ReturnsAll after more last
 
--- the lines of a log, by their numbers from 1
-abbrev pub Texts : Type 0
-Texts = ℕ → Text
-
 -- a log by its lines
 abbrev pub log_of : Texts → Log
 log_of texts = λ line. (texts line).octets
-
--- the line that is made, if it is whole, is the last one that is read of a log with these lines
-abbrev pub IsTextOf : Texts → Telling → Type 0
-IsTextOf texts telling = is_whole telling.making.ending ≡ true → telling.making.text ≡ texts telling.read
 
 -- A reader has read a log with these lines: what it keeps is written there.
 pub record HasReadOf (texts : Texts) (telling : Telling) : Type 0 where
