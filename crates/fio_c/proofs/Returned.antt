@@ -13,7 +13,7 @@ use Rattle.fio_log.specs.Telling.{HasTaken, HasTold, IsLineOf, IsReaderOf, IsTex
 use Rattle.fio_log.specs.declared.own_texts.OwnForm.{OwnForm}
 use Rattle.fio_log.specs.declared.verdict.Form.TheVariants.{Auto}
 use Rattle.fio_log.specs.declared.verdict.LineVerdict.{LineVerdict}
-use Rattle.fio_c.specs.Logs.{AreNext, HasNoneDue, HasReadOn, HasRoomFirst, HasTakenAll, HasVerdicts, Holds, content_of, flat_told, has_room}
+use Rattle.fio_c.specs.Logs.{AreNext, HasNoneDue, HasReadOn, HasRoomFirst, HasTakenOctets, HasVerdicts, Holds, content_of, flat_told, has_room}
 use Rattle.fio_c.specs.Told.{AreLinesAfter, HasReadOf, IsVerdictOf, Returns, ReturnsAll, Told, log_of, told_by}
 use Rattle.fio_c.specs.declared.log_batch.LogBatch.{LogBatch}
 use Rattle.fio_c.proofs.Batches.{next_more}
@@ -163,7 +163,7 @@ none_told first batch holds = record {
 
 -- a call has read on
 pub read_on_by : (before : Telling) (text : List ℕ) (taken : ℕ) (after : Telling) (batch : LogBatch) → taken ≤ length text
-    → (octets : HasTakenAll before (take taken text) after) → HasVerdicts before octets.whole batch after → HasRoomFirst batch
+    → (octets : HasTakenOctets before (take taken text) after) → HasVerdicts before octets.whole batch after → HasRoomFirst batch
     → (has_room batch ≡ true → HasNoneDue after)
     → (batch.verdict_count ≡ 0 → after.is_ended ≡ false → after.read < 2 ^ 64 - 1 → taken ≡ length text)
     → HasReadOn before text taken after batch

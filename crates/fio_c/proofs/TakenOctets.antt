@@ -4,7 +4,7 @@ use Rattle.std.proofs.lemmas.List.{length-append}
 use Rattle.std.proofs.lemmas.List.Sums.{fold-append}
 use Rattle.fio_log.specs.Lines.{Lines, Text, is_whole, lines_after, only, with_octet, with_octet_of}
 use Rattle.fio_log.specs.Telling.{HasTaken, Telling, read_after}
-use Rattle.fio_c.specs.Logs.{HasTakenAll}
+use Rattle.fio_c.specs.Logs.{HasTakenOctets}
 
 -- these lines before others
 abbrev before : List Text → Lines → Lines
@@ -24,7 +24,7 @@ lines_after-before whole lines (octet ∷ octets) =
     ∙ lines_after-before whole (with_octet_of lines octet) octets
 
 -- no octets
-abbrev pub none_taken : (reader : Telling) → HasTakenAll reader [] reader
+abbrev pub none_taken : (reader : Telling) → HasTakenOctets reader [] reader
 none_taken reader = record { whole = []; lines = refl; read = sym (add-zero reader.read); is_ended = refl }
 
 pub counted : (read : ℕ) (text : Text) (is_whole : Bool) (whole : List Text)
@@ -33,8 +33,8 @@ counted read text true whole = sym (ap (λ n. read + n) (length-append whole (te
 counted read text false whole = ap (λ all. read + length all) (sym (append-nil whole))
 
 -- a piece more
-abbrev pub piece_taken : (first between last : Telling) (octets piece : List ℕ) → HasTakenAll first octets between → HasTaken between piece last
-    → HasTakenAll first (octets ++ piece) last
+abbrev pub piece_taken : (first between last : Telling) (octets piece : List ℕ) → HasTakenOctets first octets between → HasTaken between piece last
+    → HasTakenOctets first (octets ++ piece) last
 piece_taken first between last octets piece taken more = record {
   whole = taken.whole ++ (if is_whole last.making.ending then last.making.text ∷ [] else []);
   lines = fold-append with_octet_of (only first.making) octets piece
@@ -47,7 +47,7 @@ piece_taken first between last octets piece taken more = record {
 
 -- a reader that differs in nothing that counts here
 abbrev pub same_taken : (first between last : Telling) (octets : List ℕ) → last.making ≡ between.making → last.read ≡ between.read
-    → last.is_ended ≡ between.is_ended → HasTakenAll first octets between → HasTakenAll first octets last
+    → last.is_ended ≡ between.is_ended → HasTakenOctets first octets between → HasTakenOctets first octets last
 same_taken first between last octets making read is_ended taken = record {
   whole = taken.whole;
   lines = taken.lines ∙ ap (λ one. record { whole = taken.whole; making = one }) (sym making);
@@ -56,7 +56,7 @@ same_taken first between last octets making read is_ended taken = record {
 }
 
 -- the same octets in another form
-abbrev pub taken_as : (first last : Telling) (octets others : List ℕ) → others ≡ octets → HasTakenAll first octets last → HasTakenAll first others last
+abbrev pub taken_as : (first last : Telling) (octets others : List ℕ) → others ≡ octets → HasTakenOctets first octets last → HasTakenOctets first others last
 taken_as first last octets others same taken = record {
   whole = taken.whole;
   lines = ap (lines_after (only first.making)) same ∙ taken.lines;

@@ -153,7 +153,7 @@ pub record HasEnded (before after : Telling) : Type 0 where
   pub log : (texts : Texts) → HasReadOf texts before → IsTextOf texts after → HasReadOf texts after
 
 -- A reader has taken octets: they completed these lines, which are read, and went into the line that is being made.
-pub record HasTakenAll (before : Telling) (octets : List ℕ) (after : Telling) : Type 0 where
+pub record HasTakenOctets (before : Telling) (octets : List ℕ) (after : Telling) : Type 0 where
   pub whole : List Text
   pub lines : lines_after (only before.making) octets ≡ record { whole = whole; making = after.making }
   pub read : after.read ≡ before.read + length whole
@@ -166,7 +166,7 @@ pub record HasReadOn (before : Telling) (text : List ℕ) (taken : ℕ) (after :
   pub form : after.form ≡ before.form
   pub all : batch.verdict_count ≡ 0 → after.is_ended ≡ false → after.read < 2 ^ 64 - 1 → taken ≡ length text
   pub told : batch.verdict_count ≡ 0 → after.is_ended ≡ true → after.told ≡ after.read
-  pub octets : HasTakenAll before (take taken text) after
+  pub octets : HasTakenOctets before (take taken text) after
   pub verdicts : HasVerdicts before octets.whole batch after
 
 -- The reader that a text is read from: if the log has ended and all verdicts are returned, octets begin another log.

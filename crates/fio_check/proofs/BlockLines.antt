@@ -10,7 +10,7 @@ use Rattle.fio_message.specs.declared.fields.Entry.{Entry as EntryOf}
 use Rattle.fio_check.specs.ContentEvents.{is_taken, number_below}
 use Rattle.fio_check.specs.ContentFacts.{content_step, forgetting, is_aging}
 use Rattle.fio_check.specs.ContentRules.{is_excused}
-use Rattle.fio_check.specs.Finding.{TakesBlock, content_below, number_below_lines, place_of_entry, with_entries}
+use Rattle.fio_check.specs.Finding.{LineTakesBlock, content_below, number_below_lines, place_of_entry, with_entries}
 use Rattle.fio_check.specs.Lines.{answer_from}
 use Rattle.fio_check.proofs.ContentCourse.{tagged}
 use Rattle.fio_check.proofs.Unexcused.{step_only}
@@ -76,7 +76,7 @@ pub record IsLogAround (begun : Bool) (above below : List TranscriptLine) (line 
   pub place : length (events_of_log begun above ++ events_to line.number block front back) ≡ place_of_entry begun above block front
 
 pub log_around : (begun : Bool) (above below : List TranscriptLine) (line : TranscriptLine) (block : Block) (front back : List EntryOf)
-    → TakesBlock above line (with_entries block (front ++ back)) → IsLogAround begun above below line block front back
+    → LineTakesBlock above line (with_entries block (front ++ back)) → IsLogAround begun above below line block front back
 log_around begun above below line block front back takes =
     let number = number_below_lines above in
     let frame = block-frame number line.from_cpu line.octets (with_entries block (front ++ back)) takes.heard takes.taken in
@@ -123,7 +123,7 @@ heard-same : (facts : ContentFacts) (block : Block) (entries : List EntryOf)
 heard-same facts block entries = ap (λ excused. forgetting excused (content_step facts (Heard (block_answer (with_entries block []))))) (excused-same facts block entries)
 
 pub content_around : (begun : Bool) (above below : List TranscriptLine) (line : TranscriptLine) (block : Block) (front back : List EntryOf)
-    → TakesBlock above line (with_entries block (front ++ back))
+    → LineTakesBlock above line (with_entries block (front ++ back))
     → content_at (events_of_log begun (above ++ (line ∷ below))) (place_of_entry begun above block front) ≡ facts_within (content_below begun above) block front
 content_around begun above below line block front back takes =
     let around = log_around begun above below line block front back takes in

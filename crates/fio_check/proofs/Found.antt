@@ -12,7 +12,7 @@ use Rattle.fio_check.specs.ContentAbove.{latest_said}
 use Rattle.fio_check.specs.ContentFacts.{coming, content_step, input_with_entry, seen_below}
 use Rattle.fio_check.specs.ContentKnown.{input_coming}
 use Rattle.fio_check.specs.ContentRules.{comes_behind, rule_broken_by, steady_state}
-use Rattle.fio_check.specs.Finding.{seen_unloaded, FindsDoubled, FindsDropped, FindsSwapped, FindsTurned, FindsTurnedLater, ComparesTimes, TakesBlock, content_below, place_of_latest, place_of_entry, tells_of, turned, with_entries, with_octets}
+use Rattle.fio_check.specs.Finding.{seen_unloaded, FindsDoubled, FindsDropped, FindsSwapped, FindsTurned, FindsTurnedLater, ComparesTimes, LineTakesBlock, content_below, place_of_latest, place_of_entry, tells_of, turned, with_entries, with_octets}
 use Rattle.fio_check.proofs.BlockLines.{block_keeps, content_around, events_from, events_to, facts_within, log_around}
 use Rattle.fio_check.proofs.ContentCourse.{dropped_first, tagged}
 use Rattle.fio_check.proofs.ContentNext.{content_next}
@@ -30,7 +30,7 @@ recorded stamp entry = Recorded (item_of stamp entry)
 
 -- what is in a log from an entry of a block on
 module _ (begun : Bool) (above below : List TranscriptLine) (line : TranscriptLine) (block : Block) (front back : List EntryOf)
-    (takes : TakesBlock above line (with_entries block (front ++ back))) where
+    (takes : LineTakesBlock above line (with_entries block (front ++ back))) where
   abbrev events : List LineEvent
   events = events_of_log begun (above ++ (line ∷ below))
 

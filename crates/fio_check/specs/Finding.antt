@@ -29,7 +29,7 @@ abbrev pub number_below_lines : List TranscriptLine → Option ℕ
 number_below_lines lines = fold (λ number line. number_below number line.from_cpu line.octets) None lines
 
 -- at this line, below these, the CPU hears a block and takes it
-pub record TakesBlock (above : List TranscriptLine) (line : TranscriptLine) (block : Block) : Type 0 where
+pub record LineTakesBlock (above : List TranscriptLine) (line : TranscriptLine) (block : Block) : Type 0 where
   pub heard : block_on line ≡ Some block
   pub taken : is_taken (number_below_lines above) block.number ≡ true
 
@@ -44,8 +44,8 @@ with_octets line octets = record line { octets = octets }
 -- a line's block has these entries; these octets encode the same block with other entries
 pub record ChangesEntries (above : List TranscriptLine) (line : TranscriptLine) (octets : List ℕ) (block : Block)
     (entries others : List Entry) : Type 0 where
-  pub was : TakesBlock above line (with_entries block entries)
-  pub is : TakesBlock above (with_octets line octets) (with_entries block others)
+  pub was : LineTakesBlock above line (with_entries block entries)
+  pub is : LineTakesBlock above (with_octets line octets) (with_entries block others)
 
 -- the entry with the other state
 abbrev pub turned : Entry → Entry
@@ -110,7 +110,7 @@ abbrev pub FindsDoubled : Bool → Type 0
 FindsDoubled begun =
     (above : List TranscriptLine) (line : TranscriptLine) (block : Block) (front back : List Entry) (entry : Entry)
     → ComparesTimes begun above block.stamp
-    → TakesBlock above line (with_entries block (front ++ (replicate 2 entry ++ back)))
+    → LineTakesBlock above line (with_entries block (front ++ (replicate 2 entry ++ back)))
     → IsFoundBy begun (above ++ (line ∷ []))
 
 -- Swapped: where times are compared, two neighbours in a block are exchanged, in a log that had no fault. The fault is found

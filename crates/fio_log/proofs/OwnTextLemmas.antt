@@ -6,13 +6,13 @@ use Rattle.fio_message.specs.Answers.{answer_length}
 use Rattle.fio_message.specs.Commands.{command_length}
 use Rattle.fio_message.specs.Decoding.{answer_in, command_in, message_in}
 use Rattle.fio_message.specs.Reading.{answer_at, command_at}
-use Rattle.fio_log.specs.OwnTexts.{IsReadFrame, own_frame, spells_from}
+use Rattle.fio_log.specs.OwnTexts.{IsFrameInRoom, own_frame, spells_from}
 use Rattle.fio_log.specs.Sayings.{is_answer, octets_kept_as, spells}
 use Rattle.fio_log.specs.declared.own_texts.OwnForm.{OwnForm}
 
 pub frame_read : (form : OwnForm) (line room : List ℕ) (from_cpu : Option Bool) (found : Option (List ℕ)) (count : ℕ)
     → own_frame form line ≡ option_map (λ os. (from_cpu, os)) found → Some count ≡ option_map length found
-    → (count ≤ 773 → found ≡ Some (take count room)) → IsReadFrame form line from_cpu count room
+    → (count ≤ 773 → found ≡ Some (take count room)) → IsFrameInRoom form line from_cpu count room
 frame_read form line room from_cpu None count framed counted read = absurd (cc)
 frame_read form line room from_cpu (Some octets) count framed counted read = record {
   octets = octets;

@@ -30,7 +30,7 @@ spells_from None octets = spells octets
 spells_from (Some from_cpu) octets = if from_cpu then is_some (command_in octets) else is_some (answer_in octets)
 
 -- A line is a frame with `count` octets, which are at the front of the room if they fit in it.
-pub record IsReadFrame (form : OwnForm) (line : List ℕ) (from_cpu : Option Bool) (count : ℕ) (room : List ℕ) : Type 0 where
+pub record IsFrameInRoom (form : OwnForm) (line : List ℕ) (from_cpu : Option Bool) (count : ℕ) (room : List ℕ) : Type 0 where
   pub octets : List ℕ
   pub frame : own_frame form line ≡ Some (from_cpu, octets)
   pub counted : count ≡ length octets
@@ -40,7 +40,7 @@ pub record IsReadFrame (form : OwnForm) (line : List ℕ) (from_cpu : Option Boo
 pub record IsOwnFrame (form : OwnForm) (line room : List ℕ) (count : ℕ) (spells : Bool) : Type 0 where
   pub said : is_skipped line ≡ false
   pub from_cpu : Option Bool
-  pub read : IsReadFrame form line from_cpu count room
+  pub read : IsFrameInRoom form line from_cpu count room
   pub spelled : spells_from from_cpu read.octets ≡ spells
 
 -- What a line is, and what the room for the longest frame contains of it.

@@ -1,6 +1,6 @@
 //! Lines of the texts that the program's own tools read, for a caller who says that a log is such a text.
 ghost use Rattle.std.specs.Prelude.{◌≡◌, IfNone, IfSome, None};
-ghost use Rattle.fio_log.specs.OwnTexts.{IsOwnLine, IsReadFrame, frame_with, own_frame, spells_from};
+ghost use Rattle.fio_log.specs.OwnTexts.{IsOwnLine, IsFrameInRoom, frame_with, own_frame, spells_from};
 
 use crate::sayings::spelled;
 use fio_message::{FRAME_OCTETS, read_answer, read_command};
@@ -61,7 +61,7 @@ fn read_frame(
     room: &mut [u8; FRAME_OCTETS],
 ) -> Option<(Option<bool>, usize)>
     ensures none { IfNone result (own_frame form line.now ≡ None) }
-    ensures some { IfSome result (λ read. IsReadFrame form line.now read.0 read.1 room.new) }
+    ensures some { IfSome result (λ read. IsFrameInRoom form line.now read.0 read.1 room.new) }
 {
     let (from_cpu, word) = frame_word(form, line)?;
     let count = read_octets_to(word, room)?;
