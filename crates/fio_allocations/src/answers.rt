@@ -2,7 +2,7 @@
 
 /// How a call answered.
 #[derive(Clone, Copy, Drop)]
-pub(crate) enum Answer {
+pub(crate) enum CallOutcome {
     /// As it does if no memory is refused.
     Right,
     /// It reported that memory ran out and changed nothing; for events, at the one with this index.
@@ -11,22 +11,22 @@ pub(crate) enum Answer {
     Wrong,
 }
 
-impl Answer {
+impl CallOutcome {
     /// Returns `Right` if the answer is the expected one, otherwise `Wrong`.
-    pub(crate) fn right_if(is_expected: bool) -> Answer {
+    pub(crate) fn right_if(is_expected: bool) -> CallOutcome {
         if is_expected {
-            Answer::Right
+            CallOutcome::Right
         } else {
-            Answer::Wrong
+            CallOutcome::Wrong
         }
     }
 
     /// Returns `Refused` if nothing else can be seen of the call, otherwise `Wrong`.
-    pub(crate) fn refused_if(is_unchanged: bool) -> Answer {
+    pub(crate) fn refused_if(is_unchanged: bool) -> CallOutcome {
         if is_unchanged {
-            Answer::Refused(0)
+            CallOutcome::Refused(0)
         } else {
-            Answer::Wrong
+            CallOutcome::Wrong
         }
     }
 }

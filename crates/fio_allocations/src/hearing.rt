@@ -1,11 +1,11 @@
 //! Blocks that the CPU hears.
-use crate::answers::Answer;
+use crate::answers::CallOutcome;
 use fio_cpu::{Heard, Poller};
 use fio_message::{DecodeError, Memory};
 use std::alloc::Global;
 
 /// Block 5 with one entry, input 12 to 1 at 999, status 0, stamp 1000.
-pub(crate) fn one_entry(alloc: Global) -> Answer {
+pub(crate) fn one_entry(alloc: Global) -> CallOutcome {
     let octets = [0xb6, 5, 1, 0x8c, 3, 0xe7, 0, 0, 0, 3, 0xe8];
     hear(
         alloc,
@@ -19,7 +19,7 @@ pub(crate) fn one_entry(alloc: Global) -> Answer {
 }
 
 /// Block 5 with 255 entries, each input 0 to 0 at 0, with C, stamp 0.
-pub(crate) fn most_entries(alloc: Global) -> Answer {
+pub(crate) fn most_entries(alloc: Global) -> CallOutcome {
     let mut octets = [0; 773];
     octets[0] = 0xb6;
     octets[1] = 5;
@@ -37,7 +37,7 @@ pub(crate) fn most_entries(alloc: Global) -> Answer {
 }
 
 /// Block 5 without entries, with F.
-pub(crate) fn gap(alloc: Global) -> Answer {
+pub(crate) fn gap(alloc: Global) -> CallOutcome {
     let octets = [0xb6, 5, 0, 4, 0, 0, 0, 0];
     hear(
         alloc,
@@ -71,38 +71,38 @@ const NOTHING: [(&[u8], Heard); 4] = [
 ];
 
 /// A poller that hears them.
-pub(crate) fn nothing(alloc: Global) -> Answer {
+pub(crate) fn nothing(alloc: Global) -> CallOutcome {
     hear_nothing(&mut Poller::new(alloc, 5), &NOTHING)
 }
 
-fn hear_nothing(poller: &mut Poller, rows: &[(&[u8], Heard)]) -> Answer {
+fn hear_nothing(poller: &mut Poller, rows: &[(&[u8], Heard)]) -> CallOutcome {
     for (octets, expected) in rows {
         match poller.hear(octets) {
             Ok(heard) if heard == *expected => (),
-            Err(Memory) => return Answer::refused_if(poller.items().is_empty()),
-            Ok(_) => return Answer::Wrong,
+            Err(Memory) => return CallOutcome::refused_if(poller.items().is_empty()),
+            Ok(_) => return CallOutcome::Wrong,
         }
     }
-    Answer::right_if(poller.number() == 6 && poller.items().is_empty())
+    CallOutcome::right_if(poller.number() == 6 && poller.items().is_empty())
 }
 
 /// A poller at block 5 hears octets.
-fn hear(alloc: Global, octets: &[u8], items: usize, expected: Heard) -> Answer {
+fn hear(alloc: Global, octets: &[u8], items: usize, expected: Heard) -> CallOutcome {
     hear_again(&mut Poller::new(alloc, 5), octets, items, expected)
 }
 
 /// The octets are taken, the second time at the latest, and `items` items are recorded. If memory was refused the first
 /// time, the record was then empty and the number as before.
-fn hear_again(poller: &mut Poller, octets: &[u8], items: usize, expected: Heard) -> Answer {
+fn hear_again(poller: &mut Poller, octets: &[u8], items: usize, expected: Heard) -> CallOutcome {
     let mut heard = poller.hear(octets);
-    let mut answer = Answer::Right;
+    let mut answer = CallOutcome::Right;
     if heard == Err(Memory) {
-        answer = Answer::refused_if(poller.number() == 5 && poller.items().is_empty());
+        answer = CallOutcome::refused_if(poller.number() == 5 && poller.items().is_empty());
         heard = poller.hear(octets);
     }
     if heard == Ok(expected) && poller.number() == 6 && poller.items().len() == items {
         answer
     } else {
-        Answer::Wrong
+        CallOutcome::Wrong
     }
 }

@@ -11,7 +11,7 @@ mod samples;
 mod texts;
 mod worlds;
 
-use answers::Answer;
+use answers::CallOutcome;
 use fio_message::Memory;
 use samples::Sample;
 use std::alloc::Global;
@@ -40,11 +40,11 @@ struct Rows<'a> {
 
 impl Rows<'_> {
     /// Reports how a call answered.
-    fn report(&mut self, name: &str, answer: Answer) {
+    fn report(&mut self, name: &str, answer: CallOutcome) {
         let is_right = match answer {
-            Answer::Right => self.writes(name, "right"),
-            Answer::Refused(place) => self.writes_place(name, place),
-            Answer::Wrong => {
+            CallOutcome::Right => self.writes(name, "right"),
+            CallOutcome::Refused(place) => self.writes_place(name, place),
+            CallOutcome::Wrong => {
                 self.writes(name, "wrong");
                 false
             }
@@ -53,7 +53,7 @@ impl Rows<'_> {
     }
 
     /// Reports how a call answered, or that memory was refused before it was made.
-    fn report_begun(&mut self, name: &str, answer: Result<Answer, Memory>) {
+    fn report_begun(&mut self, name: &str, answer: Result<CallOutcome, Memory>) {
         match answer {
             Ok(answer) => self.report(name, answer),
             Err(Memory) => {

@@ -1,26 +1,26 @@
 //! Modules that are made.
-use crate::answers::Answer;
+use crate::answers::CallOutcome;
 use fio_message::{Frame, Memory};
 use fio_module::{Limits, MOST_WAITING, Module};
 use std::alloc::Global;
 
 /// A module with an identification.
-pub(crate) fn new(alloc: Global) -> Answer {
+pub(crate) fn new(alloc: Global) -> CallOutcome {
     made(Module::new(alloc, 2))
 }
 
 /// Like `new`, with other limits.
-pub(crate) fn with_limits(alloc: Global) -> Answer {
+pub(crate) fn with_limits(alloc: Global) -> CallOutcome {
     let Some(limits) = Limits::new(1, MOST_WAITING) else {
-        return Answer::Wrong;
+        return CallOutcome::Wrong;
     };
     made(Module::with_limits(alloc, 2, limits))
 }
 
-fn made(module: Result<Module, Memory>) -> Answer {
+fn made(module: Result<Module, Memory>) -> CallOutcome {
     match module {
-        Ok(mut module) => Answer::right_if(is_answered(&mut module, &[0x3c], &[0xbc, 2])),
-        Err(Memory) => Answer::Refused(0),
+        Ok(mut module) => CallOutcome::right_if(is_answered(&mut module, &[0x3c], &[0xbc, 2])),
+        Err(Memory) => CallOutcome::Refused(0),
     }
 }
 
@@ -50,9 +50,9 @@ const ANSWERS: [(&[u8], &[u8]); 12] = [
 ];
 
 /// Every call that allocates nothing, on a module in which more entries come than may wait.
-pub(crate) fn others(alloc: Global) -> Result<Answer, Memory> {
+pub(crate) fn others(alloc: Global) -> Result<CallOutcome, Memory> {
     let mut module = Module::new(alloc, 2)?;
-    Ok(Answer::right_if(is_open(&mut module) && is_used(&mut module)))
+    Ok(CallOutcome::right_if(is_open(&mut module) && is_used(&mut module)))
 }
 
 /// The module takes the configuration.

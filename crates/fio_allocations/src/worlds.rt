@@ -1,5 +1,5 @@
 //! Both ends and the bus.
-use crate::answers::Answer;
+use crate::answers::CallOutcome;
 use crate::samples::Sample;
 use fio_cpu::Heard;
 use fio_message::{Command, Memory};
@@ -8,41 +8,41 @@ use fio_world::{Event, Outcome, RunError, Script, World, WorldError, read_script
 use std::alloc::Global;
 
 /// A world in which nothing has happened.
-pub(crate) fn new(alloc: Global) -> Answer {
+pub(crate) fn new(alloc: Global) -> CallOutcome {
     made(World::new(alloc, 2, 255))
 }
 
 /// Like `new`, with other limits.
-pub(crate) fn with_limits(alloc: Global) -> Answer {
+pub(crate) fn with_limits(alloc: Global) -> CallOutcome {
     let Some(limits) = Limits::new(1, MOST_WAITING) else {
-        return Answer::Wrong;
+        return CallOutcome::Wrong;
     };
     made(World::with_limits(alloc, 2, 255, limits))
 }
 
-fn made(world: Result<World, Memory>) -> Answer {
+fn made(world: Result<World, Memory>) -> CallOutcome {
     match world {
-        Ok(world) => Answer::right_if(counts(&world) == [0, 0, 0, 0, 0, 255, 0, 0]),
-        Err(Memory) => Answer::Refused(0),
+        Ok(world) => CallOutcome::right_if(counts(&world) == [0, 0, 0, 0, 0, 255, 0, 0]),
+        Err(Memory) => CallOutcome::Refused(0),
     }
 }
 
 /// The events of a sample, run at once with the limits of TEES 2009.
-pub(crate) fn run(alloc: Global, sample: Sample) -> Result<Answer, Memory> {
+pub(crate) fn run(alloc: Global, sample: Sample) -> Result<CallOutcome, Memory> {
     Ok(run_script(alloc, &script_of(alloc, sample)?, sample))
 }
 
-fn run_script(alloc: Global, script: &Script, sample: Sample) -> Answer {
+fn run_script(alloc: Global, script: &Script, sample: Sample) -> CallOutcome {
     let ran = World::run(alloc, script.id, script.first, script.events.as_slice());
     ended(&ran, script, sample)
 }
 
 /// The events of a sample, run at once with its limits.
-pub(crate) fn run_with_limits(alloc: Global, sample: Sample) -> Result<Answer, Memory> {
+pub(crate) fn run_with_limits(alloc: Global, sample: Sample) -> Result<CallOutcome, Memory> {
     Ok(run_limited_script(alloc, &script_of(alloc, sample)?, sample))
 }
 
-fn run_limited_script(alloc: Global, script: &Script, sample: Sample) -> Answer {
+fn run_limited_script(alloc: Global, script: &Script, sample: Sample) -> CallOutcome {
     let ran = World::run_with_limits(
         alloc,
         script.id,
@@ -54,24 +54,24 @@ fn run_limited_script(alloc: Global, script: &Script, sample: Sample) -> Answer 
 }
 
 /// A run comes to the end of its sample, or says after how many events memory was refused.
-fn ended(ran: &Result<World, RunError>, script: &Script, sample: Sample) -> Answer {
+fn ended(ran: &Result<World, RunError>, script: &Script, sample: Sample) -> CallOutcome {
     match ran {
-        Ok(world) => Answer::right_if(counts(world) == sample.end()),
+        Ok(world) => CallOutcome::right_if(counts(world) == sample.end()),
         Err(error) if error.fault == WorldError::Memory && error.place < script.events.len() => {
-            Answer::Refused(error.place)
+            CallOutcome::Refused(error.place)
         }
-        Err(_) => Answer::Wrong,
+        Err(_) => CallOutcome::Wrong,
     }
 }
 
 /// The events of a sample, one after another, in two worlds. One of them does each event first; if memory is refused to it,
 /// it is still like the other, and then does the same event.
-pub(crate) fn step(alloc: Global, sample: Sample) -> Result<Answer, Memory> {
+pub(crate) fn step(alloc: Global, sample: Sample) -> Result<CallOutcome, Memory> {
     step_in_both(alloc, &script_of(alloc, sample)?, sample.end())
 }
 
 /// The events of a script in two worlds, which come to this end.
-fn step_in_both(alloc: Global, script: &Script, end: [usize; 8]) -> Result<Answer, Memory> {
+fn step_in_both(alloc: Global, script: &Script, end: [usize; 8]) -> Result<CallOutcome, Memory> {
     let mut first = new_world(alloc, script)?;
     step_beside(&mut first, alloc, script, end)
 }
@@ -82,7 +82,7 @@ fn step_beside(
     alloc: Global,
     script: &Script,
     end: [usize; 8],
-) -> Result<Answer, Memory> {
+) -> Result<CallOutcome, Memory> {
     let mut second = new_world(alloc, script)?;
     step_to(first, &mut second, script.events.as_slice(), end)
 }
@@ -98,12 +98,12 @@ fn step_to(
     second: &mut World,
     events: &[Event],
     end: [usize; 8],
-) -> Result<Answer, Memory> {
+) -> Result<CallOutcome, Memory> {
     let answer = steps_of_both(first, second, events)?;
     Ok(if counts(first) == end {
         answer
     } else {
-        Answer::Wrong
+        CallOutcome::Wrong
     })
 }
 
@@ -112,29 +112,29 @@ fn steps_of_both(
     first: &mut World,
     second: &mut World,
     events: &[Event],
-) -> Result<Answer, Memory> {
-    let mut answer = Answer::Right;
+) -> Result<CallOutcome, Memory> {
+    let mut answer = CallOutcome::Right;
     for (place, event) in events.iter().enumerate() {
         match step_both(first, second, event)? {
-            Answer::Right => {}
-            Answer::Refused(_) => answer = Answer::Refused(place),
-            Answer::Wrong => return Ok(Answer::Wrong),
+            CallOutcome::Right => {}
+            CallOutcome::Refused(_) => answer = CallOutcome::Refused(place),
+            CallOutcome::Wrong => return Ok(CallOutcome::Wrong),
         }
     }
     Ok(answer)
 }
 
 /// An event in two worlds that are alike.
-fn step_both(first: &mut World, second: &mut World, event: &Event) -> Result<Answer, Memory> {
+fn step_both(first: &mut World, second: &mut World, event: &Event) -> Result<CallOutcome, Memory> {
     let outcome = first.step(event);
     if outcome != Err(WorldError::Memory) {
-        return Ok(Answer::right_if(follows(first, second, event, &outcome)?));
+        return Ok(CallOutcome::right_if(follows(first, second, event, &outcome)?));
     }
     if !are_alike(first, second) {
-        return Ok(Answer::Wrong);
+        return Ok(CallOutcome::Wrong);
     }
     let outcome = first.step(event);
-    Ok(Answer::refused_if(follows(first, second, event, &outcome)?))
+    Ok(CallOutcome::refused_if(follows(first, second, event, &outcome)?))
 }
 
 /// The second world does an event as the first did, and is then like it.
@@ -153,49 +153,49 @@ fn follows(
 
 /// The events of a sample, together: if memory is refused at one of them, those before it are done, and the rest are tried
 /// again.
-pub(crate) fn step_all(alloc: Global, sample: Sample) -> Result<Answer, Memory> {
+pub(crate) fn step_all(alloc: Global, sample: Sample) -> Result<CallOutcome, Memory> {
     step_script(alloc, &script_of(alloc, sample)?, sample.end())
 }
 
 /// The events of a script, together, in a world that comes to this end.
-fn step_script(alloc: Global, script: &Script, end: [usize; 8]) -> Result<Answer, Memory> {
+fn step_script(alloc: Global, script: &Script, end: [usize; 8]) -> Result<CallOutcome, Memory> {
     let mut world = new_world(alloc, script)?;
     Ok(step_together_to(&mut world, script.events.as_slice(), end))
 }
 
 /// Events together in a world, which come to this end.
-fn step_together_to(world: &mut World, events: &[Event], end: [usize; 8]) -> Answer {
+fn step_together_to(world: &mut World, events: &[Event], end: [usize; 8]) -> CallOutcome {
     let answer = steps_together(world, events);
     if counts(world) == end {
         answer
     } else {
-        Answer::Wrong
+        CallOutcome::Wrong
     }
 }
 
 /// Events together; if memory is refused at one of them, those that remain are tried again.
-fn steps_together(world: &mut World, events: &[Event]) -> Answer {
+fn steps_together(world: &mut World, events: &[Event]) -> CallOutcome {
     let Err(error) = world.step_all(events) else {
-        return Answer::Right;
+        return CallOutcome::Right;
     };
     let Some(rest) = events.get(error.place..) else {
-        return Answer::Wrong;
+        return CallOutcome::Wrong;
     };
     if error.fault != WorldError::Memory || world.step_all(rest).is_err() {
-        return Answer::Wrong;
+        return CallOutcome::Wrong;
     }
-    Answer::Refused(error.place)
+    CallOutcome::Refused(error.place)
 }
 
 /// Events that allocate nothing, at the end of a sample: those of the module alone, a delivery that adds nothing to the
 /// record, and refused ones.
-pub(crate) fn adding_nothing(alloc: Global) -> Result<Answer, Memory> {
+pub(crate) fn adding_nothing(alloc: Global) -> Result<CallOutcome, Memory> {
     add_nothing(alloc, &script_of(alloc, Sample::LostAnswer)?)
 }
 
-fn add_nothing(alloc: Global, script: &Script) -> Result<Answer, Memory> {
+fn add_nothing(alloc: Global, script: &Script) -> Result<CallOutcome, Memory> {
     match World::run(alloc, script.id, script.first, script.events.as_slice()) {
-        Ok(mut world) => Ok(Answer::right_if(adds_nothing(&mut world))),
+        Ok(mut world) => Ok(CallOutcome::right_if(adds_nothing(&mut world))),
         Err(_) => Err(Memory),
     }
 }
