@@ -1,11 +1,14 @@
-"""Definitions: the glossary that tools/generate-glossary writes has each definition of specs/ with what its comment says, and
-each name in `code` of docs/DEFINITIONS.md is in the sources."""
+"""Definitions: the glossary that tools/generate-glossary writes has each definition of specs/ with what its comment says, each
+name in `code` of docs/DEFINITIONS.md is in the sources, and each type has a name of its own."""
 
 import os
 import re
 
 from support.pages import files, text_of, tool
 from support.tables import TOP
+
+# What the decoder of octets and that of bits define alike.
+TWO_DECODERS = ['Reading']
 
 
 def is_whole(check):
@@ -20,9 +23,24 @@ def is_whole(check):
                     re.findall(r'^- `(.*?)`: \S', parts.get(path, ''), re.M))
 
 
+def have_own_names(check):
+    """Looks for types and records that have the name of another one."""
+    types = r'^(?:pub(?:\(\w+\))? )?(?:struct|enum|trait|union) (\w+)'
+    records = r'^(?:abbrev )?pub (?:record |data )?([A-Z]\w*)'
+    for what, paths, pattern in (('types', 'crates/*/src/**/*.rt', types), ('records', 'crates/*/specs/**/*.antt', records)):
+        owners = {}
+        for path in files(paths):
+            if not path.startswith('crates/fio_tests/'):
+                for name in re.findall(pattern, text_of(path), re.M):
+                    owners.setdefault(name, set()).add(path)
+        shared = {name: sorted(paths) for name, paths in owners.items() if len(paths) > 1 and name not in TWO_DECODERS}
+        check.equal('%s with the name of another one' % what, {}, shared)
+
+
 def rows(check):
     """Compares the glossary and docs/DEFINITIONS.md with the sources."""
     is_whole(check)
+    have_own_names(check)
     sources = files('crates/*/specs/**/*.antt', 'crates/*/src/**/*.rt')
     everything = {word for path in sources for word in re.findall(r'[\w-]+', text_of(path))}
     for number, line in enumerate(text_of('docs/DEFINITIONS.md').split('\n'), 1):
