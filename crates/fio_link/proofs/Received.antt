@@ -15,14 +15,7 @@ no_block_answer : (settings : Settings) (life : Life) (command : Command)
     → answered_block (Some answer) ≡ None
 no_block_answer settings life (commands.Poll number) other answer is = absurd (cc other)
 no_block_answer settings life (commands.Other kind body) other answer is = absurd (cc is)
-no_block_answer settings life (commands.Status clear) other answer is = ap answered_block (sym is)
-no_block_answer settings life (commands.LoadCounter load) other answer is = ap answered_block (sym is)
-no_block_answer settings life (commands.ConfigureInputs items) other answer is = ap answered_block (sym is)
-no_block_answer settings life commands.RawInputs other answer is = ap answered_block (sym is)
-no_block_answer settings life commands.FilteredInputs other answer is = ap answered_block (sym is)
-no_block_answer settings life (commands.SetOutputs levels controls) other answer is = ap answered_block (sym is)
-no_block_answer settings life (commands.Watchdog timeout) other answer is = ap answered_block (sym is)
-no_block_answer settings life commands.Identify other answer is = ap answered_block (sym is)
+no_block_answer settings life command other answer is = ap answered_block (sym is)
 
 -- the reply to octets that are no poll is not read as a block answer
 pub no_block_reply : (settings : Settings) (life : Life) (command : Option Command)

@@ -6,8 +6,8 @@ use Rattle.fio_message.specs.declared.commands.Command.TheVariants as commands
 use Rattle.fio_message.specs.declared.commands.OtherCommand.TheVariants as other_commands
 use Rattle.fio_message.specs.declared.answers.Answer.TheVariants as answers
 use Rattle.fio_message.specs.declared.answers.OtherAnswer.TheVariants as other_answers
-use Rattle.fio_message.specs.Commands.{command_fields, command_length}
-use Rattle.fio_message.specs.Answers.{answer_fields, answer_length}
+use Rattle.fio_message.specs.Commands.{command_code, command_fields, command_length}
+use Rattle.fio_message.specs.Answers.{answer_code, answer_fields, answer_length}
 use Rattle.fio_message.specs.Status.{block_status}
 use Rattle.fio_message.specs.Reading.{command_at, answer_at}
 use Rattle.fio_message.specs.Decoding.{is_length, message_in}
@@ -32,17 +32,8 @@ no_poll_at code fields other =
 pub no_poll_in : (command : Command) → sending_refusal command ≡ None
     → poll_in (command_octets command) ≡ None
 no_poll_in (commands.Poll number) fine = absurd (cc fine)
-no_poll_in (commands.Status clear) fine = no_poll_at 49 (command_fields (commands.Status clear)) refl
-no_poll_in (commands.LoadCounter load) fine = no_poll_at 50 (command_fields (commands.LoadCounter load)) refl
-no_poll_in (commands.ConfigureInputs items) fine = no_poll_at 51 (command_fields (commands.ConfigureInputs items)) refl
-no_poll_in commands.RawInputs fine = no_poll_at 52 [] refl
-no_poll_in commands.FilteredInputs fine = no_poll_at 53 [] refl
-no_poll_in (commands.SetOutputs levels controls) fine = no_poll_at 55 (command_fields (commands.SetOutputs levels controls)) refl
-no_poll_in (commands.Watchdog timeout) fine = no_poll_at 58 (command_fields (commands.Watchdog timeout)) refl
-no_poll_in commands.Identify fine = no_poll_at 60 [] refl
 no_poll_in (commands.Other other_commands.TrackInputs body) fine = no_poll_at 56 body.items refl
-no_poll_in (commands.Other other_commands.ComplexOutputs body) fine = no_poll_at 57 body.items refl
-no_poll_in (commands.Other other_commands.ControllerId body) fine = no_poll_at 59 body.items refl
+no_poll_in command fine = no_poll_at (command_code command) (command_fields command) refl
 
 -- an answer that is no block answer, whole or not
 answered-if : (whole : Bool) (answer : Answer) → answered_block (Some answer) ≡ None
@@ -62,17 +53,8 @@ no_block_at code fields other =
 pub no_block_in : (answer : Answer) → answered_block (Some answer) ≡ None
     → block_in (answer_octets answer) ≡ None
 no_block_in (answers.Block number entries status stamp) other = absurd (cc other)
-no_block_in (answers.Status flags receive transmit stamp) other = no_block_at 177 (answer_fields (answers.Status flags receive transmit stamp)) refl
-no_block_in (answers.LoadCounter status) other = no_block_at 178 (status ∷ []) refl
-no_block_in (answers.ConfigureInputs status) other = no_block_at 179 (status ∷ []) refl
-no_block_in (answers.RawInputs inputs stamp) other = no_block_at 180 (answer_fields (answers.RawInputs inputs stamp)) refl
-no_block_in (answers.FilteredInputs inputs stamp) other = no_block_at 181 (answer_fields (answers.FilteredInputs inputs stamp)) refl
-no_block_in (answers.Watchdog status) other = no_block_at 186 (status ∷ []) refl
 no_block_in (answers.Other other_answers.SetOutputs body) other = no_block_at 183 body.items refl
-no_block_in (answers.Other other_answers.TrackInputs body) other = no_block_at 184 body.items refl
-no_block_in (answers.Other other_answers.ComplexOutputs body) other = no_block_at 185 body.items refl
-no_block_in (answers.Other other_answers.ControllerId body) other = no_block_at 187 body.items refl
-no_block_in (answers.Other other_answers.Identify body) other = no_block_at 188 body.items refl
+no_block_in answer other = no_block_at (answer_code answer) (answer_fields answer) refl
 
 -- a status is an octet
 status-fits : (more lost again out_of_sequence : Bool)

@@ -26,6 +26,11 @@ at_codes P low zero code all other = other tt
 at_codes P low (suc n) code all other =
     at_code P low code all.0 (λ e. at_codes P (suc low) n code all.1 (λ none. other (e, none)))
 
+-- what holds at a code, and then at those after it
+infixr 3 ◌⊳◌
+pub ◌⊳◌ : {A B : Type 0} → A → B → A × B
+here ⊳ after = (here, after)
+
 -- a code from `low` on that is none of n successive ones is above them
 pub above : (low n code : ℕ) → low ≤ code → IsNoneFrom code low n → low + n ≤ code
 above low zero code le none = omega (arith, le)

@@ -13,6 +13,7 @@ pub mod DecodingLaws
 pub mod Accepting
 pub mod Decoded
 pub mod KnownTypes
+pub mod TypeLengths
 pub mod KeptLengths
 pub mod StatusBits
 pub mod InputsLayout
