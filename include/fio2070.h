@@ -1248,7 +1248,8 @@ void fio2070_log_judge_lose(struct fio2070_log_judge *judge);
  * (FIO2070_LOG_HEADING): below a frame it does what `fio2070_log_judge_lose` does; above the first frame nothing. */
 void fio2070_log_judge_possible(struct fio2070_log_judge *judge);
 /** Takes a line without octets that speaks of loss. If a frame down to and with the next poll or block answer breaks `pair`,
- * `number` or `advance`, the place is lost above it instead. No other breach is excused, on content none. */
+ * `number` or `advance`, or the next block answer breaks `same`, the place is lost above it instead. No other breach is excused, on
+ * content none. */
 void fio2070_log_judge_miss(struct fio2070_log_judge *judge);
 /** Takes a frame that the CPU's end sent if `from_cpu` is not 0, else the module. `said` is who sent it as its line says, one of
  * enum fio2070_log_side. Writes what it is, as `fio2070_judge_sent` does, and returns its kind, one of enum fio2070_outcome. A

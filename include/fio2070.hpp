@@ -497,7 +497,7 @@ public:
     void lose() { ::fio2070_log_judge_lose(&judge_); }
     /// A line says a message which nothing makes sure: below a frame it is as for `lose`.
     void possible() { ::fio2070_log_judge_possible(&judge_); }
-    /// A line without octets speaks of loss: down to the next poll or block answer nobody is accused of what a lost frame explains.
+    /// A line without octets speaks of loss: nobody is accused of what a frame explains that is missing here.
     void miss() { ::fio2070_log_judge_miss(&judge_); }
     /// What a frame is that the CPU sent, or the module. `said` is who sent it as its line says.
     ::fio2070_judge_outcome frame(Octets octets, bool from_cpu, ::fio2070_log_side said = FIO2070_LOG_NO_SIDE) {

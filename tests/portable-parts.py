@@ -115,7 +115,7 @@ def module_fault():
     """A module alone has no table, and a small part of the code; a text has the one table that has no word of the reader."""
     none, one = tables_of('module', MODULE), tables_of('text', TEXT)
     with open(path('text'), 'rb') as file:
-        words = re.findall(b'incoming|received', file.read())
+        words = re.findall(b'incoming|received|syslogd', file.read())
     code = code_of(path('module'))
     return None if none == [] and len(one) == 1 and not words and code < MOST_CODE else (none, one, words, code)
 

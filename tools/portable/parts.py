@@ -32,7 +32,8 @@ class Table(NamedTuple):
 
 class Data:
     """The read-only data. An object begins where an instruction or a pointer in the data leads, and nothing says where it
-    ends: what a call reads is taken to be all from its first object to the next one after its last."""
+    ends: what a call reads is taken to be all from its first object to the next one after its last. Between them the linker may
+    put objects that only calls of another part name: the call does not read these, so what they lead to is not its own."""
 
     def __init__(self, address, octets, functions):
         self.address, self.octets, self.end = address, octets, address + len(octets)
@@ -45,19 +46,21 @@ class Data:
         """Returns the addresses of data that the instructions of a function have."""
         return {number for number in function.numbers if self.address <= number < self.end}
 
-    def pointers(self, first, end):
-        """Returns where the numbers between these addresses may lead: one that is an address of data leads there and, if the
-        number after it may be a length, to the last octet of that length. An empty text at the end of another leads nowhere."""
-        pairs = [(self.number_at(place), self.number_at(place + 8)) for place in range(first + -first % 8, end - 7, 8)]
+    def pointers(self, first, end, foreign=frozenset()):
+        """Returns where the numbers between these addresses may lead, but for those in objects that begin at foreign ones: one that
+        is an address of data leads there and, if the number after it may be a length, to the last octet of that length. An empty
+        text at the end of another leads nowhere."""
+        pairs = [(self.number_at(place), self.number_at(place + 8)) for place in range(first + -first % 8, end - 7, 8)
+                 if not foreign or max([it for it in self.starts if it <= place], default=first) not in foreign]
         pairs = [(start, length if length <= self.end - start else 0) for start, length in pairs if self.address <= start < self.end]
         ends = {start + length for start, length in pairs if length > 0}
         return {it for start, length in pairs if length > 0 or start not in ends for it in (start, start + max(length, 1) - 1)}
 
-    def span(self, names):
+    def span(self, names, foreign):
         """Returns the first address and the end of what begins at these addresses, and of all that it leads to."""
         while True:
             first, end = min(names), min([it for it in self.starts if it > max(names)], default=self.end)
-            further = names | self.pointers(first, end)
+            further = names | self.pointers(first, end, foreign)
             if further == names:
                 return first, end
             names = further
@@ -65,8 +68,13 @@ class Data:
     def tables(self, names_of):
         """Returns tables for the names that each call has. Those of calls that are left out together have no octet in common;
         with those of others they may share a few, since instructions also have addresses at which they read nothing."""
-        found = []
-        for (first, end), call in sorted((self.span(names), call) for call, names in names_of.items() if names):
+        found, foreign = [], {}
+        for macro in {macro_of([call]) for call in names_of}:
+            own, others = (set().union(*(names for call, names in names_of.items() if (macro_of([call]) == macro) == is_own))
+                           for is_own in (True, False))
+            foreign[macro] = others - own
+        spans = [(self.span(names, foreign[macro_of([call])]), call) for call, names in names_of.items() if names]
+        for (first, end), call in sorted(spans):
             above = next((it for it in reversed(found) if macro_of(it[2]) == macro_of([call])), None)
             if above and first < above[1]:
                 above[1] = max(end, above[1])

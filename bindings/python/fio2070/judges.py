@@ -101,8 +101,7 @@ class LogJudge:
         c.library.fio2070_log_judge_possible(self._judge)
 
     def miss(self) -> None:
-        """A line without octets speaks of loss: down to the next poll or block answer nobody is accused of what a lost frame
-        explains."""
+        """A line without octets speaks of loss: nobody is accused of what a frame explains that is missing here."""
         c.library.fio2070_log_judge_miss(self._judge)
 
     def frame(self, octets: Octets, from_cpu: bool, said: str = '') -> Outcome:

@@ -7,6 +7,8 @@ use Rattle.fio_check.specs.declared.log_judge.LogOutcome.{LogOutcome}
 use Rattle.fio_check.specs.declared.log_judge.LogOutcome.TheVariants.{Late, LateAbove, Link}
 use Rattle.fio_check.specs.declared.log_judge.LogStart.{LogStart}
 use Rattle.fio_check.specs.declared.log_judge.LogStart.TheVariants as starts
+use Rattle.fio_check.specs.declared.missing_frames.MissingFrames.{MissingFrames}
+use Rattle.fio_check.specs.declared.missing_frames.MissingFrames.TheVariants.{AbovePoll, Below, Nowhere}
 use Rattle.fio_check.specs.declared.outcome.LogPlace.{LogPlace}
 use Rattle.fio_check.specs.declared.outcome.LogPlace.TheVariants.{Bus, Cpu, Module}
 use Rattle.fio_c.specs.Checkers.{octet_in}
@@ -33,6 +35,16 @@ place_number (Some Bus) = 3
 abbrev pub start_in : ℕ → LogStart
 start_in start = if start == 1 then starts.Begun else if start == 2 then starts.LateAnswers else starts.Anywhere
 
+-- where frames may be missing: 0 nowhere, 1 below the latest poll and the latest block answer, else above the latest poll
+abbrev pub missing_in : ℕ → MissingFrames
+missing_in missing = if missing == 0 then Nowhere else if missing == 1 then Below else AbovePoll
+
+-- its number
+abbrev pub missing_number : MissingFrames → ℕ
+missing_number Nowhere = 0
+missing_number Below = 1
+missing_number AbovePoll = 2
+
 -- whether the CPU's end sent a frame, by what its line says: 1 it did, 2 the module, else nothing
 abbrev pub end_in : ℕ → Option Bool
 end_in said = if said == 1 then Some true else if said == 2 then Some false else None
@@ -56,7 +68,7 @@ log_judge_in flat = record {
   agreeing = flat.agreeing;
   contrary = flat.contrary;
   has_frames = not (flat.has_frames == 0);
-  missing = not (flat.missing == 0);
+  missing = missing_in flat.missing;
 }
 
 -- the outcome of a frame as C sees it

@@ -3,11 +3,11 @@ ghost use Rattle.std.specs.Prelude.{◌≡◌, ◌==◌, None, Some, false, not,
 ghost use Rattle.fio_check.specs.LogJudges.{log_judging, log_lost, log_missing, log_possible, log_starting, log_with, outcome_in_log};
 ghost use Rattle.fio_flat.specs.Module.{are_limits};
 ghost use Rattle.fio_c.specs.Checkers.{limits_of, octet_in};
-ghost use Rattle.fio_c.specs.LogJudges.{end_in, flat_log_outcome, late_in, log_judge_in, place_number, place_taken, start_in};
+ghost use Rattle.fio_c.specs.LogJudges.{end_in, flat_log_outcome, late_in, log_judge_in, missing_in, missing_number, place_number, place_taken, start_in};
 
 use crate::checker::limits_from;
 use crate::judge::{FlatJudge, JudgeOutcome, flat_of, judge_from, outcome_from, without_breach};
-use fio_check::{LateAnswers, LogJudge, LogOutcome, LogPlace, LogStart};
+use fio_check::{LateAnswers, LogJudge, LogOutcome, LogPlace, LogStart, MissingFrames};
 use fio_flat::FlatLimits;
 
 /// A judge of a log. Its fields are the library's own: what it keeps of the lines that it took.
@@ -24,7 +24,8 @@ pub struct FlatLogJudge {
     pub place: u8,
     /// 1 if there is a frame above.
     pub has_frames: u8,
-    /// 1 if a line below the latest poll and the latest block answer speaks of loss.
+    /// Where frames may be missing, since a line speaks of loss: 0 nowhere below the latest block answer, 1 below the latest poll too,
+    /// any other above that poll.
     pub missing: u8,
     /// 1 if late answers are left out.
     pub has_late: u8,
@@ -89,8 +90,7 @@ pub extern "C" fn fio2070_log_judge_possible(judge: &mut FlatLogJudge)
     *judge = log_flat_of(&kept);
 }
 
-/// Takes a line without octets that speaks of loss: up to the next poll or block answer, what a lost frame explains accuses
-/// nobody.
+/// Takes a line without octets that speaks of loss: nobody is accused of what a frame explains that is missing here.
 #[unsafe(no_mangle)]
 pub extern "C" fn fio2070_log_judge_miss(judge: &mut FlatLogJudge)
     ensures { log_judge_in judge.new ≡ log_missing (log_judge_in judge.old) }
@@ -152,7 +152,7 @@ pub(crate) fn log_judge_from(flat: &FlatLogJudge) -> LogJudge
         agreeing: flat.agreeing,
         contrary: flat.contrary,
         has_frames: flat.has_frames != 0,
-        missing: flat.missing != 0,
+        missing: missing_from(flat.missing),
     }
 }
 
@@ -191,7 +191,7 @@ pub(crate) fn log_flat_of(judge: &LogJudge) -> FlatLogJudge
 }
 
 /// Returns the struct of a judge that leaves out no late answer.
-#[tactic(auto, using(crate::proofs::LogJudges::place_kept))]
+#[tactic(auto, using(crate::proofs::LogJudges::place_kept, crate::proofs::LogJudges::missing_kept))]
 fn flat_without_late(judge: &LogJudge) -> FlatLogJudge
     ensures { log_judge_in result ≡ (record (log_judging judge.now) { late = None }) }
 {
@@ -201,7 +201,7 @@ fn flat_without_late(judge: &LogJudge) -> FlatLogJudge
         contrary: judge.contrary,
         place: place_number(judge.place),
         has_frames: u8::from(judge.has_frames),
-        missing: u8::from(judge.missing),
+        missing: missing_number(judge.missing),
         has_late: 0,
         settled: 0,
         has_awaited: 0,
@@ -252,6 +252,28 @@ fn place_number(place: Option<LogPlace>) -> u8
         Some(LogPlace::Cpu) => 1,
         Some(LogPlace::Module) => 2,
         Some(LogPlace::Bus) => 3,
+    }
+}
+
+/// Returns where frames may be missing.
+fn missing_from(missing: u8) -> MissingFrames
+    ensures { result ≡ missing_in missing }
+{
+    match missing {
+        0 => MissingFrames::Nowhere,
+        1 => MissingFrames::Below,
+        _ => MissingFrames::AbovePoll,
+    }
+}
+
+/// Returns the number of where frames may be missing.
+fn missing_number(missing: MissingFrames) -> u8
+    ensures { result ≡ missing_number missing }
+{
+    match missing {
+        MissingFrames::Nowhere => 0,
+        MissingFrames::Below => 1,
+        MissingFrames::AbovePoll => 2,
     }
 }
 

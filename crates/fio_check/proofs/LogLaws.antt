@@ -1,16 +1,18 @@
 -- Without late answers the judge of a log is the judge of a link.
 use Rattle.std.proofs.Common.{◌≡◌, ◌∙◌, ℕ, Bool, true, false, List, [], ◌∷◌, ◌++◌, Option, Some, None, map, refl, sym, subst, ap, ap₂, append_assoc}
-use Rattle.std.specs.Prelude.{◌&&◌, not, if◌then◌else◌}
+use Rattle.std.specs.Prelude.{if◌then◌else◌}
 use Rattle.std.specs.List.{flat_map}
 use Rattle.std.proofs.lemmas.Grind.{flat_map-append}
 use Rattle.std.proofs.lemmas.List.{map-append}
 use Rattle.fio_check.specs.LinkJudges.{Frame, Judging, LogLine, judging_below, judging_with_line, outcome_on, outcomes_of}
-use Rattle.fio_check.specs.LogJudges.{Found, LogEvent, LogJudging, Lost, Missing, Possible, ends_missing, is_explained, log_below_events, log_lost, log_reached, log_with_event, one_more, outcome_of_event, outcome_reached, outcomes_in_log, place_of}
+use Rattle.fio_check.specs.LogJudges.{Found, LogEvent, LogJudging, Lost, Missing, Possible, is_explained, log_below_events, log_lost, log_reached, log_with_event, one_more, outcome_of_event, outcome_reached, outcomes_in_log, place_of}
 use Rattle.fio_check.specs.LogLaws.{SaysAsLink, frame_found, frame_on, link_lines, link_lines_of, mark_if}
+use Rattle.fio_check.specs.MissingFrames.{missing_below}
 use Rattle.fio_check.specs.Observations.{observation_in}
 use Rattle.fio_check.specs.declared.late_answers.LateAnswers.{LateAnswers}
 use Rattle.fio_check.specs.declared.log_judge.LogOutcome.{LogOutcome}
 use Rattle.fio_check.specs.declared.log_judge.LogOutcome.TheVariants.{Link}
+use Rattle.fio_check.specs.declared.missing_frames.MissingFrames.{MissingFrames}
 use Rattle.fio_check.specs.declared.outcome.LogPlace.{LogPlace}
 use Rattle.fio_check.specs.declared.outcome.FrameOutcome.{FrameOutcome}
 
@@ -37,7 +39,7 @@ record IsAsLines (log : LogJudging) (event : LogEvent) (lines : List LogLine) : 
   outcome : outcome_of_event log event ≡ map Link (outcomes_of log.link lines)
 
 -- a judge without late answers
-abbrev kept_by : Judging → Option LogPlace → ℕ → ℕ → Bool → Bool → LogJudging
+abbrev kept_by : Judging → Option LogPlace → ℕ → ℕ → Bool → MissingFrames → LogJudging
 kept_by link place agreeing contrary has_frames missing = record {
   link = link;
   late = None;
@@ -54,47 +56,47 @@ record IsAsFrame (log : LogJudging) (reached : LogJudging) (marked : Bool) (from
   link : (log_reached reached from_cpu said octets).link ≡ judging_below log.link (mark_if marked ++ Frame (place_of log said) from_cpu octets ∷ [])
   outcome : outcome_reached reached from_cpu said octets ∷ [] ≡ map Link (outcomes_of log.link (mark_if marked ++ Frame (place_of log said) from_cpu octets ∷ []))
 
-reached_by : (link : Judging) (place : Option LogPlace) (agreeing contrary : ℕ) (has_frames missing after marked from_cpu : Bool) (said : Option Bool) (octets : List ℕ)
+reached_by : (link : Judging) (place : Option LogPlace) (agreeing contrary : ℕ) (has_frames : Bool) (missing after : MissingFrames) (marked from_cpu : Bool) (said : Option Bool) (octets : List ℕ)
     → let log = kept_by link place agreeing contrary has_frames missing in
     IsAsFrame log (record (if marked then log_lost log else log) { has_frames = true; missing = after }) marked from_cpu said octets
 reached_by link place agreeing contrary has_frames missing after true from_cpu said octets = record { late = refl; link = refl; outcome = refl }
 reached_by link place agreeing contrary has_frames missing after false from_cpu said octets = record { late = refl; link = refl; outcome = refl }
 
-found_as : (link : Judging) (place : Option LogPlace) (agreeing contrary : ℕ) (has_frames missing from_cpu : Bool) (said : Option Bool) (octets : List ℕ)
+found_as : (link : Judging) (place : Option LogPlace) (agreeing contrary : ℕ) (has_frames : Bool) (missing : MissingFrames) (from_cpu : Bool) (said : Option Bool) (octets : List ℕ)
     → let log = kept_by link place agreeing contrary has_frames missing in
     IsAsLines log (Found from_cpu said octets) (link_lines_of log (Found from_cpu said octets))
 found_as link place agreeing contrary has_frames missing from_cpu None octets =
     let log = kept_by link place agreeing contrary has_frames missing in
     let observation = observation_in from_cpu octets in
-    let one = reached_by link place agreeing contrary has_frames missing (missing && not (ends_missing observation)) (missing && is_explained log from_cpu observation) from_cpu None octets in
+    let one = reached_by link place agreeing contrary has_frames missing (missing_below missing observation) (is_explained log from_cpu observation) from_cpu None octets in
     record { late = one.late; link = one.link; outcome = one.outcome }
 found_as link place agreeing contrary has_frames missing true (Some true) octets =
     let log = kept_by link place agreeing contrary has_frames missing in
     let observation = observation_in true octets in
-    let one = reached_by link place (one_more agreeing) contrary has_frames missing (missing && not (ends_missing observation)) (missing && is_explained log true observation) true (Some true) octets in
+    let one = reached_by link place (one_more agreeing) contrary has_frames missing (missing_below missing observation) (is_explained log true observation) true (Some true) octets in
     record { late = one.late; link = one.link; outcome = one.outcome }
 found_as link place agreeing contrary has_frames missing false (Some false) octets =
     let log = kept_by link place agreeing contrary has_frames missing in
     let observation = observation_in false octets in
-    let one = reached_by link place (one_more agreeing) contrary has_frames missing (missing && not (ends_missing observation)) (missing && is_explained log false observation) false (Some false) octets in
+    let one = reached_by link place (one_more agreeing) contrary has_frames missing (missing_below missing observation) (is_explained log false observation) false (Some false) octets in
     record { late = one.late; link = one.link; outcome = one.outcome }
 found_as link place agreeing contrary has_frames missing true (Some false) octets =
     let log = kept_by link place agreeing contrary has_frames missing in
     let observation = observation_in true octets in
-    let one = reached_by link place agreeing (one_more contrary) has_frames missing (missing && not (ends_missing observation)) (missing && is_explained log true observation) true (Some false) octets in
+    let one = reached_by link place agreeing (one_more contrary) has_frames missing (missing_below missing observation) (is_explained log true observation) true (Some false) octets in
     record { late = one.late; link = one.link; outcome = one.outcome }
 found_as link place agreeing contrary has_frames missing false (Some true) octets =
     let log = kept_by link place agreeing contrary has_frames missing in
     let observation = observation_in false octets in
-    let one = reached_by link place agreeing (one_more contrary) has_frames missing (missing && not (ends_missing observation)) (missing && is_explained log false observation) false (Some true) octets in
+    let one = reached_by link place agreeing (one_more contrary) has_frames missing (missing_below missing observation) (is_explained log false observation) false (Some true) octets in
     record { late = one.late; link = one.link; outcome = one.outcome }
 
-possible_as : (link : Judging) (place : Option LogPlace) (agreeing contrary : ℕ) (has_frames missing : Bool)
+possible_as : (link : Judging) (place : Option LogPlace) (agreeing contrary : ℕ) (has_frames : Bool) (missing : MissingFrames)
     → let log = kept_by link place agreeing contrary has_frames missing in IsAsLines log Possible (link_lines_of log Possible)
 possible_as link place agreeing contrary true missing = record { late = refl; link = refl; outcome = refl }
 possible_as link place agreeing contrary false missing = record { late = refl; link = refl; outcome = refl }
 
-event_as : (link : Judging) (place : Option LogPlace) (agreeing contrary : ℕ) (has_frames missing : Bool) (event : LogEvent)
+event_as : (link : Judging) (place : Option LogPlace) (agreeing contrary : ℕ) (has_frames : Bool) (missing : MissingFrames) (event : LogEvent)
     → let log = kept_by link place agreeing contrary has_frames missing in IsAsLines log event (link_lines_of log event)
 event_as link place agreeing contrary has_frames missing (Found from_cpu said octets) = found_as link place agreeing contrary has_frames missing from_cpu said octets
 event_as link place agreeing contrary has_frames missing Lost = record { late = refl; link = refl; outcome = refl }
@@ -142,7 +144,7 @@ mark_frames false = refl
 
 event_frames : (log : LogJudging) (event : LogEvent) → flat_map frame_on (link_lines_of log event) ≡ frame_found event
 event_frames log (Found from_cpu said octets) =
-    marked_frames (log.missing && is_explained log from_cpu (observation_in from_cpu octets)) _
+    marked_frames (is_explained log from_cpu (observation_in from_cpu octets)) _
 event_frames log Lost = refl
 event_frames log Possible = mark_frames _
 event_frames log Missing = refl

@@ -23,6 +23,7 @@ pub mod LinkJudges
 pub mod LinkKept
 pub mod LinkLaws
 pub mod LateAnswers
+pub mod MissingFrames
 pub mod LogJudges
 pub mod LogLaws
 pub mod LogSigns

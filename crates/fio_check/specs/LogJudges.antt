@@ -7,8 +7,10 @@ use Rattle.fio_check.specs.Checkers.{checker_with, found_by, passes_over}
 use Rattle.fio_check.specs.LateAnswers.{late_above, late_with, lateness_of}
 use Rattle.fio_check.specs.LinkJudges.{Judging, checking_again, judging_anywhere, judging_begun, judging_lost, judging_with, loads_left, outcome_found, outcome_in, unjudged_by}
 use Rattle.fio_check.specs.LinkKept.{judging}
+use Rattle.fio_check.specs.MissingFrames.{do_explain, missing_below}
 use Rattle.fio_check.specs.Observations.{observation_in}
 use Rattle.fio_check.specs.Places.{is_some_and}
+use Rattle.fio_check.specs.declared.checker.Breach.{Breach}
 use Rattle.fio_check.specs.declared.late_answers.LateAnswers.{LateAnswers}
 use Rattle.fio_check.specs.declared.late_answers.Lateness.{Lateness}
 use Rattle.fio_check.specs.declared.late_answers.Lateness.TheVariants.{InTime, LateButTaken}
@@ -19,15 +21,17 @@ use Rattle.fio_check.specs.declared.log_judge.LogOutcome.{LogOutcome}
 use Rattle.fio_check.specs.declared.log_judge.LogOutcome.TheVariants.{Late, LateAbove, Link}
 use Rattle.fio_check.specs.declared.log_judge.LogStart.{LogStart}
 use Rattle.fio_check.specs.declared.log_judge.LogStart.TheVariants.{Begun, LateAnswers as StartLate}
+use Rattle.fio_check.specs.declared.missing_frames.MissingFrames.{MissingFrames}
+use Rattle.fio_check.specs.declared.missing_frames.MissingFrames.TheVariants.{Below, Nowhere}
 use Rattle.fio_check.specs.declared.observation.Observation.{Observation}
-use Rattle.fio_check.specs.declared.observation.Observation.TheVariants.{Block, Poll}
+use Rattle.fio_check.specs.declared.observation.Observation.TheVariants.{Block}
 use Rattle.fio_check.specs.declared.outcome.Excuse.TheVariants.{Load}
 use Rattle.fio_check.specs.declared.outcome.LogPlace.{LogPlace}
 use Rattle.fio_check.specs.declared.outcome.LogPlace.TheVariants.{Bus, Cpu, Module}
 use Rattle.fio_check.specs.declared.outcome.FrameOutcome.{FrameOutcome}
 use Rattle.fio_check.specs.declared.outcome.FrameOutcome.TheVariants.{Broken, BrokenContent, Excused, Restarted, NotJudged}
 use Rattle.fio_check.specs.declared.rules.Rule.{Rule}
-use Rattle.fio_check.specs.declared.rules.Rule.TheVariants.{Pair, Number, Advance, Same, Refusal}
+use Rattle.fio_check.specs.declared.rules.Rule.TheVariants.{Same, Refusal}
 
 -- what a judge of a log keeps
 pub record LogJudging : Type 0 where
@@ -41,8 +45,8 @@ pub record LogJudging : Type 0 where
   pub contrary : ℕ
   -- a frame is above
   pub has_frames : Bool
-  -- a line below the latest poll and the latest block answer speaks of loss
-  pub missing : Bool
+  -- where frames may be missing, since a line speaks of loss
+  pub missing : MissingFrames
 
 -- a judge, by its fields
 abbrev pub log_judging : LogJudge → LogJudging
@@ -77,7 +81,7 @@ log_starting limits place start = record {
   agreeing = 0;
   contrary = 0;
   has_frames = false;
-  missing = false;
+  missing = Nowhere;
 }
 
 -- ---- lines between frames
@@ -96,7 +100,7 @@ log_possible log = if log.has_frames then log_lost log else log
 
 -- the judge after a line without octets that speaks of loss
 abbrev pub log_missing : LogJudging → LogJudging
-log_missing log = record log { missing = true }
+log_missing log = record log { missing = Below }
 
 -- ---- above a frame
 
@@ -116,34 +120,26 @@ log_counting log from_cpu (Some by_cpu) = if is_same_end by_cpu from_cpu
     then record log { agreeing = one_more log.agreeing }
     else record log { contrary = one_more log.contrary }
 
--- a rule that a frame may break because a frame above it is missing in the log
-abbrev pub is_of_lost : Rule → Bool
-is_of_lost Pair = true
-is_of_lost Number = true
-is_of_lost Advance = true
-is_of_lost rule = false
+-- frames that are missing explain a breach, if one is found
+abbrev pub is_breach_explained : MissingFrames → Option Breach → Bool
+is_breach_explained Nowhere found = false
+is_breach_explained missing found = is_some_and found (λ breach. do_explain missing breach.rule)
 
--- a frame with this observation breaks such a rule
+-- they explain what a frame breaks that says this
 abbrev pub is_explained : LogJudging → Bool → Observation → Bool
 is_explained log from_cpu observation =
-    is_some_and (found_by log.link.checker from_cpu observation) (λ breach. is_of_lost breach.rule)
+    is_breach_explained log.missing (found_by log.link.checker from_cpu observation)
 
--- a poll or a block answer: a remark of loss above it explains nothing below it
-abbrev pub ends_missing : Observation → Bool
-ends_missing (Poll number) = true
-ends_missing (Block number status entries absent) = true
-ends_missing observation = false
-
--- the judge directly above a frame with this observation: if a lost frame explains what it breaks, the place is lost
+-- the judge directly above a frame that says this: if frames that are missing explain what it breaks, the place is lost
 abbrev pub log_above : LogJudging → Bool → Observation → LogJudging
 log_above log from_cpu observation =
-    if log.missing && is_explained log from_cpu observation then log_lost log else log
+    if is_explained log from_cpu observation then log_lost log else log
 
 -- that judge after counting the directions of this frame, which may end what a remark of loss explains
 abbrev pub log_reaching : LogJudging → Bool → Option Bool → Observation → LogJudging
 log_reaching log from_cpu said observation = record (log_above (log_counting log from_cpu said) from_cpu observation) {
   has_frames = true;
-  missing = log.missing && not (ends_missing observation);
+  missing = missing_below log.missing observation;
 }
 
 -- where a frame with a direction was logged: at the module, if more directions contradict the types of the messages than agree,

@@ -1,5 +1,5 @@
 -- Laws of the judge of a log: without late answers it is the judge of a link, whose laws carry over to it.
-use Rattle.std.specs.Prelude.{◌≡◌, ◌&&◌, Bool, true, false, List, [], ◌∷◌, ◌++◌, None, ℕ, map}
+use Rattle.std.specs.Prelude.{◌≡◌, Bool, true, false, List, [], ◌∷◌, ◌++◌, None, ℕ, map}
 use Rattle.std.specs.List.{flat_map}
 use Rattle.fio_check.specs.LinkJudges.{Frame, LogLine, judging_below, outcomes_of}
 use Rattle.fio_check.specs.LinkJudges.{Lost as Mark}
@@ -14,12 +14,12 @@ abbrev pub mark_if : Bool → List LogLine
 mark_if true = Mark ∷ []
 mark_if false = []
 
--- The lines that an event is to the judge of the link. A frame gets the place that the judge of the log finds for it, with a
--- mark directly above it if a lost frame explains what it breaks. A line that says a message is a mark, if a frame is above. A
--- line that speaks of loss is not a line by itself.
+-- What an event is to the judge of the link. A frame has the place that the judge of the log finds for it, with a mark directly
+-- above if frames that are missing explain what it breaks. A line that says a message is a mark below a frame. One that speaks of
+-- loss is none by itself.
 abbrev pub link_lines_of : LogJudging → LogEvent → List LogLine
 link_lines_of log (Found from_cpu said octets) =
-    mark_if (log.missing && is_explained log from_cpu (observation_in from_cpu octets))
+    mark_if (is_explained log from_cpu (observation_in from_cpu octets))
     ++ Frame (place_of (log_counting log from_cpu said) said) from_cpu octets ∷ []
 link_lines_of log Lost = Mark ∷ []
 link_lines_of log Possible = mark_if log.has_frames

@@ -2,13 +2,14 @@
 //! between them.
 ghost use Rattle.std.specs.Prelude.{◌≡◌};
 ghost use Rattle.fio_check.specs.LinkKept.{judging};
-ghost use Rattle.fio_check.specs.LogJudges.{ends_missing, is_excused_late, is_explained, is_of_late, is_of_lost, judging_in_time, log_counting, log_forgetting, log_judging, log_kept_late, log_lost, log_missing, log_possible, log_reaching, log_starting, log_with, log_with_late, outcome_in_log, outcome_in_time, outcome_kept_late, outcome_late, place_of};
+ghost use Rattle.fio_check.specs.LogJudges.{is_excused_late, is_explained, is_of_late, judging_in_time, log_counting, log_forgetting, log_judging, log_kept_late, log_lost, log_missing, log_possible, log_reaching, log_starting, log_with, log_with_late, outcome_in_log, outcome_in_time, outcome_kept_late, outcome_late, place_of};
 ghost use Rattle.fio_check.specs.Observations.{observation_in};
 ghost use Rattle.fio_check.specs.declared.log_judge.LogOutcome.TheVariants.{Late};
 
 use crate::late_answers::{LateAnswers, Lateness};
 use crate::limits::RuleLimits;
 use crate::link_judge::LinkJudge;
+use crate::missing_frames::MissingFrames;
 use crate::observation::Observation;
 use crate::outcome::{Excuse, FrameOutcome, LogPlace};
 use crate::rules::Rule;
@@ -72,8 +73,8 @@ pub struct LogJudge {
     pub contrary: u32,
     /// Whether a frame is above.
     pub has_frames: bool,
-    /// Whether a line below the latest poll and the latest block answer speaks of loss.
-    pub missing: bool,
+    /// Where frames may be missing, since a line speaks of loss.
+    pub missing: MissingFrames,
 }
 
 impl LogJudge {
@@ -94,7 +95,7 @@ impl LogJudge {
             agreeing: 0,
             contrary: 0,
             has_frames: false,
-            missing: false,
+            missing: MissingFrames::Nowhere,
         }
     }
 
@@ -118,12 +119,12 @@ impl LogJudge {
         }
     }
 
-    /// Takes a line that speaks of loss and has no octets. Up to the next poll or block answer, a breach that a lost frame
-    /// explains accuses nobody.
+    /// Takes a line that speaks of loss, and has no octets: a breach that a frame explains which is missing here is none. A poll that
+    /// is missing here can be the reason why the block below the next poll is one sent again.
     pub fn miss(&mut self)
         ensures { log_judging self.new ≡ log_missing (log_judging self.old) }
     {
-        self.missing = true;
+        self.missing = MissingFrames::Below;
     }
 
     /// Takes a frame, and returns its outcome. `from_cpu` says whether the CPU's end sent it, and `said` whether its line says
@@ -143,15 +144,15 @@ impl LogJudge {
 
     // ---- Above a frame
 
-    /// Counts who sent a frame with this observation, and loses the place if a lost frame above explains what it breaks.
+    /// Notes who sent a frame that says this, and loses the place if frames that are missing above explain what it breaks.
     fn reach(&mut self, from_cpu: bool, said: Option<bool>, observation: Observation)
         ensures { log_judging self.new ≡ log_reaching (log_judging self.old) from_cpu said observation }
     {
         self.count_side(from_cpu, said);
-        if self.missing && self.is_explained(from_cpu, observation) {
+        if self.is_explained(from_cpu, observation) {
             self.lose();
         }
-        self.missing = self.missing && !ends_missing(observation);
+        self.missing = self.missing.below(observation);
         self.has_frames = true;
     }
 
@@ -166,13 +167,16 @@ impl LogJudge {
         }
     }
 
-    /// Returns whether a frame with this observation breaks a rule, which a frame missing above it in the log would explain.
+    /// Returns whether frames that are missing above a frame that says this explain what it breaks.
     fn is_explained(&self, from_cpu: bool, observation: Observation) -> bool
         ensures { result ≡ is_explained (log_judging self.now) from_cpu observation }
     {
+        if matches!(self.missing, MissingFrames::Nowhere) {
+            return false;
+        }
         let mut checker = self.link.checker;
         match checker.take(from_cpu, observation) {
-            Some(breach) => is_of_lost(breach.rule),
+            Some(breach) => self.missing.explain(breach.rule),
             None => false,
         }
     }
@@ -269,23 +273,6 @@ impl LogJudge {
             LogOutcome::Link(outcome)
         }
     }
-}
-
-/// Returns whether a frame with this observation ends what a remark of loss explains: a poll or a block answer does.
-fn ends_missing(observation: Observation) -> bool
-    ensures { result ≡ ends_missing observation }
-{
-    matches!(
-        observation,
-        Observation::Poll { .. } | Observation::Block { .. }
-    )
-}
-
-/// Returns whether a lost frame can explain why a frame below it breaks this rule.
-fn is_of_lost(rule: Rule) -> bool
-    ensures { result ≡ is_of_lost rule }
-{
-    matches!(rule, Rule::Pair | Rule::Number | Rule::Advance)
 }
 
 /// Returns whether a frame breaks a rule that late answers may break.

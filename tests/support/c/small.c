@@ -7,14 +7,14 @@
 #include <stdio.h>
 #include <string.h>
 
-enum { FRAMES = 60, SCANS = 400, MOST = 64, ENTRIES = 24, ROOM = 37 };
+enum { FRAMES = 60, SCANS = 400, MOST = 64, ROOM = 37 };
 
 static uint32_t hash = 2166136261u;
 static uint8_t frame[LONGEST + 1], written[FIO2070_LONGEST_FRAME];
 static char text[FIO2070_LONGEST_TEXT];
 static struct fio2070_configuration_item items[MOST];
-static struct fio2070_entry entries[ENTRIES];
-static struct fio2070_record_item record[ENTRIES + 1];
+static struct fio2070_entry entries[MOST];
+static struct fio2070_record_item record[MOST + 1];
 static struct fio2070_slot slots[ROOM];
 static struct fio2070_sized_module device;
 static struct fio2070_poller poller;
@@ -85,7 +85,7 @@ static void read_frame(size_t length) {
     number(answer.code); number(answer.status); number(answer.stamp); number(answer.inputs);
     memset(&header, 9, sizeof header);
     write_fault(fio2070_read_block(frame, length, &header));
-    count = amount(fio2070_block_entries(frame, length, entries, ENTRIES), ENTRIES);
+    count = amount(fio2070_block_entries(frame, length, entries, MOST), MOST);
     for (place = 0; place < count; place++) number(fio2070_widen(header.stamp, entries[place].stamp));
     wrote(fio2070_encode_block_answer(header.number, entries, count, header.status, header.stamp, written, sizeof written));
     wrote(fio2070_encode_other_command((uint8_t)(55 + below(5)), frame, length, written, sizeof written));
@@ -114,7 +114,7 @@ static void poll(void) {
     count = answered(frame, length);
     if (below(5) == 0) return;
     judge(0, written, count);
-    heard = fio2070_poller_hear(&poller, written, count, record, ENTRIES + 1);
+    heard = fio2070_poller_hear(&poller, written, count, record, MOST + 1);
     number(heard.kind); number(heard.number); number(heard.items); number(heard.stamp);
     mix(text, amount(fio2070_heard_text(&heard, text, sizeof text), sizeof text));
     for (place = 0; heard.kind == FIO2070_HEARD_TAKEN && place < heard.items; place++) {

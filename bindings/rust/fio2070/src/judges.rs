@@ -103,8 +103,7 @@ impl LogJudge {
         unsafe { raw::fio2070_log_judge_possible(&mut self.0) }
     }
 
-    /// A line without octets speaks of loss: down to the next poll or block answer nobody is accused of what a lost frame
-    /// explains.
+    /// A line without octets speaks of loss: nobody is accused of what a frame explains that is missing here.
     pub fn miss(&mut self) {
         unsafe { raw::fio2070_log_judge_miss(&mut self.0) }
     }
