@@ -12,24 +12,14 @@ sys.dont_write_bytecode = True
 
 from support.check import Check
 from support.fiolog import fiolog, use_library
+from support.kinds import KINDS, SIGNS, blocks, polls
 from support.loggers import LOGGERS
-from support.tables import TOP
 
 COMMANDS = 'fiolog: this log has the commands alone: the answers were not logged, so no rule is judged (two files of one line: see --merge)'
 ANSWERS = 'fiolog: this log has the answers alone: the commands were not logged, so no rule is judged (two files of one line: see --merge)'
 SILENT = 'fiolog: no answer came: the module is silent, or its direction was not logged'
 NOT_WHOLE = 'fiolog: no answer in this log is whole, so no rule is judged'
 SENTENCES = COMMANDS, ANSWERS, SILENT, NOT_WHOLE
-
-
-def polls(*numbers):
-    """Polls for these numbers, as lines."""
-    return ''.join('TX 36 %02X\n' % number for number in numbers)
-
-
-def blocks(*numbers):
-    """Empty blocks with these numbers, as lines."""
-    return ''.join('RX B6 %02X 00 00 00 00 00 %02X\n' % (number, number) for number in numbers)
 
 
 # A log, what is said of it, how many breaches it has, and the status. Below a breach the rules begin anew at the next poll.
@@ -51,25 +41,13 @@ SIDES = {
 }
 
 
-with open(os.path.join(TOP, 'tools', 'log-words.json'), encoding='utf-8') as words_file:
-    SIGNS = json.load(words_file)['signs']
-EXCHANGES = [polls(number) + blocks(number) for number in range(5, 17)]
-# A log of another kind than that of one link in order, and what it looks like.
-KINDS = {
-    'one link in order': (EXCHANGES, ''),
-    'each frame twice': ([line * 2 for one in EXCHANGES for line in one.splitlines(True)], 'twice'),
-    'the last line first': ([line for one in EXCHANGES for line in one.splitlines(True)][::-1], 'reversed'),
-    'two links': ([line for number in range(5, 17) for line in (polls(number), blocks(number), polls(number + 90), blocks(number + 90))],
-                  'two links'),
-}
-
-
 def check_kinds(check):
     """What a log looks like is said once, and counts for nothing."""
     for name, (lines, sign) in KINDS.items():
         done, last = fiolog('check', text=''.join(lines)), json.loads(fiolog('check', '--json', text=''.join(lines)).out.splitlines()[-1])
         check.equal(name, [SIGNS[sign]] if sign else [], [words[8:] for words in done.err.splitlines() if words[8:] in SIGNS.values()])
-        check.equal(name + ', as an object', [sign] if sign else [], last['summary'].get('remarks', []))
+        remarks = [words for words in last['summary'].get('remarks', []) if words in SIGNS]
+        check.equal(name + ', as an object', [sign] if sign else [], remarks)
 
 
 def check_sides(check):

@@ -1,5 +1,5 @@
-"""What the page says of a log by the library's judge: restarts of the module, what is not judged and why, and the same breaches,
-restarts and counts as `fiolog check`."""
+"""What the page says of a log by the library's judge: restarts of the module, what is not judged and why, what kind of log it looks like,
+and the same breaches, restarts and counts as `fiolog check`."""
 
 import glob
 import json
@@ -8,6 +8,7 @@ import re
 
 from support.damage import DAMAGED
 from support.fiolog import LIBRARY, fiolog
+from support.kinds import KINDS, SIGNS
 from support.opened import CELLS, OPEN_ALL, pasted, text_of
 from support.strangers import READ
 from support.tables import TOP
@@ -128,6 +129,15 @@ def check_marks(check, browser, name):
                     ([line for line, _ in seen], counts_in(not_judged)))
 
 
+def check_kinds(check, browser, name):
+    """What a log looks like is said in the verdict, in the words of `fiolog check`, and of a log of one link nothing."""
+    for title, (lines, sign) in KINDS.items():
+        pasted(browser, ''.join(lines))
+        words = SIGNS.get(sign, '')
+        check.equal('%s: what it looks like in %s' % (title, name), words and words[0].upper() + words[1:] + '.',
+                    browser.run('const it = document.getElementById("looks-like"); return it ? it.textContent : ""'))
+
+
 def by_fiolog(text):
     """The same by `fiolog check`: breaches, restarts, and the counts that the page has too."""
     lines = [json.loads(line) for line in fiolog('check', '--json', text=text).out.splitlines()]
@@ -156,4 +166,5 @@ def rows(check, browser, name):
     check_logs(check, browser, name)
     check_restart(check, browser, name)
     check_marks(check, browser, name)
+    check_kinds(check, browser, name)
     check_as_fiolog(check, browser, name)

@@ -115,6 +115,11 @@ export class Library {
     return new LogJudge(this);
   }
 
+  // What counts the frames of a log, to tell what kind of log it looks like.
+  logSigns() {
+    return new LogSigns(this);
+  }
+
   // The address of the limits of a module, until the next call.
   limits(waiting, perBlock) {
     const { all, data } = this.machine, at = this.result;
@@ -254,5 +259,27 @@ class LogJudge {
       kind, why: all[at + place.why], rule: all[at + place.rule], hasDue: all[at + place.has_due] !== 0, due: all[at + place.due],
       got: all[at + place.got], input: all[at + place.input], items: all[at + place.items] | all[at + place.items + 1] << 8,
     };
+  }
+}
+
+class LogSigns {
+  constructor(library) {
+    this.calls = library.calls;
+    this.at = BigInt(library.machine.reserve(SIZE.logSigns));
+  }
+
+  // Starts above the first message of a log.
+  start() {
+    this.calls.fio2070_log_signs_start(this.at);
+  }
+
+  // Takes a message that the CPU sent or heard; `said` is one of LOG_SIDES.
+  frame(isSent, said, address, length) {
+    this.calls.fio2070_log_signs_frame(this.at, isSent ? 1 : 0, said, BigInt(address), BigInt(length));
+  }
+
+  // The number of the sign that holds; 0 if none does.
+  get sign() {
+    return this.calls.fio2070_log_signs_sign(this.at);
   }
 }

@@ -8,6 +8,7 @@ import { DIRECTION } from './messagelist.js';
 import { recordOf } from './record.js';
 import { breachWords, restartWords, ruleOf } from './rules.js';
 import { isOfOneSide, sidesOf } from './sides.js';
+import { signOf } from './signs.js';
 import { verdictOf } from './verdict.js';
 import { wordsOf } from './words.js';
 
@@ -33,6 +34,7 @@ export class Log {
     this.end = !this.hasDirections ? ENDS.bus : end !== ENDS.auto ? end : isReversed && !read.isOwn ? ENDS.module : ENDS.cpu;
     this.directions = this.directionsOf();
     this.logged = sidesOf(this);
+    this.sign = signOf(this, arena.signs);
     this.judging = new Judging();
     if (!isOfOneSide(this.logged)) this.judging.judgeAll(this, arena.judge, end);
     this.record = recordOf(this);

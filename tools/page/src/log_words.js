@@ -28,13 +28,14 @@ export const SIDES = {
   'not whole': 'no answer in this log is whole, so no rule is judged',
   'silent': 'no answer came: the module is silent, or its direction was not logged',
 };
-// What kind of log it looks like, if it is not the log of one link in order, and what to do.
-export const SIGNS = {
-  'twice': 'this log looks as if each frame is in it twice: keep one of both channels or sources, and judge that',
-  'both ends': 'this log looks like the logs of both ends merged: keep the lines of one end, and judge these',
-  'reversed': 'this log looks as if its last line is first: reverse it with `tac FILE`',
-  'two links': 'this log looks like the lines of two links: split it by port or address, and judge each link by itself',
-};
+// What kind of log it looks like, by the number of the sign, if it is not the log of one link in order, and what to do.
+export const SIGNS = [
+  '',
+  'this log looks as if each frame is in it twice: keep one of both channels or sources, and judge that',
+  'this log looks like the logs of both ends merged: keep the lines of one end, and judge these',
+  'this log looks as if its last line is first: reverse it with `tac FILE`',
+  'this log looks like the lines of two links: split it by port or address, and judge each link by itself',
+];
 export const LINE = {
   damaged: 'no frame with a right check',
   other: 'of address {address}, control octet {control}: not judged',

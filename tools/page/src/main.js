@@ -14,10 +14,10 @@ import { PlayView } from './play.js';
 import { Tabs } from './tabs.js';
 import { wordsOf } from './words.js';
 
-// What the log that is open needs in the machine's memory: its octets, a poller, and what judges it.
+// What the log that is open needs in the machine's memory: its octets, a poller, what judges it, and what counts its messages.
 class Arena {
   constructor(library) {
-    Object.assign(this, { machine: library.machine, address: 0, size: 0, poller: library.poller(0), judge: library.logJudge() });
+    Object.assign(this, { machine: library.machine, address: 0, size: 0, poller: library.poller(0), judge: library.logJudge(), signs: library.logSigns() });
   }
 
   hold(octets) {

@@ -135,13 +135,14 @@ export class MessagesView {
     return `${log.name}${FORMS[log.form]}.${passedWords(log.passed)}${turned}${reversed}${doubtWords(log)}`;
   }
 
-  // The one verdict, a way to the first breach, and what was not judged.
+  // The one verdict, a way to the first breach, what kind of log it looks like, and what was not judged.
   drawVerdict() {
-    const { kind, text, more, first, notJudged } = this.log.verdict;
+    const { kind, text, more, first, looksLike, notJudged } = this.log.verdict;
     const show = first < 0 ? null : element('button', { id: 'first-breach', onclick: () => this.goTo(first) }, `Show line ${this.log.lines[first]}`);
     this.verdict.dataset.kind = kind;
     this.verdict.replaceChildren(element('p', { class: 'says' }, element('strong', { 'aria-hidden': 'true' }, SYMBOLS[kind]), ' ',
       element('span', { id: 'verdict-text' }, element('strong', {}, text), more), ...show ? [' ', show] : []),
+    ...looksLike === '' ? [] : [element('p', { id: 'looks-like' }, looksLike)],
     ...notJudged.length === 0 ? [] : [element('p', { class: 'soft', id: 'not-judged' }, notJudged.join(' '))]);
   }
 

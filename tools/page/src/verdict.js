@@ -5,7 +5,7 @@ import { WHY } from './constants.js';
 import { counted, withCommas } from './dom.js';
 import { CAUSES, ENDS } from './judging.js';
 import { POLL } from './library.js';
-import { SIDES } from './log_words.js';
+import { SIDES, SIGNS } from './log_words.js';
 import { RESTART_HELP, ruleOf } from './rules.js';
 import { isOfOneSide } from './sides.js';
 
@@ -15,13 +15,13 @@ const LOST_AT = { [CAUSES.breach]: 'a breach', [CAUSES.restart]: 'a restart', [C
 
 export const VERDICTS = { good: 'good', partly: 'partly', unjudged: 'unjudged', restarted: 'restarted', broken: 'broken', none: 'none' };
 
-// The kind of a verdict, its sentence, more on it, the place of the first breach or restart (-1 if there is none), and sentences on
-// what was not judged.
+// The kind of a verdict, its sentence, more on it, the place of the first breach or restart (-1 if there is none), what kind of log it
+// looks like if it is not the log of one link in order, and sentences on what was not judged.
 export function verdictOf(log) {
   const { messages, broken, restarts, possible, badLines } = log.summary, readable = messages - badLines - possible;
   const judged = readable - log.judging.leftOut;
   const notJudged = sentencesOf(log, readable > 0);
-  const said = { more: '', first: -1, notJudged };
+  const said = { more: '', first: -1, looksLike: sentenceOf(SIGNS[log.sign]), notJudged };
   if (readable === 0) return { ...said, kind: VERDICTS.none, text: possible > 0 ? 'No message is sure, so none is judged.' : 'No message was found.' };
   if (isOfOneSide(log.logged)) return { ...said, kind: VERDICTS.unjudged, text: sentenceOf(SIDES[log.logged]) };
   if (broken > 0) {
@@ -32,7 +32,7 @@ export function verdictOf(log) {
         more: `; line ${log.lines[place]}: ${log.words(place)[0]}. Perhaps the log is of another link, or the bits of its octets are in reverse order.` };
     }
     const text = broken === 1 ? rule.replace('line', 'Line') : `${counted(broken, 'message')} of ${withCommas(readable)} break a rule. The first: ${rule}`;
-    return { kind: VERDICTS.broken, text, more: `: ${log.meaning(place)}.${restarted}`, first: place, notJudged };
+    return { ...said, kind: VERDICTS.broken, text, more: `: ${log.meaning(place)}.${restarted}`, first: place };
   }
   if (restarts > 0) {
     const [first] = log.restarts, more = `. No rule is broken in the ${counted(judged, 'message')} that could be judged. ${RESTART_HELP}`;
@@ -90,5 +90,5 @@ function sentencesOf(log, isJudged) {
   return said;
 }
 
-const sentenceOf = (words) => `${words[0].toUpperCase()}${words.slice(1)}.`;
+const sentenceOf = (words) => words === '' ? '' : `${words[0].toUpperCase()}${words.slice(1)}.`;
 const are = (count) => count === 1 ? 'is' : 'are';
