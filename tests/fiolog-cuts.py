@@ -1,6 +1,7 @@
 #!/usr/bin/env python3
 """Damaged logs of the proved ends: one answer in fifty is cut in six ways, and no rule is said to be broken; with as many lines
-of other text between, faults that are planted are still found. What is found in a log is the same however its octets come.
+of other text between, faults that are planted are still found. What is found in a log is the same however its octets come. How
+many single faults are still found in damaged logs is what the table of docs/CAPTURES.md says; `--write` writes the table.
 Last line: `N passed, M failed`."""
 
 import random
@@ -118,8 +119,21 @@ def fault_of_pieces(place):
     return None
 
 
+def check_survivors(check):
+    """Most faults are still found in damaged logs, and the table says how many."""
+    from support import survivors
+    check.fault('faults that survive damage', survivors.fault_of_floors)
+    name = 'the table of what survives damage'
+    if check.wants(name) and (check.given.write or check.whole(name)):
+        rows = survivors.table_of(survivors.count())
+        if check.given.write:
+            survivors.write(rows)
+            print(survivors.HEAD + rows)
+        check.equal(name, rows, survivors.shown())
+
+
 def main():
-    check = Check()
+    check = Check(write=False)
     use_library(check, 'damaged logs')
     for place in (0, 4, 5, 8, 20):
         check.fault('octets in pieces, directions exchanged from line %d on' % (place + 1), fault_of_pieces, place)
@@ -128,6 +142,7 @@ def main():
         for kind in CUTS:
             check.fault('%s, cut: %s' % (form, kind), fault_of_cuts, form, kind, trials)
         check.fault('%s, faults that are planted' % form, fault_of_planted, form)
+    check_survivors(check)
     check.end()
 
 
