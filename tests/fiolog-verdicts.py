@@ -142,7 +142,8 @@ def check_places(check):
         found = fiolog('check', *words, text=text).out
         check.equal('judged: %s' % name, expected, re.findall(r'^line \d+: \w+(?:: input[^,]*)?', found, re.M))
     again = '%s 36 05\n%s B6 05 00 00 00 00 00 01\n%s 36 05\n%s B6 05 00 02 00 00 00 01\n'
-    for name, sides, status in (('the CPU', ('TX', 'RX'), 1), ('the module', ('RX', 'TX'), 0)):
+    for name, sides, status in (('the CPU', ('TX', 'RX'), 1), ('the module', ('RX', 'TX'), 0), ('the CPU, with arrows', ('>', '<'), 1),
+                                ('the module, with arrows', ('<', '>'), 0)):
         done = fiolog('check', text=again % (sides * 2))
         check.equal('a block that is asked for again, in a log of %s' % name, (status, bool(status)), (done.status, 'line 3: advance' in done.out))
     with tempfile.TemporaryDirectory() as folder:

@@ -36,6 +36,7 @@ LATER, EARLIER = '> 3600\n< b600000000000015\n', '> 3601\n< b60100000000000b\n'
 BACK = LATER + EARLIER
 RESTARTED = 'the module restarted, or the stamp is wrong: its counter went back'
 LOAD, CUT, DONE = '> 3200000000\n', '> 320\n', '< b200\n'
+AGAIN = '%s 3605\n%s b605000000000001\n%s 3605\n%s b605000200000001\n'
 # A log, the kind of its verdict, what that says, and what is not judged, by its name: by hand, from the rules of the judge.
 LOGS = [
     ('a restart', BACK, 'restarted', ['Line 4: ' + RESTARTED, 'No rule is broken in the 4 messages that could be judged', 'look at its supply'], {'lost_places': 1}),
@@ -53,6 +54,8 @@ LOGS = [
     ('two steps back below one lost line', LATER + CUT + DONE + '> 3601\n< b601000000000016\n> 3602\n< b60200000000000b\n> 3603\n< b60300000000000a\n',
      'restarted', ['Line 10: ' + RESTARTED],
      {'frames_below_loads': 1, 'lost_places': 3, 'frames_at_lost_places': 1}),
+    ('a block that is asked for again', AGAIN % tuple('><' * 2), 'broken', ['Line 3 breaks the rule advance'], {'lost_places': 1, 'frames_at_lost_places': 1}),
+    ('the same at the module', AGAIN % tuple('<>' * 2), 'partly', ['in the 3 messages that'], {'frames_not_at_the_cpu': 1}),
     ('two damaged lines, one below the other', '> 3605\n< b6050\n< b6050\n' + STATUS + '> 3606\n< b606000000000002\n> 3607\n< b607000000000003\n', 'partly', ['in the 5 messages that'],
      {'lost_places': 1, 'frames_at_lost_places': 2}),
 ]

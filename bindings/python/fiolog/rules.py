@@ -27,8 +27,6 @@ NOT_JUDGED = {WHY_LOAD: 'frames_below_loads', WHY_UNHEARD: 'frames_not_at_the_cp
 # What is said of a frame that shows a restart: by its stamp, or of an answer to a watchdog that was set before.
 WENT_BACK = 'the module restarted, or the stamp is wrong: its counter went back'
 FORGOTTEN = 'the module restarted, or forgot its watchdog: it says that none was set before'
-# How a line of the project's own texts begins: it says who sent a frame, whatever its type is.
-OWN = '> ', '< '
 
 
 class Breach(NamedTuple):
@@ -99,10 +97,8 @@ class Rules:
 
     def find(self, event):
         """The breach of a frame, or that the module restarted above it; None if nothing is said of it."""
-        octets, is_sent, said = event.octets, event.direction == '>', event.said
-        if said and said != event.direction and event.text[:2] in OWN:
-            said = event.direction
-        outcome, self._has_frames = self.judge.frame(octets, is_sent, said), True
+        octets, is_sent = event.octets, event.direction == '>'
+        outcome, self._has_frames = self.judge.frame(octets, is_sent, event.said), True
         if is_sent and len(octets) == 2 and octets[0] == POLL:
             self.has_polls, self._is_lost = True, False
         return None if outcome.kind == OUTCOME_KEPT else self._of_outcome(octets, outcome)

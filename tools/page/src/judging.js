@@ -57,10 +57,10 @@ export class Judging {
   }
 
   takeMessage(place) {
-    const { log } = this, way = log.judgedWay(place), said = log.isOwn[place] ? way : log.sides[place];
+    const { log } = this;
     this.isBegun = true;
     if (log.codes[place] === POLL) this.isLost = false;
-    const outcome = this.judge.frame(way === DIRECTION.sent, said, log.address(place), log.lengths[place]);
+    const outcome = this.judge.frame(log.judgedWay(place) === DIRECTION.sent, log.sides[place], log.address(place), log.lengths[place]);
     if (outcome) this.note(place, outcome);
   }
 

@@ -20,7 +20,7 @@ export class Log {
     Object.assign(this, { library, name, form, passed, doubts, inTwoLines, isReversed, hasTimes: messages.clocks.some((clock) => clock !== '') });
     this.hasDirections = messages.sides.some((it) => it !== DIRECTION.none);
     Object.assign(this, { count: messages.count, starts: messages.starts, lengths: messages.lengths, lines: messages.lines,
-      times: messages.times, clocks: messages.clocks, sides: messages.sides, isPossible: messages.isPossible, isOwn: messages.isOwn,
+      times: messages.times, clocks: messages.clocks, sides: messages.sides, isPossible: messages.isPossible,
       marks: messages.marks, damaged: messages.damaged, others: messages.others });
     this.arena = arena.hold(messages.octets.subarray(0, messages.end));
     this.poller = arena.poller;
@@ -31,7 +31,7 @@ export class Log {
     this.stamps = new Uint32Array(this.count);
     this.isFaulty = new Uint8Array(this.count);
     this.decodeAll();
-    this.end = !this.hasDirections ? ENDS.bus : end !== ENDS.auto ? end : isReversed && !read.isOwn ? ENDS.module : ENDS.cpu;
+    this.end = !this.hasDirections ? ENDS.bus : end !== ENDS.auto ? end : isReversed && form !== LOG_FORMS.transcript ? ENDS.module : ENDS.cpu;
     this.directions = this.directionsOf();
     this.logged = sidesOf(this);
     this.sign = signOf(this, arena.signs);

@@ -25,8 +25,6 @@ export class MessageList {
     // What the log says of the side that sent each.
     this.sides = new Uint8Array(room);
     this.isPossible = new Uint8Array(room);
-    // Whether its line is one of the project's own transcripts, which says as whose the message is judged.
-    this.isOwn = new Uint8Array(room);
     // The MARKS of the lines directly above each; those above the end of the log are in the place after the last.
     this.marks = new Uint8Array(room);
     this.times = new Float64Array(room);
@@ -38,17 +36,16 @@ export class MessageList {
   }
 
   widen() {
-    for (const name of ['starts', 'lengths', 'lines', 'sides', 'isPossible', 'isOwn', 'marks', 'times']) this[name] = widened(this[name]);
+    for (const name of ['starts', 'lengths', 'lines', 'sides', 'isPossible', 'marks', 'times']) this[name] = widened(this[name]);
   }
 
-  add({ line, side, octets, isPossible, isOwn, time, clock }) {
+  add({ line, side, octets, isPossible, time, clock }) {
     const place = this.count++;
     this.starts[place] = this.end;
     this.lengths[place] = octets.length;
     this.lines[place] = line;
     this.sides[place] = side;
     this.isPossible[place] = isPossible ? 1 : 0;
-    this.isOwn[place] = isOwn ? 1 : 0;
     this.times[place] = time ?? NaN;
     this.clocks.push(clock);
     this.octets.set(octets, this.end);
@@ -70,6 +67,6 @@ export class MessageList {
   // A line that can't be read: a message without octets. `damage` is why it gave no frame, and its text, if it may have held one.
   addBad(line, damage = null) {
     if (damage) this.damaged.set(this.count, damage);
-    this.add({ line, side: DIRECTION.none, octets: new Uint8Array(0), isPossible: false, isOwn: false, time: null, clock: '' });
+    this.add({ line, side: DIRECTION.none, octets: new Uint8Array(0), isPossible: false, time: null, clock: '' });
   }
 }

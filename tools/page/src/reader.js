@@ -58,14 +58,13 @@ export function readLog(library, logReader, file, form) {
 // Makes messages of verdicts.
 export class Found {
   constructor(lines, form, messages, doubts) {
-    // How many frames have the direction of their type in the log's words, how many the other one, and how many of both say it as
-    // transcripts do.
-    Object.assign(this, { lines, form, messages, doubts, passed: REASONS.map(() => 0), inTwoLines: 0, agreeing: 0, reversed: 0, own: 0 });
+    // How many frames have the direction of their type in the log's words, and how many the other one.
+    Object.assign(this, { lines, form, messages, doubts, passed: REASONS.map(() => 0), inTwoLines: 0, agreeing: 0, reversed: 0 });
   }
 
   result() {
-    const { form, messages, passed, doubts, inTwoLines, agreeing, reversed, own } = this;
-    return { form, messages, passed, doubts: doubts.words(), inTwoLines, isReversed: reversed > agreeing, isOwn: own === agreeing + reversed };
+    const { form, messages, passed, doubts, inTwoLines, agreeing, reversed } = this;
+    return { form, messages, passed, doubts: doubts.words(), inTwoLines, isReversed: reversed > agreeing };
   }
 
   textOf(line) {
@@ -101,18 +100,16 @@ export class Found {
   addFrames({ line, kind, said, time, frames, places }) {
     const text = this.textOf(line), isPossible = kind === LOG_KINDS.possible, inTime = time < END_OF_TIME ? time : null;
     const side = DIRECTIONS[said], clock = inTime === null ? '' : clockOf([text, this.textOf(line - 1)], inTime);
-    const isOwn = side !== DIRECTION.none && (text.startsWith('> ') || text.startsWith('< '));
-    if (!isPossible) frames.forEach((octets) => this.noteSide(side, octets[0], isOwn));
+    if (!isPossible) frames.forEach((octets) => this.noteSide(side, octets[0]));
     for (const octets of frames) {
-      this.messages.add({ line, side, octets, isPossible, isOwn, time: inTime, clock });
+      this.messages.add({ line, side, octets, isPossible, time: inTime, clock });
       if (!isPossible && this.form === LOG_FORMS.auto) this.doubts.add(text, octets, places);
     }
   }
 
-  noteSide(side, code, isOwn) {
+  noteSide(side, code) {
     if (side === DIRECTION.none) return;
     if (side === (code < FIRST_ANSWER ? DIRECTION.sent : DIRECTION.heard)) this.agreeing += 1;
     else this.reversed += 1;
-    this.own += isOwn ? 1 : 0;
   }
 }
