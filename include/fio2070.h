@@ -641,7 +641,7 @@ size_t fio2070_heard_text(const struct fio2070_heard *heard, char *text, size_t 
 /** The rules, in the order in which they are tried (own profile; docs/FORMATS.md). */
 enum fio2070_rule {
     FIO2070_RULE_NONE = 0, /**< no rule is broken */
-    /** A line that spells no message of its direction. */
+    /** A line that is no message of its direction. */
     FIO2070_RULE_READABLE = 1,
     /** A line that is an answer, but not directly below a command whose type is 128 less. */
     FIO2070_RULE_PAIR = 2,

@@ -96,8 +96,8 @@ def check_judged(check):
     lost."""
     block = '> 3605\n< b605%s\n'
     for name, octets, words in [('an input', '014500010000000001', 'an entry is of input 69, above 63'),
-                                ('C', '010c00010800000001', 'C says that more entries wait than a block takes, and 1 entries came'),
-                                ('F', '00040000000a', 'F says that entries were pushed out, and C is not there')]:
+                                ('C', '010c00010800000001', 'C says that more entries wait than a block takes, but the block has 1'),
+                                ('F', '00040000000a', 'F says that entries were pushed out, but C is not set')]:
         done = fiolog('check', '-q', text=block % octets)
         check.holds('a breach of limits by ' + name, 'line 2: limits: ' + words in done.out, done.out)
     name = os.path.join(EXAMPLES, 'doubled-entry.transcript')

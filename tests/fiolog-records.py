@@ -141,8 +141,8 @@ def check_course(check):
     check.equal('--whole of a right log', ([], 0), breaches('--whole', text=START + FIRST))
     done = fiolog('check', '-q', text=START + FIRST + AGAIN)
     check.equal('`check` says what a breach means', (
-        1, 'line 8: alternate: input 12 went to 0 twice, and neither a gap mark nor a configuration that was sent can have hidden a '
-        'change between: one was lost, or this one is doubled, or its state is turned'),
+        1, 'line 8: alternate: input 12 went to 0 twice in a row, and neither an overflow (F) nor a configuration that was sent can have '
+        'hidden a change between: an entry was lost, or this entry is doubled or has the wrong state'),
                 (done.status, done.out.splitlines()[0]))
     middle = '< b6050000000003e8\n' + FIRST
     check.equal('in the middle of traffic', ([], 0), breaches(text=middle))

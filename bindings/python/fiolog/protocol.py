@@ -8,7 +8,7 @@ MOST_WAITING = 8192
 
 RULES = {
     1: ('readable',
-        'spells no message of its direction'),
+        'is no message of its direction'),
     2: ('pair',
         'is an answer, but not directly below a command whose type is 128 less'),
     3: ('number',
@@ -32,36 +32,38 @@ RULES = {
 
 CONTENT_RULES = {
     1: ('order',
-        'input {input} is not later than the entry above it, and a module logs changes in order of time, then '
-        'of input: two are swapped, one is doubled, a time is wrong, or the module restarted'),
+        'the entry of input {input} is not later than the entry above it, but a module logs changes in order '
+        'of time, then of input: two entries are swapped, one is doubled, a time is wrong, or the module '
+        'restarted'),
     2: ('fresh',
-        'input {input} changed before the block above was made, which has all changes until then: this one is '
-        'doubled or late, or its time is wrong'),
+        'input {input} changed before the block above was made, and that block had all changes until then: '
+        'this entry is doubled or late, or its time is wrong'),
     3: ('alternate',
-        'input {input} went to {state} twice, and neither a gap mark nor a configuration that was sent can '
-        'have hidden a change between: one was lost, or this one is doubled, or its state is turned'),
+        'input {input} went to {state} twice in a row, and neither an overflow (F) nor a configuration that '
+        'was sent can have hidden a change between: an entry was lost, or this entry is doubled or has the '
+        'wrong state'),
     4: ('apart',
-        'input {input} went to {state} sooner than the shortest filter that it can have had lets it: a time '
-        'or a filter is wrong'),
+        'input {input} went to {state} sooner than the shortest filter that it can have allows: a time or a '
+        'filter is wrong'),
     5: ('ignored',
-        'input {input} changed in the record, though it was ignored and no configuration that was sent since '
-        'opens it: the module does not ignore it, or the entry is of another input'),
+        'input {input} has an entry, but it was ignored, and no configuration that was sent since says to '
+        'report it: the module does not ignore the input, or the entry is of another input'),
     6: ('state',
-        'input {input} had another state in an answer 181 than in the record, and neither a gap mark nor a '
-        'configuration that was sent can have hidden a change between: one was lost or turned, or the answer '
-        'is wrong'),
+        'input {input} has another state in an answer 181 than by its entries, and neither an overflow (F) '
+        'nor a configuration that was sent can have hidden a change between: an entry was lost or has the '
+        'wrong state, or the answer is wrong'),
     7: ('clock',
-        'the counter went back, and no load that was sent explains it: the module restarted, or a stamp is '
-        'wrong'),
+        'the counter of the module went back, and no load that was sent explains it: the module restarted, or '
+        'a stamp is wrong'),
     8: ('done',
-        'the module refused a load of the counter, and has no reason to: it can load any number'),
+        'the module refused to load its counter, but it can load any number'),
     9: ('accepted',
-        'the module refused a configuration, and has no reason to: each input that is named exists'),
+        'the module refused a configuration, but each input that it names exists'),
     10: ('cleared',
-        'a flag is set that the command clears, and the answer says which are left after that: the module did '
-        'not clear it'),
+        'the answer gives the flags that are left, and one that the command clears is still set: the module '
+        'did not clear it'),
     11: ('watchdog',
-        'the module says that no watchdog was set before, and it has answered a command that sets one: it '
+        'the module says that no watchdog was set before, but it has answered a command that sets one: it '
         'restarted, or forgot it'),
 }
 

@@ -151,8 +151,8 @@ def limits_words(block):
     if absent:
         return 'an entry is of input %d, above %d' % (absent[0], INPUTS - 1)
     if block.fields['status'] & MORE:
-        return 'C says that more entries wait than a block takes, and %d entries came' % len(block.parts)
-    return 'F says that entries were pushed out, and C is not there: they are only where more wait than a block takes'
+        return 'C says that more entries wait than a block takes, but the block has %d' % len(block.parts)
+    return 'F says that entries were pushed out, but C is not set: that happens only while more entries wait than a block takes'
 
 
 def content_breach(octets, found):

@@ -20,23 +20,23 @@ pub enum ContentRule {
     /// Judged if a clear block is above the upper entry, the blocks of both are not late, and no load of the counter
     /// excuses it.
     ///
-    /// Breach: input I is not later than the entry above it, and a module logs changes in order of time, then of input: two
-    /// are swapped, one is doubled, a time is wrong, or the module restarted
+    /// Breach: the entry of input I is not later than the entry above it, but a module logs changes in order of time, then of
+    /// input: two entries are swapped, one is doubled, a time is wrong, or the module restarted
     Order,
     /// An entry is later than the stamp of the latest block without C, which had all entries up to that stamp.
     ///
     /// Judged if that block or one above it is clear, the block of the entry is not late, and no load of the counter
     /// excuses it.
     ///
-    /// Breach: input I changed before the block above was made, which has all changes until then: this one is doubled or
-    /// late, or its time is wrong
+    /// Breach: input I changed before the block above was made, and that block had all changes until then: this entry is
+    /// doubled or late, or its time is wrong
     Fresh,
     /// The entries of an input have the states 0 and 1 in turn.
     ///
     /// Judged if the input is watched from the earlier entry on.
     ///
-    /// Breach: input I went to S twice, and neither a gap mark nor a configuration that was sent can have hidden a change
-    /// between: one was lost, or this one is doubled, or its state is turned
+    /// Breach: input I went to S twice in a row, and neither an overflow (F) nor a configuration that was sent can have
+    /// hidden a change between: an entry was lost, or this entry is doubled or has the wrong state
     Alternate,
     /// An entry of an input follows the one before no sooner than the filter for its change lets it.
     ///
@@ -44,15 +44,15 @@ pub enum ContentRule {
     /// excuses it. The filter is the least that can be in force: at first 1; an item that is sent can lower it; a block
     /// that settles the input sets it to its last item, if the answer to that says done.
     ///
-    /// Breach: input I went to S sooner than the shortest filter that it can have had lets it: a time or a filter is wrong
+    /// Breach: input I went to S sooner than the shortest filter that it can have allows: a time or a filter is wrong
     Apart,
     /// An input that is ignored has no entry.
     ///
     /// Judged if above some block that settles the input its last item ignores it, and the answer to that says done, and
     /// no item that is sent below opens the input.
     ///
-    /// Breach: input I changed in the record, though it was ignored and no configuration that was sent since opens it: the
-    /// module does not ignore it, or the entry is of another input
+    /// Breach: input I has an entry, but it was ignored, and no configuration that was sent since says to report it: the
+    /// module does not ignore the input, or the entry is of another input
     Ignored,
     /// An answer 181 has the states of the record at its stamp.
     ///
@@ -62,31 +62,32 @@ pub enum ContentRule {
     /// another state in the next 181 and no entry between is not logged, and has none: till an item of it is sent, if none
     /// was since the latest block that settles it.
     ///
-    /// Breach: input I had another state in an answer 181 than in the record, and neither a gap mark nor a configuration
-    /// that was sent can have hidden a change between: one was lost or turned, or the answer is wrong
+    /// Breach: input I has another state in an answer 181 than by its entries, and neither an overflow (F) nor a configuration
+    /// that was sent can have hidden a change between: an entry was lost or has the wrong state, or the answer is wrong
     State,
     /// The stamp of a 177, 180 or 181, or of a block without E, is not before the latest one above.
     ///
     /// Judged if no load of the counter excuses it.
     ///
-    /// Breach: the counter went back, and no load that was sent explains it: the module restarted, or a stamp is wrong
+    /// Breach: the counter of the module went back, and no load that was sent explains it: the module restarted, or a stamp
+    /// is wrong
     Clock,
     /// An answer 178 has no S: a load of the counter is never refused.
     ///
-    /// Breach: the module refused a load of the counter, and has no reason to: it can load any number
+    /// Breach: the module refused to load its counter, but it can load any number
     Done,
     /// An answer 179 has no S, if its configuration names no input above 63.
     ///
-    /// Breach: the module refused a configuration, and has no reason to: each input that is named exists
+    /// Breach: the module refused a configuration, but each input that it names exists
     Accepted,
     /// An answer 177 has none of the flags that its command clears.
     ///
-    /// Breach: a flag is set that the command clears, and the answer says which are left after that: the module did not
+    /// Breach: the answer gives the flags that are left, and one that the command clears is still set: the module did not
     /// clear it
     Cleared,
     /// An answer 186 has Y, if another 186 is above.
     ///
-    /// Breach: the module says that no watchdog was set before, and it has answered a command that sets one: it restarted,
+    /// Breach: the module says that no watchdog was set before, but it has answered a command that sets one: it restarted,
     /// or forgot it
     Watchdog,
 }

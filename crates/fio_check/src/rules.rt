@@ -13,7 +13,7 @@ use fio_message::types::BLOCK_ANSWER;
 /// `tools/generate-constants` makes the words of pages and tools of these.
 #[derive(Clone, Copy, Debug, PartialEq, Eq, PartialOrd, Ord, Hash)]
 pub enum Rule {
-    /// Broken by a line that spells no message of its direction.
+    /// Broken by a line that is no message of its direction.
     Readable,
     /// Broken by a line that is an answer, but not directly below a command whose type is 128 less.
     Pair,

@@ -39,7 +39,7 @@ export const ADVANCE_BREACHES = {
 };
 export const RULE_BREACHES = [
   '',
-  'spells no message of its direction',
+  'is no message of its direction',
   'is an answer, but not directly below a command whose type is 128 less',
   'is a block answer with another number than the poll directly above',
   'is a poll, not the first, with another number than the one due: that of the poll before, plus one modulo 256 if a block answer is directly below that poll',
@@ -51,15 +51,15 @@ export const RULE_BREACHES = [
 ];
 export const CONTENT_BREACHES = [
   '',
-  'input {input} is not later than the entry above it, and a module logs changes in order of time, then of input: two are swapped, one is doubled, a time is wrong, or the module restarted',
-  'input {input} changed before the block above was made, which has all changes until then: this one is doubled or late, or its time is wrong',
-  'input {input} went to {state} twice, and neither a gap mark nor a configuration that was sent can have hidden a change between: one was lost, or this one is doubled, or its state is turned',
-  'input {input} went to {state} sooner than the shortest filter that it can have had lets it: a time or a filter is wrong',
-  'input {input} changed in the record, though it was ignored and no configuration that was sent since opens it: the module does not ignore it, or the entry is of another input',
-  'input {input} had another state in an answer 181 than in the record, and neither a gap mark nor a configuration that was sent can have hidden a change between: one was lost or turned, or the answer is wrong',
-  'the counter went back, and no load that was sent explains it: the module restarted, or a stamp is wrong',
-  'the module refused a load of the counter, and has no reason to: it can load any number',
-  'the module refused a configuration, and has no reason to: each input that is named exists',
-  'a flag is set that the command clears, and the answer says which are left after that: the module did not clear it',
-  'the module says that no watchdog was set before, and it has answered a command that sets one: it restarted, or forgot it',
+  'the entry of input {input} is not later than the entry above it, but a module logs changes in order of time, then of input: two entries are swapped, one is doubled, a time is wrong, or the module restarted',
+  'input {input} changed before the block above was made, and that block had all changes until then: this entry is doubled or late, or its time is wrong',
+  'input {input} went to {state} twice in a row, and neither an overflow (F) nor a configuration that was sent can have hidden a change between: an entry was lost, or this entry is doubled or has the wrong state',
+  'input {input} went to {state} sooner than the shortest filter that it can have allows: a time or a filter is wrong',
+  'input {input} has an entry, but it was ignored, and no configuration that was sent since says to report it: the module does not ignore the input, or the entry is of another input',
+  'input {input} has another state in an answer 181 than by its entries, and neither an overflow (F) nor a configuration that was sent can have hidden a change between: an entry was lost or has the wrong state, or the answer is wrong',
+  'the counter of the module went back, and no load that was sent explains it: the module restarted, or a stamp is wrong',
+  'the module refused to load its counter, but it can load any number',
+  'the module refused a configuration, but each input that it names exists',
+  'the answer gives the flags that are left, and one that the command clears is still set: the module did not clear it',
+  'the module says that no watchdog was set before, but it has answered a command that sets one: it restarted, or forgot it',
 ];

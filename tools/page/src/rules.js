@@ -59,6 +59,6 @@ function limitsWords(log, place) {
   const absent = log.words(place).map((line) => Number((/^ *input (\d+) /.exec(line) || [])[1])).find((input) => input >= INPUTS);
   if (absent !== undefined) return `an entry is of input ${absent}, above ${INPUTS - 1}`;
   return log.status[place] & STATUS_BITS.more
-    ? `C says that more entries wait than a block takes, and ${log.entries[place]} entries came`
-    : 'F says that entries were pushed out, and C is not there: they are only when more wait than a block takes';
+    ? `C says that more entries wait than a block takes, but the block has ${log.entries[place]}`
+    : 'F says that entries were pushed out, but C is not set: that happens only while more entries wait than a block takes';
 }
