@@ -8,7 +8,7 @@ _fiolog() {
         'stats:how much, how often, how fast'
         'plan:how often to poll, how long an outage may last, how late a transition can be'
         'convert:the frames as a transcript, frames, pcapng or VCD'
-        'record:what the CPU learned, and what breaks a rule on content'
+        'record:what the CPU learned, and the entries and answers that no right module sends'
         'live:decodes a line that talks now, and checks it by all these rules'
     )
     if (( CURRENT == 2 )); then
@@ -25,7 +25,7 @@ _fiolog() {
             '-h[show this help message and exit]' \
             '--help[show this help message and exit]' \
             '--format[auto (the default); frames or transcript, as fio2070 show and check read lines]:name:(auto frames transcript)' \
-            '--pattern[an expression with the groups octets (hexadecimal digits) and perhaps time and dir]:regex:' \
+            '--pattern[a regular expression with the group octets (hexadecimal digits), and if you like time and dir]:regex:' \
             '--sdlc[each line ends with frames that have address, control and frame check; with flags, a frame may go on in the next line, or row of a dump]' \
             '--no-check[with --sdlc, each line ends with one frame, without the frame check]' \
             '--line[the file is what a line carried, octets, or bits (bits-high-first), one a clock, as a text of 0 and 1 or eight to an octet]:form:(octets bits bits-high-first)' \
@@ -33,8 +33,8 @@ _fiolog() {
             '--merge[read the files as one log, in the order of their times, such as one file of each channel]' \
             '-v[name each line that is skipped, and why]' \
             '--verbose[name each line that is skipped, and why]' \
-            '-q[say nothing on standard error but faults]' \
-            '--quiet[say nothing on standard error but faults]' \
+            '-q[write only errors to standard error]' \
+            '--quiet[write only errors to standard error]' \
             '--json[one object a line, file, line, time (seconds or null), direction (> or <) and octets; then fault, or type, says, the numbers of that message by name, what its status bits say, of a repeated block that it is one, and entries or items]' \
             '--csv[a table; an entry a row]' \
             '--input[only messages with this input, and of them its lines]:n:' \
@@ -51,7 +51,7 @@ _fiolog() {
             '-h[show this help message and exit]' \
             '--help[show this help message and exit]' \
             '--format[auto (the default); frames or transcript, as fio2070 show and check read lines]:name:(auto frames transcript)' \
-            '--pattern[an expression with the groups octets (hexadecimal digits) and perhaps time and dir]:regex:' \
+            '--pattern[a regular expression with the group octets (hexadecimal digits), and if you like time and dir]:regex:' \
             '--sdlc[each line ends with frames that have address, control and frame check; with flags, a frame may go on in the next line, or row of a dump]' \
             '--no-check[with --sdlc, each line ends with one frame, without the frame check]' \
             '--line[the file is what a line carried, octets, or bits (bits-high-first), one a clock, as a text of 0 and 1 or eight to an octet]:form:(octets bits bits-high-first)' \
@@ -59,13 +59,13 @@ _fiolog() {
             '--merge[read the files as one log, in the order of their times, such as one file of each channel]' \
             '-v[name each line that is skipped, and why]' \
             '--verbose[name each line that is skipped, and why]' \
-            '-q[say nothing on standard error but faults]' \
-            '--quiet[say nothing on standard error but faults]' \
+            '-q[write only errors to standard error]' \
+            '--quiet[write only errors to standard error]' \
             '--at[where the log was taken; auto, at the CPU where directions say so, else on the bus]:at:(auto cpu module bus)' \
             '--start-at-poll[leave out what comes before the first poll]' \
-            '--whole[the log begins with the start of both ends, more is found]' \
+            '--whole[the log begins at the start of both ends, then more faults can be found]' \
             '--limits[of the module, the most entries of a block, and the most that wait (255 1024)]:entries::waiting:' \
-            '--rules[transcript, the rules of transcripts alone]:rules:(all transcript)' \
+            '--rules[transcript, only the rules on the order of messages, not those on what entries and answers say]:rules:(all transcript)' \
             '--except[leave out breaches of this rule, and count them; may be given again]:rule:(readable pair number advance same sequence limits rest refusal order fresh alternate apart ignored state clock done accepted cleared watchdog)' \
             '--explain[say what this rule says, and read no log]:rule:(readable pair number advance same sequence limits rest refusal order fresh alternate apart ignored state clock done accepted cleared watchdog)' \
             '--late-answers[leave out answers that came late or twice, and count them]' \
@@ -77,7 +77,7 @@ _fiolog() {
             '-h[show this help message and exit]' \
             '--help[show this help message and exit]' \
             '--format[auto (the default); frames or transcript, as fio2070 show and check read lines]:name:(auto frames transcript)' \
-            '--pattern[an expression with the groups octets (hexadecimal digits) and perhaps time and dir]:regex:' \
+            '--pattern[a regular expression with the group octets (hexadecimal digits), and if you like time and dir]:regex:' \
             '--sdlc[each line ends with frames that have address, control and frame check; with flags, a frame may go on in the next line, or row of a dump]' \
             '--no-check[with --sdlc, each line ends with one frame, without the frame check]' \
             '--line[the file is what a line carried, octets, or bits (bits-high-first), one a clock, as a text of 0 and 1 or eight to an octet]:form:(octets bits bits-high-first)' \
@@ -85,8 +85,8 @@ _fiolog() {
             '--merge[read the files as one log, in the order of their times, such as one file of each channel]' \
             '-v[name each line that is skipped, and why]' \
             '--verbose[name each line that is skipped, and why]' \
-            '-q[say nothing on standard error but faults]' \
-            '--quiet[say nothing on standard error but faults]' \
+            '-q[write only errors to standard error]' \
+            '--quiet[write only errors to standard error]' \
             '--jobs[with several logs, read this many at a time (all processors)]:n:' \
             '--json[one object; with several logs one for each, and one for all]' \
             '*:file:_files' ;;
@@ -112,7 +112,7 @@ _fiolog() {
             '-h[show this help message and exit]' \
             '--help[show this help message and exit]' \
             '--format[auto (the default); frames or transcript, as fio2070 show and check read lines]:name:(auto frames transcript)' \
-            '--pattern[an expression with the groups octets (hexadecimal digits) and perhaps time and dir]:regex:' \
+            '--pattern[a regular expression with the group octets (hexadecimal digits), and if you like time and dir]:regex:' \
             '--sdlc[each line ends with frames that have address, control and frame check; with flags, a frame may go on in the next line, or row of a dump]' \
             '--no-check[with --sdlc, each line ends with one frame, without the frame check]' \
             '--line[the file is what a line carried, octets, or bits (bits-high-first), one a clock, as a text of 0 and 1 or eight to an octet]:form:(octets bits bits-high-first)' \
@@ -120,8 +120,8 @@ _fiolog() {
             '--merge[read the files as one log, in the order of their times, such as one file of each channel]' \
             '-v[name each line that is skipped, and why]' \
             '--verbose[name each line that is skipped, and why]' \
-            '-q[say nothing on standard error but faults]' \
-            '--quiet[say nothing on standard error but faults]' \
+            '-q[write only errors to standard error]' \
+            '--quiet[write only errors to standard error]' \
             '--to[]:to:(transcript frames pcapng vcd)' \
             '-o[where to (standard output)]:file:_files' \
             '--output[where to (standard output)]:file:_files' \
@@ -132,7 +132,7 @@ _fiolog() {
             '-h[show this help message and exit]' \
             '--help[show this help message and exit]' \
             '--format[auto (the default); frames or transcript, as fio2070 show and check read lines]:name:(auto frames transcript)' \
-            '--pattern[an expression with the groups octets (hexadecimal digits) and perhaps time and dir]:regex:' \
+            '--pattern[a regular expression with the group octets (hexadecimal digits), and if you like time and dir]:regex:' \
             '--sdlc[each line ends with frames that have address, control and frame check; with flags, a frame may go on in the next line, or row of a dump]' \
             '--no-check[with --sdlc, each line ends with one frame, without the frame check]' \
             '--line[the file is what a line carried, octets, or bits (bits-high-first), one a clock, as a text of 0 and 1 or eight to an octet]:form:(octets bits bits-high-first)' \
@@ -140,11 +140,11 @@ _fiolog() {
             '--merge[read the files as one log, in the order of their times, such as one file of each channel]' \
             '-v[name each line that is skipped, and why]' \
             '--verbose[name each line that is skipped, and why]' \
-            '-q[say nothing on standard error but faults]' \
-            '--quiet[say nothing on standard error but faults]' \
+            '-q[write only errors to standard error]' \
+            '--quiet[write only errors to standard error]' \
             '--at[where the log was taken; auto, at the CPU where directions say so, else on the bus]:at:(auto cpu module bus)' \
             '--start-at-poll[leave out what comes before the first poll]' \
-            '--whole[the log begins with the start of both ends, more is found]' \
+            '--whole[the log begins at the start of both ends, then more faults can be found]' \
             '--limits[of the module, the most entries of a block, and the most that wait (255 1024)]:entries::waiting:' \
             '--text[as fio2070 record writes it, to the first breach or restart]' \
             '--json[one object a line, an item, with breaks a breach, or with outcome a restart]' \
@@ -172,7 +172,7 @@ _fiolog() {
             '--pcapng[write it as pcapng; - for | wireshark -k -i -]:file:_files' \
             '--force[overwrite files that are there already]' \
             '--at[where it is heard]:at:(auto cpu module bus)' \
-            '--whole[the log begins with the start of both ends, more is found]' \
+            '--whole[the log begins at the start of both ends, then more faults can be found]' \
             '--limits[of the module, the most entries of a block, and the most that wait (255 1024)]:entries::waiting:' \
             '--except[leave out breaches of this rule, and count them; may be given again]:rule:(readable pair number advance same sequence limits rest refusal order fresh alternate apart ignored state clock done accepted cleared watchdog)' \
             '--late-answers[leave out answers that came late or twice, and count them]' \

@@ -113,7 +113,7 @@ def check_judged(check):
 def check_words(check):
     """What is written on standard error, and the statuses."""
     done = fiolog('decode', text=LOG)
-    check.equal('a log that is read whole', (0, 'fiolog: frames of types that have any length: 2; a cut in one of them is not seen\n'), (done.status, done.err))
+    check.equal('a log that is read whole', (0, 'fiolog: frames of types that may have any length: 2; if the logger cut one off, nothing shows it\n'), (done.status, done.err))
     done = fiolog('decode', '-v', text=LOG + 'link down\n')
     check.holds('a line that is skipped', 'line %d: no octets: link down' % (len(SESSION) + 1) in done.err, done.err)
     check.holds('how many are skipped', '1 of %d lines skipped: no octets' % (len(SESSION) + 1) in done.err)

@@ -59,7 +59,7 @@ def check_forms(check, folder):
     live.communicate(timeout=20)
     done = fiolog('live', '--seconds', '3', '--exec', "sh -c 'for second in 1 2 3 4; do echo 12:00:0$second.000 TX 36 05; done; exec sleep 20'")
     check.equal('so is each of a log, once and as a possible one, while the module is silent',
-                ['%d:     12:00:0%d.000 > poll block 5  possible: nothing makes it sure' % (number, number) for number in range(1, 5)],
+                ['%d:     12:00:0%d.000 > poll block 5  possible: nothing in the log confirms it' % (number, number) for number in range(1, 5)],
                 done.out.splitlines()[:-1])
     done = fiolog('live', '-q', '--exec', 'echo hello')
     check.equal('a process that writes no frame', (1, 1), (numbers_of(done.out)['skipped lines'], done.status))

@@ -74,7 +74,7 @@ def check_cures(check):
         block % (number, number)).replace(' 00 00', '\nRX 00 00', int(number % 3 == 0))) for number in range(1, 9))
     done = fiolog('check', text=pieces)
     check.equal('messages in two lines without times', (0, True, True, False), (
-        done.status, 'messages stand in two lines: 2, in 4 lines, which are not read' in done.err, '4 lines with parts of messages' in done.out,
+        done.status, 'messages split over two lines, which are not read: 2 (4 lines)' in done.err, '4 lines with parts of messages' in done.out,
         'damaged' in done.out + done.err))
     check.equal('their lines are shown', 4, fiolog('decode', text=pieces).out.count('? part of a message in two lines: '))
     binary = bytes.fromhex('7e1483') + bytes.fromhex('b6050000000000010a') * 30
@@ -93,14 +93,14 @@ def check_few(check):
             ('half of it', whole + cut * 2, None), ('less than half', whole + cut * 3, '2 of 5'), ('three answers', 'RX B3 00\n' * 3, '0 of 3'),
             ('answers above most', 'RX B3 00\n' * 3 + whole, '2 of 5'), ('lines of another form', whole + 'RX B6 06 00 00 00 00 00 02 A4 7C\n' * 3, '2 of 5')):
         done = fiolog('check', text=text)
-        found = re.findall('less than half of what says messages was judged: (.*)', done.err)
+        found = re.findall('fewer than half of the messages that this log may have were judged: (.*)', done.err)
         check.equal('judged: ' + name, (int(bool(words)), [words] * bool(words)), (done.status, found))
         check.equal('record: ' + name, int(bool(words)), fiolog('record', text=text).status)
     with tempfile.TemporaryDirectory() as folder:
         path = os.path.join(folder, 'few')
         with open(path, 'w', encoding='ascii') as file:
             file.write(whole + cut * 3)
-        check.equal('a row of many says it', (1, True), (fiolog('check', path, path).status, 'less than half judged' in fiolog('check', path, path).out))
+        check.equal('a row of many says it', (1, True), (fiolog('check', path, path).status, 'fewer than half judged' in fiolog('check', path, path).out))
 
 
 def check_except(check):
@@ -138,7 +138,7 @@ def check_places(check):
             ('below other damage nobody is', [], good + cut + '> 3607\n', []),
             ('the CPU did not hear a wrong check', ['--sdlc', '--at', 'cpu'], checked, ['line 5: advance']),
             ('on the bus it may have', ['--sdlc', '--at', 'bus'], checked, []),
-            ('the state of an entry below a gap mark', ['--limits', '255', '64'], good + '< b606028c000b8c000d040000000e\n', ['line 4: alternate: input 12 went to 1 twice'])):
+            ('the state of an entry below a gap mark', ['--limits', '255', '64'], good + '< b606028c000b8c000d040000000e\n', ['line 4: alternate: input 12 went to 1 twice in a row'])):
         found = fiolog('check', *words, text=text).out
         check.equal('judged: %s' % name, expected, re.findall(r'^line \d+: \w+(?:: input[^,]*)?', found, re.M))
     again = '%s 36 05\n%s B6 05 00 00 00 00 00 01\n%s 36 05\n%s B6 05 00 02 00 00 00 01\n'
@@ -165,7 +165,7 @@ def check_said(check):
     named = re.findall(r'line (\d): no octets: (\w+)', fiolog('check', '-v', text=frames + 'one\ntwo\nthree\n').err)
     check.equal('the text of each line', [('3', 'one'), ('4', 'two'), ('5', 'three')], named)
     done = fiolog('check', text='TX 0x36 0x5\nRX 0xb6 0x5 0x0 0x0 0x0 0x0 0x0 0x1\n')
-    check.holds('octets without zeros', 'frames with octets as numbers without zeros before them: 2;' in done.err, done.err)
+    check.holds('octets without zeros', 'frames whose octets are numbers without leading zeros: 2;' in done.err, done.err)
 
 
 def check_hints(check):

@@ -17,7 +17,7 @@ from support.tables import TOP, output_of
 SHOWN_OCTETS = 40
 # The rows of the log that is open, and what is said below the verdict.
 SEEN = '''const rows = () => { %s }; return { rows: rows(), note: document.getElementById("note").textContent };''' % CELLS
-POSSIBLE, BAD_LINE = 'possible: nothing makes it sure', 'damaged: bad line'
+POSSIBLE, BAD_LINE = 'possible: nothing in the log confirms it', 'damaged: bad line'
 # Lines that give the library no frame, each by itself; the page has a row for each.
 IN_TWO_LINES = 'part of a message in two lines'
 

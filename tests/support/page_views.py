@@ -32,7 +32,7 @@ def check_verdict(check, browser, name):
             ('a breach above the first poll', '> 34\n< b605000000000001\n> 3606\n< b606000000000002\n', 'broken', 'in the middle of traffic'),
             ('one poll, over and over', '> 3605\n' * 4, 'partly', 'No answer came: the module is silent, or its direction was not logged'),
             ('an answer in two lines', 'TX 36 05\nRX B6 05 00 00\nRX 00 00 00 01\nTX 36 05\nRX B6 05 00 02 00 00 00 01\nTX 36 06\n', 'partly',
-             '1 message in two lines each is not read'),
+             '1 message split over two lines is not read'),
             ('a log of which less than half is judged', '> 3605\n' + '> 36f\n' * 3 + '< b605000000000001\n', 'unjudged', '3 lines could not be read'),
             ('a log of the other end', '07:15:02.100 RX 36 05\n07:15:02.106 TX B6 05 00 00 00 00 00 01\n', 'good', '')]:
         pasted(browser, text)

@@ -17,7 +17,7 @@ COMMANDS = {
     'stats': 'how much, how often, how fast',
     'plan': 'how often to poll, how long an outage may last, how late a transition can be',
     'convert': 'the frames as a transcript, frames, pcapng or VCD',
-    'record': 'what the CPU learned, and what breaks a rule on content',
+    'record': 'what the CPU learned, and the entries and answers that no right module sends',
     'live': 'decodes a line that talks now, and checks it by all these rules',
 }
 

@@ -1,5 +1,5 @@
-"""`fiolog check`: every breach of the rules of transcripts and on content, with what was due and what came, or what it
-means."""
+"""`fiolog check`: every breach of the rules on the order of messages and on what entries and answers say; with what should have
+come and what came, or with what the breach means."""
 
 import argparse
 import json
@@ -32,7 +32,7 @@ def add_place(parser):
 
 def add_whole(parser):
     """The option of what is above a log."""
-    parser.add_argument('--whole', action='store_true', help='the log begins with the start of both ends: more is found')
+    parser.add_argument('--whole', action='store_true', help='the log begins at the start of both ends: then more faults can be found')
 
 
 def add_limits(parser):
@@ -74,7 +74,7 @@ class Limits(argparse.Action):
 def add_arguments(parser):
     log.add_arguments(parser)
     add_place(parser)
-    parser.add_argument('--rules', choices=('all', 'transcript'), default='all', help='transcript: the rules of transcripts alone')
+    parser.add_argument('--rules', choices=('all', 'transcript'), default='all', help='transcript: only the rules on the order of messages, not those on what entries and answers say')
     add_except(parser)
     parser.add_argument('--explain', action=Explain, choices=NAMES, metavar='RULE', help='say what this rule says, and read no log')
     add_late_answers(parser)

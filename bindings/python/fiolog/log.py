@@ -20,7 +20,7 @@ def add_arguments(parser):
     parser.add_argument('files', nargs='*', default=['-'], metavar='FILE', help='logs; - is standard input, the default')
     parser.add_argument('--format', choices=FORMS, default='auto', metavar='NAME',
                         help='auto (the default); frames or transcript: as `fio2070 show` and `check` read lines')
-    parser.add_argument('--pattern', metavar='REGEX', help='an expression with the groups octets (hexadecimal digits) and perhaps time and dir')
+    parser.add_argument('--pattern', metavar='REGEX', help='a regular expression with the group octets (hexadecimal digits), and if you like time and dir')
     parser.add_argument('--sdlc', action='store_true', help='each line ends with frames that have address, control and frame check; with '
                                                             'flags, a frame may go on in the next line, or row of a dump')
     parser.add_argument('--no-check', action='store_true', help='with --sdlc: each line ends with one frame, without the frame check')
@@ -31,7 +31,7 @@ def add_arguments(parser):
     parser.add_argument('--merge', action='store_true', help='read the files as one log, in the order of their times: such as one file '
                                                              'of each channel')
     parser.add_argument('-v', '--verbose', action='store_true', help='name each line that is skipped, and why')
-    parser.add_argument('-q', '--quiet', action='store_true', help='say nothing on standard error but faults')
+    parser.add_argument('-q', '--quiet', action='store_true', help='write only errors to standard error')
 
 
 def add_address(parser):
@@ -88,7 +88,7 @@ class Log:
             self.lines += reader.count
             self._note(reader)
         if both.is_apart:
-            say('a file ends before another begins: are they of one line, and of one time?')
+            say('one file ends before another begins: are they of the same link and the same time?')
 
     def _note(self, reader):
         """Notes what a reader found, at the end of its file."""
@@ -109,7 +109,7 @@ class Log:
     def _of_file(self, name, reader):
         descriptor = source.opened(name)
         if not self.option.quiet and os.isatty(descriptor):
-            say('reading what is typed: a log is named behind the command')
+            say('reading from the terminal: to read a log, name its file after the command')
         with Progress(descriptor, self.option.quiet, self.writes) as progress:
             for chunk in source.chunks_of(descriptor, progress.add, self.idle, name, not getattr(self.option, 'line', '')):
                 self.is_binary = source.is_binary(chunk) if self.is_binary is None else self.is_binary
@@ -140,12 +140,12 @@ class Log:
                 self.flagged, ' has' if self.flagged == 1 else 's have'))
         damaged = self.damaged
         if self.kinds[PIECE] and not self.option.quiet:
-            say('messages stand in two lines: %d, in %d lines, which are not read' % (self.kinds[PIECE] // 2, self.kinds[PIECE]))
+            say('messages split over two lines, which are not read: %d (%d lines)' % (self.kinds[PIECE] // 2, self.kinds[PIECE]))
         if damaged and not self.option.quiet:
             say('%d damaged line%s may have held a frame: nobody is accused up to the next poll%s'
                 % (damaged, 's' * (damaged > 1), '' if self.option.verbose else ' (-v names each)'))
         if self.kinds[POSSIBLE] and not self.option.quiet:
-            say('lines that say a message which nothing makes sure: %d%s' % (
+            say('possible messages, which nothing in the log confirms: %d%s' % (
                 self.kinds[POSSIBLE], '' if takes_possible else '; `fiolog decode` shows them'))
         say_others(self.others, self.option.quiet and found)
         if not found and not (takes_possible and self.kinds[POSSIBLE]):

@@ -20,11 +20,11 @@ CURES = {
     REASONS['exchanged']: 'write the log with `xxd` or `hexdump -C`',
     REASONS['two more']: 'try --sdlc --no-check if they are at the beginning, --pattern if they are at the end',
 }
-POSSIBLE = 'possible: nothing makes it sure'
+POSSIBLE = 'possible: nothing in the log confirms it'
 DOUBTS = {
-    'rows': 'an octet is in each row: where a row is missing, the rest may be another message',
-    'numbers': 'frames with octets as numbers without zeros before them: {count}; a digit that is lost is not seen',
-    'loose': 'frames of types that have any length: {count}; a cut in one of them is not seen',
+    'rows': 'each row has one octet: if a row is missing, the rest may read as another message',
+    'numbers': 'frames whose octets are numbers without leading zeros: {count}; if the log lost a digit, nothing shows it',
+    'loose': 'frames of types that may have any length: {count}; if the logger cut one off, nothing shows it',
 }
 SIDES = {
     'commands': 'this log has the commands alone: the answers were not logged, so no rule is judged',

@@ -32,9 +32,9 @@ RULES = {
 
 CONTENT_RULES = {
     1: ('order',
-        'the entry of input {input} is not later than the entry above it, but a module logs changes in order '
-        'of time, then of input: two entries are swapped, one is doubled, a time is wrong, or the module '
-        'restarted'),
+        'input {input} has an entry that is not later than the one above it, but a module logs changes in '
+        'order of time, then of input: two entries are swapped, one is doubled, a time is wrong, or the '
+        'module restarted'),
     2: ('fresh',
         'input {input} changed before the block above was made, and that block had all changes until then: '
         'this entry is doubled or late, or its time is wrong'),

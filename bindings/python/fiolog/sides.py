@@ -24,11 +24,11 @@ WORDS = {
     ANSWERS: SIDES[ANSWERS] + _MERGE,
     NOT_WHOLE: SIDES[NOT_WHOLE],
     SILENT: SIDES[SILENT],
-    FEW: 'less than half of what says messages was judged: {judged} of {said}',
+    FEW: 'fewer than half of the messages that this log may have were judged: {judged} of {said}',
 }
 # As a row of a table says it.
 IN_SHORT = {COMMANDS: 'the commands alone', ANSWERS: 'the answers alone', NOT_WHOLE: 'no whole answer', SILENT: 'no answer came',
-            FEW: 'less than half judged'}
+            FEW: 'fewer than half judged'}
 
 
 def say(judgements):

@@ -20,8 +20,8 @@ pub enum ContentRule {
     /// Judged if a clear block is above the upper entry, the blocks of both are not late, and no load of the counter
     /// excuses it.
     ///
-    /// Breach: the entry of input I is not later than the entry above it, but a module logs changes in order of time, then of
-    /// input: two entries are swapped, one is doubled, a time is wrong, or the module restarted
+    /// Breach: input I has an entry that is not later than the one above it, but a module logs changes in order of time, then
+    /// of input: two entries are swapped, one is doubled, a time is wrong, or the module restarted
     Order,
     /// An entry is later than the stamp of the latest block without C, which had all entries up to that stamp.
     ///

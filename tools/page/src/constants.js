@@ -51,7 +51,7 @@ export const RULE_BREACHES = [
 ];
 export const CONTENT_BREACHES = [
   '',
-  'the entry of input {input} is not later than the entry above it, but a module logs changes in order of time, then of input: two entries are swapped, one is doubled, a time is wrong, or the module restarted',
+  'input {input} has an entry that is not later than the one above it, but a module logs changes in order of time, then of input: two entries are swapped, one is doubled, a time is wrong, or the module restarted',
   'input {input} changed before the block above was made, and that block had all changes until then: this entry is doubled or late, or its time is wrong',
   'input {input} went to {state} twice in a row, and neither an overflow (F) nor a configuration that was sent can have hidden a change between: an entry was lost, or this entry is doubled or has the wrong state',
   'input {input} went to {state} sooner than the shortest filter that it can have allows: a time or a filter is wrong',

@@ -60,7 +60,7 @@ function sentencesOf(log, isJudged) {
   const [first] = log.breaches.keys(), poll = log.codes.indexOf(POLL);
   const unread = badLines - 2 * inTwoLines;
   if (unread > 0) said.push(`${counted(unread, 'line')} could not be read as a message and ${are(unread)} not judged.`);
-  if (inTwoLines > 0) said.push(`${counted(inTwoLines, 'message')} in two lines each ${are(inTwoLines)} not read.`);
+  if (inTwoLines > 0) said.push(`${counted(inTwoLines, 'message')} split over two lines ${are(inTwoLines)} not read.`);
   if (possible > 0) {
     said.push(`${counted(possible, 'message')} ${are(possible)} possible and not judged: nothing in the log makes sure that the octets are a message.`);
   }
