@@ -150,11 +150,18 @@ export class Log {
     return this.codes[above] + FIRST_ANSWER !== this.codes[place];
   }
 
-  // Whether a message is a poll with no block answer directly below. Above a damaged line that is not known.
+  // Whether an answer is to a command above: a block of the number that was polled last, or of the one before.
+  answersAbove(place) {
+    const asked = place > 0 ? this.codes.lastIndexOf(this.codes[place] - FIRST_ANSWER, place - 1) : -1;
+    return asked >= 0 && (this.codes[place] !== BLOCK || (this.blocks[asked] - this.blocks[place] & 255) < 2);
+  }
+
+  // Whether a message is a poll with no block answer directly below. Above a damaged line that is not known, nor in a log that
+  // has one direction alone.
   isUnanswered(place) {
     let next = place + 1;
     while (this.others.has(next)) next += 1;
-    return this.codes[place] === POLL && this.codes[next] !== BLOCK && !this.damaged.has(next);
+    return this.codes[place] === POLL && this.codes[next] !== BLOCK && !this.damaged.has(next) && !isOfOneSide(this.logged);
   }
 
   // The text that `show` writes of these messages.

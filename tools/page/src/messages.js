@@ -28,13 +28,18 @@ const FACTS = [
   ['others', 'other frame', (log, place) => log.others.has(place), 'warn'],
   ['gaps', 'gap mark', (log, place) => hasBit(log, place, STATUS_BITS.lost), 'bad'],
   ['repeats', 'repeated block', (log, place) => hasBit(log, place, STATUS_BITS.again), 'warn'],
-  ['unanswered', 'unanswered poll', (log, place) => log.isUnanswered(place), 'warn'],
+  ['unanswered', 'lost answer', (log, place) => log.isUnanswered(place), 'warn'],
   ['polls', 'poll', (log, place) => log.codes[place] === POLL],
   ['blocks', 'block', (log, place) => log.codes[place] === BLOCK],
   ['entries', 'entry', (log, place) => log.entries[place] > 0],
 ];
 
 const pluralOf = (noun) => noun.endsWith('y') ? noun.slice(0, -1) + 'ies' : noun.endsWith('h') ? noun + 'es' : noun + 's';
+// The noun of a fact. What may be no message is a row too.
+function nounOf(log, name, words) {
+  const { messages, badLines, possible } = log.summary, noun = name === 'messages' && badLines + possible > 0 ? 'row' : words;
+  return (name === 'messages' ? messages : log.summary[name]) === 1 ? noun : pluralOf(noun);
+}
 // What is said of a log by its form, after its name.
 const FORMS = ['', ', read as frames', ', read as a transcript'];
 const SYMBOLS = { good: '✓', partly: '✓', unjudged: '?', restarted: '!', broken: '✗', none: '?' };
@@ -151,7 +156,7 @@ export class MessagesView {
     const facts = FACTS.filter(([name]) => log.summary[name] > 0 || name === 'messages').map(([name, words, , kind]) =>
       element('li', {}, element('button', { class: kind || false, 'data-fact': name,
         'aria-pressed': String(this.filter.fact === name), onclick: () => this.narrow({ fact: name }) },
-      element('b', {}, withCommas(log.summary[name])), ' ' + (log.summary[name] === 1 ? words : pluralOf(words)))));
+      element('b', {}, withCommas(log.summary[name])), ' ' + nounOf(log, name, words))));
     this.facts.replaceChildren(...facts);
   }
 

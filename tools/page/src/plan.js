@@ -1,6 +1,6 @@
 // The view Plan: how often to poll, how late a transition can be, how long an outage may last.
 
-import { INPUTS, MOST_WAITING, STANDARD_WAITING } from './constants.js';
+import { BLOCK_ENTRIES, INPUTS, MOST_WAITING, STANDARD_WAITING } from './constants.js';
 import { counted, element, withCommas } from './dom.js';
 import { WAITING, planOf, rowOf } from './planning.js';
 
@@ -33,7 +33,7 @@ export class PlanView {
       + 'that reaches the CPU before the CPU polls again. The numbers hold from a time on at which '
       + 'the CPU has taken every block and nothing waits, until the next load of the counter or restart, while '
       + 'configurations open no more inputs, with no shorter filters. '
-      + 'The clauses are proved; these formulas restate docs/PLANNING.md.'));
+      + 'docs/PLANNING.md has the formulas of these numbers, and names what is proved of each.'));
     this.draw();
   }
 
@@ -71,17 +71,17 @@ export class PlanView {
       + (plan.isRiddenOut ? '' : ` In an outage of ${outage} ms transitions may be lost.`);
     const rows = [
       ['The CPU has to poll at least every', plan.startEvery + ' ms',
-        (!plan.isFewWaiting ? 'What can change in that time fits into a block (k n ≤ b f; enough of FewChange)'
-          : `What can change in that time has room in the module (k (${lost ? '2 n' : 'n'} + f - 1) ≤ w f; room of IsPolledInTime)`)
-          + (lost ? ', r + 1 times as often' : '')],
+        `Each open input changes at most once in ${filter} ms. So what can change between two rounds that get through `
+          + (plan.isFewWaiting ? 'has room among the entries that may wait' : `fits into a block, which takes ${BLOCK_ENTRIES} entries`)
+          + (lost ? `; with ${counted(lost, 'lost round')} in a row, poll ${lost + 1} times as often` : '')],
       ...plan.isInTime ? [
-        ['The most entries that wait', withCommas(plan.waits), 'What can change, less what the blocks took (few_wait of KeepsUpExactly)'],
-        ['A transition is in a block after at most', plan.late + ' ms', `It waits for the next round${lost ? ', or one after lost ones (late of IsLateBy)' : ', and for the entries above it (young of KeepsUpExactly)'}`],
+        ['The most entries that wait', withCommas(plan.waits), 'What can change, less what the blocks took'],
+        ['A transition is in a block after at most', plan.late + ' ms', `It waits for the next round${lost ? ', or for one after lost ones' : ', and for the entries above it'}`],
       ] : [],
       ['The longest outage that loses nothing, if nothing waits before it', withCommas(plan.longestOutage) + ' ms',
-        'What can change in it has room in the module (room of IsOutage, outage of settled_links_lose_nothing)'],
-      [`The most entries that wait after ${withCommas(outage)} ms without a poll`, withCommas(plan.after), 'What can change in it, or all that there is room for: computed, not proved'],
-      ['Clean rounds until these are in the record', String(plan.caughtUpIn), 'Each takes a block of entries (caught_up of clean_rounds_catch_up)'],
+        'What can change in it has room among the entries that may wait'],
+      [`The most entries that wait after ${withCommas(outage)} ms without a poll`, withCommas(plan.after), 'What can change in it, or all that there is room for; computed, not proved'],
+      ['Clean rounds until these are in the record', String(plan.caughtUpIn), `Each takes a block, up to ${BLOCK_ENTRIES} entries`],
     ];
     this.answers.replaceChildren(...rows.map(([what, number, why]) => element('tr', {},
       element('th', { scope: 'row' }, what), element('td', { class: 'mono' }, number), element('td', { class: 'soft' }, why))));

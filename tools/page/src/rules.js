@@ -30,7 +30,7 @@ export const restartWords = (log, place) => log.codes[place] === WATCHDOG_ANSWER
   : 'the module restarted, or the stamp is wrong: its counter went back';
 
 // What a restart means, and what to do.
-export const RESTART_HELP = 'Entries may be missing there, and no gap mark says so. If the next answer 177 has P, the module was reset: look at its '
+export const RESTART_HELP = 'At a restart entries may be missing, and no gap mark says so. If the next answer 177 has P, the module was reset: look at its '
   + 'supply, and configure its inputs again.';
 
 // What was due and what came, or what the breach means.

@@ -39,7 +39,8 @@ export function verdictOf(log) {
     return { ...said, kind: VERDICTS.restarted, text: restartsIn(log), more, first };
   }
   if (2 * judged < messages) {
-    return { ...said, kind: VERDICTS.unjudged, text: `Only ${counted(judged, 'message')} of ${withCommas(messages)} could be judged.`, more: ' No rule is broken there.' };
+    return { ...said, kind: VERDICTS.unjudged, text: judged === 0 ? 'No message could be judged.' : `Only ${counted(judged, 'message')} of ${withCommas(messages)} could be judged.`,
+      more: judged === 0 ? '' : ` No rule is broken in ${judged === 1 ? 'it' : 'them'}.` };
   }
   if (badLines > 0 || judged < readable || possible > 0 || log.others.size > 0 || log.logged !== '') {
     return { ...said, kind: VERDICTS.partly, text: `No rule is broken in the ${counted(judged, 'message')} that could be judged.` };
@@ -79,10 +80,12 @@ function sentencesOf(log, isJudged) {
   }
   if (losses > 0) {
     const places = Object.keys(LOST_AT).filter((cause) => causes.has(cause)).map((cause) => LOST_AT[cause]).join(' or ');
-    said.push(`${counted(losses, 'loss', 'losses')} of sync, at ${places}${atLostPlaces === 0 ? ', with no message from there to the next poll'
+    said.push(`${counted(losses, 'loss', 'losses')} of sync, at ${places}${atLostPlaces === 0 ? ': no message from there to the next poll was left out'
       : `: ${counted(atLostPlaces, 'message')} from there to the next poll ${are(atLostPlaces)} not judged`}.`);
   }
-  if ([...log.restarts].some((place) => log.isUndue(place))) said.push('An answer that comes late has an earlier stamp too: fiolog check --late-answers leaves late ones out.');
+  if ([...log.restarts].some((place) => log.isUndue(place)) || [...log.breaches].some(([place, breach]) => ruleOf(breach) === 'pair' && log.answersAbove(place))) {
+    said.push('Answers may have come late or twice: fiolog check --late-answers leaves these out.');
+  }
   if (first !== undefined && poll < 0) said.push('The log has no poll, so it is of the middle of traffic: what breaks a rule here may be right.');
   else if (first < poll) said.push('The log begins in the middle of traffic: what breaks a rule above the first poll may be right.');
   if (isJudged && !hasDirections) said.push('The log does not say who sent a message: each is judged as sent by the end that its type belongs to.');
