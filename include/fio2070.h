@@ -101,7 +101,7 @@ extern "C" {
 /** Returns that number of the library that is linked. */
 uint32_t fio2070_version(void);
 
-/** The count that says that there is nothing such: more than any room. */
+/** The count that says that there is no such message, or that it lacks what is asked for: more than any room. */
 #define FIO2070_NO_MESSAGE SIZE_MAX
 
 /** The input of a breach of a rule on content that has none. */
@@ -448,7 +448,7 @@ enum fio2070_wire_limit {
 enum fio2070_wire_heard {
     FIO2070_WIRE_NOTHING = 0, /**< neither a frame nor damage */
     FIO2070_WIRE_MESSAGE = 1, /**< a frame with one's own address and control octet; it is held until the next one is read */
-    FIO2070_WIRE_OTHER = 2,   /**< a frame with another address or control octet; it is held likewise */
+    FIO2070_WIRE_OTHER = 2,   /**< a frame with another address or control octet; its octets are held as well */
     FIO2070_WIRE_DAMAGED = 3  /**< a part that is no frame */
 };
 
@@ -1061,7 +1061,7 @@ enum fio2070_log_kind {
     FIO2070_LOG_BLANK = 0,      /**< it has nothing but blanks; by order: it is empty or begins with `#` */
     FIO2070_LOG_SAYS = 1,       /**< it says frames, with the lines below that go on with it */
     FIO2070_LOG_PART = 2,       /**< it has octets of the frames of a line above */
-    FIO2070_LOG_POSSIBLE = 3,   /**< it says a message, and nothing makes that sure */
+    FIO2070_LOG_POSSIBLE = 3,   /**< it says a message, and nothing in the log confirms it */
     FIO2070_LOG_DAMAGED = 4,    /**< it may have held a frame, and gives none; by order: each other that gives none */
     FIO2070_LOG_PASSED_OVER = 5 /**< it is none of these */
 };
@@ -1070,17 +1070,17 @@ enum fio2070_log_kind {
 enum fio2070_log_reason {
     FIO2070_LOG_NO_REASON = 0,        /**< it does, or it is blank */
     FIO2070_LOG_NO_OCTETS = 1,        /**< it has no octets */
-    FIO2070_LOG_NO_MESSAGE = 2,       /**< its octets spell no message */
+    FIO2070_LOG_NO_MESSAGE = 2,       /**< its octets are no message */
     FIO2070_LOG_SHORT_MESSAGE = 3,    /**< a short message in a line unlike those of other messages */
     FIO2070_LOG_SEVERAL_MESSAGES = 4, /**< it says more than one message */
     FIO2070_LOG_MAY_BE_LONGER = 5,    /**< it may be one message with the line below or above, or one by itself */
     FIO2070_LOG_TOO_LONG = 6,         /**< it is longer than a line, or than the octets of several lines, that are kept */
     FIO2070_LOG_BAD_LINE = 7,         /**< it is no line of the text that it is read as by order */
-    FIO2070_LOG_EXCHANGED = 8,        /**< its octets spell a message with a count if those of each pair are exchanged */
-    FIO2070_LOG_TWO_MORE = 9,         /**< its octets spell a message with a count but for two at one end */
+    FIO2070_LOG_EXCHANGED = 8,        /**< its octets are a message with a count if those of each pair are exchanged */
+    FIO2070_LOG_TWO_MORE = 9,         /**< its octets are a message with a count but for two at one end */
     FIO2070_LOG_LOSS = 10,            /**< it has no octets, and its words speak of loss: an answer may be missing here */
     FIO2070_LOG_HEADING = 11,         /**< it says no message, and is the heading of a log or of a part of one */
-    FIO2070_LOG_ONE_LESS = 12         /**< its octets spell a message with a count but for one missing at their end */
+    FIO2070_LOG_ONE_LESS = 12         /**< its octets are a message with a count but for one missing at their end */
 };
 
 /** Who sent the octets of a line, as the line says: by its last word or arrow before them that says it. */
@@ -1162,7 +1162,7 @@ void fio2070_log_start(struct fio2070_log_reader *reader, uint8_t form);
  * whose lines are counted from 1.
  *
  * Proved are: which lines the octets make that it takes; that the verdicts in a batch are those of the next lines, each once
- * and in order, with all their frames and places; that each frame spells a message and is written at its places; that a line
+ * and in order, with all their frames and places; that the octets of each frame are a message and are written at its places; that a line
  * with the reason FIO2070_LOG_LOSS or FIO2070_LOG_HEADING has such words; and that a new log begins as said. How many octets it
  * takes, when a verdict is due and what else it says are tested. */
 FIO2070_MUST_USE
@@ -1244,7 +1244,7 @@ FIO2070_MUST_USE
 uint8_t fio2070_log_judge_start(struct fio2070_log_judge *judge, struct fio2070_limits limits, uint8_t place, uint8_t start);
 /** Takes a line that may have held a frame, such as a damaged one: up to the next poll nothing is judged. */
 void fio2070_log_judge_lose(struct fio2070_log_judge *judge);
-/** Takes a line that says a message which nothing makes sure (FIO2070_LOG_POSSIBLE), or the heading of a part of the log
+/** Takes a line that says a message which nothing confirms (FIO2070_LOG_POSSIBLE), or the heading of a part of the log
  * (FIO2070_LOG_HEADING): below a frame it does what `fio2070_log_judge_lose` does; above the first frame nothing. */
 void fio2070_log_judge_possible(struct fio2070_log_judge *judge);
 /** Takes a line without octets that speaks of loss. If a frame down to and with the next poll or block answer breaks `pair`,
@@ -1305,8 +1305,8 @@ void fio2070_log_signs_frame(struct fio2070_log_signs *signs, uint8_t from_cpu, 
                              size_t length);
 /** Returns what kind of log it looks like by the frames down to here, one of enum fio2070_log_sign: the first of these that holds.
  *
- * FIO2070_LOG_SIGN_TWICE holds if of 8 or more answers at least two of five have the octets of the frame directly above, where
- * that one has not those of the frame above it. If for at least half of those the two lines say different senders, it is
+ * FIO2070_LOG_SIGN_TWICE holds if of 8 or more answers at least two of five have the octets of the frame directly above,
+ * which differs from the frame above it. If for at least half of those the two lines say different senders, it is
  * FIO2070_LOG_SIGN_BOTH_ENDS. FIO2070_LOG_SIGN_REVERSED holds if of 8 or more block answers more than half have the number of
  * the block answer above less one, and a stamp that is not later. FIO2070_LOG_SIGN_TWO_LINKS holds if of 8 or more block
  * answers at least a quarter go on with the other of two rows of numbers than the block answer above, and at most one in ten
@@ -1319,7 +1319,7 @@ uint8_t fio2070_log_signs_sign(const struct fio2070_log_signs *signs);
 
 /** @defgroup log_counts Counts of a log
  * A struct fio2070_log_counts has what is counted of the frames of a log: of each type, polls and how often they are sent again
- * or not answered, restarts, gap marks and entries. Its numbers are there to be read at any time. If FIO2070_NO_LOG is defined,
+ * or not answered, restarts, gap marks and entries. Its numbers may be read at any time. If FIO2070_NO_LOG is defined,
  * there are no such calls.
  * @code
  * const uint8_t poll[] = {54, 5}, block[] = {182, 5, 1, 140, 3, 231, 0, 0, 0, 3, 232};
@@ -1390,7 +1390,7 @@ void fio2070_log_counts_start(struct fio2070_log_counts *counts);
 void fio2070_log_counts_lose(struct fio2070_log_counts *counts);
 /** Counts a frame, sent at `time`, in microseconds, if `has_time` is not 0. If it is the answer that the latest command waits for,
  * both have a time, and its time is not before the command's, it returns 1, and `taken` is how long the module took for the
- * answer, in microseconds; else it returns 0, and `taken` is 0. A frame that spells no message is counted in `frames` alone. Of
+ * answer, in microseconds; else it returns 0, and `taken` is 0. A frame that is no message is counted in `frames` alone. Of
  * a block that is sent again below the same block neither entries nor a gap mark are counted. */
 uint8_t fio2070_log_counts_frame(struct fio2070_log_counts *counts, uint8_t has_time, uint64_t time, const uint8_t *octets,
                                  size_t length, uint64_t *taken);

@@ -495,7 +495,7 @@ public:
     }
     /// A line may have held a frame, such as a damaged one.
     void lose() { ::fio2070_log_judge_lose(&judge_); }
-    /// A line says a message which nothing makes sure: below a frame it is as for `lose`.
+    /// A line says a message which nothing confirms: below a frame it is as for `lose`.
     void possible() { ::fio2070_log_judge_possible(&judge_); }
     /// A line without octets speaks of loss: nobody is accused of what a frame explains that is missing here.
     void miss() { ::fio2070_log_judge_miss(&judge_); }

@@ -97,7 +97,7 @@ class LogJudge:
         c.library.fio2070_log_judge_lose(self._judge)
 
     def possible(self) -> None:
-        """A line says a message which nothing makes sure, or is a heading: below a frame it is as for `lose`."""
+        """A line says a message which nothing confirms, or is a heading: below a frame it is as for `lose`."""
         c.library.fio2070_log_judge_possible(self._judge)
 
     def miss(self) -> None:

@@ -98,7 +98,7 @@ impl LogJudge {
         unsafe { raw::fio2070_log_judge_lose(&mut self.0) }
     }
 
-    /// A line says a message which nothing makes sure: below a frame it is as for `lose`.
+    /// A line says a message which nothing confirms: below a frame it is as for `lose`.
     pub fn possible(&mut self) {
         unsafe { raw::fio2070_log_judge_possible(&mut self.0) }
     }
