@@ -920,7 +920,7 @@ uint8_t fio2070_content_heard(struct fio2070_content_checker *content, const uin
 /** @defgroup judge The judge of a link
  * A struct fio2070_judge judges a log in which lines may be lost, of a module that may be restarted and whose counter may be
  * loaded. It is both checkers, of the rules of the groups checker and content, and says of each frame what it is. Where lines
- * are lost, below a restart, below a load that took effect, and below a breach of a rule of transcripts the place is lost: to
+ * are lost, below a restart, below a load that took effect, and below a breach of a rule of transcripts sync is lost: to
  * the next poll nothing is judged, and from there on all rules are applied anew.
  * @code
  * const uint8_t poll[] = {54, 0}, block[] = {182, 0, 0, 0, 0, 0, 0, 11}, again[] = {182, 1, 0, 0, 0, 0, 0, 10}; // 11 ms, 10 ms
@@ -1162,9 +1162,9 @@ void fio2070_log_start(struct fio2070_log_reader *reader, uint8_t form);
  * whose lines are counted from 1.
  *
  * Proved are: which lines the octets make that it takes; that the verdicts in a batch are those of the next lines, each once
- * and in order, with all their frames and places; that the octets of each frame are a message and are written at its places; that a line
- * with the reason FIO2070_LOG_LOSS or FIO2070_LOG_HEADING has such words; and that a new log begins as said. How many octets it
- * takes, when a verdict is due and what else it says are tested. */
+ * and in order, with all their frames and places; that the octets of each frame are a message and are written at its
+ * places; that a line with the reason FIO2070_LOG_LOSS or FIO2070_LOG_HEADING has such words; and that a new log begins as
+ * said. How many octets it takes, when a verdict is due and what else it says are tested. */
 FIO2070_MUST_USE
 size_t fio2070_log_read(struct fio2070_log_reader *reader, const uint8_t *octets, size_t length,
                         struct fio2070_log_batch *batch);
@@ -1178,7 +1178,7 @@ void fio2070_log_end(struct fio2070_log_reader *reader);
 /** @defgroup log_judge The judge of a log
  * A struct fio2070_log_judge judges the frames that a reader of a log finds, by what it says of the lines between them too. It
  * is a judge of a link (group judge), which finds by the directions of the log where it was taken. A line that may have held a
- * frame loses the place; a remark of loss, which has no octets, excuses what a lost frame explains. Of a log that was taken at
+ * frame loses sync; a remark of loss, which has no octets, excuses what a lost frame explains. Of a log that was taken at
  * a CPU which waits for each answer only until a deadline, late answers can be left out (docs/CAPTURES.md, Late answers). A
  * struct fio2070_log_signs says what kind of log it looks like, if it is not the log of one link in order. If FIO2070_NO_LOG is
  * defined, there are no such calls.
@@ -1248,7 +1248,7 @@ void fio2070_log_judge_lose(struct fio2070_log_judge *judge);
  * (FIO2070_LOG_HEADING): below a frame it does what `fio2070_log_judge_lose` does; above the first frame nothing. */
 void fio2070_log_judge_possible(struct fio2070_log_judge *judge);
 /** Takes a line without octets that speaks of loss. If a frame down to and with the next poll or block answer breaks `pair`,
- * `number` or `advance`, or the next block answer breaks `same`, the place is lost above it instead. No other breach is excused, on
+ * `number` or `advance`, or the next block answer breaks `same`, sync is lost above it instead. No other breach is excused, on
  * content none. */
 void fio2070_log_judge_miss(struct fio2070_log_judge *judge);
 /** Takes a frame that the CPU's end sent if `from_cpu` is not 0, else the module. `said` is who sent it as its line says, one of

@@ -373,7 +373,7 @@ public:
         if (::fio2070_checker_start_within(&checker->checker_, {waiting, per_block, 0}) != FIO2070_STARTED) checker.reset();
         return checker;
     }
-    /// As `within`, of a log that begins anywhere: what is heard above the first frame that is sent is passed over.
+    /// As `within`, of a log that begins anywhere: what is heard above the first frame that is sent is not judged.
     static std::optional<Checker> anywhere(std::uint8_t per_block = FIO2070_MOST_ENTRIES,
                                            std::uint16_t waiting = FIO2070_STANDARD_WAITING) {
         std::optional<Checker> checker{Checker()};
@@ -398,7 +398,7 @@ private:
 
 /// A checker of the rules on content: it judges answers, and the entries of each block that a poller takes whose first
 /// number is that of the first poll sent. The log may begin anywhere: what is heard above the first frame that is sent is
-/// passed over.
+/// not judged.
 class ContentChecker {
 public:
     ContentChecker() { ::fio2070_content_start(&content_); }

@@ -199,7 +199,7 @@ class Poller:
 class Checker:
     """A checker of what the CPU's end sends and hears, of a module with these limits. Below a breach it goes on as one that
     starts at the next poll. With `anywhere` it is for a log that begins anywhere: what is heard above the first frame that is
-    sent is passed over."""
+    sent is not judged."""
 
     def __init__(self, per_block: int = c.MOST_ENTRIES, waiting: int = c.STANDARD_WAITING, anywhere: bool = False) -> None:
         """The module's blocks have at most `per_block` entries, 1 to 255; `waiting` is 1 to 8,192."""
@@ -231,7 +231,7 @@ class Checker:
 class ContentChecker:
     """A checker of the rules on content: it judges answers, and the entries of each block that a poller takes whose first
     number is that of the first poll sent. The log may begin anywhere: what is heard above the first frame that is sent is
-    passed over. With `begun` it begins with the start of both ends, and more is found."""
+    not judged. With `begun` it begins with the start of both ends, and more is found."""
 
     def __init__(self, begun: bool = False) -> None:
         self._content, self._breach = c.CContentChecker(), c.CContentBreach()

@@ -24,7 +24,7 @@ class Verdict(NamedTuple):
     """What the reader says of a line of a log.
 
     `line` is its number, from 1. `kind` is 'blank'; 'frames', whose frames these are; 'part', of the frames of a line above;
-    'possible', a message that nothing makes sure; 'damaged', which may have held a frame; or 'passed over'. `reason` says why
+    'possible', a message that nothing confirms; 'damaged', which may have held a frame; or 'passed over', skipped. `reason` says why
     the line gives no frame, in one of these words: 'no octets', 'no message', 'short message', 'several messages', 'may be
     longer', 'too long', 'exchanged' (a message that has a count, if the octets of each pair are exchanged), 'two more' (one but
     for two octets at one end), 'one less' (of a damaged line: one but for its last octet), 'loss' (no octets, and words of loss),

@@ -140,7 +140,7 @@ impl Checker {
     }
 
     /// As `within`, above the first frame of a log that begins anywhere: what the CPU heard above the first frame that it sent
-    /// is passed over.
+    /// is not judged.
     pub fn anywhere(per_block: u8, waiting: u16) -> Option<Checker> {
         Checker::started_by(raw::fio2070_checker_start_anywhere, per_block, waiting)
     }
@@ -196,7 +196,7 @@ impl Default for ContentChecker {
 
 impl ContentChecker {
     /// Above the first frame of a log, which may begin anywhere: what the CPU heard above the first frame that it sent is
-    /// passed over.
+    /// not judged.
     pub fn new() -> ContentChecker {
         let mut content = RawContentChecker::default();
         unsafe { raw::fio2070_content_start(&mut content) };
