@@ -165,7 +165,7 @@ def check_times(check, folder):
         done = merged(folder, ('check',), sent, answers)
         check.equal('files that cannot be merged: ' + name, (2, True, False), (done.status, words in done.err, 'Traceback' in done.err))
     done = merged(folder, ('check',), '09:00:00 TX 36 05\n09:00:01 TX 36 05\n', answers)
-    check.holds('files of other hours', 'a file ends before another begins' in done.err, done.err)
+    check.holds('files of other hours', 'one file ends before another begins' in done.err, done.err)
 
 
 def check_places(check, folder):

@@ -12,13 +12,13 @@ static const char HELP[] =
     "  SEED           another number gives other scripts, 1 if not given\n"
     "  --replay       runs the scripts on standard input instead, such as the reports of an earlier run\n"
     "  --first        stops at the first difference\n"
-    "  --except RULE  does not ask this rule of the project's own profile; may be given again\n"
+    "  --except RULE  leaves out this rule of the project's own profile; may be given again\n"
     "  --coverage     writes how many events exercised each rule, and fails where one was not\n"
     "  --junit FILE   writes a test case for each rule as JUnit XML\n"
     "  --rules        writes the rules, with their sources\n"
     "\n"
-    "The status is 0 where there is no difference, 1 where there is one, 2 where the words or the script are faulty,\n"
-    "or a file can't be written, 3 where the end under test can't be asked any more.\n";
+    "The status is 0 if there is no difference, 1 if there is one, 2 if the command line or the script is faulty or a\n"
+    "file can't be written, 3 if the end under test no longer answers.\n";
 
 /* A call of this process that does not return in one to two seconds hangs. */
 enum { GUARD_MS = 1000 };

@@ -10,7 +10,7 @@ static const char HELP[] =
     "       fio2070-test --cpu [--deadline MS] WIRE [WORD..]\n"
     "       fio2070-test --self module|cpu [WORD..]\n"
     "\n"
-    "Holds a module against the proved one, by random scripts. It is asked by lines, each of which it answers with one:\n"
+    "Compares a module with the proved one, by random scripts. The tester writes lines, and the module answers each with one:\n"
     "  reset          done          as after power on\n"
     "  inputs H16     done          the levels of the 64 inputs, and one step of a millisecond\n"
     "  sync           done          LINESYNC goes from 0 to 1\n"
@@ -19,11 +19,11 @@ static const char HELP[] =
     "  reset H2       done          as at its start; its first poll asks for this block\n"
     "  poll           frame HEX     its next poll, also if the one before had no answer; or none\n"
     "  hear HEX       record H2 ITEM..   the next number, and what the frame adds to the record: ITEM is gap, or H16:\n"
-    "                               the input, the state, the stamp (4 digits) and the wide time (8)\n"
+    "                               the input, the state, the stamp (4 digits) and the 32-bit time (8)\n"
     "\n"
     "WIRE is one of these:\n"
-    "  --command LINE      a program that reads and writes the lines, as sh begins it\n"
-    "  --serial DEVICE     a serial adapter, with the speed that it has\n"
+    "  --command LINE      a command of sh that reads and writes these lines\n"
+    "  --serial DEVICE     a serial adapter; its speed stays as it is set (stty)\n"
     "  --socket HOST:PORT  a stream\n"
     "\n"
     "  --id N          the octet that it answers to command 60, 2 if not given\n"
@@ -34,7 +34,7 @@ static const char HELP[] =
     "  --cpu           it is a CPU's end\n"
     "  --self END      the proved module, or the proved CPU's end, against itself\n"
     "\n"
-    "Each other WORD is the tester's: fio2070-test WIRE --help writes them.\n";
+    "Options of the tester come after WIRE: fio2070-test WIRE --help lists them.\n";
 
 /* What comes before the words of the tester. */
 struct setup {
