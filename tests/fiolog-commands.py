@@ -100,6 +100,14 @@ def check_judged(check):
                                 ('F', '00040000000a', 'F says that entries were pushed out, but C is not set')]:
         done = fiolog('check', '-q', text=block % octets)
         check.holds('a breach of limits by ' + name, 'line 2: limits: ' + words in done.out, done.out)
+    for rule, words in [('pair', 'answer 182 came, but no command 54 is directly above it'),
+                        ('number', 'block 5 was asked for, 6 came'), ('rest', 'the block has no entries, but the block before it says that more wait (C)'),
+                        ('same', 'E says that the same block number was asked for again, but'), ('sequence', 'G says that the number is not the one before plus one, but'),
+                        ('refusal', 'the module says that it is done (S is 0), but')]:
+        done = fiolog('check', '-q', os.path.join(EXAMPLES, 'breaks-%s.transcript' % rule))
+        check.holds('what a message does that breaks ' + rule, ': %s: %s' % (rule, words) in done.out, done.out)
+    done = fiolog('check', '-q', text='> 3605\n< b605000300000000\n')
+    check.holds('E and G', 'line 2: sequence: E says that the same block number was asked for again, and G' in done.out, done.out)
     name = os.path.join(EXAMPLES, 'doubled-entry.transcript')
     check.equal('--rules transcript', (1, 0), (fiolog('check', '-q', name).status, fiolog('check', '-q', '--rules', 'transcript', name).status))
     from fiolog.rules import Rules

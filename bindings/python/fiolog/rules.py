@@ -11,8 +11,8 @@ from fio2070.constants import WHY_PLACE_LOST, WHY_UNHEARD
 
 from .events import MISSING, PIECE
 from .judge import words_of
-from .log_words import LINE
-from .message import BLOCK, LOST, MORE, POLL, message_of
+from .log_words import BREACHES, LINE
+from .message import AGAIN, BLOCK, LOST, MORE, POLL, message_of
 from .protocol import ADVANCE, CONTENT_RULES, INPUTS, RULES
 
 # The note of what is in the place of a frame, and is none.
@@ -130,14 +130,17 @@ class Rules:
 
 
 def transcript_breach(octets, found):
-    """A breach of a rule of transcripts, with what was due and what came, or in the words of its rule."""
+    """A breach of a rule of transcripts, with what was due and what came, or with what the message does."""
     rule, words = RULES[found.rule]
     if found.has_due:
         meaning = ': ' + advance_words(found.due, found.got) if rule == 'advance' else ''
         return Breach(rule, DUE[rule] % (found.due, found.got) + meaning, {'due': found.due, 'got': found.got})
+    if rule == 'readable':
+        return Breach(rule, words_of(octets) or 'this line ' + words)
     if rule == 'limits':
         return Breach(rule, limits_words(message_of(octets)))
-    return Breach(rule, rule == 'readable' and words_of(octets) or 'this line ' + words)
+    key = 'again' if rule == 'sequence' and octets[-5] & AGAIN else rule
+    return Breach(rule, BREACHES[key].format(code=octets[0], command=octets[0] - TYPE_ANSWER) if key in BREACHES else 'this line ' + words)
 
 
 def advance_words(due, got):
@@ -149,10 +152,8 @@ def limits_words(block):
     """What a block does that breaks the rule on limits."""
     absent = [part['input'] for part in block.parts if part['input'] >= INPUTS]
     if absent:
-        return 'an entry is of input %d, above %d' % (absent[0], INPUTS - 1)
-    if block.fields['status'] & MORE:
-        return 'C says that more entries wait than a block takes, but the block has %d' % len(block.parts)
-    return 'F says that entries were pushed out, but C is not set: that happens only while more entries wait than a block takes'
+        return BREACHES['absent'].format(input=absent[0])
+    return BREACHES['more' if block.fields['status'] & MORE else 'lost'].format(count=len(block.parts))
 
 
 def content_breach(octets, found):

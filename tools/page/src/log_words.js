@@ -43,6 +43,18 @@ export const LINE = {
   bits: 'no frame with a right check in these bits, one a clock: if they are written eight to an octet, try the other order',
   faster: 'no frame at one bit a clock, and nearly all bits last {count} samples or more: the sample clock is faster than the line, so sample on the clock of the line, or keep one sample of each bit',
 };
+// What a message does that breaks a rule of transcripts, by the rule or by what is wrong.
+export const BREACHES = {
+  pair: 'answer {code} came, but no command {command} is directly above it',
+  same: 'E says that the same block number was asked for again, but the poll above has another number than the poll before it',
+  sequence: 'G says that the number is not the one before plus one, but the CPU polled in order',
+  again: 'E says that the same block number was asked for again, and G that the number is not the one before plus one: both cannot be',
+  rest: 'the block has no entries, but the block before it says that more wait (C)',
+  refusal: 'the module says that it is done (S is 0), but the configuration names an input above 63',
+  absent: 'an entry is of input {input}, above 63',
+  more: 'C says that more entries wait than a block takes, but the block has {count}',
+  lost: 'F says that entries were pushed out, but C is not set: that happens only while more entries wait than a block takes',
+};
 // What the words of the rules on content mean.
 export const TERMS = {
   'clear': 'a block is clear if it has neither C nor E: it has all that had changed when it was made',

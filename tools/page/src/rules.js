@@ -1,10 +1,10 @@
 // The words of rules: what a breach or a restart means, and what a rule says.
 
 import { ADVANCE_BREACHES, CONTENT_BREACHES, CONTENT_RULES, INPUTS, RIGHT, RULE_BREACHES, RULES } from './constants.js';
-import { STATUS_BITS, WATCHDOG_ANSWER } from './library.js';
-import { TERMS } from './log_words.js';
+import { FIRST_ANSWER, STATUS_BITS, WATCHDOG_ANSWER } from './library.js';
+import { BREACHES, TERMS } from './log_words.js';
 
-const LIMITS = RULES.indexOf('limits'), READABLE = RULES.indexOf('readable');
+const LIMITS = RULES.indexOf('limits'), READABLE = RULES.indexOf('readable'), SEQUENCE = RULES.indexOf('sequence');
 // The last rule on content that an entry breaks.
 const LAST_OF_ENTRIES = CONTENT_RULES.indexOf('ignored');
 // What was due and what came, by rule, if the library says both.
@@ -38,8 +38,10 @@ export function breachWords(log, place, breach) {
   if (breach.isContent) return contentWords(log, place, breach);
   const { rule, hasDue, due, got } = breach;
   if (hasDue) return DUE[RULES[rule]](due, got);
+  if (rule === READABLE) return log.isFaulty[place] ? log.words(place)[0] : 'this line ' + RULE_BREACHES[rule];
   if (rule === LIMITS) return limitsWords(log, place);
-  return rule === READABLE && log.isFaulty[place] ? log.words(place)[0] : 'it ' + RULE_BREACHES[rule];
+  const words = BREACHES[rule === SEQUENCE && log.status[place] & STATUS_BITS.again ? 'again' : RULES[rule]], code = log.codes[place];
+  return words ? words.replace('{code}', code).replace('{command}', code - FIRST_ANSWER) : 'this line ' + RULE_BREACHES[rule];
 }
 
 // The index of the entry that breaks a rule on content; -1 if none does. Entries are the last items of a block, a gap mark is above
@@ -57,8 +59,6 @@ function contentWords(log, place, breach) {
 // Which of the limits a block breaks.
 function limitsWords(log, place) {
   const absent = log.words(place).map((line) => Number((/^ *input (\d+) /.exec(line) || [])[1])).find((input) => input >= INPUTS);
-  if (absent !== undefined) return `an entry is of input ${absent}, above ${INPUTS - 1}`;
-  return log.status[place] & STATUS_BITS.more
-    ? `C says that more entries wait than a block takes, but the block has ${log.entries[place]}`
-    : 'F says that entries were pushed out, but C is not set: that happens only while more entries wait than a block takes';
+  if (absent !== undefined) return BREACHES.absent.replace('{input}', absent);
+  return log.status[place] & STATUS_BITS.more ? BREACHES.more.replace('{count}', log.entries[place]) : BREACHES.lost;
 }
