@@ -219,7 +219,7 @@ def end(option, read, counts, judgement, findings):
     say_excused(left_out['frames_not_at_the_cpu'])
     is_fault = sides.say(read.judgements)
     if read.is_reversed and option.at in ('cpu', 'bus'):
-        terminal.say('the directions are those of the other end: try --at module')
+        terminal.say('most lines say the other direction than their messages: if this is the log of the module, try --at module')
     if judgement and judgement.is_above_polls and counts.polls and not option.start_at_poll:
         terminal.say('the log begins in the middle of traffic: try --start-at-poll')
     if findings.has_late_answers and not option.late_answers:

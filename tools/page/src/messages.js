@@ -136,7 +136,7 @@ export class MessagesView {
 
   noteOf(log) {
     const turned = log.end === ENDS.module ? ' It was taken at the module: the directions here are those of the CPU, not as the log writes them.' : '';
-    const reversed = log.end === ENDS.cpu && log.isReversed ? ' Most directions are those of the other end: was it taken at the module?' : '';
+    const reversed = log.end === ENDS.cpu && log.isReversed ? ' Most lines say the other direction than their messages: was it taken at the module?' : '';
     return `${log.name}${FORMS[log.form]}.${passedWords(log.passed)}${turned}${reversed}${doubtWords(log)}`;
   }
 
