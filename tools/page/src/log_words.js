@@ -58,11 +58,11 @@ export const BREACHES = {
 // What the words of the rules on content mean.
 export const TERMS = {
   'clear': 'a block is clear if it has neither C nor E: it has all that had changed when it was made',
-  'settles': 'a block settles an input if each configuration that was sent above it was received before it was made, or is lost: a clear block settles each; one with E and without C each that no configuration named since the first poll for it',
+  'settles': 'a block settles an input if no configuration that was sent above it can still take effect on that input: a clear block settles every input; a block with E and without C settles those that no configuration named since the first poll for it',
   'watched': 'an input is watched while no configuration that was sent can have hidden a change of it',
   'steady': 'an input is steady while no configuration that was sent since a block settled it ignores it',
-  'late': 'a block is late if its stamp is 65,536 ms or more after that of the latest block without C: the 16 bits of its times are then not sure',
+  'late': 'a block is late if its stamp is 65,536 ms or more after that of the latest block without C: the 16 bits that an entry has for its time are then not enough',
   'excuses': 'a load of the counter can take effect at any time after it was sent, so each excuses one breach of a rule on time',
-  'gap mark': 'an item of the record, where entries are missing: the buffer of the module had overflowed',
+  'gap mark': 'an item of the record which says that entries are missing there: the buffer of the module had overflowed (F)',
   'item': 'an item of a configuration (51) says of one input whether it is reported, and its filters',
 };
