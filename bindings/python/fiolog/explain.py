@@ -22,8 +22,8 @@ def explanation(name):
         breach = next(words for rule, words in CONTENT_RULES.values() if rule == name)
         said = ['In a right link: %s' % RIGHT[name],
                 'A breach means: %s.' % breach.format(input='I', state='S')]
-    terms = ['%s: %s.' % pair for words, all_said in ((TERMS, said[0]), (LETTERS, ' '.join(said))) for pair in words.items()
-             if re.search(r'\b%s\b' % pair[0], all_said)]
+    terms = ['%s: %s.' % pair for pair in (*TERMS.items(), *LETTERS.items())
+             if re.search(r'\b%s\b' % pair[0], said[0]) or '(%s)' % pair[0] in said[-1]]
     return [name, *(line for part in said for line in textwrap.wrap(part, WIDTH, initial_indent='  ', subsequent_indent='  ')),
             *(line for term in terms for line in textwrap.wrap(term, WIDTH, initial_indent='  ', subsequent_indent='    ')),
             '  docs/FORMATS.md has all rules.']
