@@ -164,6 +164,19 @@ def check_as_fiolog(check, browser, name):
         check.equal('%s as fiolog judges it in %s' % (title, name), by_fiolog(text), (found, counts_in(not_judged)))
 
 
+def check_words(check, browser, name):
+    """The first breach of each example is said in the words of `fiolog check`."""
+    if not os.path.exists(LIBRARY):
+        return
+    for path in sorted(glob.glob(os.path.join(TOP, 'examples', '*.transcript'))):
+        text = text_of(os.path.basename(path))
+        first = json.loads((fiolog('check', '--json', text=text).out.splitlines() or ['{}'])[0])
+        if 'says' in first:
+            pasted(browser, text)
+            said = browser.run('return document.getElementById("verdict-text").textContent')
+            check.holds('%s in the words of fiolog in %s' % (os.path.basename(path), name), first['says'] in said, said)
+
+
 def rows(check, browser, name):
     """Each of these checks."""
     check_logs(check, browser, name)
@@ -171,3 +184,4 @@ def rows(check, browser, name):
     check_marks(check, browser, name)
     check_kinds(check, browser, name)
     check_as_fiolog(check, browser, name)
+    check_words(check, browser, name)
