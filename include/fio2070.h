@@ -1303,6 +1303,9 @@ void fio2070_log_signs_start(struct fio2070_log_signs *signs);
  * enum fio2070_log_side. Give it each frame of the log, in order. It changes nothing of what a judge says of the frame. */
 void fio2070_log_signs_frame(struct fio2070_log_signs *signs, uint8_t from_cpu, uint8_t said, const uint8_t *octets,
                              size_t length);
+/** Takes the frames of a batch that fio2070_log_read wrote, in order. `as_said` is as for fio2070_log_judge_batch, and the frame of a
+ * possible line is not taken. */
+void fio2070_log_signs_batch(struct fio2070_log_signs *signs, uint8_t as_said, const struct fio2070_log_batch *batch);
 /** Returns what kind of log it looks like by the frames down to here, one of enum fio2070_log_sign: the first of these that holds.
  *
  * FIO2070_LOG_SIGN_TWICE holds if of 8 or more answers at least two of five have the octets of the frame directly above,
@@ -1394,6 +1397,12 @@ void fio2070_log_counts_lose(struct fio2070_log_counts *counts);
  * a block that is sent again below the same block neither entries nor a gap mark are counted. */
 uint8_t fio2070_log_counts_frame(struct fio2070_log_counts *counts, uint8_t has_time, uint64_t time, const uint8_t *octets,
                                  size_t length, uint64_t *taken);
+/** Counts the frames of a batch that fio2070_log_read wrote, in order, as the calls above do, each by the time of its verdict. A
+ * frame may be lost at a possible or damaged line, at a heading, and at a line that speaks of loss. The frame of a possible line is
+ * not counted. Writes how long the module took, in microseconds, for each answer of which fio2070_log_counts_frame returns 1, in
+ * order, and returns how many these are; what is after them in `taken` stays. */
+uint32_t fio2070_log_counts_batch(struct fio2070_log_counts *counts, const struct fio2070_log_batch *batch,
+                                  uint64_t taken[20480]);
 #endif
 
 /** @} */

@@ -506,6 +506,13 @@ public:
                                                  &outcome);
         return outcome;
     }
+    /// Takes the lines of a batch that `LogReader::read` wrote, in order, and returns what each of its frames is. Who sent a frame is
+    /// said by its type; if `as_said` by its line, if that says it.
+    std::vector<::fio2070_judge_outcome> batch(const ::fio2070_log_batch &batch, bool as_said = false) {
+        std::vector<::fio2070_judge_outcome> outcomes(std::size(batch.lengths));
+        outcomes.resize(::fio2070_log_judge_batch(&judge_, as_said, &batch, outcomes.data()));
+        return outcomes;
+    }
 
 private:
     LogJudge() = default;
@@ -522,6 +529,8 @@ public:
     void frame(Octets octets, bool from_cpu, ::fio2070_log_side said = FIO2070_LOG_NO_SIDE) {
         ::fio2070_log_signs_frame(&signs_, from_cpu, static_cast<std::uint8_t>(said), octets.data(), octets.size());
     }
+    /// Takes the frames of a batch that `LogReader::read` wrote, in order. `as_said` is as for `LogJudge::batch`.
+    void batch(const ::fio2070_log_batch &batch, bool as_said = false) { ::fio2070_log_signs_batch(&signs_, as_said, &batch); }
     /// What kind of log it looks like by the frames down to here.
     ::fio2070_log_sign sign() const { return static_cast<::fio2070_log_sign>(::fio2070_log_signs_sign(&signs_)); }
 
@@ -542,6 +551,14 @@ public:
         const bool is_known = ::fio2070_log_counts_frame(&counts_, time.has_value(), time.value_or(0), octets.data(), octets.size(),
                                                          &taken) != 0;
         return is_known ? std::optional<std::uint64_t>(taken) : std::nullopt;
+    }
+    /// Counts the frames of a batch that `LogReader::read` wrote, in order, each by the time of its line, and takes the lines between
+    /// them: a frame may be lost where `LogJudge` may lose its place. Returns how long the module took for its answers, of each of which
+    /// that is known.
+    std::vector<std::uint64_t> batch(const ::fio2070_log_batch &batch) {
+        std::vector<std::uint64_t> taken(std::size(batch.lengths));
+        taken.resize(::fio2070_log_counts_batch(&counts_, &batch, taken.data()));
+        return taken;
     }
     /// The numbers.
     const ::fio2070_log_counts &operator*() const { return counts_; }

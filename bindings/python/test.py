@@ -21,6 +21,8 @@ from rows import read_rows
 
 BLOCK = bytes.fromhex('b605018c03e700000003e8')
 
+SIGNS = ('', 'twice', 'both ends', 'reversed', 'two links')
+
 LOG = b'07:15:02.000 RX b6 05 01 8c 03 e7 00 00 00 03 e8\nno octets\n\n'
 
 
@@ -149,7 +151,7 @@ def sign_of(text):
     for line in text.split(', ') if text else ():
         sides, _, octets = line.partition(' ')
         signs.frame(bytes.fromhex(octets), sides[0] == '>', sides[1:])
-    return str(('', 'twice', 'both ends', 'reversed', 'two links').index(signs.sign))
+    return str(SIGNS.index(signs.sign))
 
 
 def counted(text):
@@ -163,12 +165,35 @@ def counted(text):
         taken = counts.frame(bytes.fromhex(octets), int(time) if time else None)
         if taken is not None:
             said.append('taken %d' % taken)
+    return ' '.join(said + counts_words(counts))
+
+
+def counts_words(counts):
+    """What of counts is not 0."""
+    said = []
     for name in ('frames', 'polls', 'repeats', 'unanswered', 'marks', 'entries', 'restarts', 'types', 'inputs', 'fills', 'waits',
                  'reset', 'first_reset'):
         number = getattr(counts, name)
         said += ['%s %d %d' % (name, *one) for one in sorted(number.items())] if isinstance(number, collections.Counter) else \
             ['%s %d' % (name, number or 0)] * bool(number)
-    return ' '.join(said)
+    return said
+
+
+def by_batches(form, as_said, text):
+    """What the judge says of the frames of a log, what is counted of them, and their sign, by the calls that take a batch."""
+    c, log = fio2070._library, text.replace('~', '\n').encode()
+    reader, judge, counts, signs = fio2070.LogReader(list(fio2070.logs._FORMS)[form]), fio2070.LogJudge(), fio2070.LogCounts(), fio2070.LogSigns()
+    outcomes, taken, batch = (c.CJudgeOutcome * 20480)(), (ctypes.c_uint64 * 20480)(), c.CLogBatch()
+    found, times = [], []
+    for octets in (log, b'', b''):
+        c.library.fio2070_log_read(reader._reader, octets, len(octets), batch)
+        count = c.library.fio2070_log_judge_batch(judge._judge, as_said, batch, outcomes)
+        found += [outcome_words(fio2070.judges._outcome(one)) for one in outcomes[:count]]
+        times += taken[:c.library.fio2070_log_counts_batch(counts._counts, batch, taken)]
+        c.library.fio2070_log_signs_batch(signs._signs, as_said, batch)
+        c.library.fio2070_log_end(reader._reader)
+    said = ['taken %d' % one for one in times] + counts_words(counts) + ['sign %d' % SIGNS.index(signs.sign)]
+    return ' '.join([', '.join(found), *said])
 
 
 def said_by(call, numbers, text):
@@ -185,6 +210,8 @@ def said_by(call, numbers, text):
         return sign_of(text)
     if call == 'log_counts':
         return counted(text)
+    if call == 'log_batches':
+        return by_batches(*numbers, text)
     if call.startswith('content'):
         return breaches(fio2070.ContentChecker(begun=call == 'content_begun'), text)
     octets = b'' if call.startswith(('checker', 'judge', 'log_judge')) else bytes.fromhex(text)

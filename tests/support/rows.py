@@ -5,7 +5,8 @@ frames that were sent (>) and heard (<), where `-` is a place at which lines are
 or a log, in which `~` is the end of a line. For a judge of a log a second `>` or `<` is who sent a frame as its line says, `?` is a
 possible message, and `!` a line that speaks of loss. For counts of a log a frame has its octets, and its time if it has one. `30*3` is short for `303030`, and `+` joins octets. A result that is a struct is
 written by its fields that are not 0, in the order of the struct; the result for frames by the rule that each breaks, or by what
-a judge says of each; that for the signs of a log by the number of the sign below the last frame; that for a log by the line, the kind and the reason of each verdict, and what else it has. A log is read
+a judge says of each; that for the signs of a log by the number of the sign below the last frame; that for a log by the line, the kind and the reason of each verdict, and what else it has;
+that for its batches by what the judge, the counts and the signs of a log say of them. A log is read
 whole and in pieces of each length, one log after another by the same reader; a line by one octet a call and by many.
 
 As a program it prints the table as an array for C and C++: the rows of support/c/table.h."""

@@ -534,19 +534,22 @@ JUDGES(log_judge, frame,
         struct fio2070_judge_outcome *outcome),
        it, from_cpu, said, frame, length, to)
 
+/* A batch that a call is given, which is as it was when the call returns: the second time its numbers are exchanged back. */
+static void settle_given(const struct fio2070_log_batch *batch, uint32_t verdicts, uint32_t frames, uint32_t places) {
+    if (!IS_LITTLE) settle_batch((struct fio2070_log_batch *)(uintptr_t)batch, verdicts, frames, places);
+}
+
 uint32_t fio2070_log_judge_batch(struct fio2070_log_judge *judge, uint8_t as_said, const struct fio2070_log_batch *batch,
                                  struct fio2070_judge_outcome outcomes[20480]) {
-    /* The batch is as it was when the call returns. */
-    struct fio2070_log_batch *it = (struct fio2070_log_batch *)(uintptr_t)batch;
     const uint32_t verdicts = batch->verdict_count, frames = batch->frame_count, places = batch->place_count;
     uint32_t place, count;
     MACHINE(fio2070_log_judge_batch);
-    if (!IS_LITTLE) settle_batch(it, verdicts, frames, places);
+    settle_given(batch, verdicts, frames, places);
     {
         uint64_t a = WRITES(judge, sizeof *judge), b = READS(batch, sizeof *batch), c = WRITES(outcomes, 20480 * sizeof *outcomes);
         count = (uint32_t)call_fio2070_log_judge_batch(&machine, a, as_said, b, c);
     }
-    if (!IS_LITTLE) settle_batch(it, verdicts, frames, places);
+    settle_given(batch, verdicts, frames, places);
     for (place = 0; place < count; place++) outcomes[place].items = get16((const uint8_t *)&outcomes[place].items);
     return count;
 }
@@ -558,6 +561,17 @@ OVER(log_signs, frame, 1, void, ,
      (struct fio2070_log_signs * log_signs, uint8_t from_cpu, uint8_t said, const uint8_t *octets, size_t length), it, from_cpu,
      said, READS(octets, length), length)
 OVER(log_signs, sign, 0, uint8_t, return (uint8_t), (const struct fio2070_log_signs *log_signs), it)
+
+void fio2070_log_signs_batch(struct fio2070_log_signs *signs, uint8_t as_said, const struct fio2070_log_batch *batch) {
+    const uint32_t verdicts = batch->verdict_count, frames = batch->frame_count, places = batch->place_count;
+    MACHINE(fio2070_log_signs_batch);
+    settle_given(batch, verdicts, frames, places);
+    {
+        uint64_t a = WRITES(signs, sizeof *signs), b = READS(batch, sizeof *batch);
+        call_fio2070_log_signs_batch(&machine, a, as_said, b);
+    }
+    settle_given(batch, verdicts, frames, places);
+}
 
 /* Counts with their numbers of 64 bits, which are at the front, in the module's order of octets instead of the processor's, or
  * the other way. */
@@ -587,6 +601,23 @@ uint8_t fio2070_log_counts_frame(struct fio2070_log_counts *counts, uint8_t has_
     if (!IS_LITTLE) settle_counts(counts);
     *taken = get64((const uint8_t *)taken);
     return is_known;
+}
+
+uint32_t fio2070_log_counts_batch(struct fio2070_log_counts *counts, const struct fio2070_log_batch *batch,
+                                  uint64_t taken[20480]) {
+    const uint32_t verdicts = batch->verdict_count, frames = batch->frame_count, places = batch->place_count;
+    uint32_t place, count;
+    MACHINE(fio2070_log_counts_batch);
+    settle_given(batch, verdicts, frames, places);
+    if (!IS_LITTLE) settle_counts(counts);
+    {
+        uint64_t a = WRITES(counts, sizeof *counts), b = READS(batch, sizeof *batch), c = WRITES(taken, 20480 * sizeof *taken);
+        count = (uint32_t)call_fio2070_log_counts_batch(&machine, a, b, c);
+    }
+    settle_given(batch, verdicts, frames, places);
+    if (!IS_LITTLE) settle_counts(counts);
+    for (place = 0; place < count; place++) taken[place] = get64((const uint8_t *)&taken[place]);
+    return count;
 }
 #endif
 

@@ -9,7 +9,7 @@ pub mod Decoded
 mod Rings
 mod Replies
 pub mod Batches
-pub mod JudgedBatches
+pub mod BatchItems
 pub mod Returned
 pub mod Lent
 pub mod TakenOctets

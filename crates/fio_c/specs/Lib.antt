@@ -4,6 +4,7 @@ pub mod Judges
 pub mod Flat
 pub mod Logs
 pub mod Told
+pub mod BatchItems
 pub mod LogCounts
 pub mod LogJudges
 pub mod LogSigns

@@ -1,7 +1,6 @@
 -- The judge of a log as C sees it.
-use Rattle.std.specs.Prelude.{ℕ, ◌==◌, ◌&&◌, ◌||◌, Bool, true, false, not, nat_lt, List, [], ◌∷◌, ◌++◌, map, take, drop, slice_get, unwrap_or, Option, Some, None, if◌then◌else◌}
-use Rattle.std.specs.List.{flat_map}
-use Rattle.fio_check.specs.LogJudges.{Found, LogEvent, LogJudging, Lost, Missing, Possible, log_below_events, outcomes_in_log}
+use Rattle.std.specs.Prelude.{ℕ, ◌==◌, ◌&&◌, ◌||◌, Bool, true, false, not, nat_lt, List, [], ◌∷◌, slice_get, unwrap_or, Option, Some, None, if◌then◌else◌}
+use Rattle.fio_check.specs.LogJudges.{Found, LogEvent, LogJudging, Lost, Missing, Possible, log_below_events, log_with_event, outcome_in_log}
 use Rattle.fio_check.specs.declared.late_answers.LateAnswers.{LateAnswers}
 use Rattle.fio_check.specs.declared.log_judge.LogOutcome.{LogOutcome}
 use Rattle.fio_check.specs.declared.log_judge.LogOutcome.TheVariants.{Late, LateAbove, Link}
@@ -11,10 +10,9 @@ use Rattle.fio_check.specs.declared.missing_frames.MissingFrames.{MissingFrames}
 use Rattle.fio_check.specs.declared.missing_frames.MissingFrames.TheVariants.{AbovePoll, Below, Nowhere}
 use Rattle.fio_check.specs.declared.outcome.LogPlace.{LogPlace}
 use Rattle.fio_check.specs.declared.outcome.LogPlace.TheVariants.{Bus, Cpu, Module}
+use Rattle.fio_c.specs.BatchItems.{BatchItem}
 use Rattle.fio_c.specs.Checkers.{octet_in}
 use Rattle.fio_c.specs.Judges.{flat_outcome, judge_in, without_breach}
-use Rattle.fio_c.specs.Logs.{flat_told}
-use Rattle.fio_c.specs.Told.{Told}
 use Rattle.fio_c.specs.declared.judge.JudgeOutcome.{JudgeOutcome}
 use Rattle.fio_c.specs.declared.log_batch.LogVerdict.{LogVerdict}
 use Rattle.fio_c.specs.declared.log_judge.FlatLogJudge.{FlatLogJudge}
@@ -96,40 +94,24 @@ event_of_line kind reason = if kind == 3 || kind == 5 && reason == 11 then Possi
     else if kind == 5 && reason == 10 then Missing ∷ []
     else []
 
--- the events that a verdict with its frames is to the judge
-abbrev pub events_of_verdict : Bool → LogVerdict → List (List ℕ) → List LogEvent
-events_of_verdict as_said verdict frames = if verdict.kind == 1
-    then map (event_of_frame as_said (end_in verdict.said)) frames
-    else event_of_line verdict.kind verdict.reason
+-- the judge after one item more: a frame of a line whose kind has no frames is not judged
+abbrev pub log_below_item : Bool → LogJudging → BatchItem → LogJudging
+log_below_item as_said judge (verdict, None) = log_below_events judge (event_of_line verdict.kind verdict.reason)
+log_below_item as_said judge (verdict, Some octets) = if verdict.kind == 1
+    then log_with_event judge (event_of_frame as_said (end_in verdict.said) octets)
+    else judge
 
--- the outcomes of the frames of a verdict: frames of a line whose kind has no frames are not judged, without a reason
-abbrev pub outcomes_of_verdict : LogJudging → Bool → LogVerdict → List (List ℕ) → List JudgeOutcome
-outcomes_of_verdict judge as_said verdict frames = if verdict.kind == 1
-    then map flat_log_outcome (outcomes_in_log judge (map (event_of_frame as_said (end_in verdict.said)) frames))
-    else map (λ octets. without_breach 5 0) frames
-
--- the events that verdicts, with the frames of all of them, are to the judge
-abbrev pub events_of_verdicts : Bool → List LogVerdict → List (List ℕ) → List LogEvent
-events_of_verdicts as_said [] frames = []
-events_of_verdicts as_said (verdict ∷ verdicts) frames =
-    events_of_verdict as_said verdict (take verdict.frames frames)
-    ++ events_of_verdicts as_said verdicts (drop verdict.frames frames)
+-- the outcome of a frame of a verdict
+abbrev pub outcome_of_item : Bool → LogJudging → LogVerdict → List ℕ → JudgeOutcome
+outcome_of_item as_said judge verdict octets = if verdict.kind == 1
+    then flat_log_outcome (outcome_in_log judge (is_sent_frame as_said (end_in verdict.said) octets) (end_in verdict.said) octets)
+    else without_breach 5 0
 
 -- the outcomes of all frames, in order
-abbrev pub outcomes_of_verdicts : LogJudging → Bool → List LogVerdict → List (List ℕ) → List JudgeOutcome
-outcomes_of_verdicts judge as_said [] frames = []
-outcomes_of_verdicts judge as_said (verdict ∷ verdicts) frames =
-    outcomes_of_verdict judge as_said verdict (take verdict.frames frames)
-    ++ outcomes_of_verdicts (log_below_events judge (events_of_verdict as_said verdict (take verdict.frames frames)))
-    as_said verdicts (drop verdict.frames frames)
-
--- the events that verdicts with their frames are to the judge, as a reader returned them
-abbrev pub events_of_told : Bool → List Told → List LogEvent
-events_of_told as_said told = flat_map (λ one. events_of_verdict as_said (flat_told one) one.frames) told
-
--- ---- the frames of a batch
-
--- octets cut into frames of these lengths; if they run out, the last frames get what is left
-abbrev pub frames_in : List ℕ → List ℕ → List (List ℕ)
-frames_in [] octets = []
-frames_in (count ∷ counts) octets = take count octets ∷ frames_in counts (drop count octets)
+abbrev pub outcomes_of_items : Bool → LogJudging → List BatchItem → List JudgeOutcome
+outcomes_of_items as_said judge [] = []
+outcomes_of_items as_said judge ((verdict, None) ∷ items) =
+    outcomes_of_items as_said (log_below_item as_said judge (verdict, None)) items
+outcomes_of_items as_said judge ((verdict, Some octets) ∷ items) =
+    outcome_of_item as_said judge verdict octets
+    ∷ outcomes_of_items as_said (log_below_item as_said judge (verdict, Some octets)) items

@@ -1,11 +1,13 @@
 -- What kind of log a log looks like, as C sees it.
-use Rattle.std.specs.Prelude.{ℕ, ◌==◌, not, take, Option, Some, None, if◌then◌else◌}
+use Rattle.std.specs.Prelude.{ℕ, Bool, ◌==◌, not, take, Option, Some, None, if◌then◌else◌}
 use Rattle.fio_check.specs.declared.block_order.BlockSeen.{BlockSeen}
 use Rattle.fio_check.specs.declared.log_signs.LogSign.{LogSign}
 use Rattle.fio_check.specs.declared.log_signs.LogSign.TheVariants.{BothEnds, Reversed, Twice, TwoLinks}
 use Rattle.fio_check.specs.declared.log_signs.LogSigns.{LogSigns}
 use Rattle.fio_c.specs.Checkers.{octet_in}
-use Rattle.fio_c.specs.LogJudges.{end_in}
+use Rattle.fio_check.specs.LogSigns.{signs_with}
+use Rattle.fio_c.specs.BatchItems.{BatchItem}
+use Rattle.fio_c.specs.LogJudges.{end_in, is_sent_frame}
 use Rattle.fio_c.specs.declared.log_signs.FlatLogSigns.{FlatLogSigns}
 
 -- the latest block answer
@@ -31,6 +33,13 @@ log_signs_in flat = record {
     jumps = flat.jumps;
   };
 }
+
+-- with an item of a batch more: the frames of a line that is none of frames are not taken
+abbrev pub signs_with_item : Bool → LogSigns → BatchItem → LogSigns
+signs_with_item as_said signs (verdict, None) = signs
+signs_with_item as_said signs (verdict, Some octets) = if verdict.kind == 1
+    then signs_with signs (is_sent_frame as_said (end_in verdict.said) octets) (end_in verdict.said) octets
+    else signs
 
 -- the number of a sign
 abbrev pub sign_number : Option LogSign → ℕ

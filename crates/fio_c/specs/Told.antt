@@ -3,7 +3,7 @@ use Rattle.std.specs.Prelude.{◌≡◌, ℕ, ◌+◌, true, List, [], ◌∷◌
 use Rattle.std.specs.List.{All}
 use Rattle.fio_log.specs.Blanks.{Texts}
 use Rattle.fio_log.specs.Frames.{AreFramesAt, Log}
-use Rattle.fio_log.specs.Lines.{Text, is_whole}
+use Rattle.fio_log.specs.Lines.{Text}
 use Rattle.fio_log.specs.OwnVerdicts.{IsOwnVerdict, own_form_of}
 use Rattle.fio_log.specs.Sayings.{spells}
 use Rattle.fio_log.specs.Telling.{HasTold, IsReaderOf, IsTextOf, Telling, frames_of, places_of}

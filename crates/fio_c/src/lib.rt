@@ -24,14 +24,16 @@
 //! | use its parts | `fio2070_counter_..`, `fio2070_filters_..`, `fio2070_widen` |
 //!
 //! The definitions are in `specs/`: flat forms of commands, answers and blocks (`Flat`), checkers (`Checkers`), the judge of a
-//! link (`Judges`), the judge of a log (`LogJudges`), logs (`Logs`, `Told`), counts (`LogCounts`), texts (`Texts`), versions
-//! (`Version`), lines (`Wires`). `fio_flat` has the other structs, and what calls do to them and to the caller's arrays.
+//! link (`Judges`), the judge of a log (`LogJudges`), logs (`Logs`, `Told`), batches of the reader (`BatchItems`), counts
+//! (`LogCounts`), texts (`Texts`), versions (`Version`), lines (`Wires`). `fio_flat` has the other structs, and what calls do to
+//! them and to the caller's arrays.
 #![tactic(auto)]
 
 mod answer_frames;
 mod answer_numbers;
 mod answering;
 mod answers;
+mod batch_items;
 mod blocks;
 mod checker;
 mod command_frames;

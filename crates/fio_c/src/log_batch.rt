@@ -19,6 +19,9 @@ pub const LOG_PLACES: usize = LOG_VERDICTS + VERDICT_OCTETS;
 /// The most octets of the frames of a batch.
 pub const LOG_OCTETS: usize = 4 * VERDICT_OCTETS;
 
+/// The kind of a line that gives frames.
+pub(crate) const FRAMES: u8 = 1;
+
 /// What the reader says of a line of a log.
 #[derive(Clone, Copy)]
 #[repr(C)]

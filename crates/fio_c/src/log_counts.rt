@@ -1,9 +1,14 @@
 //! What is counted of the frames of a log, in memory of the caller.
-ghost use Rattle.std.specs.Prelude.{◌≡◌, is_some, unwrap_or};
+ghost use Rattle.std.specs.Prelude.{◌≡◌, ◌≤◌, ◌++◌, List, Some, None, drop, fold, is_some, length, unwrap_or};
 ghost use Rattle.fio_message.specs.Bits.{bit_of};
 ghost use Rattle.fio_check.specs.LogCounts.{counted_lost, counts_above, counts_with, time_to_frame};
-ghost use Rattle.fio_c.specs.LogCounts.{time_in};
+ghost use Rattle.fio_c.specs.BatchItems.{frame_count, items_of, items_of_told};
+ghost use Rattle.fio_c.specs.LogCounts.{counts_with_item, time_in, time_to_item, times_to_items};
+ghost use Rattle.fio_c.specs.Logs.{Content, Holds, content_of};
+ghost use Rattle.fio_c.specs.Told.{Told};
 
+use crate::batch_items::{BatchItems, items_of};
+use crate::log_batch::{FRAMES, LOG_FRAMES, LogBatch, LogVerdict};
 use fio_check::LogCounts;
 
 /// Starts the counts before any frame: each octet is 0.
@@ -40,6 +45,71 @@ pub extern "C" fn fio2070_log_counts_frame(
     let found = counts.frame(time_from(has_time, time), octets);
     *taken = found.unwrap_or(0);
     u8::from(found.is_some())
+}
+
+/// Counts the frames of a batch that `fio2070_log_read` wrote, each by the time of its verdict, and takes the lines between them:
+/// where `fio2070_log_judge_batch` takes one, a frame may be lost. A frame of a line that is of no frames is not counted. It writes how
+/// long the module took, in microseconds, for each answer of which `fio2070_log_counts_frame` says it, in order, and returns how many
+/// these are. The times after those that are written stay as they were.
+#[unsafe(no_mangle)]
+pub extern "C" fn fio2070_log_counts_batch(
+    counts: &mut LogCounts,
+    batch: &LogBatch,
+    taken: &mut [u64; LOG_FRAMES],
+) -> u32
+    ensures next { (content : Content) → Holds batch.now content → counts.new ≡ fold counts_with_item counts.old (items_of content) }
+    ensures taken { (content : Content) → Holds batch.now content
+        → let times = times_to_items counts.old (items_of content) in taken.new ≡ times ++ drop (length times) taken.old }
+    ensures count { (content : Content) → Holds batch.now content → result ≡ length (times_to_items counts.old (items_of content)) }
+    ensures told { (told : List Told) → Holds batch.now (content_of told)
+        → counts.new ≡ fold counts_with_item counts.old (items_of_told told) }
+    ensures within { result ≤ LOG_FRAMES }
+{
+    count_items(counts, items_of(batch), taken) as u32
+}
+
+/// Counts what a batch says, writes how long the module took for its answers, and returns of how many that is known.
+fn count_items(counts: &mut LogCounts, items: BatchItems<'_>, taken: &mut [u64]) -> usize
+    requires { frame_count items ≤ length taken.old }
+    ensures next { counts.new ≡ fold counts_with_item counts.old items.entry }
+    ensures taken { taken.new ≡ times_to_items counts.old items.entry ++ drop result taken.old }
+    ensures count { result ≡ length (times_to_items counts.old items.entry) }
+    ensures within { result ≤ length taken.old }
+{
+    let mut at = 0;
+    'items: for (verdict, octets) in items {
+        match octets {
+            None => count_line(counts, verdict),
+            Some(octets) => {
+                if let Some(time) = count_frame(counts, verdict, octets) {
+                    taken[at] = time;
+                    at += 1;
+                }
+            }
+        }
+    }
+    at
+}
+
+/// Counts a frame of a verdict, and returns how long the module took for it, if that is known.
+fn count_frame(counts: &mut LogCounts, verdict: &LogVerdict, octets: &[u8]) -> Option<u64>
+    ensures time { result ≡ time_to_item counts.old (verdict.now, Some octets.now) }
+    ensures next { counts.new ≡ counts_with_item counts.old (verdict.now, Some octets.now) }
+{
+    if verdict.kind != FRAMES {
+        return None;
+    }
+    counts.frame(time_from(verdict.has_time, verdict.time), octets)
+}
+
+/// Takes a line: a frame may be lost at a message that nothing makes sure, damage, a remark that speaks of loss, and a heading.
+fn count_line(counts: &mut LogCounts, verdict: &LogVerdict)
+    ensures { counts.new ≡ counts_with_item counts.old (verdict.now, None) }
+{
+    match (verdict.kind, verdict.reason) {
+        (3 | 4, _) | (5, 10 | 11) => counts.lose(),
+        _ => {}
+    }
 }
 
 /// Returns the time of a frame, if it has one.

@@ -1,10 +1,16 @@
 //! What kind of log a log looks like, in memory of the caller.
-ghost use Rattle.std.specs.Prelude.{◌≡◌, ◌==◌, not, length, take};
+ghost use Rattle.std.specs.Prelude.{◌≡◌, ◌==◌, List, Some, fold, not, length, take};
 ghost use Rattle.fio_check.specs.LogSigns.{no_signs, sign_of, signs_with};
+ghost use Rattle.fio_c.specs.BatchItems.{items_of, items_of_told};
 ghost use Rattle.fio_c.specs.LogJudges.{end_in};
-ghost use Rattle.fio_c.specs.LogSigns.{block_seen_of, log_signs_in, sign_number};
+ghost use Rattle.fio_c.specs.LogSigns.{block_seen_of, log_signs_in, sign_number, signs_with_item};
+ghost use Rattle.fio_c.specs.Logs.{Content, Holds, content_of};
+ghost use Rattle.fio_c.specs.Told.{Told};
 
+use crate::batch_items::{BatchItems, items_of};
+use crate::log_batch::{FRAMES, LogBatch, LogVerdict};
 use crate::log_judge::{end_from, octet_from};
+use crate::log_judge_batch::is_sent_frame;
 use fio_check::{BlockOrder, BlockRows, BlockSeen, LogSign, LogSigns, RepeatedFrames};
 use fio_message::{FRAME_OCTETS, Frame};
 
@@ -74,6 +80,41 @@ pub extern "C" fn fio2070_log_signs_frame(
     let mut kept = signs_from(signs);
     kept.frame(from_cpu != 0, end_from(said), octets);
     *signs = flat_signs_of(&kept);
+}
+
+/// Takes the frames of a batch that `fio2070_log_read` wrote, in order. Set `as_said` to a number other than 0 for a log that is
+/// read as a transcript, whose lines say who sent a frame. A frame of a line whose kind has no frames is not taken.
+#[unsafe(no_mangle)]
+pub extern "C" fn fio2070_log_signs_batch(signs: &mut FlatLogSigns, as_said: u8, batch: &LogBatch)
+    ensures next { (content : Content) → Holds batch.now content → log_signs_in signs.new
+        ≡ fold (signs_with_item (not (as_said == 0))) (log_signs_in signs.old) (items_of content) }
+    ensures told { (told : List Told) → Holds batch.now (content_of told) → log_signs_in signs.new
+        ≡ fold (signs_with_item (not (as_said == 0))) (log_signs_in signs.old) (items_of_told told) }
+{
+    let mut kept = signs_from(signs);
+    take_items(&mut kept, as_said != 0, items_of(batch));
+    *signs = flat_signs_of(&kept);
+}
+
+/// Takes the frames among what a batch says.
+fn take_items(signs: &mut LogSigns, as_said: bool, items: BatchItems<'_>)
+    ensures { signs.new ≡ fold (signs_with_item as_said) signs.old items.entry }
+{
+    'items: for (verdict, octets) in items {
+        if let Some(octets) = octets {
+            take_frame(signs, as_said, verdict, octets);
+        }
+    }
+}
+
+/// Takes a frame of a verdict.
+fn take_frame(signs: &mut LogSigns, as_said: bool, verdict: &LogVerdict, octets: &[u8])
+    ensures { signs.new ≡ signs_with_item as_said signs.old (verdict.now, Some octets.now) }
+{
+    if verdict.kind == FRAMES {
+        let said = end_from(verdict.said);
+        signs.frame(is_sent_frame(as_said, said, octets), said, octets);
+    }
 }
 
 /// Returns what kind of log the log looks like: 0 the log of one link in order, or one with too few frames to say; 1 each frame

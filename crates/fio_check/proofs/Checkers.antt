@@ -21,10 +21,7 @@ taking limits facts = record { limits = limits; facts = facts; skips = Nothing }
 
 takes-it : (limits : RuleLimits) (facts : Facts) (from_cpu : Bool) (observation : Observation) → passes_over (taking limits facts) from_cpu observation ≡ false
 takes-it limits facts from_cpu (Poll number) = refl
-takes-it limits facts from_cpu (Command answer absent) = refl
-takes-it limits facts from_cpu (Block number status entries absent) = refl
-takes-it limits facts from_cpu (Answer code accepted) = refl
-takes-it limits facts from_cpu Unreadable = refl
+takes-it limits facts from_cpu other = refl
 
 pub found-taking : (limits : RuleLimits) (facts : Facts) (from_cpu : Bool) (observation : Observation)
     → found_by (taking limits facts) from_cpu observation ≡ breach_of limits facts observation
@@ -246,17 +243,11 @@ goes_on limits lines = record {
 -- what is heard above the first command is passed over
 above-heard : (limits : RuleLimits) (observation : Observation) → number_polled observation ≡ None → passes_over (checker_skipping ToCommand limits) false observation ≡ true
 above-heard limits (Poll number) none = absurd (cc)
-above-heard limits (Command answer absent) none = refl
-above-heard limits (Block number status entries absent) none = refl
-above-heard limits (Answer code accepted) none = refl
-above-heard limits Unreadable none = refl
+above-heard limits other none = refl
 
 command-alike : (limits : RuleLimits) (observation : Observation) → TakesAlike (checker_skipping ToCommand limits) (checker_within limits) true observation
 command-alike limits (Poll number) = record { found = refl; kept = refl }
-command-alike limits (Command answer absent) = record { found = refl; kept = refl }
-command-alike limits (Block number status entries absent) = record { found = refl; kept = refl }
-command-alike limits (Answer code accepted) = record { found = refl; kept = refl }
-command-alike limits Unreadable = record { found = refl; kept = refl }
+command-alike limits other = record { found = refl; kept = refl }
 
 module _ (limits : RuleLimits) (lines : List TranscriptLine) (below : IsBelowHeard lines (from_first_command lines)) where
   still-above : (place : ℕ) → place ≤ below.above → checker_from (checker_anywhere limits) lines place ≡ checker_anywhere limits

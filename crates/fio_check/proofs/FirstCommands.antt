@@ -14,13 +14,7 @@ record IsUnpolled (answer : Option Answer) : Type 0 where
 unpolled : (answer : Option Answer) → IsUnpolled answer
 unpolled None = record { polled = refl; number = refl }
 unpolled (Some (answers.Block block entries status stamp)) = record { polled = refl; number = refl }
-unpolled (Some (answers.ConfigureInputs status)) = record { polled = refl; number = refl }
-unpolled (Some (answers.Status flags receive transmit stamp)) = record { polled = refl; number = refl }
-unpolled (Some (answers.LoadCounter status)) = record { polled = refl; number = refl }
-unpolled (Some (answers.RawInputs inputs stamp)) = record { polled = refl; number = refl }
-unpolled (Some (answers.FilteredInputs inputs stamp)) = record { polled = refl; number = refl }
-unpolled (Some (answers.Watchdog status)) = record { polled = refl; number = refl }
-unpolled (Some (answers.Other kind body)) = record { polled = refl; number = refl }
+unpolled (Some other) = record { polled = refl; number = refl }
 
 -- a line that is heard is no poll, and leaves the CPU without a number
 pub heard_unpolled : (line : TranscriptLine) → line.from_cpu ≡ false → number_polled (observation_on line) ≡ None

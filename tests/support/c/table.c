@@ -231,6 +231,51 @@ static void say_counted(const struct row *row) {
     say_counts(&counts);
 }
 
+/* The three calls that take a batch, over the batches of a log, and how much of their arrays is written. */
+static struct fio2070_judge_outcome found[20480];
+static uint64_t times[20480];
+static uint32_t time_count;
+
+static void take_batch(struct fio2070_log_judge *judge, struct fio2070_log_counts *counts, struct fio2070_log_signs *signs,
+                       uint8_t as_said, const struct fio2070_log_batch *batch) {
+    static uint64_t taken[20480];
+    uint32_t place, count;
+    memset(found, 0xa5, sizeof found), memset(taken, 0xa5, sizeof taken);
+    count = fio2070_log_judge_batch(judge, as_said, batch, found);
+    for (place = 0; place < count; place++) say_outcome(&found[place]);
+    if (count != batch->frame_count || (count < 20480 && found[count].kind != 0xa5)) say(" and more");
+    count = fio2070_log_counts_batch(counts, batch, taken);
+    if (taken[count] != 0xa5a5a5a5a5a5a5a5) say(" and more");
+    for (place = 0; place < count; place++) times[time_count++] = taken[place];
+    fio2070_log_signs_batch(signs, as_said, batch);
+}
+
+/* What the judge says of the frames of a log, what is counted of them, and their sign. */
+static void say_batches(const struct row *row) {
+    static struct fio2070_log_reader reader;
+    static struct fio2070_log_batch batch;
+    const struct fio2070_limits limits = {FIO2070_STANDARD_WAITING, FIO2070_MOST_ENTRIES, 0};
+    const uint8_t as_said = (uint8_t)row->numbers[1];
+    const size_t length = log_in(row->text, octets);
+    struct fio2070_log_judge judge;
+    struct fio2070_log_counts counts;
+    struct fio2070_log_signs signs;
+    uint32_t place;
+    fio2070_log_start(&reader, (uint8_t)row->numbers[0]), fio2070_log_counts_start(&counts), fio2070_log_signs_start(&signs);
+    if (fio2070_log_judge_start(&judge, limits, FIO2070_LOG_TAKEN_AUTO, FIO2070_LOG_BEGINS_ANYWHERE) != FIO2070_STARTED) say("refused");
+    time_count = 0;
+    if (fio2070_log_read(&reader, octets, length, &batch) != length) say("not taken: ");
+    take_batch(&judge, &counts, &signs, as_said, &batch);
+    fio2070_log_end(&reader);
+    do {
+        (void)!fio2070_log_read(&reader, NULL, 0, &batch);
+        take_batch(&judge, &counts, &signs, as_said, &batch);
+    } while (batch.verdict_count > 0);
+    for (place = 0; place < time_count; place++) say(" taken %llu", (unsigned long long)times[place]);
+    say_counts(&counts);
+    say(" sign %u", fio2070_log_signs_sign(&signs));
+}
+
 static void say_line(const struct row *row, size_t length) {
     size_t count;
     if (is_call(row, "wire_check")) {
@@ -324,6 +369,7 @@ static void run(const struct row *row) {
     else if (is_call(row, "log_judge")) say_log_outcomes(row);
     else if (is_call(row, "log_signs")) say_sign(row);
     else if (is_call(row, "log_counts")) say_counted(row);
+    else if (is_call(row, "log_batches")) say_batches(row);
     else if (is_call(row, "wire") || is_call(row, "wire_bits")) say_heard_line(row);
     else if (strncmp(row->call, "wire_", 5) == 0) say_line(row, length);
     else if (is_call(row, "log")) say_log(row);

@@ -170,6 +170,31 @@ static std::string counted(const row &it) {
     return said;
 }
 
+static std::string by_batches(const row &it) {
+    static fio2070_log_batch batch;
+    static fio2070::LogReader reader;
+    auto judge = fio2070::LogJudge::start();
+    fio2070::LogCounts counts;
+    fio2070::LogSigns signs;
+    std::vector<std::uint64_t> times;
+    const bool as_said = it.numbers[1] != 0;
+    const auto take = [&] {
+        for (const auto &outcome : judge->batch(batch, as_said)) say_outcome(&outcome);
+        for (const auto taken : counts.batch(batch)) times.push_back(taken);
+        signs.batch(batch, as_said);
+    };
+    List log(strlen(it.text));
+    log_in(it.text, log.data());
+    *said = 0;
+    reader = fio2070::LogReader(static_cast<fio2070_log_form>(it.numbers[0]));
+    reader.read(log, batch), take(), reader.end();
+    do reader.read({}, batch), take();
+    while (batch.verdict_count > 0);
+    for (const auto taken : times) say(" taken %llu", static_cast<unsigned long long>(taken));
+    say_counts(&*counts);
+    return said + (" sign " + std::to_string(signs.sign()));
+}
+
 static std::string framed(const row &it, const List &octets) {
     const auto frame = fio2070::wire_frame(octets, static_cast<std::uint8_t>(it.numbers[0]), static_cast<std::uint8_t>(it.numbers[1]));
     *said = 0;
@@ -251,6 +276,7 @@ static std::string run(const row &it) {
     if (call == "log_judge") return log_outcomes(it);
     if (call == "log_signs") return sign_of(it);
     if (call == "log_counts") return counted(it);
+    if (call == "log_batches") return by_batches(it);
     if (call == "log") return logged(it);
     if (call == "wire") return heard_line<fio2070::Wire>(it);
     if (call == "wire_bits") return heard_line<fio2070::WireBits>(it);

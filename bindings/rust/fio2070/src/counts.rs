@@ -1,5 +1,6 @@
 //! What is counted of the frames of a log.
 
+use crate::logs::LogBatch;
 use crate::raw::{self, LogCounts};
 
 // SAFETY of the calls below: slices are given with their lengths, all memory is initialised and,
@@ -53,6 +54,14 @@ impl LogCounts {
             0 => None,
             _ => Some(taken),
         }
+    }
+
+    /// Counts the frames of a batch, in order, each by the time of its verdict, and takes the lines between them: a frame may be lost
+    /// where `LogJudge` may lose its place. Returns how long the module took for its answers, of each of which that is known; they are
+    /// written to the front of `taken`.
+    pub fn batch<'a>(&mut self, batch: &LogBatch, taken: &'a mut [u64; 20480]) -> &'a [u64] {
+        let count = unsafe { raw::fio2070_log_counts_batch(self, &batch.0, taken) };
+        &taken[..count as usize]
     }
 }
 

@@ -1,6 +1,7 @@
 //! The judges: of a link, by its frames and where they were logged; and of a log, by what a reader finds in it. And the signs that a log
 //! is not the log of one link in order.
 
+use crate::logs::LogBatch;
 use crate::raw::{self, JudgeOutcome, RawJudge, RawLimits, RawLogJudge, RawLogSigns};
 
 // SAFETY of the calls below: slices are given with their lengths, all memory is initialised and,
@@ -125,6 +126,20 @@ impl LogJudge {
         };
         outcome
     }
+
+    /// Takes the lines of a batch, in order, and returns what each of its frames is; these outcomes are written to the front of
+    /// `outcomes`. Who sent a frame is said by its type; if `as_said` by its line, if that says it.
+    pub fn batch<'a>(
+        &mut self,
+        as_said: bool,
+        batch: &LogBatch,
+        outcomes: &'a mut [JudgeOutcome; 20480],
+    ) -> &'a [JudgeOutcome] {
+        let as_said = as_said.into();
+        let count =
+            unsafe { raw::fio2070_log_judge_batch(&mut self.0, as_said, &batch.0, outcomes) };
+        &outcomes[..count as usize]
+    }
 }
 
 /// Counts of the frames of a log, which tell whether it looks like another one than the log of one link in order. They change
@@ -162,6 +177,11 @@ impl LogSigns {
     pub fn frame(&mut self, from_cpu: bool, said: u8, octets: &[u8]) {
         let (start, count) = (octets.as_ptr(), octets.len());
         unsafe { raw::fio2070_log_signs_frame(&mut self.0, from_cpu.into(), said, start, count) };
+    }
+
+    /// Takes the frames of a batch, in order. `as_said` is as for `LogJudge::batch`.
+    pub fn batch(&mut self, as_said: bool, batch: &LogBatch) {
+        unsafe { raw::fio2070_log_signs_batch(&mut self.0, as_said.into(), &batch.0) };
     }
 
     /// What kind of log it looks like by the frames down to here: one of `constants::LOG_SIGN_NONE` and those after it.

@@ -30,7 +30,7 @@ impl LogReader {
 }
 
 /// Verdicts on lines of a log. It is some 600 KB.
-pub struct LogBatch(RawLogBatch);
+pub struct LogBatch(pub(crate) RawLogBatch);
 
 impl Default for LogBatch {
     fn default() -> LogBatch {

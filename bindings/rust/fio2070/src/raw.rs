@@ -509,6 +509,11 @@ extern "C" {
         octets_count: usize,
         taken: &mut u64,
     ) -> u8;
+    pub(crate) fn fio2070_log_counts_batch(
+        counts: &mut LogCounts,
+        batch: &RawLogBatch,
+        taken: &mut [u64; 20480],
+    ) -> u32;
     pub(crate) fn fio2070_log_judge_start(
         judge: &mut RawLogJudge,
         limits: RawLimits,
@@ -539,6 +544,11 @@ extern "C" {
         said: u8,
         octets: *const u8,
         octets_count: usize,
+    );
+    pub(crate) fn fio2070_log_signs_batch(
+        signs: &mut RawLogSigns,
+        as_said: u8,
+        batch: &RawLogBatch,
     );
     pub(crate) fn fio2070_log_signs_sign(signs: &RawLogSigns) -> u8;
     pub(crate) fn fio2070_poller_start(poller: &mut RawPoller, number: u8);

@@ -336,6 +336,36 @@ fn by_log_counts(row: &Row) -> String {
     said.join(" ")
 }
 
+/// What the judge says of the frames of a log, what is counted of them, and their sign, by the calls that take a batch.
+fn by_log_batches(row: &Row) -> String {
+    let mut judge = LogJudge::new(0, 0, 255, 1024).unwrap();
+    let (mut counts, mut signs) = (LogCounts::new(), LogSigns::new());
+    let mut reader = Box::new(LogReader::new(row.numbers[0] as u8));
+    let mut batch = Box::new(LogBatch::new());
+    let (mut outcomes, mut times) = ([JudgeOutcome::default(); 20480], [0; 20480]);
+    let (mut found, mut said) = (Vec::new(), Vec::new());
+    let as_said = row.numbers[1] != 0;
+    let mut take = |batch: &LogBatch| {
+        let judged = judge.batch(as_said, batch, &mut outcomes);
+        found.extend(judged.iter().map(|outcome| outcome_words(*outcome)));
+        let taken = counts.batch(batch, &mut times);
+        said.extend(taken.iter().map(|taken| format!("taken {taken}")));
+        signs.batch(as_said, batch);
+    };
+    reader.read(row.text.replace('~', "\n").as_bytes(), &mut batch);
+    take(&batch);
+    reader.end();
+    while {
+        reader.read(&[], &mut batch);
+        take(&batch);
+        batch.verdicts().next().is_some()
+    } {}
+    said.insert(0, found.join(", "));
+    said.extend(counts_words(&counts));
+    said.push(format!("sign {}", signs.sign()));
+    said.join(" ")
+}
+
 fn counts_words(counts: &LogCounts) -> Vec<String> {
     let table = |name: &str, counts: &[u64]| -> Vec<(String, u64)> {
         let numbers = counts.iter().enumerate();
@@ -499,6 +529,7 @@ fn run(row: &Row) -> Result<String, Fault> {
         "log_judge" => by_log_judge(row),
         "log_signs" => by_log_signs(row),
         "log_counts" => by_log_counts(row),
+        "log_batches" => by_log_batches(row),
         "log" => by_log_reader(row),
         "wire" => heard_line!(row, Wire, octets_of, Wire::lose),
         "wire_bits" => heard_line!(row, WireBits, str::as_bytes, |_: &mut WireBits| ()),
