@@ -11,6 +11,16 @@ pub enum Direction {
     Answer,
 }
 
+impl Direction {
+    /// Returns the direction of what the other end sends.
+    pub(crate) fn other(self) -> Direction {
+        match self {
+            Direction::Command => Direction::Answer,
+            Direction::Answer => Direction::Command,
+        }
+    }
+}
+
 /// The words for a direction, in small letters. The arrows are U+2192 and U+2190.
 static WORDS: [(&[u8], Direction); 19] = [
     (b"tx", Direction::Command),

@@ -4,7 +4,7 @@ ghost use Rattle.std.specs.Prelude.{◌<◌, ◌≤◌, length};
 use crate::directions::{Direction, direction_of_word};
 
 /// Returns the direction that a line says of the octets at a place: by the sign of a transcript at its beginning, else by the
-/// last word before them that says one.
+/// last word before them that says one. A name is that of the sender, or of the receiver after an arrow or `to`.
 pub(crate) fn said_at(line: &[u8], place: usize) -> Option<Direction> {
     match *line {
         [b'>', b' ', ..] => Some(Direction::Command),
@@ -36,19 +36,58 @@ fn kind_of(character: u8) -> WordKind {
     }
 }
 
+/// What the words of a text say, as far as they were read.
+#[derive(Clone, Copy)]
+struct SaidWords {
+    /// The direction of the last word that says one.
+    said: Option<Direction>,
+    /// Whether that word is a name.
+    is_name: bool,
+    /// Whether a name that comes next is that of the receiver.
+    is_to: bool,
+}
+
+impl SaidWords {
+    /// Reads one word more.
+    fn add(&mut self, kind: WordKind, word: &[u8]) {
+        let said = said_by(kind, word);
+        let is_name = kind == WordKind::Letters && is_name(word);
+        let other = if is_name && self.is_to {
+            said.map(Direction::other)
+        } else {
+            said
+        };
+        self.is_to = match kind {
+            WordKind::Letters => word.eq_ignore_ascii_case(b"to"),
+            _ => said == Some(Direction::Command) && (word.len() > 1 || self.is_name),
+        };
+        self.is_name = is_name;
+        self.said = other.or(self.said);
+    }
+}
+
+/// Returns whether a word is the name of an end.
+fn is_name(word: &[u8]) -> bool {
+    word.eq_ignore_ascii_case(b"cpu") || word.eq_ignore_ascii_case(b"fio")
+}
+
 /// Returns the direction of the last word of a text that says one.
 fn last_said(text: &[u8]) -> Option<Direction> {
-    let mut said = None;
+    let mut words = SaidWords {
+        said: None,
+        is_name: false,
+        is_to: false,
+    };
     let mut start = 0;
     'words: while start < text.len() {
         let kind = kind_of(text[start]);
         let end = word_end(text, start, kind);
         if kind != WordKind::Other {
-            said = said_by(kind, &text[start..end]).or(said);
+            words.add(kind, &text[start..end]);
         }
         start = end;
     }
-    said
+    words.said
 }
 
 /// Returns where the word that begins at a place of a text ends. Each arrow of one character is a word.
