@@ -2,7 +2,7 @@
 use Rattle.std.proofs.Common.{◌≡◌, ◌∙◌, ℕ, ◌≤◌, List, [], ◌∷◌, length, Option, Some, None, sym, arith}
 use Rattle.std.proofs.lemmas.Option.{same_Some}
 use Rattle.fio_message.specs.declared.faults.DecodeError.{DecodeError}
-use Rattle.fio_message.specs.declared.faults.DecodeError.TheVariants.{Empty, TooLong, UnknownType, WrongLength}
+use Rattle.fio_message.specs.declared.faults.DecodeError.TheVariants.{WrongLength}
 use Rattle.fio_message.specs.declared.limits.TheConstants.{BODY_OCTETS, FRAME_OCTETS}
 use Rattle.fio_message.specs.Octets.{IsOctets}
 use Rattle.fio_message.specs.Commands.{command_length}

@@ -4,6 +4,7 @@ use Rattle.std.specs.Int.{w32, w64, from_be_bytes, from_le_bytes, to_be_bytes, t
 use Rattle.std.specs.Prelude.{is_some}
 use Rattle.std.proofs.lemmas.Nat.{from_be_bytes-to_be_bytes_4, from_le_bytes-to_le_bytes_8}
 use Rattle.arrayvec.specs.ArrayVec.{ArrayVec}
+use Rattle.fio_message.specs.Answers.{answer_code}
 use Rattle.fio_message.specs.Decoding.{message_in}
 use Rattle.fio_message.specs.Status.{error_status, set_before_status}
 use Rattle.fio_message.specs.declared.answers.Answer.TheVariants as answers
@@ -22,20 +23,27 @@ use Rattle.fio_ends.proofs.ContentSteps.{HearsAnswer}
 abbrev pub states_of : Life → ℕ
 states_of life = word_of 64 (λ input. input_state input (filter_events life))
 
+-- an answer that is made of some value in this way
+pub record IsMadeOf {Value : Type 0} (answer : Answer) (made : Value → Answer) : Type 0 where
+  pub value : Value
+  pub is : answer ≡ made value
+
 -- an answer with a body alone
-pub record IsOther (answer : Answer) : Type 0 where
-  pub kind : OtherAnswer
-  pub body : ArrayVec ℕ
-  pub is : answer ≡ answers.Other kind body
+abbrev pub IsOther : Answer → Type 0
+IsOther answer = IsMadeOf answer (λ (parts : OtherAnswer × ArrayVec ℕ). answers.Other parts.0 parts.1)
+
+-- an answer that is this one
+abbrev pub IsWholly : Answer → Answer → Type 0
+IsWholly answer other = IsMadeOf answer (λ (none : Unit {0}). other)
 
 -- what an answer to a command after a life says
 abbrev pub Says : Life → Command → Answer → Type 0
-Says life (commands.Status clear) answer = answer ≡ answers.Status (flags_of (Commanded (commands.Status clear) ∷ life)) 0 0 (counter_of life)
-Says life (commands.LoadCounter load) answer = answer ≡ answers.LoadCounter (error_status false)
-Says life (commands.ConfigureInputs items) answer = answer ≡ answers.ConfigureInputs (error_status (not (all_present items.items)))
-Says life commands.RawInputs answer = (inputs : ℕ) × (answer ≡ answers.RawInputs inputs (counter_of life))
-Says life commands.FilteredInputs answer = answer ≡ answers.FilteredInputs (states_of life) (counter_of life)
-Says life (commands.Watchdog timeout) answer = answer ≡ answers.Watchdog (set_before_status (is_some (watchdog_of life)))
+Says life (commands.Status clear) answer = IsWholly answer (answers.Status (flags_of (Commanded (commands.Status clear) ∷ life)) 0 0 (counter_of life))
+Says life (commands.LoadCounter load) answer = IsWholly answer (answers.LoadCounter (error_status false))
+Says life (commands.ConfigureInputs items) answer = IsWholly answer (answers.ConfigureInputs (error_status (not (all_present items.items))))
+Says life commands.RawInputs answer = IsMadeOf answer (λ (inputs : ℕ). answers.RawInputs inputs (counter_of life))
+Says life commands.FilteredInputs answer = IsWholly answer (answers.FilteredInputs (states_of life) (counter_of life))
+Says life (commands.Watchdog timeout) answer = IsWholly answer (answers.Watchdog (set_before_status (is_some (watchdog_of life))))
 Says life (commands.Poll number) answer = ⊥
 Says life other answer = IsOther answer
 
@@ -75,65 +83,49 @@ filtered_back inputs stamp small fits =
 -- an answer of another type than those above has a body alone
 other_answer : (answer : Answer) (type : ℕ) (accepted : Bool) → observation_of None (Some answer) ≡ seen.Answer type accepted
     → 182 < type → (type ≡ 186 → ⊥) → IsOther answer
-other_answer (answers.Status flags receive transmit stamp) type accepted is high none = let same : 177 ≡ type = cc is in absurd (omega arith)
-other_answer (answers.LoadCounter status) type accepted is high none = let same : 178 ≡ type = cc is in absurd (omega arith)
-other_answer (answers.ConfigureInputs status) type accepted is high none = let same : 179 ≡ type = cc is in absurd (omega arith)
-other_answer (answers.RawInputs inputs stamp) type accepted is high none = let same : 180 ≡ type = cc is in absurd (omega arith)
-other_answer (answers.FilteredInputs inputs stamp) type accepted is high none = let same : 181 ≡ type = cc is in absurd (omega arith)
 other_answer (answers.Block number entries status stamp) type accepted is high none = absurd (cc is)
 other_answer (answers.Watchdog status) type accepted is high none = let same : 186 ≡ type = cc is in absurd (none (sym same))
-other_answer (answers.Other kind body) type accepted is high none = record { kind = kind; body = body; is = refl }
+other_answer (answers.Other kind body) type accepted is high none = record { value = (kind, body); is = refl }
+other_answer other type accepted is high none = let same : answer_code other ≡ type = cc is in absurd (omega arith)
 
 -- and no answer but a block has the type of blocks
 no_block : (answer : Answer) (type : ℕ) (accepted : Bool) → observation_of None (Some answer) ≡ seen.Answer type accepted → type ≡ 182 → ⊥
-no_block (answers.Status flags receive transmit stamp) type accepted is of_block = let same : 177 ≡ type = cc is in absurd (omega (arith, same))
-no_block (answers.LoadCounter status) type accepted is of_block = let same : 178 ≡ type = cc is in absurd (omega (arith, same))
-no_block (answers.ConfigureInputs status) type accepted is of_block = let same : 179 ≡ type = cc is in absurd (omega (arith, same))
-no_block (answers.RawInputs inputs stamp) type accepted is of_block = let same : 180 ≡ type = cc is in absurd (omega (arith, same))
-no_block (answers.FilteredInputs inputs stamp) type accepted is of_block = let same : 181 ≡ type = cc is in absurd (omega (arith, same))
 no_block (answers.Block number entries status stamp) type accepted is of_block = absurd (cc is)
-no_block (answers.Watchdog status) type accepted is of_block = let same : 186 ≡ type = cc is in absurd (omega (arith, same))
 no_block (answers.Other other_answers.SetOutputs body) type accepted is of_block = let same : 183 ≡ type = cc is in absurd (omega (arith, same))
-no_block (answers.Other other_answers.TrackInputs body) type accepted is of_block = let same : 184 ≡ type = cc is in absurd (omega (arith, same))
-no_block (answers.Other other_answers.ComplexOutputs body) type accepted is of_block = let same : 185 ≡ type = cc is in absurd (omega (arith, same))
-no_block (answers.Other other_answers.ControllerId body) type accepted is of_block = let same : 187 ≡ type = cc is in absurd (omega (arith, same))
-no_block (answers.Other other_answers.Identify body) type accepted is of_block = let same : 188 ≡ type = cc is in absurd (omega (arith, same))
+no_block other type accepted is of_block = let same : answer_code other ≡ type = cc is in absurd (omega (arith, same))
 
 module _ (settings : Settings) (life : Life) (answer replied : Answer) (octets : List ℕ) (accepted : Bool) where
-  read_as : (expected known : Answer) → expected ≡ replied → octets ≡ answer_octets replied → answer_in octets ≡ Some answer
+  read_as : {expected known : Answer} → Some expected ≡ Some replied → octets ≡ answer_octets replied → answer_in octets ≡ Some answer
       → answer_in (answer_octets expected) ≡ Some known → answer ≡ known
-  read_as expected known is spells read back =
-      same_Some _ _ (sym read ∙ ap answer_in (spells ∙ ap answer_octets (sym is)) ∙ back)
+  read_as is spells read back =
+      same_Some _ _ (sym read ∙ ap answer_in (spells ∙ ap answer_octets (sym (same_Some _ _ is))) ∙ back)
+
+  whole : {expected : Answer} → Some expected ≡ Some replied → octets ≡ answer_octets replied → answer_in octets ≡ Some answer
+      → answer_in (answer_octets expected) ≡ Some expected → IsWholly answer expected
+  whole is spells read back = record { value = tt; is = read_as is spells read back }
 
   says : (command : Command) → answer_to settings life command ≡ Some replied → octets ≡ answer_octets replied → answer_in octets ≡ Some answer
       → observation_of None (answer_in octets) ≡ seen.Answer (answer_type_to command) accepted → Says life command answer
-  says (commands.Status clear) is spells read heard =
-      read_as (answers.Status (flags_of (Commanded (commands.Status clear) ∷ life)) 0 0 (counter_of life)) (answers.Status (flags_of (Commanded (commands.Status clear) ∷ life)) 0 0 (counter_of life))
-      (same_Some _ _ is) spells read (status_back (flags_of (Commanded (commands.Status clear) ∷ life)) (counter_of life) (omega arith))
-  says (commands.LoadCounter load) is spells read heard =
-      read_as (answers.LoadCounter (error_status false)) (answers.LoadCounter (error_status false)) (same_Some _ _ is) spells read (load_back (error_status false))
+  says (commands.Status clear) is spells read heard = whole is spells read
+      (status_back (flags_of (Commanded (commands.Status clear) ∷ life)) (counter_of life) (omega arith))
+  says (commands.LoadCounter load) is spells read heard = whole is spells read (load_back (error_status false))
   says (commands.ConfigureInputs items) is spells read heard =
-      read_as (answers.ConfigureInputs (error_status (not (all_present items.items)))) (answers.ConfigureInputs (error_status (not (all_present items.items)))) (same_Some _ _ is) spells read
-      (configure_back (error_status (not (all_present items.items))))
-  says commands.RawInputs is spells read heard = (
-    _,
-    read_as (answers.RawInputs (raw_levels (filter_events life)) (counter_of life)) _ (same_Some _ _ is) spells read
-        (raw_back (raw_levels (filter_events life)) (counter_of life) (omega arith)),
-  )
-  says commands.FilteredInputs is spells read heard =
-      read_as (answers.FilteredInputs (states_of life) (counter_of life)) (answers.FilteredInputs (states_of life) (counter_of life)) (same_Some _ _ is) spells read
+      whole is spells read (configure_back (error_status (not (all_present items.items))))
+  says commands.RawInputs is spells read heard = record {
+    value = _;
+    is = read_as is spells read (raw_back (raw_levels (filter_events life)) (counter_of life) (omega arith));
+  }
+  says commands.FilteredInputs is spells read heard = whole is spells read
       (filtered_back (states_of life) (counter_of life) (word_of-fits 64 (λ input. input_state input (filter_events life))) (omega arith))
   says (commands.Watchdog timeout) is spells read heard =
-      read_as (answers.Watchdog (set_before_status (is_some (watchdog_of life)))) (answers.Watchdog (set_before_status (is_some (watchdog_of life)))) (same_Some _ _ is) spells read
-      (watchdog_back (set_before_status (is_some (watchdog_of life))))
+      whole is spells read (watchdog_back (set_before_status (is_some (watchdog_of life))))
   says (commands.Poll number) is spells read heard = no_block answer 182 accepted (ap (observation_of None) (sym read) ∙ heard) refl
   says (commands.SetOutputs levels controls) is spells read heard =
       other_answer answer 183 accepted (ap (observation_of None) (sym read) ∙ heard) (omega arith) (λ same. absurd (omega (arith, same)))
   says commands.Identify is spells read heard =
       other_answer answer 188 accepted (ap (observation_of None) (sym read) ∙ heard) (omega arith) (λ same. absurd (omega (arith, same)))
   says (commands.Other other_commands.TrackInputs body) is spells read heard = absurd (cc is)
-  says (commands.Other other_commands.ComplexOutputs body) is spells read heard = absurd (cc is)
-  says (commands.Other other_commands.ControllerId body) is spells read heard = absurd (cc is)
+  says other is spells read heard = absurd (cc is)
 
 pub says_of : (settings : Settings) (from : Life) (machine : Machine) (facts : ContentFacts) (place : ℕ) (command : Command) (answer : Answer)
     → (h : HearsAnswer settings from machine facts place command answer) → Says h.life command answer

@@ -71,16 +71,9 @@ module _ (rule : ContentRule) (keeps : KeepsOthers rule)
 
 pub done_heard : (facts : ContentFacts) (life : Life) (command : Command) (answer : Answer) → Awaits facts command → Says life command answer
     → breaks_answer facts answer Done ≡ false
-done_heard facts life (commands.Status clear) answer awaits says = rw says refl
-done_heard facts life (commands.LoadCounter load) answer awaits says = rw says (error_back false)
-done_heard facts life (commands.ConfigureInputs items) answer awaits says = rw says refl
-done_heard facts life commands.RawInputs answer awaits says = rw says.1 refl
-done_heard facts life commands.FilteredInputs answer awaits says = rw says refl
-done_heard facts life (commands.Watchdog timeout) answer awaits says = rw says refl
+done_heard facts life (commands.LoadCounter load) answer awaits says = rw says.is (error_back false)
 done_heard facts life (commands.Poll number) answer awaits says = absurd says
-done_heard facts life (commands.SetOutputs levels controls) answer awaits says = rw says.is refl
-done_heard facts life commands.Identify answer awaits says = rw says.is refl
-done_heard facts life (commands.Other kind body) answer awaits says = rw says.is refl
+done_heard facts life other answer awaits says = rw says.is refl
 
 pub done_never_accuses : ContentNeverAccuses Done Always
 done_never_accuses = kept_by_answers Done (λ facts input low wide status stamp level. (refl, tt, tt)) (λ facts answer. refl) done_heard
@@ -108,22 +101,15 @@ present_or_absent (item ∷ items) =
 
 pub accepted_heard : (facts : ContentFacts) (life : Life) (command : Command) (answer : Answer) → Awaits facts command → Says life command answer
     → breaks_answer facts answer Accepted ≡ false
-accepted_heard facts life (commands.Status clear) answer awaits says = rw says refl
-accepted_heard facts life (commands.LoadCounter load) answer awaits says = rw says refl
 accepted_heard facts life (commands.ConfigureInputs items) answer awaits says =
     let refused = not (all_present items.items) in
     let is : (says_error (error_status refused) && not facts.absent_named) ≡ false =
     ap (λ error. error && not facts.absent_named) (error_back refused)
     ∙ ap (λ named. refused && not named) awaits.absent_named
     ∙ present_or_absent items.items in
-    rw says is
-accepted_heard facts life commands.RawInputs answer awaits says = rw says.1 refl
-accepted_heard facts life commands.FilteredInputs answer awaits says = rw says refl
-accepted_heard facts life (commands.Watchdog timeout) answer awaits says = rw says refl
+    rw says.is is
 accepted_heard facts life (commands.Poll number) answer awaits says = absurd says
-accepted_heard facts life (commands.SetOutputs levels controls) answer awaits says = rw says.is refl
-accepted_heard facts life commands.Identify answer awaits says = rw says.is refl
-accepted_heard facts life (commands.Other kind body) answer awaits says = rw says.is refl
+accepted_heard facts life other answer awaits says = rw says.is refl
 
 pub accepted_never_accuses : ContentNeverAccuses Accepted Always
 accepted_never_accuses = kept_by_answers Accepted (λ facts input low wide status stamp level. (refl, tt, tt)) (λ facts answer. refl) accepted_heard
@@ -155,16 +141,9 @@ cleared_heard facts life (commands.Status clear) answer awaits says =
     let flags = flags_of (Commanded (commands.Status clear) ∷ life) in
     let is : not (bit_and flags facts.clearing == 0) ≡ false =
     ap (λ c. not (bit_and flags c == 0)) awaits.clearing ∙ ap (λ left. not (left == 0)) (none_left life clear) in
-    rw says is
-cleared_heard facts life (commands.LoadCounter load) answer awaits says = rw says refl
-cleared_heard facts life (commands.ConfigureInputs items) answer awaits says = rw says refl
-cleared_heard facts life commands.RawInputs answer awaits says = rw says.1 refl
-cleared_heard facts life commands.FilteredInputs answer awaits says = rw says refl
-cleared_heard facts life (commands.Watchdog timeout) answer awaits says = rw says refl
+    rw says.is is
 cleared_heard facts life (commands.Poll number) answer awaits says = absurd says
-cleared_heard facts life (commands.SetOutputs levels controls) answer awaits says = rw says.is refl
-cleared_heard facts life commands.Identify answer awaits says = rw says.is refl
-cleared_heard facts life (commands.Other kind body) answer awaits says = rw says.is refl
+cleared_heard facts life other answer awaits says = rw says.is refl
 
 pub cleared_never_accuses : ContentNeverAccuses Cleared Always
 cleared_never_accuses = kept_by_answers Cleared (λ facts input low wide status stamp level. (refl, tt, tt)) (λ facts answer. refl) cleared_heard
@@ -191,36 +170,22 @@ KeepsWatchdog from facts = facts.watchdog_set ≡ true → IsSet from
 
 watchdog_heard : (facts : ContentFacts) (life : Life) (command : Command) (answer : Answer) → Says life command answer
     → (facts.watchdog_set ≡ true → IsSet life) → breaks_answer facts answer Watchdog ≡ false
-watchdog_heard facts life (commands.Status clear) answer says set = rw says refl
-watchdog_heard facts life (commands.LoadCounter load) answer says set = rw says refl
-watchdog_heard facts life (commands.ConfigureInputs items) answer says set = rw says refl
-watchdog_heard facts life commands.RawInputs answer says set = rw says.1 refl
-watchdog_heard facts life commands.FilteredInputs answer says set = rw says refl
 watchdog_heard facts life (commands.Watchdog timeout) answer says set =
-    rw says (ap (λ before. not before && facts.watchdog_set) (set_before_back (is_some (watchdog_of life))) ∙ by facts.watchdog_set (is_some (watchdog_of life)) set)
+    rw says.is (ap (λ before. not before && facts.watchdog_set) (set_before_back (is_some (watchdog_of life))) ∙ by facts.watchdog_set (is_some (watchdog_of life)) set)
   where
     by : (known before : Bool) → (known ≡ true → before ≡ true) → (not before && known) ≡ false
     by known true set = refl
     by true false set = absurd (cc (set refl))
     by false false set = refl
 watchdog_heard facts life (commands.Poll number) answer says set = absurd says
-watchdog_heard facts life (commands.SetOutputs levels controls) answer says set = rw says.is refl
-watchdog_heard facts life commands.Identify answer says set = rw says.is refl
-watchdog_heard facts life (commands.Other kind body) answer says set = rw says.is refl
+watchdog_heard facts life other answer says set = rw says.is refl
 
 -- the answer to a watchdog is heard
 set_since : (command : Command) (life now : Life) (answer : Answer) → Says life command answer → IsSince command life now
     → is_some (is_set_dog (Heard answer)) ≡ true → IsSet now
 set_since (commands.Watchdog timeout) life now answer says since is = subst IsSet (sym since.is) (set-more since.more (Commanded (commands.Watchdog timeout) ∷ life) refl)
-set_since (commands.Status clear) life now answer says since is = absurd (cc (sym (ap (λ a. is_some (is_set_dog (Heard a))) says) ∙ is))
-set_since (commands.LoadCounter load) life now answer says since is = absurd (cc (sym (ap (λ a. is_some (is_set_dog (Heard a))) says) ∙ is))
-set_since (commands.ConfigureInputs items) life now answer says since is = absurd (cc (sym (ap (λ a. is_some (is_set_dog (Heard a))) says) ∙ is))
-set_since commands.RawInputs life now answer says since is = absurd (cc (sym (ap (λ a. is_some (is_set_dog (Heard a))) says.1) ∙ is))
-set_since commands.FilteredInputs life now answer says since is = absurd (cc (sym (ap (λ a. is_some (is_set_dog (Heard a))) says) ∙ is))
 set_since (commands.Poll number) life now answer says since is = absurd says
-set_since (commands.SetOutputs levels controls) life now answer says since is = absurd (cc (sym (ap (λ a. is_some (is_set_dog (Heard a))) says.is) ∙ is))
-set_since commands.Identify life now answer says since is = absurd (cc (sym (ap (λ a. is_some (is_set_dog (Heard a))) says.is) ∙ is))
-set_since (commands.Other kind body) life now answer says since is = absurd (cc (sym (ap (λ a. is_some (is_set_dog (Heard a))) says.is) ∙ is))
+set_since other life now answer says since is = absurd (cc (sym (ap (λ a. is_some (is_set_dog (Heard a))) says.is) ∙ is))
 
 set_then : (here before : Bool) (later : Life) → (here ≡ true → IsSet later) → (before ≡ true → IsSet later) → (here || before) ≡ true → IsSet later
 set_then true before later new old is = new refl

@@ -115,9 +115,6 @@ pub record KeepsEntryRules (facts : ContentFacts) (answer : Answer) : Type 0 whe
 
 pub heard_keeps : (facts : ContentFacts) (answer : Answer) → KeepsEntryRules facts answer
 heard_keeps facts (answers.LoadCounter status) = record { order = refl; fresh = refl; alternate = refl; apart = refl; ignored = refl }
-heard_keeps facts (answers.ConfigureInputs status) = record { order = refl; fresh = refl; alternate = refl; apart = refl; ignored = refl }
-heard_keeps facts (answers.Status flags receive transmit stamp) = record { order = refl; fresh = refl; alternate = refl; apart = refl; ignored = refl }
-heard_keeps facts (answers.Watchdog status) = record { order = refl; fresh = refl; alternate = refl; apart = refl; ignored = refl }
 heard_keeps facts other = record { order = refl; fresh = refl; alternate = refl; apart = refl; ignored = refl }
 
 -- a block answer with the number

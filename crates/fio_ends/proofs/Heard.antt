@@ -63,26 +63,8 @@ said_as settings life (commands.ConfigureInputs items) answer none is =
       fair = ap (λ accepted. accepted && names_absent (commands.ConfigureInputs items)) (accepted_is applied)
           ∙ present_or_absent items.items;
     })
-said_as settings life (commands.Status clear) answer none is =
-    subst (λ a. IsSaidAs (commands.Status clear) (answer_octets a)) (same_Some _ _ is)
-    (record { accepted = false; heard = refl; fair = refl })
-said_as settings life (commands.LoadCounter load) answer none is =
-    subst (λ a. IsSaidAs (commands.LoadCounter load) (answer_octets a)) (same_Some _ _ is)
-    (record { accepted = false; heard = refl; fair = refl })
-said_as settings life commands.RawInputs answer none is =
-    subst (λ a. IsSaidAs commands.RawInputs (answer_octets a)) (same_Some _ _ is)
-    (record { accepted = false; heard = refl; fair = refl })
-said_as settings life commands.FilteredInputs answer none is =
-    subst (λ a. IsSaidAs commands.FilteredInputs (answer_octets a)) (same_Some _ _ is)
-    (record { accepted = false; heard = refl; fair = refl })
-said_as settings life (commands.SetOutputs levels controls) answer none is =
-    subst (λ a. IsSaidAs (commands.SetOutputs levels controls) (answer_octets a)) (same_Some _ _ is)
-    (record { accepted = false; heard = refl; fair = refl })
-said_as settings life (commands.Watchdog timeout) answer none is =
-    subst (λ a. IsSaidAs (commands.Watchdog timeout) (answer_octets a)) (same_Some _ _ is)
-    (record { accepted = false; heard = refl; fair = refl })
-said_as settings life commands.Identify answer none is =
-    subst (λ a. IsSaidAs commands.Identify (answer_octets a)) (same_Some _ _ is)
+said_as settings life command answer none is =
+    subst (λ a. IsSaidAs command (answer_octets a)) (same_Some _ _ is)
     (record { accepted = false; heard = refl; fair = refl })
 
 -- and are heard so

@@ -207,17 +207,10 @@ module _ (settings : Settings) (range : AreInRange settings) (first : ℕ) (begi
   accepting : (life : Life) (command : Command) (answer : Answer) → Says life command answer → accepts_items answer ≡ true
       → (items : ArrayVec InputItem) × (command ≡ commands.ConfigureInputs items) × (all_present items.items ≡ true)
   accepting life (commands.ConfigureInputs items) answer says is =
-      let accepted : not (says_error (error_status (not (all_present items.items)))) ≡ true = sym (ap accepts_items says) ∙ is in
+      let accepted : not (says_error (error_status (not (all_present items.items)))) ≡ true = sym (ap accepts_items says.is) ∙ is in
       (items, refl, not_true (all_present items.items) (sym (ap not (error_back (not (all_present items.items)))) ∙ accepted))
-  accepting life (commands.Status clear) answer says is = absurd (cc (sym (ap accepts_items says) ∙ is))
-  accepting life (commands.LoadCounter load) answer says is = absurd (cc (sym (ap accepts_items says) ∙ is))
-  accepting life commands.RawInputs answer says is = absurd (cc (sym (ap accepts_items says.1) ∙ is))
-  accepting life commands.FilteredInputs answer says is = absurd (cc (sym (ap accepts_items says) ∙ is))
-  accepting life (commands.Watchdog timeout) answer says is = absurd (cc (sym (ap accepts_items says) ∙ is))
   accepting life (commands.Poll number) answer says is = absurd says
-  accepting life (commands.SetOutputs levels controls) answer says is = absurd (cc (sym (ap accepts_items says.is) ∙ is))
-  accepting life commands.Identify answer says is = absurd (cc (sym (ap accepts_items says.is) ∙ is))
-  accepting life (commands.Other kind body) answer says is = absurd (cc (sym (ap accepts_items says.is) ∙ is))
+  accepting life other answer says is = absurd (cc (sym (ap accepts_items says.is) ∙ is))
 
   pub item-heard : (from : Life) (machine : Machine) (facts : ContentFacts) (place : ℕ) (command : Command) (answer : Answer) (h : HearsAnswer settings from machine facts place command answer)
       → (input : ℕ) → input < 64 → KeepsItem (life_of machine.history) machine.to_module machine.last_to_module input (facts.inputs input).named (facts.inputs input).item (facts.inputs input).taken

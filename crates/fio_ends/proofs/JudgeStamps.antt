@@ -81,7 +81,7 @@ module _ (settings : Settings) (range : AreInRange settings) (first : ℕ) (begi
     pub since : scans_of begun_life ≤ scans
     pub upto : scans ≤ scans_of life
 
-  of_later : (before now : Life) (stamp : ℕ) → GoesOn before now → IsOf before stamp → IsOf now stamp
+  pub of_later : (before now : Life) (stamp : ℕ) → GoesOn before now → IsOf before stamp → IsOf now stamp
   of_later before now stamp g o = (let grown = scans_grow before now g in record { scans = o.scans; time = o.time; since = o.since; upto = omega (arith, o.upto, grown) })
 
   -- a stamp of a life at which a block was not made

@@ -105,7 +105,7 @@ heard_stamps judging s facts octets h =
       polled = heard_polled judging s facts.polled h facts answer ∙ h.polled ∙ sym rest.1;
     }
 
-polled_stamps : (judging : Judging) (s : StampState) (facts : Facts) (octets : List ℕ) (number : ℕ) → judging.checker.facts ≡ facts → observation_in true octets ≡ seen.Poll number
+pub polled_stamps : (judging : Judging) (s : StampState) (facts : Facts) (octets : List ℕ) (number : ℕ) → judging.checker.facts ≡ facts → observation_in true octets ≡ seen.Poll number
     → HasStamps judging facts.polled s → HasStamps (judging_kept judging true octets) (facts_with facts (observation_in true octets)).polled (stamps_polled s number)
 polled_stamps judging s facts octets number known says h = record {
   latest = h.latest;
@@ -129,17 +129,17 @@ right_of : (outcome : FrameOutcome) → outcome ≡ Kept → IsRight outcome
 right_of outcome is = subst IsRight (sym is) tt
 
 module _ (settings : Settings) (range : AreInRange settings) (first : ℕ) (limits : RuleLimits) (suit : SuitModule settings limits) (begin : Machine) where
-  abbrev loads_at : ℕ
+  abbrev pub loads_at : ℕ
   loads_at = loads_of (life_of begin.history)
 
-  abbrev time_at : ClockState → StateState → ℕ → TimeState
+  abbrev pub time_at : ClockState → StateState → ℕ → TimeState
   time_at c t sent = record { clock = c; state = t; sent = sent }
 
-  abbrev Stamps : StampState → Life → Machine → ContentFacts → Type 0
+  abbrev pub Stamps : StampState → Life → Machine → ContentFacts → Type 0
   Stamps = KeepsStamps settings range first begin
 
   -- each frame is judged, and no stamp was set back
-  record IsCalmly (c : ClockState) (t : StateState) (s : StampState) (machine : Machine) (due : ℕ) (judging : Judging) : Type 0 where
+  pub record IsCalmly (c : ClockState) (t : StateState) (s : StampState) (machine : Machine) (due : ℕ) (judging : Judging) : Type 0 where
     pub sent : ℕ
     pub from : Life
     pub facts : Facts
@@ -154,14 +154,14 @@ module _ (settings : Settings) (range : AreInRange settings) (first : ℕ) (limi
     pub has : HasStamps judging facts.polled s
 
   -- what an event keeps
-  record KeepsCalm (c : ClockState) (t : StateState) (sent : ℕ) (s : StampState) (machine : Machine) (due : ℕ) (judging : Judging) (lines : List LogLine) : Type 0 where
+  pub record KeepsCalm (c : ClockState) (t : StateState) (sent : ℕ) (s : StampState) (machine : Machine) (due : ℕ) (judging : Judging) (lines : List LogLine) : Type 0 where
     pub right : AllByRecursion IsRight (outcomes_of judging lines)
     pub there : IsCalmly c t s machine due (judging_below judging lines)
     pub sent_is : there.sent ≡ sent
 
   module _ (c : ClockState) (t : StateState) (sent : ℕ) (from : Life) (machine : Machine) (due : ℕ) (at : LogPlace) where
     -- below one frame
-    kept_on : (judging : Judging) (frame : CpuFrame) (facts : Facts) (kept : ContentKept) (s : StampState)
+    pub kept_on : (judging : Judging) (frame : CpuFrame) (facts : Facts) (kept : ContentKept) (s : StampState)
         → KeepsFrame limits judging at frame (facts_with facts (observation_in frame.from_cpu frame.octets)) (kept_with kept frame.from_cpu frame.octets)
         → Went settings first begin None (time_at c t sent) from due facts kept (frame ∷ []) machine → Stamps s from machine (kept_with kept frame.from_cpu frame.octets).facts
         → HasStamps (judging_kept judging frame.from_cpu frame.octets) (facts_with facts (observation_in frame.from_cpu frame.octets)).polled s
@@ -229,7 +229,7 @@ module _ (settings : Settings) (range : AreInRange settings) (first : ℕ) (limi
           (frame_kept limits judging at frame facts kept checker_is content_is refl (went.rules limits suit).0 (none_in_frame kept frame [] went.content.keep)) went stamps has
 
   -- an event
-  calm_step : (c : ClockState) (t : StateState) (s : StampState) (at : LogPlace) (event : Event) (rest : List Event) (machine : Machine) (due : ℕ) (judging : Judging) → (j : IsCalmly c t s machine due judging)
+  pub calm_step : (c : ClockState) (t : StateState) (s : StampState) (at : LogPlace) (event : Event) (rest : List Event) (machine : Machine) (due : ℕ) (judging : Judging) → (j : IsCalmly c t s machine due judging)
       → AsksTimes settings first begin None (time_at c t j.sent) machine (event ∷ rest) → IsCalmOn settings range first begin machine (event ∷ rest)
       → refusal machine event ≡ None → IsNotRestart event → IsWithinRanges event → IsPrompt machine due event
       → KeepsCalm (clock_after c machine event) (state_after settings t machine event) (j.sent + loads_sent event) (stamps_after first s machine event) (after settings first machine event) (due_after machine due event) judging
@@ -264,7 +264,7 @@ module _ (settings : Settings) (range : AreInRange settings) (first : ℕ) (limi
       by events.Restart went stamps fine within = calm_none _ _ _ _ _ _ at judging j.facts j.kept s j.checker_is j.content_is j.has went stamps
 
   -- all events
-  calm_all : (steps : List LogStep) (c : ClockState) (t : StateState) (s : StampState) (machine last : Machine) (due : ℕ) (judging : Judging) → (j : IsCalmly c t s machine due judging)
+  pub calm_all : (steps : List LogStep) (c : ClockState) (t : StateState) (s : StampState) (machine last : Machine) (due : ℕ) (judging : Judging) → (j : IsCalmly c t s machine due judging)
       → AsksTimes settings first begin None (time_at c t j.sent) machine (events_of steps) → IsCalmOn settings range first begin machine (events_of steps)
       → Leads settings first machine (events_of steps) last → HaveNoRestart (events_of steps) → AllByRecursion IsWithinRanges (events_of steps) → ArePrompt settings first machine due (events_of steps)
       → AreLogged steps → AllByRecursion IsRight (outcomes_of judging (log_from settings first machine steps))
@@ -284,7 +284,7 @@ module _ (settings : Settings) (range : AreInRange settings) (first : ℕ) (limi
 -- ---- from its first line on
 
 -- no load takes effect
-none_loaded : (settings : Settings) (range : AreInRange settings) (first : ℕ) (later : List Event) (machine last : Machine) (most : ℕ) → Leads settings first machine later last → HaveNoRestart later
+pub none_loaded : (settings : Settings) (range : AreInRange settings) (first : ℕ) (later : List Event) (machine last : Machine) (most : ℕ) → Leads settings first machine later last → HaveNoRestart later
     → loads_of (life_of last.history) ≤ most → LoadsAreSent settings first most machine later
 none_loaded settings range first [] machine last most leads none few = tt
 none_loaded settings range first (event ∷ later) machine last most leads none few =

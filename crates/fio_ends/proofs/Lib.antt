@@ -100,3 +100,5 @@ pub mod JudgeLost
 pub mod JudgedRuns
 pub mod JudgeStamps
 pub mod JudgedCalm
+pub mod RestartedFrames
+pub mod Restarted

@@ -146,17 +146,8 @@ module _ (facts : Facts) (poller : Option Polling) (agrees : Agrees facts poller
       (poller_by poller (number_polled (observation_of command None)) None)
   goes-sent None k = absurd (cc (k tried.Readable))
   goes-sent (Some (commands.Poll number)) k = goes-poll number k
-  goes-sent (Some (commands.Status clear)) k = goes-command 177 (λ is. absurd (omega arith)) false
-  goes-sent (Some (commands.LoadCounter load)) k = goes-command 178 (λ is. absurd (omega arith)) false
-  goes-sent (Some (commands.ConfigureInputs items)) k = goes-command 179 (λ is. absurd (omega arith)) _
-  goes-sent (Some commands.RawInputs) k = goes-command 180 (λ is. absurd (omega arith)) false
-  goes-sent (Some commands.FilteredInputs) k = goes-command 181 (λ is. absurd (omega arith)) false
-  goes-sent (Some (commands.SetOutputs levels controls)) k = goes-command 183 (λ is. absurd (omega arith)) false
-  goes-sent (Some (commands.Watchdog timeout)) k = goes-command 186 (λ is. absurd (omega arith)) false
-  goes-sent (Some commands.Identify) k = goes-command 188 (λ is. absurd (omega arith)) false
-  goes-sent (Some (commands.Other other_commands.TrackInputs body)) k = goes-command 184 (λ is. absurd (omega arith)) false
-  goes-sent (Some (commands.Other other_commands.ComplexOutputs body)) k = goes-command 185 (λ is. absurd (omega arith)) false
-  goes-sent (Some (commands.Other other_commands.ControllerId body)) k = goes-command 187 (λ is. absurd (omega arith)) false
+  goes-sent (Some (commands.Other other_commands.TrackInputs body)) k = goes-command _ (λ is. absurd (omega arith)) _
+  goes-sent (Some other) k = goes-command _ (λ is. absurd (omega arith)) _
 
   goes-heard : (answer : Option Answer) → KeepsRules standard_limits facts (observation_of None answer)
       → Goes (observation_of None answer) (answered_block answer) facts poller

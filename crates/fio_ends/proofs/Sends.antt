@@ -50,7 +50,7 @@ is_due None number same = refl
 is_due (Some n) number same = let is : n ≡ number = same n refl in grind (arith, nat_tests)
 
 -- a poll with the number that is due breaks no rule
-poll_keeps : (facts : Facts) (number : ℕ) → ((n : ℕ) → number_due facts ≡ Some n → n ≡ number)
+pub poll_keeps : (facts : Facts) (number : ℕ) → ((n : ℕ) → number_due facts ≡ Some n → n ≡ number)
     → (limits : RuleLimits) → KeepsRules limits facts (seen.Poll number)
 poll_keeps facts number same limits tried.Advance = is_due (number_due facts) number same
 poll_keeps facts number same limits rule = refl

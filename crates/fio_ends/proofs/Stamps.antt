@@ -1,5 +1,5 @@
 -- The stamps that the CPU hears, and the scans when the module received their commands.
-use Rattle.fio_ends.proofs.Names.{◌≡◌, ◌∙◌, ◌≤◌, ℕ, false, List, [], ◌∷◌, ◌++◌, length, Option, Some, None, refl, ap, sym, subst, arith, if◌then◌else◌, AllByRecursion, is_some_and, same_Some, length-append, Answer, Command, Block, LoadCounter, answered_block, says_again, Life, Occurrence, Commanded, life_of, scans_of, ContentFacts, Clock, Event, Machine}
+use Rattle.fio_ends.proofs.Names.{◌≡◌, ◌∙◌, ◌≤◌, ℕ, false, List, [], ◌∷◌, ◌++◌, length, Option, Some, None, refl, ap, sym, subst, arith, if◌then◌else◌, AllByRecursion, is_some_and, same_Some, length-append, Answer, Command, Block, answered_block, says_again, Life, Occurrence, Commanded, life_of, scans_of, ContentFacts, Clock, Event, Machine}
 use Rattle.std.specs.Prelude.{option_and_then}
 use Rattle.fio_message.specs.Blocks.{block_answer}
 use Rattle.fio_message.specs.declared.answers.Answer.TheVariants as answers
@@ -75,9 +75,6 @@ IsAsked asked from machine = machine.last_to_module ≡ length machine.to_module
 pub clock_is : (facts : ContentFacts) (answer : Answer)
     → breaks_answer (without_excuse facts) answer Clock ≡ is_some_and (stamp_of answer) (λ stamp. is_some_and facts.clock (is_before stamp))
 clock_is facts (answers.Status flags receive transmit stamp) = refl
-clock_is facts (answers.LoadCounter status) = refl
-clock_is facts (answers.ConfigureInputs status) = refl
-clock_is facts (answers.Watchdog status) = refl
 clock_is facts other = refl
 
 pub none_before : (stamp above : Option ℕ) → ((s c : ℕ) → stamp ≡ Some s → above ≡ Some c → is_before s c ≡ false)
@@ -88,16 +85,11 @@ none_before (Some s) (Some c) kept = kept s c refl refl
 
 -- the stamp of an answer is the counter after the life
 pub stamp_says : (life : Life) (command : Command) (answer : Answer) → Says life command answer → (stamp : ℕ) → stamp_of answer ≡ Some stamp → stamp ≡ counter_of life
-stamp_says life (commands.Status clear) answer says stamp is = sym (same_Some _ _ (sym (ap stamp_of says) ∙ is))
-stamp_says life (commands.LoadCounter load) answer says stamp is = absurd (cc (sym (ap stamp_of says) ∙ is))
-stamp_says life (commands.ConfigureInputs items) answer says stamp is = absurd (cc (sym (ap stamp_of says) ∙ is))
-stamp_says life commands.RawInputs answer says stamp is = sym (same_Some _ _ (sym (ap stamp_of says.1) ∙ is))
-stamp_says life commands.FilteredInputs answer says stamp is = sym (same_Some _ _ (sym (ap stamp_of says) ∙ is))
-stamp_says life (commands.Watchdog timeout) answer says stamp is = absurd (cc (sym (ap stamp_of says) ∙ is))
+stamp_says life (commands.Status clear) answer says stamp is = sym (same_Some _ _ (sym (ap stamp_of says.is) ∙ is))
+stamp_says life commands.RawInputs answer says stamp is = sym (same_Some _ _ (sym (ap stamp_of says.is) ∙ is))
+stamp_says life commands.FilteredInputs answer says stamp is = sym (same_Some _ _ (sym (ap stamp_of says.is) ∙ is))
 stamp_says life (commands.Poll number) answer says stamp is = absurd says
-stamp_says life (commands.SetOutputs levels controls) answer says stamp is = absurd (cc (sym (ap stamp_of says.is) ∙ is))
-stamp_says life commands.Identify answer says stamp is = absurd (cc (sym (ap stamp_of says.is) ∙ is))
-stamp_says life (commands.Other kind body) answer says stamp is = absurd (cc (sym (ap stamp_of says.is) ∙ is))
+stamp_says life other answer says stamp is = absurd (cc (sym (ap stamp_of says.is) ∙ is))
 
 -- of the block that a frame has
 pub block_stamp : (found : Option Answer) (block : Block) → answered_block found ≡ Some block → option_and_then stamp_of found ≡ stamp_of (block_answer block)

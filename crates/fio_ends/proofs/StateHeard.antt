@@ -1,5 +1,5 @@
 -- An answer that is no block keeps the rule `state`; one with the states is what the record comes to.
-use Rattle.fio_ends.proofs.Names.{◌==◌, ◌≡◌, slice_get_within, ◌++◌, ◌∙◌, ◌+◌, ℕ, Bool, true, false, ◌∷◌, length, Option, Some, None, refl, ap, ap₂, sym, subst, arith, if◌then◌else◌, list_any, slice_get, same_Some, length-append, Answer, Command, answer_in, answered_block, block_in, LoadCounter, Settings, Life, Commanded, life_of, log_of, log_of-with_command, loads_of, observation_of, answer_type_to, is_absent, MadeBlock, blocks_in, ContentFacts, content_step, Heard, SentFrame, Machine, State}
+use Rattle.fio_ends.proofs.Names.{◌==◌, ◌≡◌, slice_get_within, ◌++◌, ◌∙◌, ◌+◌, ℕ, Bool, true, false, ◌∷◌, length, Option, Some, None, refl, ap, ap₂, sym, subst, arith, if◌then◌else◌, list_any, slice_get, same_Some, length-append, Answer, Command, answer_in, answered_block, block_in, Settings, Life, Commanded, life_of, log_of, log_of-with_command, loads_of, observation_of, answer_type_to, is_absent, MadeBlock, blocks_in, ContentFacts, content_step, Heard, SentFrame, Machine, State}
 use Rattle.std.specs.Prelude.{is_some, option_and_then}
 use Rattle.fio_message.specs.declared.answers.Answer.TheVariants as answers
 use Rattle.fio_message.specs.declared.commands.Command.TheVariants as commands
@@ -33,16 +33,9 @@ module _ (settings : Settings) (first : ℕ) (begin : Machine) (above : Option �
   -- the answer with the states says those of the life
   states_say : (life : Life) (command : Command) (inputs stamp : ℕ) → Says life command (answers.FilteredInputs inputs stamp)
       → (command ≡ commands.FilteredInputs) × (inputs ≡ states_of life) × (stamp ≡ counter_of life)
-  states_say life commands.FilteredInputs inputs stamp says = (refl, cc says, cc says)
-  states_say life (commands.Status clear) inputs stamp says = absurd (cc says)
-  states_say life (commands.LoadCounter load) inputs stamp says = absurd (cc says)
-  states_say life (commands.ConfigureInputs items) inputs stamp says = absurd (cc says)
-  states_say life commands.RawInputs inputs stamp says = absurd (cc (says.1))
-  states_say life (commands.Watchdog timeout) inputs stamp says = absurd (cc says)
+  states_say life commands.FilteredInputs inputs stamp says = (refl, cc says.is, cc says.is)
   states_say life (commands.Poll number) inputs stamp says = absurd says
-  states_say life (commands.SetOutputs levels controls) inputs stamp says = absurd (cc (says.is))
-  states_say life commands.Identify inputs stamp says = absurd (cc (says.is))
-  states_say life (commands.Other kind body) inputs stamp says = absurd (cc (says.is))
+  states_say life other inputs stamp says = absurd (cc says.is)
 
   pub state_kept : (facts : ContentFacts) (answer : Answer) (seen : Option Seen) → broken_state facts (Heard answer) seen ≡ None
   state_kept facts answer None = refl

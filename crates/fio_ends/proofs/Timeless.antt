@@ -49,9 +49,6 @@ not_excused facts event k = ap (λ b. b && not (facts.excuses == 0)) (breaks_non
 clock_any : (facts : ContentFacts) (answer : Answer)
     → breaks_answer facts answer Clock ≡ ((facts.excuses == 0) && is_some_and (stamp_of answer) (λ stamp. is_some_and facts.clock (is_before stamp)))
 clock_any facts (answers.Status flags receive transmit stamp) = refl
-clock_any facts (answers.LoadCounter status) = refl
-clock_any facts (answers.ConfigureInputs status) = refl
-clock_any facts (answers.Watchdog status) = refl
 clock_any facts other = refl
 
 -- states differ all the same

@@ -7,6 +7,7 @@ pub mod RunRecords
 pub mod ContentRuns
 pub mod ContentPremises
 pub mod LinkLogs
+pub mod RestartedLogs
 pub mod Explainable
 pub mod PollLogs
 pub mod Calls

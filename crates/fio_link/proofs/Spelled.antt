@@ -1,5 +1,5 @@
 -- What the octets of commands and answers are read as.
-use Rattle.fio_link.proofs.Names.{◌≡◌, ℕ, ◌+◌, ◌^◌, ◌<◌, ◌≤◌, Bool, true, false, List, [], ◌∷◌, length, Some, None, refl, arith, if◌then◌else◌, AllByRecursion, Command, Answer, IsEntry, command_octets, answer_octets, Block, polled_number, poll_in, answered_block, block_in, Sending, answer_of_sending}
+use Rattle.fio_link.proofs.Names.{◌≡◌, ℕ, ◌+◌, ◌^◌, ◌<◌, ◌≤◌, Bool, true, false, List, ◌∷◌, length, Some, None, refl, arith, if◌then◌else◌, AllByRecursion, Command, Answer, IsEntry, command_octets, answer_octets, Block, polled_number, poll_in, answered_block, block_in, Sending, answer_of_sending}
 use Rattle.std.proofs.Common.{◌&&◌}
 use Rattle.std.specs.Prelude.{nat_le}
 use Rattle.fio_message.specs.declared.commands.Command.TheVariants as commands

@@ -1,0 +1,609 @@
+-- Where a module is started anew the judge of a link accuses nobody, and says once at most that it was restarted: it goes on up to
+-- the first stamp, which is set back, and begins anew at the next poll.
+use Rattle.std.proofs.lemmas.List.Elements.{filter-append}
+use Rattle.fio_ends.proofs.Names.{length-append, append_assoc, ◌%◌, ◌≡◌, ◌∙◌, ◌+◌, ◌<◌, same_Some, command_in, ◌≤◌, ◌⊎◌, inl, inr, ℕ, suc, Bool, true, false, List, [], ◌∷◌, ◌++◌, length, map, Option, Some, None, refl, ap, ap₂, sym, subst, arith, is_some, option_and_then, AllByRecursion, Answer, Command, IsCommand, answer_in, answered_block, block_in, command_octets, Life, life_of, loads_of, Settings, AreInRange, ContentFacts, ContentKept, kept_with, Done, facts_with, no_facts, number_due, Facts, RuleLimits, Observation, first_broken_within, is_some_and, observation_in, Event, Machine, SentFrame, start, number_of, number_of-fits, after, after_delivered_block, after_delivery_to_cpu, after_delivery_to_module, Leads, item_numbered, IsNotRestart, HaveNoRestart, kept, CpuFrame, frame_heard, frames_at, due_after, ArePrompt, IsWithinRanges, SuitModule}
+use Rattle.std.specs.Prelude.{filter, ◌||◌, nat_lt}
+use Rattle.fio_message.specs.declared.commands.Command.TheVariants as commands
+use Rattle.fio_check.specs.Checkers.{checker_below_breach, checker_skipping, found_by, passes_over}
+use Rattle.fio_check.specs.ContentCheckers.{ContentChecking, content_found, found_in_frame}
+use Rattle.fio_check.specs.ContentSaid.{is_before, stamp_of}
+use Rattle.fio_check.specs.LinkJudges.{Judging, LogLine, content_above, any_stamp_in, any_stamp_of, is_set_back, judging_at, judging_below, judging_below_outcome, judging_taken, judging_with, judging_with_line, loads_below, loads_left, outcome_in, outcome_on, outcome_set_back, outcomes_of, place_lost}
+use Rattle.fio_check.specs.declared.checker.Checker.{Checker}
+use Rattle.fio_check.specs.declared.checker.Skips.TheVariants.{Nothing, ToPoll}
+use Rattle.fio_check.specs.declared.observation.Observation.TheVariants as seen
+use Rattle.fio_check.specs.declared.outcome.Excuse.TheVariants.{Load}
+use Rattle.fio_check.specs.declared.outcome.LogPlace.{LogPlace}
+use Rattle.fio_check.specs.declared.outcome.FrameOutcome.{FrameOutcome}
+use Rattle.fio_check.specs.declared.outcome.FrameOutcome.TheVariants.{Excused, Restarted}
+use Rattle.fio_check.proofs.Checkers.{found-taking, taking}
+use Rattle.fio_link.specs.declared.event.Event.TheVariants as events
+use Rattle.fio_ends.specs.ContentPremises.{loads_sent}
+use Rattle.fio_ends.specs.LinkLogs.{AccusesNeither, AreLogged, LogStep, Logged, Marked, Missing, events_of, log_from, logged_at}
+use Rattle.fio_ends.specs.RestartedLogs.{AreRestarted, BeginsEarlier, HaveRestarts, IsRestarted, JudgeFindsRestarts, JudgesOn, LoggedLife, is_earlier, is_restart, lines_of_lives}
+use Rattle.fio_ends.proofs.AllRules.{AllKnown, again_known, agrees_again, kept_again, none_in_frame}
+use Rattle.fio_ends.proofs.BegunAgain.{Went, asks_begun, asks_further, went-again, went-on}
+use Rattle.fio_ends.proofs.ClockKept.{clock_above}
+use Rattle.fio_ends.proofs.ContentFrame.{Agrees}
+use Rattle.fio_ends.proofs.ContentLines.{content_below}
+use Rattle.fio_ends.proofs.ContentRuns.{content-event, content-poll}
+use Rattle.fio_ends.proofs.ContentSteps.{IsKnown}
+use Rattle.fio_ends.proofs.Following.{Follows, facts_below, follows-start, from_after, goes_on-both, goes_on-same}
+use Rattle.fio_ends.proofs.JudgeLost.{life_on}
+use Rattle.fio_ends.proofs.JudgeStamps.{IsCalmOn, IsOf, KeepsStamps, StampState, calm_on, of_later, stamps_above, stamps_after, stamps_are_invariant, stamps_begin, stamps_heard, stamps_polled}
+use Rattle.fio_ends.proofs.JudgeSteps.{frame_again, frame_kept, heard_passed, outcomes-append, passed, passed_is, takes_all}
+use Rattle.fio_ends.proofs.JudgedCalm.{IsCalmly, calm_all, calm_step, kept_on, none_loaded, polled_stamps}
+use Rattle.fio_ends.proofs.Lives.{loads_grow}
+use Rattle.fio_ends.proofs.Rules.{no_rule_broken}
+use Rattle.fio_ends.proofs.Sends.{other_said, poll_keeps, said_of}
+use Rattle.fio_ends.proofs.Stamps.{ClockState, clock_after}
+use Rattle.fio_ends.proofs.StateKept.{state_above}
+use Rattle.fio_ends.proofs.StateKnown.{StateState, state_after}
+use Rattle.fio_ends.proofs.TimesKept.{AsksTimes, TimeState}
+use Rattle.fio_ends.proofs.RestartedFrames.{HaveOneRestart, IsPlain, IsQuiet, IsSame, back_of, either, is_none, latest_heard, lost_by, not_back, one_back, one_quiet, plain_heard, quiet_of, same_stamp, sent_absent, sent_none, set_back_is, watchdog_is, answered_option}
+
+-- ---- a run
+
+-- the judge below lines, and others below them
+below_both : (judging : Judging) (lines more : List LogLine) → judging_below judging (lines ++ more) ≡ judging_below (judging_below judging lines) more
+below_both judging [] more = refl
+below_both judging (line ∷ lines) more = below_both (judging_with_line judging line) lines more
+
+module _ (settings : Settings) (range : AreInRange settings) (first : ℕ) (limits : RuleLimits) (suit : SuitModule settings limits) where
+  -- if a judge judges each frame there, the next poll has the number that is due
+  abbrev IsEnd : Machine → Judging → Type 0
+  IsEnd last judging = judging.checker.skips ≡ Nothing → JudgesOn limits (number_of first last.round) judging
+
+  -- lines of one life, and what the judge is below them
+  abbrev AllQuietTo : Machine → Judging → List LogLine → Type 0
+  AllQuietTo last judging lines = AllByRecursion IsQuiet (outcomes_of judging lines) × IsEnd last (judging_below judging lines)
+
+  abbrev OneRestartTo : Machine → Judging → List LogLine → Type 0
+  OneRestartTo last judging lines = HaveOneRestart (outcomes_of judging lines) × IsEnd last (judging_below judging lines)
+
+  quiet_both : (last : Machine) (judging : Judging) (front rest : List LogLine) → AllByRecursion IsQuiet (outcomes_of judging front) → AllQuietTo last (judging_below judging front) rest
+      → AllQuietTo last judging (front ++ rest)
+  quiet_both last judging front rest above below =
+      (outcomes-append IsQuiet front rest judging above below.0, subst (IsEnd last) (sym (below_both judging front rest)) below.1)
+
+  ends_judging : (last : Machine) (facts : Facts) (kept : ContentKept) (judging : Judging) → judging.checker ≡ taking limits facts → judging.content ≡ record { begun = true; kept = kept }
+      → ((due : ℕ) → number_due facts ≡ Some due → due ≡ number_of first last.round) → IsEnd last judging
+  ends_judging last facts kept judging checker content due all = record {
+    limits_are = ap (λ (c : Checker). c.limits) checker;
+    all = all;
+    content = ap (λ (c : ContentChecking). c.begun) content;
+    due = λ n is. due n (sym (ap (λ (c : Checker). number_due c.facts) checker) ∙ is);
+  }
+
+  -- where each frame is judged, up to the end
+  calm_end : (steps : List LogStep) (c : ClockState) (t : StateState) (s : StampState) (machine last : Machine) (due : ℕ) (judging : Judging) → (j : IsCalmly settings range first limits suit start c t s machine due judging)
+      → AsksTimes settings first start None (record { clock = c; state = t; sent = j.sent }) machine (events_of steps) → IsCalmOn settings range first start machine (events_of steps)
+      → Leads settings first machine (events_of steps) last → HaveNoRestart (events_of steps) → AllByRecursion IsWithinRanges (events_of steps) → ArePrompt settings first machine due (events_of steps)
+      → AreLogged steps → IsEnd last (judging_below judging (log_from settings first machine steps))
+  calm_end [] c t s machine last due judging j asks calm leads none within prompt logged =
+      ends_judging last j.facts j.kept judging j.checker_is j.content_is
+      (λ n is. j.follows.number n is ∙ ap (λ (m : Machine). number_of first m.round) (sym leads))
+  calm_end (Logged at event ∷ steps) c t s machine last due judging j asks calm leads none within prompt logged =
+      let next = after settings first machine event in
+      let lines = map (logged_at at) (frames_at first machine event) in
+      let k = calm_step settings range first limits suit start c t s at event (events_of steps) machine due judging j asks calm leads.0 none.0 within.0 prompt.0 in
+      subst (IsEnd last) (sym (below_both judging lines (log_from settings first next steps)))
+      (calm_end steps (clock_after c machine event) (state_after settings t machine event) (stamps_after first s machine event) next last (due_after machine due event) (judging_below judging lines) k.there
+      (subst (λ n. AsksTimes settings first start None (record { clock = clock_after c machine event; state = state_after settings t machine event; sent = n }) next (events_of steps)) (sym k.sent_is)
+      (asks_further settings range first start false None (record { clock = c; state = t; sent = j.sent }) machine event (events_of steps) asks))
+      (calm_on settings range first start machine event (events_of steps) calm) leads.1 none.1 within.1 prompt.1 logged)
+  calm_end (Missing event ∷ steps) c t s machine last due judging j asks calm leads none within prompt logged = absurd logged
+  calm_end (Marked ∷ steps) c t s machine last due judging j asks calm leads none within prompt logged = absurd logged
+
+  abbrev times : ClockState → StateState → ℕ → TimeState
+  times c t sent = record { clock = c; state = t; sent = sent }
+
+  -- what is known of it
+  record Knows (c : ClockState) (t : StateState) (s : StampState) (sent : ℕ) (from : Life) (facts : Facts) (kept : ContentKept) (machine : Machine) (due : ℕ) : Type 0 where
+    pub known : IsKnown settings first start from machine
+    pub follows : Follows settings first from machine due facts
+    pub agrees : Agrees settings first machine facts kept
+    pub content : AllKnown settings start None (times c t sent) from machine kept.facts
+    pub stamps : KeepsStamps settings range first start s from machine kept.facts
+
+  -- what is asked of the rest of it
+  record Rest (c : ClockState) (t : StateState) (sent : ℕ) (machine last : Machine) (due : ℕ) (later : List Event) : Type 0 where
+    pub asks : AsksTimes settings first start None (times c t sent) machine later
+    pub calm : IsCalmOn settings range first start machine later
+    pub leads : Leads settings first machine later last
+    pub none : HaveNoRestart later
+    pub within : AllByRecursion IsWithinRanges later
+    pub prompt : ArePrompt settings first machine due later
+    pub steady : loads_of (life_of last.history) ≡ loads_of (life_of start.history)
+
+  rest_on : (c : ClockState) (t : StateState) (sent : ℕ) (machine last : Machine) (due : ℕ) (event : Event) (later : List Event) → Rest c t sent machine last due (event ∷ later)
+      → Rest (clock_after c machine event) (state_after settings t machine event) (sent + loads_sent event) (after settings first machine event) last (due_after machine due event) later
+  rest_on c t sent machine last due event later r = record {
+    asks = asks_further settings range first start false None (times c t sent) machine event later r.asks;
+    calm = calm_on settings range first start machine event later r.calm;
+    leads = r.leads.1;
+    none = r.none.1;
+    within = r.within.1;
+    prompt = r.prompt.1;
+    steady = r.steady;
+  }
+
+  abbrev Stamped : StampState → Life → Machine → ContentFacts → Type 0
+  Stamped = KeepsStamps settings range first start
+
+  -- an event of it
+  record Goes (c : ClockState) (t : StateState) (s : StampState) (sent : ℕ) (from : Life) (facts : Facts) (kept : ContentKept) (frames : List CpuFrame) (machine : Machine) (due : ℕ) : Type 0 where
+    pub went : Went settings first start None (times c t sent) from due facts kept frames machine
+    pub stamps : Stamped s from machine (content_below kept frames).facts
+
+  goes : (c : ClockState) (t : StateState) (s : StampState) (sent : ℕ) (from : Life) (facts : Facts) (kept : ContentKept) (machine last : Machine) (due : ℕ) (event : Event) (later : List Event)
+      → Knows c t s sent from facts kept machine due → Rest c t sent machine last due (event ∷ later)
+      → Goes (clock_after c machine event) (state_after settings t machine event) (stamps_after first s machine event) (sent + loads_sent event) (from_after machine from event) facts kept (frames_at first machine event)
+      (after settings first machine event) (due_after machine due event)
+  goes c t s sent from facts kept machine last due event later k r = record {
+    went = went-on settings range first start false None (times c t sent) from machine due facts k.known k.follows kept k.agrees k.content event later r.leads.0 r.none.0 r.within.0 r.prompt.0 r.asks;
+    stamps = (content-event settings range first start Done StampState (stamps_above settings range first start) (stamps_after first) (λ s machine later. IsCalmOn settings range first start machine later) Stamped
+        (stamps_are_invariant settings range first start) s from machine due facts kept k.known k.follows k.agrees k.stamps event r.leads.0 r.none.0 r.within.0 r.prompt.0 later r.calm).holds;
+  }
+
+  knows_of : (c : ClockState) (t : StateState) (s : StampState) (sent : ℕ) (from : Life) (facts : Facts) (kept : ContentKept) (frames : List CpuFrame) (machine : Machine) (due : ℕ)
+      → Goes c t s sent from facts kept frames machine due → Knows c t s sent from (facts_below facts frames) (content_below kept frames) machine due
+  knows_of c t s sent from facts kept frames machine due g =
+      record { known = g.went.known; follows = g.went.follows; agrees = g.went.content.agrees; content = g.went.content.holds; stamps = g.stamps }
+
+  -- ---- where the place is lost
+
+  -- with a stamp of this life, if with any
+  record IsLostAt (life : Life) (judging : Judging) : Type 0 where
+    pub checker_is : judging.checker ≡ checker_skipping ToPoll limits
+    pub asked_is : judging.asked ≡ None
+    pub latest_of : (stamp : ℕ) → judging.latest ≡ Some stamp → IsOf settings range first start life stamp
+
+  lost_on : (machine : Machine) (event : Event) (judging : Judging) → IsNotRestart event → IsLostAt (life_of machine.history) judging → IsLostAt (life_of (after settings first machine event).history) judging
+  lost_on machine event judging none l = record {
+    checker_is = l.checker_is;
+    asked_is = l.asked_is;
+    latest_of = λ stamp is. of_later settings range first start _ _ stamp (life_on settings first machine event none) (l.latest_of stamp is);
+  }
+
+  -- a frame that is passed over
+  over_it : (judging : Judging) (at : LogPlace) (frame : CpuFrame) → passes_over judging.checker frame.from_cpu (observation_in frame.from_cpu frame.octets) ≡ true
+      → IsQuiet (outcome_in judging at frame.from_cpu frame.octets)
+  over_it judging at frame over = subst IsQuiet (sym (passed_is judging at frame.from_cpu frame.octets over)) tt
+
+  -- what is heard
+  heard_over : (judging : Judging) (life : Life) (at : LogPlace) (found : Option SentFrame) → IsLostAt life judging
+      → AllByRecursion IsQuiet (outcomes_of judging (map (logged_at at) (frame_heard found))) × (judging_below judging (map (logged_at at) (frame_heard found)) ≡ judging)
+  heard_over judging life at None l = (tt, refl)
+  heard_over judging life at (Some sent_frame) l =
+      let octets = sent_frame.octets in
+      let over : passes_over judging.checker false (observation_in false octets) ≡ true =
+      ap (λ c. passes_over c false (observation_in false octets)) l.checker_is ∙ heard_passed ToPoll limits (λ nothing. absurd (cc nothing)) (answer_in octets) in
+      ((over_it judging at (record { from_cpu = false; octets = octets }) over, tt), (passed judging at false octets over).is)
+
+  -- what becomes of a log there
+  abbrev LostAll : List LogStep → Machine → Type 0
+  LostAll steps last = (c : ClockState) (t : StateState) (s : StampState) (sent : ℕ) (from : Life) (facts : Facts) (kept : ContentKept) (machine : Machine) (due : ℕ) (judging : Judging)
+      → Knows c t s sent from facts kept machine due → IsLostAt (life_of machine.history) judging → Rest c t sent machine last due (events_of steps)
+      → AllQuietTo last judging (log_from settings first machine steps)
+
+  -- all events from there on
+  lost : (steps : List LogStep) (last : Machine) → AreLogged steps → LostAll steps last
+  lost [] last logged c t s sent from facts kept machine due judging k l r =
+      (tt, λ all. absurd (let is : ToPoll ≡ Nothing = sym (ap (λ (c : Checker). c.skips) l.checker_is) ∙ all in cc is))
+  lost (Missing event ∷ steps) last logged c t s sent from facts kept machine due judging k l r = absurd logged
+  lost (Marked ∷ steps) last logged c t s sent from facts kept machine due judging k l r = absurd logged
+  lost (Logged at event ∷ steps) last logged c t s sent from facts kept machine due judging k l r = by (lost steps last logged) event r
+    where
+      now : Life
+      now = life_of machine.history
+
+      AllQuiet : Event → Type 0
+      AllQuiet event = AllQuietTo last judging (log_from settings first machine (Logged at event ∷ steps))
+
+      further : LostAll steps last → (event : Event) (below : Judging) → Rest c t sent machine last due (event ∷ events_of steps) → below.checker ≡ judging.checker → below.asked ≡ judging.asked → below.latest ≡ judging.latest
+          → AllQuietTo last below (log_from settings first (after settings first machine event) steps)
+      further again event below r checker asked latest =
+          let g = goes c t s sent from facts kept machine last due event (events_of steps) k r in
+          let lost_below : IsLostAt now below =
+          record { checker_is = checker ∙ l.checker_is; asked_is = asked ∙ l.asked_is; latest_of = λ stamp is. l.latest_of stamp (sym latest ∙ is) } in
+          again (clock_after c machine event) (state_after settings t machine event) (stamps_after first s machine event) (sent + loads_sent event) (from_after machine from event)
+          (facts_below facts (frames_at first machine event)) (content_below kept (frames_at first machine event)) (after settings first machine event) (due_after machine due event) below
+          (knows_of (clock_after c machine event) (state_after settings t machine event) (stamps_after first s machine event) (sent + loads_sent event) (from_after machine from event) facts kept (frames_at first machine event)
+          (after settings first machine event) (due_after machine due event) g)
+          (lost_on machine event below r.none.0 lost_below) (rest_on c t sent machine last due event (events_of steps) r)
+
+      quiet : LostAll steps last → (event : Event) → frames_at first machine event ≡ [] → Rest c t sent machine last due (event ∷ events_of steps) → AllQuiet event
+      quiet again event none r =
+          subst (λ frames. AllQuietTo last judging (map (logged_at at) frames ++ log_from settings first (after settings first machine event) steps)) (sym none)
+          (further again event judging r refl refl refl)
+
+      begins : Rest c t sent machine last due (events.Poll ∷ events_of steps) → AllQuiet events.Poll
+      begins r =
+          let next = after settings first machine events.Poll in
+          let number = number_of first machine.round in
+          let fits : number < 256 = omega (arith, number_of-fits first machine.round) in
+          let octets = command_octets (commands.Poll number) in
+          let frame : CpuFrame = record { from_cpu = true; octets = octets } in
+          let excuses = loads_left judging in
+          let known : IsKnown settings first start now machine =
+          record { is_kept = k.known.is_kept; begun = goes_on-both (life_of start.history) from now k.known.begun k.known.now; rounds = k.known.rounds; now = goes_on-same now now refl } in
+          let grown = loads_grow (life_of start.history) now known.begun in
+          let s_above : StampState = record { latest = judging.latest; asked = None; polled = None; back = false } in
+          let stamped : Stamped s_above now machine (kept_again excuses).facts =
+          record { none = refl; latest = λ stamp is. l.latest_of stamp is; asked = λ stamp is. absurd (cc is); polled = λ number is. absurd (cc is) } in
+          let w = went-again settings range first start false None (times c t 0) from machine due facts known k.follows excuses (record { enough = inr (omega (arith, grown)) }) events.Poll tt r.leads.0 r.within.0 in
+          let stamps = (content-poll settings range first start Done StampState (stamps_above settings range first start) (stamps_after first) (λ s here later. IsCalmOn settings range first start here later) Stamped
+          (stamps_are_invariant settings range first start) s_above now machine no_facts (kept_again excuses) known (agrees_again settings range first start false None machine excuses) stamped).holds in
+          let said = said_of (commands.Poll number) fits in
+          let over : passes_over (checker_skipping ToPoll limits) true (observation_in true octets) ≡ false = ap (passes_over (checker_skipping ToPoll limits) true) said in
+          let kept_by = kept_on settings range first limits suit start (clock_after c machine events.Poll) (state_after settings t machine events.Poll) 0 now next 0 at judging frame no_facts (kept_again excuses) (stamps_polled s_above number)
+          (frame_again limits judging at octets ToPoll (kept_again excuses) l.checker_is refl over (w.rules limits suit).0 (none_in_frame (kept_again excuses) frame [] w.content.keep))
+          w stamps (polled_stamps judging s_above no_facts octets number (ap (λ (c : Checker). c.facts) l.checker_is) said (record { latest = refl; asked = l.asked_is; polled = refl })) in
+          let further = rest_on c t sent machine last due events.Poll (events_of steps) r in
+          let steady = r.steady in
+          let asks : AsksTimes settings first start None (times (clock_after c machine events.Poll) (state_after settings t machine events.Poll) 0) next (events_of steps) = record {
+            taken = further.asks.taken;
+            stamps = further.asks.stamps;
+            states = further.asks.states;
+            loads = none_loaded settings range first (events_of steps) next last (loads_of (life_of start.history) + 0) further.leads further.none (omega (arith, steady));
+          } in
+          let below = judging_below judging (map (logged_at at) (frame ∷ [])) in
+          let rest = log_from settings first next steps in
+          let going = subst (λ n. AsksTimes settings first start None (times (clock_after c machine events.Poll) (state_after settings t machine events.Poll) n) next (events_of steps)) (sym kept_by.sent_is) asks in
+          quiet_both last judging (map (logged_at at) (frame ∷ [])) rest (quiet_of (outcomes_of judging (map (logged_at at) (frame ∷ []))) kept_by.right) (
+            quiet_of (outcomes_of below rest)
+                (calm_all settings range first limits suit start steps (clock_after c machine events.Poll) (state_after settings t machine events.Poll) (stamps_polled s_above number) next last 0 below kept_by.there going
+                further.calm further.leads further.none further.within further.prompt logged),
+            calm_end steps (clock_after c machine events.Poll) (state_after settings t machine events.Poll) (stamps_polled s_above number) next last 0 below kept_by.there going
+                further.calm further.leads further.none further.within further.prompt logged,
+          )
+
+      by : LostAll steps last → (event : Event) → Rest c t sent machine last due (event ∷ events_of steps) → AllQuiet event
+      by again events.Poll r = begins r
+      by again (events.Send command) r =
+          let octets = command_octets command in
+          let said = said_of command r.within.0 ∙ other_said command r.leads.0 in
+          let over : passes_over judging.checker true (observation_in true octets) ≡ true =
+          ap (λ c. passes_over c true (observation_in true octets)) l.checker_is ∙ ap (passes_over (checker_skipping ToPoll limits) true) said in
+          let j = passed judging at true octets over in
+          let rest = further again (events.Send command) (judging_with judging at true octets) r (ap (λ (j : Judging). j.checker) j.is) (ap (λ (j : Judging). j.asked) j.is) (ap (λ (j : Judging). j.latest) j.is) in
+          ((over_it judging at (record { from_cpu = true; octets = octets }) over, rest.0), rest.1)
+      by again (events.ToCpu index) r =
+          let found = item_numbered machine.to_cpu index in
+          let heard = heard_over judging now at found l in
+          quiet_both last judging (map (logged_at at) (frame_heard found)) (log_from settings first (after settings first machine (events.ToCpu index)) steps) heard.0
+          (further again (events.ToCpu index) (judging_below judging (map (logged_at at) (frame_heard found))) r (ap (λ (j : Judging). j.checker) heard.1) (ap (λ (j : Judging). j.asked) heard.1) (ap (λ (j : Judging). j.latest) heard.1))
+      by again (events.ToModule index) r = quiet again (events.ToModule index) refl r
+      by again (events.Scan raw) r = quiet again (events.Scan raw) refl r
+      by again events.LineSync r = quiet again events.LineSync refl r
+      by again (events.Raise mask) r = quiet again (events.Raise mask) refl r
+      by again events.Restart r = absurd r.none.0
+
+  -- ---- above the first stamp
+
+  -- each frame is judged
+  record Between (latest : Option ℕ) (facts : Facts) (kept : ContentKept) (round : ℕ) (judging : Judging) : Type 0 where
+    pub above : Facts
+    pub content : ContentKept
+    pub checker_is : judging.checker ≡ taking limits above
+    pub content_is : judging.content ≡ record { begun = true; kept = content }
+    pub due : (due : ℕ) → number_due above ≡ Some due → due ≡ number_of first round
+    pub same : (facts.awaited ≡ None) ⊎ IsSame above facts content.facts kept.facts
+    pub latest_is : judging.latest ≡ latest
+
+  -- what comes of a frame, by how the log goes on below it
+  abbrev GoesOnBetween : Machine → Option ℕ → ClockState → StateState → ℕ → Life → Machine → ℕ → List LogLine → Type 0
+  GoesOnBetween last latest c t sent from machine due lines =
+      (s : StampState) (facts : Facts) (kept : ContentKept) (judging : Judging) → Knows c t s sent from facts kept machine due → Between latest facts kept machine.round judging → BeginsEarlier latest lines
+      → OneRestartTo last judging lines
+
+  abbrev GoesOnLost : Machine → ClockState → StateState → ℕ → Life → Machine → ℕ → List LogLine → Type 0
+  GoesOnLost last c t sent from machine due lines =
+      (s : StampState) (facts : Facts) (kept : ContentKept) (judging : Judging) → Knows c t s sent from facts kept machine due → IsLostAt (life_of machine.history) judging
+      → AllQuietTo last judging lines
+
+  module _ (last : Machine) (latest : Option ℕ) (c : ClockState) (t : StateState) (sent : ℕ) (from : Life) (next : Machine) (due : ℕ) (at : LogPlace) (facts : Facts) (kept : ContentKept) (lines : List LogLine)
+      (between_on : GoesOnBetween last latest c t sent from next due lines) (lost_below : GoesOnLost last c t sent from next due lines) where
+    -- a command
+    sent_between : (s : StampState) (round : ℕ) (judging : Judging) (command : Command) → IsCommand command → Between latest facts kept round judging → next.round ≡ round
+        → Goes c t s sent from facts kept (record { from_cpu = true; octets = command_octets command } ∷ []) next due
+        → ((above : Facts) → ((due : ℕ) → number_due above ≡ Some due → due ≡ number_of first round)
+        → (first_broken_within limits above (observation_in true (command_octets command)) ≡ None)
+        × ((due : ℕ) → number_due (facts_with above (observation_in true (command_octets command))) ≡ Some due → due ≡ number_of first round)
+        × ((facts_with above (observation_in true (command_octets command))).awaited ≡ (facts_with facts (observation_in true (command_octets command))).awaited)
+        × ((facts_with above (observation_in true (command_octets command))).absent_named ≡ (facts_with facts (observation_in true (command_octets command))).absent_named))
+        → BeginsEarlier latest lines
+        → OneRestartTo last judging (logged_at at (record { from_cpu = true; octets = command_octets command }) ∷ lines)
+    sent_between s round judging command within b round_is g rules earlier =
+        let octets = command_octets command in
+        let frame : CpuFrame = record { from_cpu = true; octets = octets } in
+        let said = observation_in true octets in
+        let r = rules b.above b.due in
+        let none : content_found b.content true octets ≡ None = sent_none b.content.facts b.content.number (command_in octets) in
+        let k = frame_kept limits judging at frame b.above b.content b.checker_is b.content_is refl r.0 none in
+        let rest = (between_on s (facts_with facts said) (kept_with kept true octets) (judging_with judging at true octets) (knows_of c t s sent from facts kept (frame ∷ []) next due g)
+        (record {
+          above = facts_with b.above said;
+          content = kept_with b.content true octets;
+          checker_is = k.checker;
+          content_is = k.content;
+          due = λ due is. subst (λ round. due ≡ number_of first round) (sym round_is) (r.1 due is);
+          same = inr (record { awaited = r.2; named = r.3; absent = sent_absent b.content kept command within });
+          latest_is = ap (λ (j : Judging). j.latest) k.is ∙ b.latest_is;
+        }) earlier) in
+        (one_quiet (outcome_in judging at true octets) (outcomes_of (judging_with judging at true octets) lines) k.outcome rest.0, rest.1)
+
+    -- what is heard: its stamp is set back, or it has none
+    heard_between : (above : StampState) (round : ℕ) (judging : Judging) (found : Option SentFrame) → Between latest facts kept round judging
+        → (option_and_then (λ (frame : SentFrame). block_in frame.octets) found ≡ None → next.round ≡ round)
+        → Goes c t (stamps_heard above (option_and_then (λ (frame : SentFrame). answer_in frame.octets) found)) sent from facts kept (frame_heard found) next due
+        → BeginsEarlier latest (map (logged_at at) (frame_heard found) ++ lines)
+        → OneRestartTo last judging (map (logged_at at) (frame_heard found) ++ lines)
+    heard_between above round judging None b round_is g earlier =
+        between_on above facts kept judging (knows_of c t above sent from facts kept [] next due g)
+        (record { above = b.above; content = b.content; checker_is = b.checker_is; content_is = b.content_is; same = b.same; latest_is = b.latest_is; due = λ due is. subst (λ round. due ≡ number_of first round) (sym (round_is refl)) (b.due due is) }) earlier
+    heard_between above round judging (Some sent_frame) b round_is g earlier = by (is_some (any_stamp_in false octets)) refl
+      where
+        octets : List ℕ
+        octets = sent_frame.octets
+
+        frame : CpuFrame
+        frame = record { from_cpu = false; octets = octets }
+
+        said : Observation
+        said = observation_in false octets
+
+        stamped : StampState
+        stamped = stamps_heard above (answer_in octets)
+
+        below : Judging
+        below = judging_with judging at false octets
+
+        goal : Type 0
+        goal = OneRestartTo last judging (logged_at at frame ∷ lines)
+
+        know : Knows c t stamped sent from (facts_below facts (frame ∷ [])) (content_below kept (frame ∷ [])) next due
+        know = knows_of c t stamped sent from facts kept (frame ∷ []) next due g
+
+        over : passes_over judging.checker false said ≡ false
+        over = ap (λ c. passes_over c false said) b.checker_is ∙ takes_all limits b.above false said
+
+        -- below an outcome with which the place is lost
+        lost_at : (outcome : FrameOutcome) → outcome_in judging at false octets ≡ outcome → (outcome ≡ Restarted) ⊎ (outcome ≡ Excused Load)
+            → ((stamp : ℕ) → any_stamp_in false octets ≡ Some stamp → IsOf settings range first start from stamp) → goal
+        lost_at outcome is which of =
+            let below_is : below ≡ place_lost judging (loads_below judging false octets) (any_stamp_in false octets) =
+            ap (λ o. judging_below_outcome o judging false octets) is ∙ lost_by judging false octets outcome which in
+            let rest = (lost_below stamped (facts_below facts (frame ∷ [])) (content_below kept (frame ∷ [])) below know
+            (record {
+              checker_is = ap (λ (j : Judging). j.checker) below_is ∙ ap (λ (c : Checker). checker_below_breach c.limits) b.checker_is;
+              asked_is = ap (λ (j : Judging). j.asked) below_is;
+              latest_of = λ stamp at.
+                  of_later settings range first start from (life_of next.history) stamp know.known.now (of stamp (sym (ap (λ (j : Judging). j.latest) below_is) ∙ at));
+            })) in
+            (subst (λ o. HaveOneRestart (o ∷ outcomes_of below lines)) (sym is) (one_back outcome (outcomes_of below lines) which rest.0), rest.1)
+
+        set_back : is_earlier latest false octets ≡ true → goal
+        set_back early =
+            let here : is_some_and (option_and_then stamp_of (answer_in octets)) (λ s. is_some_and judging.latest (is_before s)) ≡ true =
+            ap (λ l. is_some_and (option_and_then stamp_of (answer_in octets)) (λ s. is_some_and l (is_before s))) b.latest_is ∙ early in
+            let back : is_set_back judging false octets ≡ true = back_of judging (answer_in octets) here in
+            lost_at (outcome_set_back judging) (set_back_is judging at false octets over back) (either (judging.lost || nat_lt 0 (loads_left judging)))
+            (λ stamp is. know.stamps.latest stamp (latest_heard above (answer_in octets) stamp (sym (same_stamp latest (answer_in octets) early) ∙ is)))
+
+        none_heard : option_and_then any_stamp_of (answer_in octets) ≡ None → IsPlain limits b.above b.content (answer_in octets) → BeginsEarlier latest lines → goal
+        none_heard none p earlier_rest = elim p.found as (λ _. goal) [
+          | inl quiet ↦
+              let k = frame_kept limits judging at frame b.above b.content b.checker_is b.content_is (not_back judging (answer_in octets) none) p.rules quiet in
+              let rest = (between_on stamped (facts_with facts said) (kept_with kept false octets) below know
+              (record {
+                above = facts_with b.above said;
+                content = kept_with b.content false octets;
+                checker_is = k.checker;
+                content_is = k.content;
+                due = λ due is. subst (λ round. due ≡ number_of first round) (sym (round_is (block_none (answer_in octets) p.no_block)))
+                    (b.due due (sym (ap (λ said. number_due (facts_with b.above said)) p.said) ∙ is));
+                same = inl (ap (λ said. (facts_with facts said).awaited) p.said);
+                latest_is = ap (λ (j : Judging). j.latest) k.is
+                    ∙ ap (λ stamp. (judging_at (judging_taken judging judging.checker false octets) stamp).latest) p.no_stamp ∙ b.latest_is;
+              }) earlier_rest) in
+              (one_quiet (outcome_in judging at false octets) (outcomes_of below lines) k.outcome rest.0, rest.1)
+          | inr (breach, dog, is) ↦
+              lost_at Restarted
+              (watchdog_is judging at octets breach over (not_back judging (answer_in octets) none)
+              (ap (λ c. found_by c false said) b.checker_is ∙ found-taking limits b.above false said ∙ rw p.rules refl)
+              (ap (λ c. found_in_frame c false octets) (ap (λ (c : Checker). content_above judging c.skips) b.checker_is ∙ b.content_is) ∙ dog) is)
+              (inl refl) (λ stamp some. absurd (cc (sym none ∙ some)))
+        ]
+          where
+            block_none : (answer : Option Answer) → option_and_then answered_option answer ≡ None → answered_block answer ≡ None
+            block_none None is = refl
+            block_none (Some answer) is = is
+
+        by : (stamped : Bool) → is_some (any_stamp_in false octets) ≡ stamped → goal
+        by true is = set_back (earlier.0 is)
+        by false is =
+            none_heard (is_none (option_and_then any_stamp_of (answer_in octets)) is)
+            (plain_heard limits b.above facts b.content kept b.same (answer_in octets) is (g.went.rules limits suit).0 g.went.content.keep.done.0 g.went.content.keep.accepted.0) (earlier.1 is)
+
+  -- the round goes on with a block alone
+  round_heard : (machine : Machine) (index : ℕ) (found : Option SentFrame) → option_and_then (λ (frame : SentFrame). block_in frame.octets) found ≡ None
+      → (after_delivery_to_cpu first machine index found).round ≡ machine.round
+  round_heard machine index None none = refl
+  round_heard machine index (Some frame) none = ap (λ block. (after_delivered_block first (record machine { last_to_cpu = index }) block).round) none
+
+  round_received : (machine : Machine) (index : ℕ) (found : Option SentFrame) → (after_delivery_to_module settings machine index found).round ≡ machine.round
+  round_received machine index None = refl
+  round_received machine index (Some frame) = refl
+
+  -- what becomes of a log above its first stamp
+  abbrev BetweenAll : Option ℕ → List LogStep → Machine → Type 0
+  BetweenAll latest steps last = (c : ClockState) (t : StateState) (s : StampState) (sent : ℕ) (from : Life) (facts : Facts) (kept : ContentKept) (machine : Machine) (due : ℕ) (judging : Judging)
+      → Knows c t s sent from facts kept machine due → Between latest facts kept machine.round judging → Rest c t sent machine last due (events_of steps)
+      → BeginsEarlier latest (log_from settings first machine steps) → OneRestartTo last judging (log_from settings first machine steps)
+
+  -- all events
+  between : (latest : Option ℕ) (steps : List LogStep) (last : Machine) → AreLogged steps → BetweenAll latest steps last
+  between latest [] last logged c t s sent from facts kept machine due judging k b r earlier =
+      (record { none_accused = tt; few = omega arith }, ends_judging last b.above b.content judging b.checker_is b.content_is (λ n is. b.due n is ∙ ap (λ (m : Machine). number_of first m.round) (sym r.leads)))
+  between latest (Missing event ∷ steps) last logged c t s sent from facts kept machine due judging k b r earlier = absurd logged
+  between latest (Marked ∷ steps) last logged c t s sent from facts kept machine due judging k b r earlier = absurd logged
+  between latest (Logged at event ∷ steps) last logged c t s sent from facts kept machine due judging k b r earlier = by (between latest steps last logged) event r earlier
+    where
+      OneRestart : Event → Type 0
+      OneRestart event = BeginsEarlier latest (log_from settings first machine (Logged at event ∷ steps)) → OneRestartTo last judging (log_from settings first machine (Logged at event ∷ steps))
+
+      on : BetweenAll latest steps last → (event : Event) → Rest c t sent machine last due (event ∷ events_of steps)
+          → GoesOnBetween last latest (clock_after c machine event) (state_after settings t machine event) (sent + loads_sent event) (from_after machine from event) (after settings first machine event) (due_after machine due event)
+          (log_from settings first (after settings first machine event) steps)
+      on again event r s facts kept judging k b earlier =
+          again (clock_after c machine event) (state_after settings t machine event) s (sent + loads_sent event) (from_after machine from event) facts kept (after settings first machine event) (due_after machine due event) judging
+          k b (rest_on c t sent machine last due event (events_of steps) r) earlier
+
+      off : (event : Event) → Rest c t sent machine last due (event ∷ events_of steps)
+          → GoesOnLost last (clock_after c machine event) (state_after settings t machine event) (sent + loads_sent event) (from_after machine from event) (after settings first machine event) (due_after machine due event)
+          (log_from settings first (after settings first machine event) steps)
+      off event r s facts kept judging k l =
+          lost steps last logged (clock_after c machine event) (state_after settings t machine event) s (sent + loads_sent event) (from_after machine from event) facts kept (after settings first machine event) (due_after machine due event) judging
+          k l (rest_on c t sent machine last due event (events_of steps) r)
+
+      went : (event : Event) → (r : Rest c t sent machine last due (event ∷ events_of steps))
+          → Goes (clock_after c machine event) (state_after settings t machine event) (stamps_after first s machine event) (sent + loads_sent event) (from_after machine from event) facts kept (frames_at first machine event)
+          (after settings first machine event) (due_after machine due event)
+      went event r = goes c t s sent from facts kept machine last due event (events_of steps) k r
+
+      -- an event at which nothing is sent or heard
+      quiet : BetweenAll latest steps last → (event : Event) → frames_at first machine event ≡ [] → (after settings first machine event).round ≡ machine.round → Rest c t sent machine last due (event ∷ events_of steps) → OneRestart event
+      quiet again event none round_is r =
+          let next = after settings first machine event in
+          let g = went event r in
+          let here = subst (λ frames. Goes (clock_after c machine event) (state_after settings t machine event) (stamps_after first s machine event) (sent + loads_sent event) (from_after machine from event) facts kept frames
+          next (due_after machine due event)) none g in
+          let rest = log_from settings first next steps in
+          subst (λ frames. BeginsEarlier latest (map (logged_at at) frames ++ rest) → OneRestartTo last judging (map (logged_at at) frames ++ rest)) (sym none)
+          (λ earlier. on again event r (stamps_after first s machine event) facts kept judging (knows_of (clock_after c machine event) (state_after settings t machine event) (stamps_after first s machine event) (sent + loads_sent event) (from_after machine from event) facts kept [] next (due_after machine due event) here)
+          (record { above = b.above; content = b.content; checker_is = b.checker_is; content_is = b.content_is; same = b.same; latest_is = b.latest_is; due = λ due is. subst (λ round. due ≡ number_of first round) (sym round_is) (b.due due is) }) earlier)
+
+      by : BetweenAll latest steps last → (event : Event) → Rest c t sent machine last due (event ∷ events_of steps) → OneRestart event
+      by again events.Poll r earlier =
+          let number = number_of first machine.round in
+          let fits : number < 256 = omega (arith, number_of-fits first machine.round) in
+          let said = said_of (commands.Poll number) fits in
+          let next = after settings first machine events.Poll in
+          let e = earlier.1 refl in
+          sent_between last latest (clock_after c machine events.Poll) (state_after settings t machine events.Poll) (sent + 0) (life_of machine.history) next 0 at facts kept (log_from settings first next steps) (on again events.Poll r) (off events.Poll r)
+          (stamps_polled s number) machine.round judging (commands.Poll number) fits b refl (went events.Poll r)
+          (λ above due. (
+            ap (first_broken_within limits above) said ∙ no_rule_broken limits above (seen.Poll number) (poll_keeps above number due limits),
+            (λ n is. sym (same_Some _ _ (sym (ap (λ said. number_due (facts_with above said)) said) ∙ is))),
+            ap (λ said. (facts_with above said).awaited) said ∙ sym (ap (λ said. (facts_with facts said).awaited) said),
+            ap (λ said. (facts_with above said).absent_named) said ∙ sym (ap (λ said. (facts_with facts said).absent_named) said),
+          )) e
+      by again (events.Send command) r earlier =
+          let said = said_of command r.within.0 ∙ other_said command r.leads.0 in
+          let next = after settings first machine (events.Send command) in
+          let e = earlier.1 refl in
+          sent_between last latest (clock_after c machine (events.Send command)) (state_after settings t machine (events.Send command)) (sent + loads_sent (events.Send command)) (life_of machine.history) next 0 at facts kept
+          (log_from settings first next steps) (on again (events.Send command) r) (off (events.Send command) r)
+          s machine.round judging command r.within.0 b refl (went (events.Send command) r)
+          (λ above due. (
+            ap (first_broken_within limits above) said,
+            (λ n is. due n (sym (ap (λ said. number_due (facts_with above said)) said) ∙ is)),
+            ap (λ said. (facts_with above said).awaited) said ∙ sym (ap (λ said. (facts_with facts said).awaited) said),
+            ap (λ said. (facts_with above said).absent_named) said ∙ sym (ap (λ said. (facts_with facts said).absent_named) said),
+          )) e
+      by again (events.ToCpu index) r earlier =
+          let event = events.ToCpu index in
+          let next = after settings first machine event in
+          heard_between last latest (clock_after c machine event) (state_after settings t machine event) (sent + 0) (life_of machine.history) next (due_after machine due event) at facts kept (log_from settings first next steps) (on again event r) (off event r)
+          s machine.round judging (item_numbered machine.to_cpu index) b (round_heard machine index (item_numbered machine.to_cpu index)) (went event r) earlier
+      by again (events.ToModule index) r earlier = quiet again (events.ToModule index) refl (round_received machine index (item_numbered machine.to_module index)) r earlier
+      by again (events.Scan raw) r earlier = quiet again (events.Scan raw) refl refl r earlier
+      by again events.LineSync r earlier = quiet again events.LineSync refl refl r earlier
+      by again (events.Raise mask) r earlier = quiet again (events.Raise mask) refl refl r earlier
+      by again events.Restart r earlier = absurd r.none.0
+
+-- a checker that judges each frame
+checker_of : (limits : RuleLimits) (checker : Checker) → checker.limits ≡ limits → checker.skips ≡ Nothing → checker ≡ taking limits checker.facts
+checker_of limits checker limits_are all = ap₂ (λ l s. record checker { limits = l; skips = s }) limits_are all
+
+-- a life, below whatever a judge took
+one_life : (settings : Settings) (limits : RuleLimits) (first : ℕ) (steps : List LogStep) (last : Machine) (judging : Judging) (range : AreInRange settings) (suit : SuitModule settings limits)
+    → IsRestarted settings first judging steps last → JudgesOn limits (number_of first 0) judging
+    → OneRestartTo settings range first limits suit last judging (log_from settings first start steps)
+one_life settings limits first steps last judging range suit life j =
+    let run = life.run in
+    let calm = life.calm in
+    let events = events_of steps in
+    let now = life_of start.history in
+    let steady = calm.no_loads in
+    let known : IsKnown settings first start now start =
+    record { is_kept = kept settings range first [] start refl tt; begun = goes_on-same now now refl; rounds = omega arith; now = goes_on-same now now refl } in
+    between settings range first limits suit judging.latest steps last life.logged (clock_above false) state_above (stamps_above settings range first start) 0 now no_facts (kept_again 0) start 0 judging
+    (record {
+      known = known;
+      follows = follows-start settings first;
+      agrees = agrees_again settings range first start false None start 0;
+      content = again_known settings range first start false None (record { clock = clock_above false; state = state_above; sent = 0 }) start 0 (goes_on-same now now refl) (record { enough = inr (omega arith) });
+      stamps = stamps_begin settings range first start now start (kept_again 0).facts;
+    })
+    (record {
+      above = judging.checker.facts;
+      content = judging.content.kept;
+      checker_is = checker_of limits judging.checker j.limits_are j.all;
+      content_is = ap (λ b. record judging.content { begun = b }) j.content;
+      due = j.due;
+      same = inl refl;
+      latest_is = refl;
+    })
+    (record {
+      asks = asks_begun false settings first start last 0 events run.no_restart run.is_run
+          (none_loaded settings range first events start last (loads_of now + 0) run.is_run run.no_restart (omega (arith, steady))) life.near;
+      calm = record { last = last; leads = run.is_run; none = run.no_restart; steady = calm.no_loads; short = calm.short };
+      leads = run.is_run;
+      none = run.no_restart;
+      within = run.within;
+      prompt = run.prompt;
+      steady = calm.no_loads;
+    })
+    life.earlier
+
+-- ---- lives, one after the other
+
+one_more : (outcomes more : List FrameOutcome) (count : ℕ) → HaveOneRestart outcomes → HaveRestarts count more → HaveRestarts (suc count) (outcomes ++ more)
+one_more outcomes more count one rest = record { none_accused = both outcomes one.none_accused; few = fewer }
+  where
+    both : (outcomes : List FrameOutcome) → AllByRecursion AccusesNeither outcomes → AllByRecursion AccusesNeither (outcomes ++ more)
+    both [] none = rest.none_accused
+    both (outcome ∷ outcomes) none = (none.0, both outcomes none.1)
+
+    counted : length (filter is_restart (outcomes ++ more)) ≡ length (filter is_restart outcomes) + length (filter is_restart more)
+    counted = ap length (filter-append is_restart outcomes more) ∙ length-append (filter is_restart outcomes) (filter is_restart more)
+
+    fewer : length (filter is_restart (outcomes ++ more)) ≤ suc count
+    fewer = let is = counted in let once = one.few in let few = rest.few in omega (arith, is, once, few)
+
+outcomes_both : (judging : Judging) (lines more : List LogLine) → outcomes_of judging (lines ++ more) ≡ outcomes_of judging lines ++ outcomes_of (judging_below judging lines) more
+outcomes_both judging [] more = refl
+outcomes_both judging (line ∷ lines) more =
+    ap (λ (left : List FrameOutcome). outcome_on judging line ++ left) (outcomes_both (judging_with_line judging line) lines more)
+    ∙ sym (append_assoc (outcome_on judging line) (outcomes_of (judging_with_line judging line) lines) (outcomes_of (judging_below (judging_with_line judging line) lines) more))
+
+lives_found : (settings : Settings) (limits : RuleLimits) (range : AreInRange settings) (suit : SuitModule settings limits) (lives : List LoggedLife) (first : ℕ) (judging : Judging)
+    → (judging.checker.skips ≡ Nothing → JudgesOn limits (number_of first 0) judging) → AreRestarted settings first judging lives
+    → HaveRestarts (length lives) (outcomes_of judging (lines_of_lives settings first lives))
+lives_found settings limits range suit [] first judging judges restarted = record { none_accused = tt; few = omega arith }
+lives_found settings limits range suit (life ∷ lives) first judging judges restarted =
+    let lines = log_from settings first start life.steps in
+    let more = lines_of_lives settings (first + life.last.round) lives in
+    let one = one_life settings limits first life.steps life.last judging range suit restarted.1 (judges restarted.0) in
+    let same : number_of first life.last.round ≡ number_of (first + life.last.round) 0 = ap (λ n. n % 256) (omega arith) in
+    subst (HaveRestarts (suc (length lives))) (sym (outcomes_both judging lines more))
+    (one_more (outcomes_of judging lines) (outcomes_of (judging_below judging lines) more) (length lives) one.0
+    (lives_found settings limits range suit lives (first + life.last.round) (judging_below judging lines)
+    (λ all. subst (λ number. JudgesOn limits number (judging_below judging lines)) same (one.1 all)) restarted.2))
+
+pub judge_finds_restarts : JudgeFindsRestarts
+unfolding JudgeFindsRestarts
+judge_finds_restarts settings limits first lives judging range suit judges restarted =
+    lives_found settings limits range suit lives first judging (λ all. judges) restarted
