@@ -83,14 +83,6 @@ def check_shown(check):
                 (late.status, [json.loads(line)['time'] for line in late.out.splitlines()]))
 
 
-class Frame:
-    """A frame as the reader returns it, in a log on the bus."""
-
-    def __init__(self, octets):
-        self.octets, self.kind, self.said, self.text, self.note = bytes.fromhex(octets), 'frame', '', '', ''
-        self.direction = '<' if self.octets[0] >= 128 else '>'
-
-
 def check_judged(check):
     """What `check` says about a breach of limits, the rules of transcripts alone, and what is not judged after a frame that was
     lost."""
@@ -110,12 +102,13 @@ def check_judged(check):
     check.holds('E and G', 'line 2: sequence: E says that the same block number was asked for again, and G' in done.out, done.out)
     name = os.path.join(EXAMPLES, 'doubled-entry.transcript')
     check.equal('--rules transcript', (1, 0), (fiolog('check', '-q', name).status, fiolog('check', '-q', '--rules', 'transcript', name).status))
+    from fiolog.batch import made_of
+    from fiolog.events import DAMAGED, Line, frame_of
     from fiolog.rules import Rules
+    lines = ['3605', 'b60500000000000a', '3606', None, 'b60700000000001e', '3607', 'b60700020000001e', '3608']   # the answer 6 and the poll 7 were lost
+    events = [frame_of(number, bytes.fromhex(line)) if line else Line(number, DAMAGED) for number, line in enumerate(lines, 1)]
     rules = Rules('bus')
-    above = [rules.find(Frame(octets)) for octets in ('3605', 'b60500000000000a', '3606')]
-    rules.lose(Frame('3607'))    # the answer 6 and the poll 7 were lost here
-    below = [rules.find(Frame(octets)) for octets in ('b60700000000001e', '3607', 'b60700020000001e', '3608')]
-    check.equal('no right link is accused where frames were lost', [None] * 7, above + below)
+    check.equal('no right link is accused where frames were lost', [], [found for batch in made_of(events) for found in rules.take(batch)])
 
 
 def check_words(check):

@@ -40,8 +40,8 @@ def events_of(octets, size=1 << 20, **settings):
     from fiolog.reader import Reader
     reader, events = Reader(**settings), []
     for start in range(0, len(octets), size):
-        events += reader.feed(octets[start:start + size])
-    return events + reader.end()
+        events += (event for batch in reader.feed(octets[start:start + size]) for event in batch.events())
+    return events + [event for batch in reader.end() for event in batch.events()]
 
 
 def packed(bits, is_high_first=False):

@@ -174,13 +174,14 @@ class Told:
     def __init__(self, verdicts):
         self.verdicts = verdicts
 
-    def read(self, octets):
+    def batches(self, octets):
         """Nothing is certain yet."""
-        return []
+        return ()
 
-    def end(self):
+    def last_batches(self):
         """The verdicts."""
-        return list(self.verdicts)
+        import fio2070
+        yield fio2070.LogBatch(self.verdicts)
 
 
 POLL, ANSWER, LATER = (('frames', '', (bytes.fromhex(digits),)) for digits in ('3605', 'b60500000000000a', '3607'))

@@ -21,16 +21,12 @@ TRIES = 16
 def found_in(log):
     """What `check --late-answers` finds in a log, the names of rules and of restarts, and how many answers are late, as it is judged
     there."""
+    from fiolog.batch import made_of
+    from fiolog.events import frame_of
     from fiolog.rules import Rules
-
-    class Event:
-        """A frame as the reader returns it, in a log at the CPU."""
-
-        def __init__(self, direction, octets):
-            self.direction, self.octets, self.said = direction, octets, direction
-
     rules = Rules('cpu', late=True)
-    return [found.rule for found in (rules.find(Event(*line)) for line in log) if found], rules.unjudged['late_answers']
+    frames = [frame_of(number, octets, said=direction) for number, (direction, octets) in enumerate(log, 1)]
+    return [found.rule for batch in made_of(frames) for _, found in rules.take(batch)], rules.unjudged['late_answers']
 
 
 def fault_of_right_runs(runs):

@@ -87,21 +87,17 @@ def by_library(log):
 
 
 def by_fiolog(log):
-    from fiolog.counts import Counts
-    from fiolog.events import BAD, DAMAGED, FRAME, Line as Event
-    from fiolog.message import message_of
+    from fiolog.batch import made_of
+    from fiolog.counts import NUMBERS as COUNTED, Counts
+    from fiolog.events import DAMAGED, Line as Event, frame_of
     counts = Counts()
-    for number, (octets, time) in enumerate(log):
-        is_message = octets is not None and spells(octets)
-        event = Event(number, DAMAGED if octets is None else FRAME if is_message else BAD, octets=octets or b'',
-                      time=None if time is None else time / 1e6)
-        if octets is None:
-            counts.lose(event)
-        else:
-            counts.add(event, message_of(octets) if is_message else None)
-    found = {name: getattr(counts, name) for name in ('frames', 'polls', 'repeats', 'marks', 'entries', 'restarts', 'types', 'inputs', 'first_reset')}
-    found.update(unanswered=counts.lost_answers, fills=Counter(counts.fill.kept), waits=counts.open_poll is not None, reset=counts.last_reset)
-    return found, [round(1e6 * time) for time in counts.responses.kept]
+    events = [Event(number, DAMAGED) if line.octets is None else frame_of(number, line.octets, time=None if line.time is None else line.time / 1e6)
+              for number, line in enumerate(log, 1)]
+    for batch in made_of(events):
+        counts.take(batch)
+    found = {name: getattr(counts, name) for name in COUNTED}
+    found.update(waits=counts.now.waits, first_reset=counts.first_reset, reset=counts.last_reset)
+    return found, list(counts.responses.kept)
 
 
 def difference(log):

@@ -1,5 +1,6 @@
 """Right links whose module restarts, their logs as a logger writes them, with damaged lines, and what `fiolog` finds in these."""
 
+import itertools
 import random
 
 from fio2070 import encode
@@ -77,13 +78,13 @@ def spoiled(line, draw):
 
 def found_in(lines, **settings):
     """What the rules find in a log: pairs of a line's number and a rule or `restarted`; and what is not judged."""
-    from fiolog.events import JUDGED, POSSIBLE
+    from fiolog.events import POSSIBLE
     from fiolog.reader import Reader
     from fiolog.rules import Rules
     from fiolog.sides import Judgement
     reader, judgement = Reader(), Judgement(Rules(**settings))
-    events = reader.feed(('\n'.join(lines) + '\n').encode()) + reader.end()
-    found = [one for event in events if event.kind in JUDGED for one in judgement.add(event)]
+    batches = itertools.chain(reader.feed(('\n'.join(lines) + '\n').encode()), reader.end())
+    found = [one for batch in batches for _, *one in judgement.take(batch)]
     found += judgement.end(reader.reasons, reader.kinds[POSSIBLE])
     return [(event.number, one.rule) for event, one in found], judgement.unjudged
 

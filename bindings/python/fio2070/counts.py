@@ -1,11 +1,14 @@
 """What is counted of the frames of a log."""
 
+import array
 import collections
 import ctypes
-from typing import Any, Counter, Optional
+from typing import Any, Counter, Dict, Optional
 
 from . import _library as c
+from ._standin import counts_batch
 from .encode import Octets, check_range, octets_of
+from .logs import MOST_FRAMES, LogBatch
 
 
 def _number(name: str, words: str) -> Any:
@@ -39,7 +42,12 @@ class LogCounts:
 
     def __init__(self) -> None:
         self._counts, self._taken = c.CLogCounts(), ctypes.c_uint64()
+        self._times: Any = None     # of the answers of a batch
         c.library.fio2070_log_counts_start(self._counts)
+
+    def __getstate__(self) -> Dict[str, Any]:
+        """What is copied: not the times of a batch."""
+        return {**vars(self), '_times': None}
 
     def __repr__(self) -> str:
         return '<LogCounts frames=%d>' % self.frames
@@ -48,6 +56,16 @@ class LogCounts:
     def waits(self) -> bool:
         """Whether the latest poll is not answered yet: a poll at the end of a log is not counted as unanswered."""
         return bool(self._counts.waits)
+
+    @property
+    def command(self) -> Optional[int]:
+        """The type of the latest command, until it is answered; None if there is none."""
+        return self._counts.command if self._counts.has_command else None
+
+    @property
+    def polled(self) -> Optional[int]:
+        """The number of the latest poll; None above it."""
+        return self._counts.polled if self._counts.has_polled else None
 
     @property
     def first_reset(self) -> Optional[bool]:
@@ -70,3 +88,11 @@ class LogCounts:
         check_range(1 << 64, sent_at)
         is_known = c.library.fio2070_log_counts_frame(self._counts, time is not None, sent_at, octets, len(octets), self._taken)
         return int(self._taken.value) if is_known else None
+
+    def batch(self, batch: LogBatch) -> 'array.array[int]':
+        """Counts all frames of a batch, in order, and takes the lines between them as `LogJudge.batch` does: a line at which the judge
+        may lose its place as by `lose`. Returns how long the module took for each answer of which that is known."""
+        if self._times is None:
+            self._times = (ctypes.c_uint64 * MOST_FRAMES)()
+        count = counts_batch(self._counts, batch, self._times)
+        return array.array('Q', memoryview(self._times).cast('B')[:8 * count].tobytes())

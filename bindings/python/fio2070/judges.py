@@ -1,11 +1,15 @@
 """The judges: of a link, by its frames and where they were logged; and of a log, by what a reader finds in it. And the signs that a
 log is not the log of one link in order."""
 
-from typing import Any
+import ctypes
+import re
+from typing import Any, List, Tuple
 
 from . import _library as c
 from . import constants
+from ._standin import signs_batch
 from .encode import Octets, check_range, octets_of
+from .logs import MOST_FRAMES, LogBatch
 from .records import Breach, ContentBreach, Outcome
 
 _PLACES = {'auto': constants.LOG_TAKEN_AUTO, 'cpu': constants.LOG_TAKEN_AT_CPU, 'module': constants.LOG_TAKEN_AT_MODULE,
@@ -14,6 +18,9 @@ _PLACES = {'auto': constants.LOG_TAKEN_AUTO, 'cpu': constants.LOG_TAKEN_AT_CPU, 
 _SIDES = {'': constants.LOG_NO_SIDE, '>': constants.LOG_FROM_CPU, '<': constants.LOG_FROM_MODULE}
 _SIGNS = {constants.LOG_SIGN_NONE: '', constants.LOG_SIGN_TWICE: 'twice', constants.LOG_SIGN_BOTH_ENDS: 'both ends',
           constants.LOG_SIGN_REVERSED: 'reversed', constants.LOG_SIGN_TWO_LINKS: 'two links'}
+
+# The octets of an outcome, of which the first is its kind; and the kinds of frames that are not kept.
+_OUTCOME, _NOT_KEPT = ctypes.sizeof(c.CJudgeOutcome), re.compile(b'[^\0]')
 
 
 def _check_limits(per_block: int, waiting: int) -> None:
@@ -87,6 +94,7 @@ class LogJudge:
         begins = constants.LOG_BEGINS_WITH_ENDS if begun else \
             constants.LOG_LEAVES_OUT_LATE if late_answers else constants.LOG_BEGINS_ANYWHERE
         self._judge, self._found = c.CLogJudge(), c.CJudgeOutcome()
+        self._outcomes: Any = None      # of a batch
         c.library.fio2070_log_judge_start(self._judge, c.CLimits(waiting, per_block, 0), _PLACES[place], begins)
 
     def __repr__(self) -> str:
@@ -111,6 +119,18 @@ class LogJudge:
         c.library.fio2070_log_judge_frame(self._judge, bool(from_cpu), _side(said), octets, len(octets), self._found)
         return _outcome(self._found)
 
+    def batch(self, batch: LogBatch, as_said: bool = False) -> List[Tuple[int, Outcome]]:
+        """Takes all lines of a batch, in order, and returns what is said of the frames that are not kept: the index of each in the
+        batch, and its outcome. A line is taken by its kind and its reason: frames; a possible message or a heading as by `possible`,
+        a damaged line as by `lose`, a remark of loss as by `miss`. Who sent a frame is found by its type; `as_said` by its line, if
+        that says it, as in a transcript that is read by order."""
+        if self._outcomes is None:
+            self._outcomes = (c.CJudgeOutcome * MOST_FRAMES)()
+            self._kinds = memoryview(self._outcomes).cast('B')
+        count = c.library.fio2070_log_judge_batch(self._judge, as_said, batch._batch, self._outcomes)
+        kinds = bytes(self._kinds[:_OUTCOME * count:_OUTCOME])
+        return [(found.start(), _outcome(self._outcomes[found.start()])) for found in _NOT_KEPT.finditer(kinds)]
+
 
 class LogSigns:
     """Counts of the frames of a log, which tell whether it looks like another one than the log of one link in order. Give it each
@@ -127,6 +147,10 @@ class LogSigns:
         """Takes a frame that the CPU sent, or the module. `said` is as for `LogJudge.frame`."""
         octets = octets_of(octets)
         c.library.fio2070_log_signs_frame(self._signs, bool(from_cpu), _side(said), octets, len(octets))
+
+    def batch(self, batch: LogBatch, as_said: bool = False) -> None:
+        """Takes the frames of a batch, in order. Who sent them is found as by `LogJudge.batch`."""
+        signs_batch(self._signs, as_said, batch)
 
     @property
     def sign(self) -> str:

@@ -1,8 +1,9 @@
 """The reader of logs: the frames of the link in a log of any logger."""
 
+import array
 import itertools
 import struct
-from typing import Iterator, List, NamedTuple, Optional, Tuple, cast
+from typing import Iterator, List, NamedTuple, Optional, Sequence, Tuple, cast
 
 from . import _library as c
 from . import constants
@@ -13,11 +14,16 @@ _KINDS = ('blank', 'frames', 'part', 'possible', 'damaged', 'passed over')
 _REASONS = ('', 'no octets', 'no message', 'short message', 'several messages', 'may be longer', 'too long',
             'bad line', 'exchanged', 'two more', 'loss', 'heading', 'one less')
 _SIDES = ('', '>', '<')
+# The most frames of a batch.
+MOST_FRAMES = c.CLogBatch.lengths.size // 2
 # How many octets the library gets at a time: what a batch leaves of them is copied.
 _PIECE = 65536
 # The numbers of struct fio2070_log_verdict and struct fio2070_log_place, in the processor's order of octets: these, and the names
 # that take them below, are written by tools/generate-layouts.
 _VERDICT, _PLACE = struct.Struct('=QQIIBBBB4x'), struct.Struct('=QII')
+# Where in a verdict its kind, whether it has a time and its side are, and in words of 32 bits how many frames it has.
+_KIND, _HAS_TIME, _SAID = c.CLogVerdict.kind.offset, c.CLogVerdict.has_time.offset, c.CLogVerdict.said.offset
+_FRAMES = c.CLogVerdict.frames.offset // 4
 
 
 class Verdict(NamedTuple):
@@ -41,6 +47,118 @@ class Verdict(NamedTuple):
     said: str
 
 
+class LogBatch:
+    """Verdicts on lines of a log, one after another, as the library has them: the judge, the counts and the signs of a log take them
+    at once. A reader returns them (`LogReader.batches`), or they are made of verdicts."""
+
+    def __init__(self, verdicts: Sequence[Verdict] = ()) -> None:
+        """Raises ValueError if there are more than 4,096 verdicts, 20,480 frames or places, or 65,536 octets of frames."""
+        self._batch = c.CLogBatch()
+        self._verdicts, self._places, self._lengths, self._octets = (
+            memoryview(getattr(self._batch, name)).cast('B') for name in ('verdicts', 'places', 'lengths', 'octets'))
+        if verdicts:
+            self._write(verdicts)
+
+    def __len__(self) -> int:
+        return int(self._batch.verdict_count)
+
+    def __repr__(self) -> str:
+        return '<LogBatch lines=%d frames=%d>' % (len(self), self.frame_count)
+
+    def _write(self, verdicts: Sequence[Verdict]) -> None:
+        """Writes verdicts."""
+        batch, frames = self._batch, [octets for verdict in verdicts for octets in verdict.frames]
+        places = [place for verdict in verdicts for place in verdict.places]
+        told = [_VERDICT.pack(one.line, one.time or 0, len(one.frames), len(one.places), _KINDS.index(one.kind),
+                              _REASONS.index(one.reason), one.time is not None, _SIDES.index(one.said)) for one in verdicts]
+        parts = [(self._verdicts, b''.join(told)), (self._places, b''.join(_PLACE.pack(*place) for place in places)),
+                 (self._lengths, array.array('H', map(len, frames)).tobytes()), (self._octets, b''.join(frames))]
+        if any(len(octets) > len(field) for field, octets in parts):
+            raise ValueError('too many verdicts, frames, places or octets for a batch')
+        for field, octets in parts:
+            field[:len(octets)] = octets
+        batch.verdict_count, batch.frame_count, batch.place_count = len(verdicts), len(frames), len(places)
+        batch.octet_count = len(parts[-1][1])
+
+    @property
+    def frame_count(self) -> int:
+        """How many frames the lines give."""
+        return int(self._batch.frame_count)
+
+    @property
+    def place_count(self) -> int:
+        """At how many places these are written."""
+        return int(self._batch.place_count)
+
+    def _each(self, field: int) -> bytes:
+        """A number of each verdict that is an octet."""
+        return bytes(self._verdicts[field:_VERDICT.size * len(self):_VERDICT.size])
+
+    @property
+    def kinds(self) -> bytes:
+        """The kind of each line, one of `constants.LOG_BLANK` and those after it."""
+        return self._each(_KIND)
+
+    @property
+    def sides(self) -> bytes:
+        """Who sent the octets of each line, as the line says, one of `constants.LOG_NO_SIDE` and those after it."""
+        return self._each(_SAID)
+
+    @property
+    def timed(self) -> bytes:
+        """Of each line 1 if it has a time, else 0."""
+        return self._each(_HAS_TIME)
+
+    def told(self, index: int) -> Verdict:
+        """The verdict on a line that has no frames and no places, or without these."""
+        line, time, _, _, kind, reason, has_time, said = _VERDICT.unpack_from(self._verdicts, _VERDICT.size * index)
+        return Verdict(line, _KINDS[kind], _REASONS[reason], (), (), time if has_time else None, _SIDES[said])
+
+    def line(self, index: int) -> int:
+        """The number of a line."""
+        return int(self._batch.verdicts[index].line)
+
+    def frame_counts(self) -> List[int]:
+        """How many frames each line gives."""
+        return self._verdicts.cast('I')[_FRAMES:_VERDICT.size // 4 * len(self):_VERDICT.size // 4].tolist()
+
+    def frames(self) -> List[bytes]:
+        """The frames, in order."""
+        ends = list(itertools.accumulate(self._lengths.cast('H')[:self.frame_count]))
+        octets = bytes(self._octets[:self._batch.octet_count])
+        return [octets[begin:end] for begin, end in zip([0, *ends], ends)]
+
+    def types(self) -> bytes:
+        """The type of each frame, 0 of one without octets."""
+        lengths = self._lengths.cast('H')[:self.frame_count].tolist()
+        octets = bytes(self._octets[:self._batch.octet_count]) + b'\0'
+        types = bytes(map(octets.__getitem__, itertools.accumulate(lengths[:-1], initial=0))) if lengths else b''
+        return types if all(lengths) else bytes(length and code for length, code in zip(lengths, types))
+
+    def set_kind(self, index: int, kind: int) -> None:
+        """Changes the kind of a line, one of `constants.LOG_BLANK` and those after it."""
+        self._batch.verdicts[index].kind = kind
+
+    def set_side(self, index: int, side: int) -> None:
+        """Changes who sent the frames of a line, as it says, one of `constants.LOG_NO_SIDE` and those after it."""
+        self._batch.verdicts[index].said = side
+
+    def truncate(self, count: int) -> None:
+        """Takes away the lines from this index on, which have no frames."""
+        self._batch.verdict_count = count
+
+    def verdicts(self) -> List[Verdict]:
+        """The verdicts."""
+        verdicts, frame, place, all_frames = [], 0, 0, tuple(self.frames())
+        all_places = tuple(cast(Iterator[Tuple[int, int, int]], _PLACE.iter_unpack(self._places[:_PLACE.size * self.place_count])))
+        for line, time, frames, places, kind, reason, has_time, said in _VERDICT.iter_unpack(
+                self._verdicts[:_VERDICT.size * len(self)]):
+            verdicts.append(Verdict(line, _KINDS[kind], _REASONS[reason], all_frames[frame:frame + frames],
+                                    all_places[place:place + places], time if has_time else None, _SIDES[said]))
+            frame, place = frame + frames, place + places
+        return verdicts
+
+
 class LogReader:
     """A reader of a log, which takes its octets in pieces of any length."""
 
@@ -49,43 +167,35 @@ class LogReader:
         as `fio2070 show` and `fio2070 check` read theirs; other than there a line also ends at CR."""
         if form not in _FORMS:
             raise ValueError('the form is auto, frames or transcript')
-        self._reader, self._batch = c.CLogReader(), c.CLogBatch()
-        self._verdicts, self._places, self._octets = (memoryview(getattr(self._batch, name)).cast('B')
-                                                      for name in ('verdicts', 'places', 'octets'))
+        self._reader, self._batch = c.CLogReader(), LogBatch()
         c.library.fio2070_log_start(self._reader, _FORMS[form])
+
+    def batches(self, octets: Octets) -> Iterator[LogBatch]:
+        """Takes the next octets of the log, and yields the verdicts that are due, in the order of the lines, as batches. Each batch is
+        overwritten by the next one."""
+        octets, batch = octets_of(octets), self._batch
+        for start in range(0, len(octets), _PIECE):
+            piece = octets[start:start + _PIECE]
+            while piece:
+                piece = piece[c.library.fio2070_log_read(self._reader, piece, len(piece), batch._batch):]
+                if batch:
+                    yield batch
+
+    def last_batches(self) -> Iterator[LogBatch]:
+        """Ends the log, and yields the verdicts on all lines that had none."""
+        c.library.fio2070_log_end(self._reader)
+        while True:
+            c.library.fio2070_log_read(self._reader, b'', 0, self._batch._batch)
+            if not self._batch:
+                return
+            yield self._batch
 
     def read(self, octets: Octets) -> List[Verdict]:
         """Takes the next octets of the log, and returns the verdicts that are due, in the order of the lines. A line gets its
         verdict once it is decided, which can be lines later. After `end`, octets begin a new log of the same form, whose
         lines are counted from 1."""
-        octets = octets_of(octets)
-        verdicts: List[Verdict] = []
-        for start in range(0, len(octets), _PIECE):
-            piece = octets[start:start + _PIECE]
-            while piece:
-                piece = piece[c.library.fio2070_log_read(self._reader, piece, len(piece), self._batch):]
-                verdicts += self._told()
-        return verdicts
+        return [verdict for batch in self.batches(octets) for verdict in batch.verdicts()]
 
     def end(self) -> List[Verdict]:
         """Ends the log, and returns the verdicts on all lines that had none."""
-        c.library.fio2070_log_end(self._reader)
-        verdicts: List[Verdict] = []
-        while True:
-            c.library.fio2070_log_read(self._reader, b'', 0, self._batch)
-            if not self._batch.verdict_count:
-                return verdicts
-            verdicts += self._told()
-
-    def _told(self) -> List[Verdict]:
-        """The verdicts of the batch."""
-        batch, verdicts, frame, place = self._batch, [], 0, 0
-        octets, ends = bytes(self._octets[:batch.octet_count]), list(itertools.accumulate(batch.lengths[:batch.frame_count]))
-        all_frames = tuple(octets[begin:end] for begin, end in zip([0, *ends], ends))
-        all_places = tuple(cast(Iterator[Tuple[int, int, int]], _PLACE.iter_unpack(self._places[:_PLACE.size * batch.place_count])))
-        for line, time, frames, places, kind, reason, has_time, said in _VERDICT.iter_unpack(
-                self._verdicts[:_VERDICT.size * batch.verdict_count]):
-            verdicts.append(Verdict(line, _KINDS[kind], _REASONS[reason], all_frames[frame:frame + frames],
-                                    all_places[place:place + places], time if has_time else None, _SIDES[said]))
-            frame, place = frame + frames, place + places
-        return verdicts
+        return [verdict for batch in self.last_batches() for verdict in batch.verdicts()]

@@ -8,7 +8,8 @@ import fio2070
 from fio2070.constants import LONGEST_FRAME
 
 from . import line as wire
-from .events import BLANK, DAMAGED, FRAME, LONGEST_TEXT, PART, PASSED, Line, frame_of, text_of
+from .batch import made_of
+from .events import BLANK, DAMAGED, LONGEST_TEXT, PART, PASSED, Line, frame_of, seconds_of, text_of
 from .log_words import REASONS
 from .rules import WRONG_CHECK
 from .texts import Texts
@@ -19,8 +20,6 @@ FLAG, HEADER, CHECK = b'\x7e', 2, 2
 ANY = None, None
 # The time and the side of a text that says none.
 NOTHING = None, ''
-# The year 10000, which no time of a log has, in microseconds.
-END_OF_TIME = 253_402_300_800_000_000
 # The most characters of a line in which the caller's expression is sought: more than a frame and its remarks take.
 LONGEST_SOUGHT = 8192
 # The octets at the end of a line, which is read backwards: so each octet is looked at once.
@@ -46,11 +45,6 @@ class Part(NamedTuple):
     is_row: bool = False
 
 
-def seconds_of(time):
-    """The seconds of a verdict's time; None if it has none."""
-    return None if time is None or time >= END_OF_TIME else time / 1_000_000
-
-
 def digits_of_row(text):
     """The digits of a row of a dump, without its offset and its column of characters; None if a text is no row."""
     found = _ROW.match(text)
@@ -72,12 +66,12 @@ def end_of_row(text):
 
 
 class ByOrder:
-    """Makes events of lines. `pattern` is an expression with the group `octets`, hexadecimal digits, and perhaps `time` and `dir`;
+    """Makes batches of lines. `pattern` is an expression with the group `octets`, hexadecimal digits, and perhaps `time` and `dir`;
     `framing` is CHECKED or UNCHECKED for frames of SDLC. `address` is that of the frames that are judged, with the control octet,
     each None for any; by default that of a module in lines with flags, and any in others."""
 
-    def __init__(self, manners, pattern=None, framing='', address=None):
-        self.manners, self.pattern, self.framing = manners, re.compile(pattern) if pattern else None, framing
+    def __init__(self, pattern=None, framing='', address=None):
+        self.pattern, self.framing = re.compile(pattern) if pattern else None, framing
         self.address, self.texts = address, Texts()
         self.words = fio2070.LogReader()    # reads what is said before octets
         self.heading = NOTHING              # what the last line without octets says
@@ -90,26 +84,21 @@ class ByOrder:
         return self.texts.count
 
     def feed(self, octets):
-        """The events of the lines that are whole now."""
-        return self._of_lines(self.texts.add(octets))
+        """The lines that are whole now."""
+        self.texts.add(octets)
+        return self._of_lines(self.texts.take())
 
     def end(self):
-        """The events of the line that has no end."""
-        return self._of_lines(self.texts.end())
+        """The line that has no end."""
+        self.texts.end()
+        return self._of_lines(self.texts.take())
 
     def _of_lines(self, lines):
-        self.texts.drop(self.texts.count)
         parts = [self._part(raw) for raw in lines]
         said, events = self._said([one for part in parts for one in part.before]), []
         for number, (raw, part) in enumerate(zip(lines, parts), self.texts.count - len(lines) + 1):
-            events += map(self._balanced, self._of_part(number, raw, part, [next(said) for _ in part.before]))
-        return events
-
-    def _balanced(self, event):
-        """An event with what the log says of directions down to it."""
-        if event.kind == FRAME:
-            self.manners.add_side(event.said, event.direction)
-        return event._replace(balance=self.manners.balance)
+            events += self._of_part(number, raw, part, [next(said) for _ in part.before])
+        return made_of(events)
 
     def _said(self, texts):
         """The time and the side that each text says before octets."""

@@ -6,12 +6,13 @@ import json
 import sys
 from collections import Counter
 
-from . import log, many, sides, terminal, unjudged
+from . import judge, log, many, sides, terminal, unjudged
+from .batch import Made
 from .counts import Counts, in_words
 from .decode import clock_of
 from .events import BAD, FRAME, JUDGED, LOSSES, OTHER, PASSED, POSSIBLE
 from .explain import explanation
-from .message import BLOCK, POLL, TYPE_ANSWER, message_of
+from .message import BLOCK, POLL, TYPE_ANSWER
 from .options import number_in
 from .protocol import BLOCK_ENTRIES, CONTENT_RULES, MOST_WAITING, RULES, STANDARD_WAITING
 from .rules import Rules
@@ -107,26 +108,34 @@ def _place(event):
     return place if event.time is None else '%s at %s' % (place, clock_of(event))
 
 
-def frames_judged(read, option):
-    """Each frame of a log, and each other line that is judged, with the breaches and restarts that are certain now and what judges
-    it, which is new for each file; at the end of a file None with the others. With --start-at-poll from the first poll on."""
+def judged(read, option):
+    """The lines of a log, with the breaches and restarts that are certain now and what judges them, which is new for each file; at
+    the end of a file None with the others. With --start-at-poll from the first poll on."""
     judgement, reader = None, None
-    for event in read.events():
-        if event.kind not in JUDGED and not event.is_remark:
+    for batch in read.batches():
+        if not batch.is_judged:
             continue
         if reader is not read.reader or judgement is None:
             yield from _ended(read, judgement)
             judgement, reader, is_open = sides.Judgement(rules_for(option)), read.reader, not option.start_at_poll
-        is_open = is_open or event.octets[:1] == bytes([POLL])
-        if event.kind == PASSED:
-            judgement.remark(event)
-            yield event, (), judgement
-        elif is_open or event.kind in LOSSES:
-            yield event, judgement.add(event), judgement
-        else:
-            read.above += 1
-            judgement.leave_out(event)
+        read.balance += batch.balance
+        if not is_open:
+            batch, is_open = _opened(batch, judgement)
+            read.above = judgement.left_out
+        yield batch, judgement.take(batch), judgement
     yield from _ended(read, judgement)
+
+
+def _opened(batch, judgement):
+    """The lines without the frames above the first poll, and whether it is among them."""
+    events, is_open = [], False
+    for event in batch.events():
+        is_open |= event.kind in JUDGED and event.octets[:1] == bytes([POLL])
+        if is_open or event.kind not in (FRAME, BAD):
+            events.append(event)
+        else:
+            judgement.leave_out(event)
+    return Made(events, batch.as_said), is_open
 
 
 def rules_for(option):
@@ -138,7 +147,7 @@ def rules_for(option):
 def _ended(read, judgement):
     """The breaches and restarts that were held, at the end of a file, of which is noted what is missing."""
     if judgement:
-        broken = judgement.end(read.reasons, read.kinds[POSSIBLE])
+        broken = [(0, *one) for one in judgement.end(read.reasons, read.kinds[POSSIBLE])]
         read.judgements.append(judgement)
         read.unjudged += judgement.unjudged
         yield None, broken, judgement
@@ -150,27 +159,60 @@ class Findings:
     def __init__(self, option, read):
         self.option, self.read, self.paint = option, read, terminal.painter('auto')
         self.count, self.restarts, self.spans, self.has_late_answers = 0, 0, Spans(), False
-        self.awaited = None     # the type of the command above a frame, if that waits for its answer
 
-    def add(self, event, found, counts):
+    def add(self, event, found):
         """A breach, or a restart."""
         self.count += not found.is_restart
         self.restarts += found.is_restart
         self.spans.add(found.rule, event)
-        is_undue = found.rule == 'pair' or found.is_restart and event.octets[0] - TYPE_ANSWER != self.awaited
-        self.has_late_answers |= is_undue and answers_what_was_sent(event.octets, counts)
         if self.option.json:
             kind = {'outcome': found.rule} if found.is_restart else {'rule': found.rule, **found.due}
             print(json.dumps({'file': shown(event.file or self.read.name), 'line': event.number, **kind, 'says': found.says}))
         else:
             print('%sline %d: %s: %s' % (event.head, event.number, self.paint('fault', found.rule), found.says))
 
+    def look_for_late(self, batch, broken, counts):
+        """Notes whether an answer that was not due is to a command above, or a block of the latest number or the one before; `counts`
+        are those above the lines."""
+        if self.has_late_answers or all(found.rule != 'pair' and not found.is_restart for _, _, found in broken):
+            return
+        sent, above = Sent(counts), 0
+        for frame, event, found in broken:
+            sent.go_on(batch, above, frame)
+            above = frame
+            is_undue = found.rule == 'pair' or found.is_restart and event.octets[0] - TYPE_ANSWER != sent.command
+            self.has_late_answers |= is_undue and sent.is_answered_by(event.octets)
 
-def answers_what_was_sent(octets, counts):
-    """Whether an answer that was not due is to a command above, or a block of the latest number or the one before."""
-    if octets[0] == BLOCK:
-        return counts.number is not None and (counts.number - octets[1]) % 256 < 2
-    return counts.types[octets[0] - TYPE_ANSWER] > 0
+
+class Sent:
+    """What was sent above a frame: the command that waits for its answer, the types of commands, and the number of the last poll."""
+
+    def __init__(self, counts):
+        self.command, self.types, self.number = counts.now.command, set(counts.types), counts.now.polled
+
+    def go_on(self, batch, first, last):
+        """Goes on below these frames, and the lines among them."""
+        losses = {batch.frames_above(line) for line, event in batch.others if event.kind in LOSSES}
+        for frame in range(first, last + 1):
+            self.command = None if frame in losses else self.command
+            if frame < last:
+                self._add(batch.octets[frame])
+
+    def _add(self, octets):
+        if not judge.spells(octets):
+            return
+        if octets[0] < TYPE_ANSWER:
+            self.command = octets[0]
+            self.types.add(octets[0])
+            self.number = octets[1] if octets[0] == POLL else self.number
+        elif octets[0] - TYPE_ANSWER == self.command:
+            self.command = None
+
+    def is_answered_by(self, octets):
+        """Whether this is an answer to a command above, or a block of the latest number or the one before."""
+        if octets[0] == BLOCK:
+            return self.number is not None and (self.number - octets[1]) % 256 < 2
+        return octets[0] - TYPE_ANSWER in self.types
 
 
 def run(option):
@@ -179,14 +221,14 @@ def run(option):
         return many.run(option)
     read, counts = log.Log(option, sys.stdout.flush, writes=option.json), Counts()
     findings, judgement = Findings(option, read), None
-    for event, broken, judgement in frames_judged(read, option):
-        if event and event.kind in LOSSES:
-            counts.lose(event)
-        elif event and event.kind in (FRAME, BAD):
-            findings.awaited = counts.command
-            counts.add(event, message_of(event.octets) if event.kind == FRAME else None)
-        for where, found in broken:
-            findings.add(where, found, counts)
+    for batch, broken, judgement in judged(read, option):
+        if batch:
+            findings.look_for_late(batch, broken, counts)
+            counts.take(batch)
+        for frame, where, found in broken:
+            if batch:
+                read.name_passed(batch.line_of(frame))
+            findings.add(where, found)
     if not read.summary():
         return 1
     for words in () if option.quiet else findings.spans.words():
@@ -220,7 +262,7 @@ def end(option, read, counts, judgement, findings):
     is_fault = sides.say(read.judgements)
     if read.is_reversed and option.at in ('cpu', 'bus'):
         terminal.say('most lines say the other direction than their messages: if this is the log of the module, try --at module')
-    if judgement and judgement.is_above_polls and counts.polls and not option.start_at_poll:
+    if judgement and judgement.rules.is_above_polls and counts.polls and not option.start_at_poll:
         terminal.say('the log begins in the middle of traffic: try --start-at-poll')
     if findings.has_late_answers and not option.late_answers:
         terminal.say('answers came late or twice: try --late-answers')

@@ -1,46 +1,61 @@
-"""What is counted of frames: messages by type, repeats, losses, response times, entries, marks."""
+"""What is counted of a log: by libfio2070, and beside that how long it is, what is damaged, and a sample of the response times."""
 
+from array import array
 from collections import Counter
 
-from .events import BAD, PIECE
-from .message import AGAIN, BLOCK, LOST, MODULE_STATUS, POLL, RESET
+import fio2070
+
+from .events import BAD, DAMAGED, DOUBTFUL, seconds_of
 
 # How many response times are kept for the median and the 99th percentile: beyond, every second one, and so on.
 MOST_TIMES = 1 << 16
-# What two counts have together is the sum of what each has.
-SUMS = ('frames', 'damaged', 'polls', 'repeats', 'lost_answers', 'marks', 'entries', 'restarts', 'types', 'inputs',
-        'fill', 'responses')
+# What the library counts: numbers, and tables.
+TABLES = 'types', 'inputs', 'fills'
+NUMBERS = 'frames', 'polls', 'repeats', 'unanswered', 'marks', 'entries', 'restarts', *TABLES
 
 
 class Sample:
     """Numbers of which about as many are kept, evenly spread; the greatest is exact."""
 
     def __init__(self):
-        self.kept, self.every, self.count, self.most = [], 1, 0, None
+        self.kept, self.every, self.count, self.most = array('Q'), 1, 0, None
 
-    def add(self, number):
-        self.most = number if self.most is None else max(self.most, number)
-        if self.count % self.every == 0:
-            self.kept.append(number)
-            if len(self.kept) > MOST_TIMES:
-                self.kept, self.every = self.kept[::2], self.every * 2
-        self.count += 1
+    def add(self, numbers):
+        """Takes an array of numbers."""
+        while numbers:
+            first = -self.count % self.every
+            part = numbers[:first + self.every * (MOST_TIMES - len(self.kept)) + 1]
+            self.kept += part[first::self.every]
+            self.count, self.most = self.count + len(part), max(max(part), self.most or 0)
+            numbers = numbers[len(part):]
+            self._thin()
+
+    def _thin(self):
+        while len(self.kept) > MOST_TIMES:
+            self.kept, self.every = self.kept[::2], self.every * 2
 
     def __add__(self, other):
         both = Sample()
         both.count, both.every = self.count + other.count, max(self.every, other.every)
         both.most = max((one.most for one in (self, other) if one.count), default=None)
-        both.kept = [number for one in (self, other) for number in one.kept[::both.every // one.every]]
-        while len(both.kept) > MOST_TIMES:
-            both.kept, both.every = both.kept[::2], both.every * 2
+        for one in (self, other):
+            both.kept += one.kept[::both.every // one.every]
+        both._thin()
         return both
 
     def at(self, part):
         """The number below which this part of all lies; None if there is none."""
-        if not self.kept:
-            return None
-        ordered = sorted(self.kept)
-        return ordered[min(int(part * len(ordered)), len(ordered) - 1)]
+        return placed(Counter(self.kept), part)
+
+
+def placed(counts, part):
+    """The number below which this part of all lies, of numbers with how often each is there; None if there is none."""
+    place = min(int(part * sum(counts.values())), sum(counts.values()) - 1)
+    for number, count in sorted(counts.items()):
+        place -= count
+        if place < 0:
+            return number
+    return None
 
 
 def in_words(name):
@@ -48,100 +63,67 @@ def in_words(name):
     return 'gap marks' if name == 'marks' else name.replace('_', ' ')
 
 
+def _sum(name):
+    """A number of the library, with that of the logs above."""
+    return property(lambda self: self._above[name] + getattr(self.now, name))
+
+
 class Counts:
-    """Counts messages, each as it comes."""
+    """Counts the frames of a log. `a + b` is what two logs, or two parts of a log, count."""
+
+    frames, polls, repeats, unanswered, marks, entries, restarts, types, inputs, fills = map(_sum, NUMBERS)
 
     def __init__(self):
-        self.frames = self.damaged = self.polls = self.repeats = self.lost_answers = self.marks = 0
-        self.types, self.inputs, self.fill = Counter(), Counter(), Sample()
-        self.responses, self.entries = Sample(), 0
-        self.first = self.last = self.open_poll = self.number = self.sent_at = self.command = None
-        self.block = None
-        self.restarts, self.first_reset, self.last_reset = 0, None, None     # P of the first 177 and of the last
+        self.now = fio2070.LogCounts()      # of the log that is counted
+        self._above = {name: Counter() if name in TABLES else 0 for name in NUMBERS}    # of those above it
+        self._first_reset = self._last_reset = None
+        self.damaged, self.responses = 0, Sample()
+        self.first = self.last = None       # the times of the first frame and of the last
 
     def __add__(self, other):
-        """The counts of two logs, or of two parts of a log. Their length is from the first time to the last."""
         both = Counts()
-        for name in SUMS:
-            setattr(both, name, getattr(self, name) + getattr(other, name))
+        both.now, both._above = other.now, {name: getattr(self, name) + other._above[name] for name in NUMBERS}
         # A poll at the end of the first has no answer.
-        both.lost_answers += self.open_poll is not None
-        both.open_poll = other.open_poll
+        both._above['unanswered'] += self.now.waits
         # The first 177 of the second may be the first to say a restart.
-        both.restarts += self.last_reset is False and other.first_reset is True
-        both.first_reset = other.first_reset if self.first_reset is None else self.first_reset
-        both.last_reset = self.last_reset if other.last_reset is None else other.last_reset
+        both._above['restarts'] += self.last_reset is False and other.first_reset is True
+        both._first_reset = other.first_reset if self.first_reset is None else self.first_reset
+        both._last_reset = self.last_reset if other.last_reset is None else other.last_reset
+        both.damaged, both.responses = self.damaged + other.damaged, self.responses + other.responses
         times = [time for one in (self, other) for time in (one.first, one.last) if time is not None]
         both.first, both.last = min(times, default=None), max(times, default=None)
         return both
 
-    def add(self, event, message):
-        """Counts a frame; a damaged one has no message."""
-        self.frames += 1
-        if event.time is not None:
-            self.first, self.last = event.time if self.first is None else self.first, event.time
-        if message is None:
-            self.damaged += event.kind == BAD
-            return
-        self.types[message.code] += 1
-        if message.is_answer:
-            self._answer(event, message)
-        else:
-            self._command(event, message)
+    def take(self, batch):
+        """Counts the frames of a batch; at a line that may have held one it is not known whether the last poll was answered."""
+        kinds = batch.kinds_of_events()
+        self.damaged += kinds[BAD] + kinds[DAMAGED] + kinds[DOUBTFUL]
+        self.responses.add(self.now.batch(batch.said))
+        self._note_times(batch)
 
-    def lose(self, event):
-        """A frame may be lost here: whether the last poll was answered is not known."""
-        self.damaged += event.kind != PIECE
-        self.open_poll = self.command = None
+    def _note_times(self, batch):
+        timed = [line for line in (batch.timed(), batch.timed(is_last=True)) if line is not None]
+        if timed:
+            first, self.last = (seconds_of(batch.said.told(line).time) for line in timed)
+            self.first = first if self.first is None else self.first
 
-    def _command(self, event, message):
-        if self.open_poll is not None:
-            self.lost_answers += 1
-        self.command, self.sent_at = message.code, event.time
-        self.open_poll = None
-        if message.code == POLL:
-            self.polls += 1
-            self.repeats += message.fields['block'] == self.number
-            self.open_poll = self.number = message.fields['block']
+    @property
+    def first_reset(self):
+        """Whether the first 177 says that the module was reset; None above it."""
+        return self.now.first_reset if self._first_reset is None else self._first_reset
 
-    def _answer(self, event, message):
-        if self.command is not None and message.code == self.command + 128:
-            if event.time is not None and self.sent_at is not None and event.time >= self.sent_at:
-                self.responses.add(event.time - self.sent_at)
-            self.command = None
-        if message.code == MODULE_STATUS:
-            self._reset(bool(message.fields['flags'] & RESET))
-        if message.code == BLOCK:
-            self.open_poll = None
-            is_repeat = message.fields['status'] & AGAIN and message.fields['block'] == self.block
-            self.block = message.fields['block']
-            if not is_repeat:
-                self._block(message)
-
-    def _reset(self, is_set):
-        """Counts a restart: the module says that it was reset, and did not say so in the 177 before."""
-        self.restarts += is_set and self.last_reset is False
-        self.first_reset = is_set if self.first_reset is None else self.first_reset
-        self.last_reset = is_set
-
-    def _block(self, message):
-        self.marks += bool(message.fields['status'] & LOST)
-        self.fill.add(len(message.parts))
-        self.entries += len(message.parts)
-        self.inputs.update(part['input'] for part in message.parts)
+    @property
+    def last_reset(self):
+        """Whether the last one says so."""
+        return self._last_reset if self.now.reset is None else self.now.reset
 
     def unjudged(self):
         """What is missing by what the module says, by its reason."""
         return Counter(gaps=self.marks, restarts=self.restarts)
 
-    def end(self):
-        """A poll at the end has no answer."""
-        lost = self.lost_answers + (self.open_poll is not None)
-        return lost
-
     def in_short(self, is_over=True):
         """The numbers of a summary; while more may come, the last poll still waits for its answer."""
-        lost = self.end() if is_over else self.lost_answers
+        lost = self.unanswered + (is_over and self.now.waits)
         return {'frames': self.frames, 'polls': self.polls, 'repeats': self.repeats, 'answers_lost': lost, 'marks': self.marks}
 
     @property

@@ -1,7 +1,7 @@
 """What the reader makes of each line."""
 
 import re
-from typing import NamedTuple, Optional, Tuple
+from typing import NamedTuple, Optional
 
 from . import judge
 from .log_words import CURES, REASONS
@@ -18,6 +18,8 @@ MISSING, HEADING = REMARKS = REASONS.get('loss', 'loss'), REASONS.get('heading',
 LONGEST_TEXT = 1 << 16
 # Times from here on have a date; an earlier one is a time of day if the line has one, else seconds since some start.
 DATED = 1e8
+# The year 10000, which no time of a log has, in microseconds.
+END_OF_TIME = 253_402_300_800_000_000
 OF_DAY = re.compile(r'\d{1,2}:\d\d:\d\d(?:[.,]\d{1,9})?')
 _COLOURS = re.compile('\x1b\\[[^A-Za-z]*[A-Za-z]')
 _MARKS = dict.fromkeys((0, 0xfeff))
@@ -39,9 +41,8 @@ class Line(NamedTuple):
     order or by their carrier, and spell none; OTHER for a frame with an address that is not judged; POSSIBLE for a message that
     nothing makes sure, DOUBTFUL for one below frames; DAMAGED for a line that may have held a frame, or frames that were lost on
     their way here; PIECE for each of the two lines of one message; PART for a further line of the frame above, or of one that
-    ends below; BLANK; PASSED for any other. `time` is in seconds, `direction` is `>` or `<`, `note` is the reason, `places` are those of the
-    octets; `said` is what the log says of the direction, if it does; `balance` of how many more frames down to here it says the other
-    direction than that of their type; `file` is the name of its file, if it is one of several that are read as one log."""
+    ends below; BLANK; PASSED for any other. `time` is in seconds, `direction` is `>` or `<`, `note` is the reason; `said` is
+    what the log says of the direction, if it does; `file` is the name of its file, if it is one of several that are read as one log."""
     number: int
     kind: str
     raw: bytes = b''
@@ -49,9 +50,7 @@ class Line(NamedTuple):
     time: Optional[float] = None
     direction: str = ''
     note: str = ''
-    places: Tuple = ()
     said: str = ''
-    balance: int = 0
     file: str = ''
 
     @property
@@ -73,6 +72,11 @@ class Line(NamedTuple):
     def text(self):
         """The line as text."""
         return text_of(self.raw)
+
+
+def seconds_of(time):
+    """The seconds of a time in microseconds; None if there is none."""
+    return None if time is None or time >= END_OF_TIME else time / 1_000_000
 
 
 def frame_of(number, octets, **line):

@@ -1,23 +1,59 @@
 """The frames that libfio2070 finds in the lines of a log (docs/CAPTURES.md), with the texts of the lines."""
 
-import fio2070
+import re
 
-from . import judge
-from .by_order import seconds_of
-from .events import BAD, BLANK, DAMAGED, DOUBTFUL, FRAME, PART, PASSED, POSSIBLE, Line
+import fio2070
+from fio2070.constants import LOG_DAMAGED, LOG_PASSED_OVER, LOG_POSSIBLE, LOG_SAYS
+
+from .batch import Batch, made_of
+from .doubts import Doubts
+from .events import BLANK, DAMAGED, DOUBTFUL, FRAME, PART, PASSED, PIECE, POSSIBLE, Line, frame_of, seconds_of
 from .judge import direction_of
 from .log_words import REASONS
 from .texts import Texts
 
 KINDS = {'blank': BLANK, 'part': PART, 'possible': POSSIBLE, 'damaged': DAMAGED, 'passed over': PASSED, 'frames': FRAME}
+# The lines that give no frame, but for blank ones and parts of the frames above.
+_OTHERS = re.compile(b'[%c%c%c]' % (LOG_POSSIBLE, LOG_DAMAGED, LOG_PASSED_OVER))
+
+
+class Read(Batch):
+    """Lines as the library reads them, of which the first frame of the log is above, or in the line with this index."""
+
+    def __init__(self, said, texts, first, as_said):
+        self.texts, self.first = texts, first
+        super().__init__(said, [], as_said)
+        self.others = [(line, event) for line in (found.start() for found in _OTHERS.finditer(self.kinds)) for event in self._of_line(line)]
+
+    def _of_line(self, line):
+        """The events of a line: one, or one for each frame."""
+        verdict = self.said.told(line)
+        kind, raw, time = KINDS[verdict.kind], self.texts.of(verdict.line), seconds_of(verdict.time)
+        frames = self.frames_of(line) if kind in (FRAME, POSSIBLE) else ()
+        kind = DOUBTFUL if kind == POSSIBLE and line > self.first else kind
+        if not frames:
+            return [Line(verdict.line, kind, raw, b'', time, '', REASONS.get(verdict.reason, verdict.reason), verdict.said)]
+        return [Line(verdict.line, kind, raw, octets, time, verdict.said if self.as_said and verdict.said else direction_of(octets), '',
+                     verdict.said) for octets in frames]
+
+    def event(self, frame):
+        line = self.line_of(frame)
+        return self._of_line(line)[frame - self.frames_above(line)]
+
+    def numbered(self):
+        pieces = {line: event for line, event in self.others if event.kind == PIECE}
+        return ((line, event) for line in range(len(self.kinds)) for event in ([pieces[line]] if line in pieces else self._of_line(line)))
+
+    def events_from(self, line):
+        return [event for index in range(line, len(self.kinds)) for event in self._of_line(index)]
 
 
 class Found:
-    """Makes events of the octets of a log. `form` is auto, frames or transcript."""
+    """Makes batches of the octets of a log. `form` is auto, frames or transcript."""
 
-    def __init__(self, form, manners):
-        self.form, self.manners = form, manners
-        self.library, self.texts, self.has_frames = fio2070.LogReader(form), Texts(form != 'auto'), False
+    def __init__(self, form):
+        self.library, self.texts, self.doubts = fio2070.LogReader(form), Texts(form != 'auto'), Doubts()
+        self.form, self.has_frames = form, False
         self.told = 0   # the last line with a verdict
 
     @property
@@ -26,55 +62,38 @@ class Found:
         return self.texts.count
 
     def feed(self, octets):
-        """The events that are certain once these octets are read."""
+        """The lines that are certain once these octets are read."""
         self.texts.add(octets)
-        return self._events(self.library.read(octets))
+        return self._batches(self.library.batches(octets))
 
     def end(self):
-        """The events of the lines that waited."""
+        """The lines that waited."""
         self.texts.end()
-        return self._events(self.library.end())
+        return self._batches(self.library.last_batches())
 
     def waiting(self):
         """The lines that have no verdict yet, each with its number."""
-        return list(enumerate(self.texts.lines[self.told + 1 - self.texts.first:], self.told + 1))
+        return list(enumerate(self.texts.below(self.told), self.told + 1))
 
-    def _events(self, verdicts):
-        events = []
-        for verdict in verdicts:
-            events += self._of_line(verdict)
-        if verdicts:
-            self.told = verdicts[-1].line
+    def _batches(self, batches):
+        for said in batches:
+            first = -1 if self.has_frames else said.kinds.find(LOG_SAYS) if LOG_SAYS in said.kinds else len(said)
+            self.has_frames, self.told = first < len(said), said.line(len(said) - 1)
+            batch = Read(said, self.texts, first, self.form == 'transcript')
+            if self.form == 'auto':
+                self.doubts.take(batch, self.texts)
+            yield from [batch] if self.form == 'auto' else self._by_form(batch)
             self.texts.drop(self.told)
-        return events
 
-    def _of_line(self, verdict):
-        """The events of a verdict: one, or one for each frame."""
-        kind, raw, time = KINDS[verdict.kind], self.texts.of(verdict.line), seconds_of(verdict.time)
-        self.has_frames |= kind == FRAME
-        kind = DOUBTFUL if kind == POSSIBLE and self.has_frames else kind
-        if self.form != 'auto' or not verdict.frames:
-            line = Line(verdict.line, kind, raw, b'', time, '', REASONS.get(verdict.reason, verdict.reason))
-            return [line] if self.form == 'auto' else self._by_form(line, verdict)
-        if kind == FRAME:
-            for octets in verdict.frames:
-                self.manners.add(raw, verdict.places, octets, verdict.said)
-        balance = self.manners.balance
-        return [Line(verdict.line, kind, raw, octets, time, direction_of(octets), '', verdict.places, verdict.said, balance)
-                for octets in verdict.frames]
+    def _by_form(self, batch):
+        """Lines of the project's own texts: octets that spell no message are those of a frame."""
+        wrong = REASONS['no message']
+        if all(event.note != wrong for _, event in batch.others):
+            return [batch]
+        return made_of([self._bad(event) if event.note == wrong else event for event in batch.events()], batch.as_said)
 
-    def _by_form(self, line, verdict):
-        """The events of a line of the project's own texts."""
-        frames = verdict.frames
-        if verdict.reason == 'no message':
-            line, frames = line._replace(kind=FRAME), (bytes.fromhex(line.text[2:] if self.form == 'transcript' else line.text),)
-        line = line._replace(said=verdict.said)
-        return [self._frame(line._replace(octets=octets)) for octets in frames] or [line]
-
-    def _frame(self, event):
-        """A frame with its fault, and with its direction: by its type, or in a transcript as it is written there."""
-        due, fault = direction_of(event.octets), judge.words_of(event.octets)
-        if event.kind == FRAME:
-            self.manners.add_side(event.said, due)
-        return event._replace(direction=event.said if self.form == 'transcript' else due, note=fault, balance=self.manners.balance,
-                              kind=BAD if fault and event.kind == FRAME else event.kind)
+    def _bad(self, event):
+        """The event of a line with octets that spell no message."""
+        octets = bytes.fromhex(event.text[2:] if self.form == 'transcript' else event.text)
+        frame = frame_of(event.number, octets, raw=event.raw, time=event.time, said=event.said)
+        return frame._replace(direction=event.said) if self.form == 'transcript' else frame

@@ -6,6 +6,7 @@ import re
 import fio2070
 from fio2070.constants import WIRE_ADDRESS, WIRE_CONTROL
 
+from .batch import made_of
 from .events import DAMAGED, OTHER, Line, frame_of
 from .judge import direction_of
 from .log_words import LINE
@@ -91,7 +92,7 @@ class Beginning:
 
 
 class Raw:
-    """Makes events of what a line carried, a file in one of the forms LINES."""
+    """Makes batches of what a line carried, a file in one of the forms LINES."""
 
     def __init__(self, form, address):
         self.form, self.count, self.frames = form, 0, 0
@@ -99,12 +100,12 @@ class Raw:
         self.is_text, self.held, self.sample = None, b'', b''
 
     def feed(self, octets):
-        """The events of the parts that end in these octets."""
-        return [self._event(heard) for heard in self.decoder.read(octets if self.form == OCTETS else self._bits(octets))]
+        """The parts that end in these octets."""
+        return made_of(map(self._event, self.decoder.read(octets if self.form == OCTETS else self._bits(octets))))
 
     def end(self):
-        """The events of what waits: a few octets, of which is not known whether they are a text of bits."""
-        return [self._event(heard) for heard in self.decoder.read(b'' if self.form == OCTETS else self._bits(b'', True))]
+        """What waits: a few octets, of which is not known whether they are a text of bits."""
+        return made_of(map(self._event, self.decoder.read(b'' if self.form == OCTETS else self._bits(b'', True))))
 
     def _event(self, heard):
         self.count += 1

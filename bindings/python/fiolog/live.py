@@ -14,6 +14,7 @@ import sys
 import time
 
 from . import check, log, output, sides, terminal, unjudged
+from .batch import made_of
 from .counts import Counts, in_words
 from .decode import as_text, spoken
 from .events import BAD, DAMAGED, FRAME, LOSSES, OTHER, PASSED, PIECE, POSSIBLE, Line, frame_of
@@ -93,7 +94,7 @@ class Lines:
     def _decided(self, read):
         now = time.time()
         for reader, events in zip(self.readers, self.events):
-            events += (event if event.time is not None else event._replace(time=now) for event in read(reader))
+            events += (event if event.time is not None else event._replace(time=now) for batch in read(reader) for event in batch.events())
         found = [index for index, events in enumerate(self.events) if any(event.kind in (FRAME, BAD) for event in events)]
         if not found and len(self.readers) > 1 and len(self.events[-1]) < MOST_UNDECIDED:
             return ()
@@ -158,13 +159,18 @@ class Station:
             self.capture = Writer(self.file)
         self.last, self.waiting = time.monotonic(), Waiting(option.address)
 
-    def add(self, event):
-        """A frame, good or bad; other lines are passed over, and at a damaged one the place is lost."""
-        if event.kind in LOSSES:
-            self.judgement.add(event)
-            self.counts.lose(event)
-        elif event.is_remark:
-            self.judgement.remark(event)
+    def add(self, events):
+        """Frames, good or bad; other lines are passed over, and at a damaged one the place is lost."""
+        for batch in made_of(events, self.source.reader.as_said):
+            told = {}
+            for frame, *one in self.judgement.take(batch):
+                told.setdefault(batch.line_of(frame), []).append(one)
+            self.counts.take(batch)
+            for line, event in batch.numbered():
+                self._add(event, told.get(line, ()))
+
+    def _add(self, event, broken):
+        """What is done with a line, and with what is broken there."""
         if event.kind not in (FRAME, BAD, OTHER):
             if event.kind in (PASSED, POSSIBLE, *LOSSES) and self.option.verbose:
                 self._say('line %d: %s: %s' % (event.number, event.why, event.text[:100]))
@@ -175,8 +181,7 @@ class Station:
         if event.kind == OTHER:
             return
         self.last = time.monotonic()
-        self.counts.add(event, message)
-        self._name(self.judgement.add(event))
+        self._name(broken)
         if self.transcript:
             self.transcript.write('%s %s\n' % (event.direction, event.octets.hex()))
         if self.capture:
@@ -228,10 +233,9 @@ class Station:
 
     def end(self):
         """The summary; status 1 if a rule is broken, the module restarted, or nothing came."""
-        for event in self.source.end():
-            self.add(event)
+        self.add(self.source.end())
         self._name(self.judgement.end(self.source.reader.reasons, self.source.reader.kinds[POSSIBLE]))
-        for words in self.source.reader.manners.doubts.words():
+        for words in self.source.reader.doubts():
             self._say(words)
         self._write(', '.join('%s %d' % pair for pair in self.numbers().items()) + '\n')
         self._flush()
@@ -356,8 +360,7 @@ def run(option):
         station, begun = Station(option, source), time.monotonic()
         try:
             for chunk in chunks(file, read, lambda: option.seconds and time.monotonic() - begun >= option.seconds):
-                for event in source.feed(chunk) if chunk is not None else ():
-                    station.add(event)
+                station.add(source.feed(chunk) if chunk is not None else ())
                 station.flush()
         except KeyboardInterrupt:
             pass

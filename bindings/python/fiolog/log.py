@@ -5,7 +5,8 @@ import sys
 from collections import Counter
 
 from . import merge, source
-from .events import BAD, FRAME, LOSSES, PART, PASSED, PIECE, POSSIBLE
+from .batch import made_of
+from .events import BAD, FRAME, LOSSES, PASSED, PIECE, POSSIBLE
 from .log_words import CURES, REASONS
 from .by_order import CHECKED, UNCHECKED
 from .line import LINES
@@ -48,42 +49,59 @@ def settings_of(option):
 
 
 class Log:
-    """Goes through the events of the files. `idle` is called before each read that may wait. If the command writes
+    """Goes through the lines of the files. `idle` is called before each read that may wait. If the command writes
     as it reads, `writes` is true: then a terminal has no progress bar beside what is written."""
 
     def __init__(self, option, idle=lambda: None, writes=True):
         self.option, self.idle, self.writes = option, idle, writes
         self.name, self.reader, self.lines = '-', None, 0
         self.kinds, self.reasons, self.damages, self.others = Counter(), Counter(), Counter(), Counter()
-        self.balance = 0    # as of Manners
+        self.balance = 0    # of how many more frames the log says another sender than of how many that of their type
         self.above = 0      # the frames above the first poll, where the log is to begin there
         self.judgements = []    # of each file that is judged
         self.is_binary = None   # whether the first file is no text
         self.why = ''           # why a file of what a line carried has no frame
         self.flagged = 0        # lines with the beginning of a frame of SDLC that give no frame
         self.unjudged = Counter()   # what of the files is not judged, by its reason
+        self._unnamed = []      # lines of the present batch that are to be named, each with its index
+
+    def batches(self):
+        """All lines, file after file, or of all files in the order of time. With -v lines that are skipped are named before the next
+        batch, or as far as the command asks for it by `name_passed`."""
+        readers = [Reader(**settings_of(self.option)) for _ in self.option.files]
+        for batch in self._merged(readers) if getattr(self.option, 'merge', False) else self._in_turn(readers):
+            self._unnamed = [one for one in batch.others if one[1].kind in (PASSED, *LOSSES)] if self.option.verbose else []
+            yield batch
+            self.name_passed(len(batch.kinds))
+
+    def name_passed(self, line):
+        """Names the lines that are passed over above this one of the batch."""
+        while self._unnamed and self._unnamed[0][0] < line:
+            event = self._unnamed.pop(0)[1]
+            say('%sline %d: %s: %s' % (event.head, event.number, event.why, event.text[:100]))
 
     def events(self):
-        """All events, file after file, or of all files in the order of time."""
-        readers = [Reader(**settings_of(self.option)) for _ in self.option.files]
-        for event in self._merged(readers) if getattr(self.option, 'merge', False) else self._in_turn(readers):
-            if self.option.verbose and event.kind in (PASSED, *LOSSES):
-                self.name_passed(event)
-            yield event
+        """The events of all lines."""
+        for batch in self.batches():
+            for line, event in batch.numbered():
+                self.name_passed(line + 1)
+                yield event
 
     def _in_turn(self, readers):
         for self.name, self.reader in zip(self.option.files, readers):
-            for event in self._of_file(self.name, self.reader):
-                self.lines = event.number if event.kind != PART else self.lines
-                yield event
+            for batch in self._of_file(self.name, self.reader):
+                last = batch.last_line()
+                self.lines = self.lines if last is None else last
+                yield batch
             self._note(self.reader)
 
     def _merged(self, readers):
-        """The events of all files as of one log, with the first reader in place of all readers."""
+        """The lines of all files as of one log, with the first reader in place of all readers."""
         self.name, self.reader = self.option.files[0], readers[0]
-        files = [merge.File(name, self._of_file(name, reader)) for name, reader in zip(self.option.files, readers)]
+        files = [merge.File(name, (event for batch in self._of_file(name, reader) for event in batch.events()))
+                 for name, reader in zip(self.option.files, readers)]
         both = merge.Merge(files)
-        yield from both
+        yield from made_of(both, self.reader.as_said)
         for reader in readers:
             self.lines += reader.count
             self._note(reader)
@@ -98,8 +116,7 @@ class Log:
         self.others += reader.others
         self.flagged += reader.flagged
         self.why = self.why or reader.words()
-        self.balance += reader.manners.balance
-        for words in () if self.option.quiet else reader.manners.doubts.words():
+        for words in () if self.option.quiet else reader.doubts():
             say(words)
 
     def frames(self):
@@ -117,10 +134,6 @@ class Log:
             yield from reader.end()
         if descriptor != sys.stdin.fileno():
             os.close(descriptor)
-
-    def name_passed(self, event):
-        """Names a line that is passed over."""
-        say('%sline %d: %s: %s' % (event.head, event.number, event.why, event.text[:100]))
 
     def summary(self, takes_possible=False):
         """Says how many lines were passed over and why; false without a frame or, if the command `takes_possible` ones, one that

@@ -1,4 +1,4 @@
-"""The events of a log: what it is, its lines or what a line carried, and what is counted of them."""
+"""The lines of a log: what it is, a text or what a line carried, and what is counted of its lines."""
 
 import re
 from collections import Counter
@@ -7,7 +7,6 @@ from .by_order import CHECKED, ByOrder
 from .events import DAMAGED, OTHER, PASSED
 from .found import Found
 from .line import OWN, Beginning, Raw
-from .manners import Manners
 from .pieces import Pieces
 
 FORMS = 'auto', 'frames', 'transcript'
@@ -16,7 +15,7 @@ _FLAGGED = re.compile(rb'7[eE](?:[ ,:;|-]|0[xX]|\\x)*14(?:[ ,:;|-]|0[xX]|\\x)*83
 
 
 class Reader:
-    """Makes events of the octets of a log, in pieces of any length. `form` is one of FORMS; `pattern` and `framing` are those of
+    """Makes batches of the octets of a log, in pieces of any length. `form` is one of FORMS; `pattern` and `framing` are those of
     ByOrder; `line` is one of line.LINES for what a line carried, which is also seen by its beginning; `address` is the address and
     control octet of the frames of a line that are judged, each None for any."""
 
@@ -24,8 +23,9 @@ class Reader:
         self.kinds, self.reasons, self.damages = Counter(), Counter(), Counter()    # the reasons of lines passed over, and of damaged ones
         self.others = Counter()     # of frames that are not judged, by what is said of their address
         self.flagged = 0            # lines with the beginning of a frame of SDLC that give no frame
-        self.manners, self.pieces, self.address = Manners(), Pieces(), address
-        self.text = ByOrder(self.manners, pattern, framing, address) if pattern or framing else Found(form, self.manners)
+        self.pieces, self.address = Pieces(), address
+        self.as_said = form == 'transcript'     # whether the lines say themselves who sent a frame
+        self.text = ByOrder(pattern, framing, address) if pattern or framing else Found(form)
         may_be_line = form == 'auto' and not pattern and framing in ('', CHECKED)
         self.way = Raw(line, address or OWN) if line else None if may_be_line else self.text
         self.beginning = Beginning(address or OWN)
@@ -36,14 +36,21 @@ class Reader:
         return self.way.count if self.way else 0
 
     def feed(self, octets):
-        """The events that are certain once these octets are read."""
+        """Yields the lines that are certain once these octets are read. A batch is overwritten by the next one."""
         octets = octets if self.way else self._begin(octets)
-        return self._counted(self.pieces.join(self.way.feed(octets))) if self.way else []
+        if self.way:
+            yield from self._joined(self.way.feed(octets))
 
     def end(self):
-        """The events of the lines that waited."""
+        """Yields the lines that waited."""
         held = b'' if self.way else self._begin(b'', True)
-        return self._counted(self.pieces.join(self.way.feed(held) + self.way.end()) + self.pieces.end())
+        yield from self._joined(self.way.feed(held))
+        yield from self._joined(self.way.end())
+        yield from map(self._counted, self.pieces.end())
+
+    def _joined(self, batches):
+        for batch in batches:
+            yield from map(self._counted, self.pieces.join(batch))
 
     def _begin(self, octets, is_all=False):
         """Chooses the way by how the file begins, if that shows it, and returns the octets that are to be read."""
@@ -60,13 +67,17 @@ class Reader:
         """Why a file of what a line carried has no frame; empty for any other."""
         return self.way.words() if isinstance(self.way, Raw) else ''
 
-    def _counted(self, events):
-        """The events, of which is counted what they are."""
-        for event in events:
-            self.kinds[event.kind] += 1
+    def doubts(self):
+        """What is said of frames of which damage is not seen."""
+        return self.text.doubts.words() if isinstance(self.way, Found) else ()
+
+    def _counted(self, batch):
+        """A batch, of which is counted what its lines are."""
+        self.kinds.update(batch.kinds_of_events())
+        for _, event in batch.others:
             if event.kind in (PASSED, DAMAGED):
                 (self.reasons if event.kind == PASSED else self.damages)[event.note] += 1
                 self.flagged += self.way is self.text and bool(_FLAGGED.search(event.raw))
             elif event.kind == OTHER:
                 self.others[event.note] += 1
-        return events
+        return batch

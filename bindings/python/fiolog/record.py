@@ -6,19 +6,20 @@ import json
 import shutil
 import sys
 import tempfile
-from typing import NamedTuple, Union
+from typing import NamedTuple, Sequence, Union
 
 import fio2070
 
 from . import hires, log, plot, sides, terminal, unjudged
-from .check import add_place, frames_judged
+from .check import add_place, judged
 from .decode import clock_of
-from .events import BAD, FRAME, Line
+from .events import LOSSES, Line
 from .message import BLOCK, LOST, POLL, message_of
 from .rules import Breach, Restart
 from .shown import shown
 from .waveform import Block, draw
 
+_POLL, _BLOCK = bytes([POLL]), bytes([BLOCK])
 COLUMNS = ['line', 'time', 'input', 'state', 'stamp', 'wide']
 
 
@@ -37,7 +38,7 @@ def add_arguments(parser):
 class Taken(NamedTuple):
     """What a frame added to the record, and its breach or restart; `is_block` is true where the CPU takes it."""
     event: Line
-    items: list
+    items: Sequence
     found: Union[Breach, Restart, None] = None
     is_block: bool = False
 
@@ -46,63 +47,78 @@ class Hearing:
     """The CPU's end, which is given the answers. At first, and below a damaged line, a poll and a block may have any number."""
 
     def __init__(self):
-        self.poller, self.is_lost = None, True
+        self.number, self.is_lost = None, True      # the number of the block that is due
 
-    def note(self, event):
-        """What is strange in a poll: it asks for another number than the proved CPU's end. Where that is the number of the
-        block before, its answer was not heard, or is not taken again."""
-        asked = message_of(event.octets).fields['block']
-        if self.poller is None:
-            self.poller = fio2070.Poller(asked)
-        was_lost, self.is_lost = self.is_lost, False
-        if (self.poller.number - asked) % 256 < 2:
-            return None
-        due, self.poller = self.poller.number, fio2070.Poller(asked)
-        return None if was_lost else '%sline %d: block %d was due by what was heard, the CPU asked for %d' % (event.head, event.number, due, asked)
+    def note(self, asked):
+        """Takes a poll for a block. If it is for another one than the proved CPU's end asks for, returns what that asks for. Where the
+        poll is for the block before, its answer was not heard, or is not taken again."""
+        due, was_lost, self.is_lost = self.number, self.is_lost, False
+        if due is None or (due - asked) % 256 >= 2:
+            self.number = asked
+        return None if was_lost or self.number == due else due
 
     def hear(self, octets):
-        """What an answer adds to the record."""
-        if self.poller is None or self.is_lost and octets[1] != (self.poller.number - 1) % 256:
-            self.poller = fio2070.Poller(octets[1])
-        heard = self.poller.hear(octets)
-        items, self.poller.record[:] = list(self.poller.record), []
-        return heard.kind == 'taken', items
+        """What a block adds to the record, by the proved CPU's end; None if it is not taken."""
+        number = octets[1]
+        if self.number is None or self.is_lost and number != (self.number - 1) % 256:
+            self.number = number
+        if number != self.number:
+            return None
+        self.number = (number + 1) % 256
+        if not octets[2] and not octets[-5] & LOST:
+            return ()
+        poller = fio2070.Poller(number)
+        poller.hear(octets)
+        return poller.record
 
 
-def taken(read, option):
-    """What each frame adds to the record or breaks, where it does either. As text the record begins at the first command."""
+def taken(read, option, is_drawn):
+    """What each frame adds to the record or breaks, where it does either, and each block that is taken if it `is_drawn`. As text the
+    record begins at the first command."""
     hearing, is_text = Hearing(), getattr(option, 'text', False)
-    for event, broken, judgement in frames_judged(read, option):
-        yield from (Taken(where, [], one) for where, one in broken if where is not event)
-        if event is None:
+    for batch, broken, judgement in judged(read, option):
+        if not batch:
+            yield from (Taken(where, (), one) for _, where, one in broken)
             continue
-        found = next((one for where, one in broken if where is event), None)
-        is_taken, items = False, []
-        hearing.is_lost |= event.kind not in (FRAME, BAD)
-        if event.kind == FRAME and event.octets[0] == POLL:
-            words = hearing.note(event)
-            if words and not judgement.found and judgement.sides.answers:
-                terminal.say(words)
-        elif event.kind == FRAME and event.octets[0] == BLOCK and not (is_text and not judgement.sides.commands):
-            is_taken, items = hearing.hear(event.octets)
-        if is_taken or found:
-            yield Taken(event, items, found, is_taken)
+        first = judgement.commands_from if is_text else 0
+        for frame, event in batch.steps():
+            if event:
+                hearing.is_lost |= event.kind in LOSSES or event.is_remark
+                continue
+            found, items, octets = None, None, batch.octets[frame]
+            while broken and broken[0][0] == frame:
+                _, where, found = broken.pop(0)
+                if found is not judgement.found.get(frame):
+                    read.name_passed(batch.line_of(frame))
+                    yield Taken(where, (), found)
+                    found = None
+            if octets[:1] == _POLL and frame not in batch.bad:
+                due = hearing.note(octets[1])
+                if due is not None and frame not in judgement.found and frame >= judgement.answers_from:
+                    where = batch.event(frame)
+                    read.name_passed(batch.line_of(frame))
+                    terminal.say('%sline %d: block %d was due by what was heard, the CPU asked for %d' % (where.head, where.number, due, octets[1]))
+            elif octets[:1] == _BLOCK and frame >= first and frame not in batch.bad:
+                items = hearing.hear(octets)
+            if items or found or is_drawn and items is not None:
+                read.name_passed(batch.line_of(frame))
+                yield Taken(batch.event(frame), items or (), found, items is not None)
 
 
 class Record:
     """The record of a log as it is read: breaches and restarts are counted."""
 
     def __init__(self, read, option):
-        self.faults, self.all = 0, taken(read, option)
+        self.faults, self.read, self.option = 0, read, option
 
-    def __iter__(self):
-        for one in self.all:
+    def _taken(self, is_drawn=False):
+        for one in taken(self.read, self.option, is_drawn):
             self.faults += one.found is not None
             yield one
 
     def blocks(self):
         """The blocks that were taken, as they are drawn; breaches and restarts are said."""
-        for one in self:
+        for one in self._taken(True):
             if one.found:
                 terminal.say(one.event.head + one.found.words(one.event.number))
             if one.is_block:
@@ -114,7 +130,7 @@ class Record:
     def parts(self):
         """The items, the breaches and the restarts with their lines: a breach of a rule on content below the items that are above
         it, a restart above the items of its block."""
-        for one in self:
+        for one in self._taken():
             place = one.found.items if one.found and one.found.items >= 0 else len(one.items)
             yield from ((one.event, item, None) for item in one.items[:place])
             if one.found:

@@ -2,17 +2,19 @@
 is not judged."""
 
 from collections import Counter
+from operator import itemgetter
 from typing import NamedTuple
 
 import fio2070
-from fio2070.constants import CONTENT_IGNORED, OUTCOME_BROKEN, OUTCOME_BROKEN_CONTENT, OUTCOME_KEPT, OUTCOME_RESTARTED
+from fio2070.constants import CONTENT_IGNORED, LOG_DAMAGED, LOG_PASSED_OVER
+from fio2070.constants import OUTCOME_BROKEN, OUTCOME_BROKEN_CONTENT, OUTCOME_NOT_JUDGED, OUTCOME_RESTARTED
 from fio2070.constants import TYPE_ANSWER, TYPE_WATCHDOG, WHY_ABOVE_COMMAND, WHY_LATE, WHY_LATE_ABOVE, WHY_LOAD
 from fio2070.constants import WHY_PLACE_LOST, WHY_UNHEARD
 
-from .events import MISSING, PIECE
+from .events import LOSSES, MISSING, PIECE
 from .judge import words_of
 from .log_words import BREACHES, LINE
-from .message import AGAIN, BLOCK, LOST, MORE, POLL, message_of
+from .message import AGAIN, BLOCK, LOST, MORE, message_of
 from .protocol import ADVANCE, CONTENT_RULES, INPUTS, RULES
 
 # The note of what is in the place of a frame, and is none.
@@ -71,37 +73,64 @@ class Rules:
         self.judge = fio2070.LogJudge(*limits, place=at, begun=whole and not late, late_answers=late)
         self.at, self.excepted, self.with_content = at, frozenset(excepted), with_content
         self.unjudged = Counter()   # what is not judged, by its reason
-        self.has_polls = False      # whether there is a poll above
-        self._has_frames = self._is_lost = False    # whether there is a frame above; whether the place is lost, up to the next poll
+        self.is_above_polls = False     # whether the first breach is above the first poll
+        # Whether a breach is above, a poll, and a frame; whether the place is lost, up to the next poll.
+        self._has_breach = self._has_polls = self._has_frames = self._is_lost = False
 
-    def lose(self, event):
-        """Takes a line that may have held a frame. One with a wrong check was not heard by the CPU, if the log was taken there."""
-        self.unjudged['pieces' if event.kind == PIECE else 'damaged_lines'] += 1
-        if not (self.at == 'cpu' and event.note == WRONG_CHECK):
-            self.judge.lose()
-            self._lose_place()
+    def take(self, batch):
+        """Takes lines; returns what is said of a frame, a breach or that the module restarted above it, with the index of the frame."""
+        told, above = [], 0
+        for frame, event, outcome in self._in_order(batch):
+            self._pass(batch, above, frame + (event is None))
+            above = frame + (event is None)
+            found = self._note(event) if event else self._of_outcome(batch.octets[frame], outcome)
+            if found:
+                told.append((frame, found))
+        self._pass(batch, above, batch.said.frame_count)
+        return told
 
-    def remark(self, event):
-        """Takes a skipped line that says that frames are missing, or that another part of the log begins."""
-        if event.note == MISSING:
-            self.judge.miss()
-        else:
-            self.judge.possible()
-            if self._has_frames:
+    def _in_order(self, batch):
+        """What the judge says of frames that are not kept, and the events at which it may lose its place, each with how many frames
+        are above."""
+        outcomes = [(frame, None, outcome) for frame, outcome in self._judged(batch) if outcome.kind != OUTCOME_NOT_JUDGED or outcome.why]
+        lines = [(batch.frames_above(line), event, None) for line, event in batch.others if event.kind in LOSSES or event.is_remark]
+        return sorted(lines + outcomes, key=itemgetter(0)) if lines else outcomes
+
+    def _judged(self, batch):
+        """What the judge says of frames that are not kept. A line of the project's own texts says who sent a frame, whatever its type
+        is; what has a wrong check was not heard by the CPU, if the log was taken there."""
+        own = [] if batch.as_said else [frame for frame in batch.contrary if batch.event(frame).text[:2] in OWN]
+        unheard = [line for line, event in batch.others if event.kind in LOSSES and event.note == WRONG_CHECK] if self.at == 'cpu' else ()
+        for frame in own:
+            batch.said.set_side(batch.line_of(frame), batch.senders[frame])
+        for line in unheard:
+            batch.said.set_kind(line, LOG_PASSED_OVER)
+        outcomes = self.judge.batch(batch.said, batch.as_said)
+        for frame in own:
+            batch.said.set_side(batch.line_of(frame), batch.sides[frame])
+        for line in unheard:
+            batch.said.set_kind(line, LOG_DAMAGED)
+        return outcomes
+
+    def _pass(self, batch, first, last):
+        """Goes on below these frames: the place is known from a poll on."""
+        self._has_frames |= first < last
+        if (self._is_lost or not self._has_polls) and 1 in batch.polls[first:last]:
+            self._is_lost, self._has_polls = False, True
+
+    def _note(self, event):
+        """Takes a line that may have held a frame, or says that frames are missing or that another part of the log begins."""
+        if event.kind in LOSSES:
+            self.unjudged['pieces' if event.kind == PIECE else 'damaged_lines'] += 1
+            if not (self.at == 'cpu' and event.note == WRONG_CHECK):
                 self._lose_place()
+        elif event.note != MISSING and self._has_frames:
+            self._lose_place()
 
     def _lose_place(self):
         """Counts where the place is lost, if it was known."""
         self.unjudged['lost_places'] += not self._is_lost
         self._is_lost = True
-
-    def find(self, event):
-        """The breach of a frame, or that the module restarted above it; None if nothing is said of it."""
-        octets, is_sent = event.octets, event.direction == '>'
-        outcome, self._has_frames = self.judge.frame(octets, is_sent, event.said), True
-        if is_sent and len(octets) == 2 and octets[0] == POLL:
-            self.has_polls, self._is_lost = True, False
-        return None if outcome.kind == OUTCOME_KEPT else self._of_outcome(octets, outcome)
 
     def _of_outcome(self, octets, outcome):
         """What is said of a frame that is not right, or not judged."""
@@ -119,9 +148,12 @@ class Rules:
 
     def _told(self, found):
         """A breach, unless its rule is left out."""
-        is_left_out = found.rule in self.excepted
-        self.unjudged['excepted_breaches'] += is_left_out
-        return None if is_left_out else found
+        if found.rule in self.excepted:
+            self.unjudged['excepted_breaches'] += 1
+            return None
+        self.is_above_polls |= not (self._has_breach or self._has_polls)
+        self._has_breach = True
+        return found
 
     @property
     def unjudged_frames(self):

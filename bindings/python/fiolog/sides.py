@@ -1,8 +1,6 @@
 """Logs of which little can be judged. In a log of one direction (commands whose answers were not logged, or answers without their
 commands) no rule is judged: what is found is held until an answer shows that the log has both directions."""
 
-import pickle
-import tempfile
 from collections import Counter
 
 import fio2070
@@ -83,15 +81,21 @@ class Held:
     """Breaches and restarts with their events, in order."""
 
     def __init__(self):
-        self.file, self.count = tempfile.SpooledTemporaryFile(MOST_HELD), 0
+        self.file, self.count = None, 0
 
     def add(self, one):
         """Keeps one."""
+        import pickle
+        import tempfile
+        self.file = self.file or tempfile.SpooledTemporaryFile(MOST_HELD)
         pickle.dump(one, self.file)
         self.count += 1
 
     def take(self):
         """Returns all that is kept, and keeps nothing."""
+        if not self.count:
+            return
+        import pickle
         self.file.seek(0)
         count, self.count = self.count, 0
         for _ in range(count):
@@ -105,39 +109,42 @@ class Judgement:
     def __init__(self, rules):
         self.rules, self.sides, self.held, self._signs = rules, Sides(), Held(), fio2070.LogSigns()
         self.frames = self.left_out = self.losses = self.pieces = 0
-        self.verdict, self.words, self.found = '', '', None     # `found` is what is said of the latest frame
-        self.is_above_polls = False     # whether the first breach is above the first poll
-        self._is_first = True
+        self.verdict, self.words = '', ''
+        self.commands_from = self.answers_from = 0      # the frames of the latest lines from which both directions are known
+        self.found = {}     # what is said of the frames of the latest lines
 
-    def add(self, event):
-        """Takes a frame, or a line that may have held one; returns each breach and restart that is certain now, with its event."""
-        sides = self.sides
-        if not (sides.commands and sides.answers):
-            sides.add(event)
-        self.found = None
-        if event.kind in LOSSES:
-            self._lose(event)
-            return ()
-        self.frames += 1
-        self._signs.frame(event.octets, event.direction == '>', event.said)
-        self.found = found = self.rules.find(event)
-        if found and self._is_first and not found.is_restart:
-            self._is_first, self.is_above_polls = False, not self.rules.has_polls
-        if sides.answers:
-            broken = ((event, found),) if found else ()
-            return (*self.held.take(), *broken) if self.held.count else broken
-        if found:
-            self.held.add((event, found))
-        return ()
+    def take(self, batch):
+        """Takes lines; returns each breach and restart that is certain now: the frame at which it is, the event, and it."""
+        self._note_directions(batch)
+        self.frames += batch.count
+        for _, event in batch.others:
+            self.pieces += event.kind == PIECE
+            self.losses += event.kind in LOSSES and event.kind != PIECE
+        self._signs.batch(batch.said, batch.as_said)
+        told = []
+        self.found = dict(self.rules.take(batch))
+        for frame, found in self.found.items():
+            event = batch.event(frame)
+            if frame < self.answers_from:
+                self.held.add((event, found))
+            else:
+                told.append((frame, event, found))
+        if self.held.count and self.answers_from < batch.said.frame_count:
+            told = [(self.answers_from, *one) for one in self.held.take()] + told
+        return told
 
-    def remark(self, event):
-        """Takes a skipped line that judges get too."""
-        self.rules.remark(event)
-
-    def _lose(self, event):
-        self.rules.lose(event)
-        self.pieces += event.kind == PIECE
-        self.losses += event.kind != PIECE
+    def _note_directions(self, batch):
+        """Notes the directions of frames until both came, and the frame from which each is known."""
+        sides, count = self.sides, batch.said.frame_count
+        self.commands_from, self.answers_from = (0 if known else count for known in (sides.commands, sides.answers))
+        for frame, event in batch.steps() if self.commands_from or self.answers_from else ():
+            if event is None or event.kind in LOSSES:
+                sides.add(event or batch.event(frame))
+            if frame is not None:
+                self.commands_from = min(self.commands_from, frame if sides.commands else count)
+                self.answers_from = min(self.answers_from, frame if sides.answers else count)
+            if sides.answers and sides.commands:
+                return
 
     def leave_out(self, event):
         """Takes a frame that is not to be judged."""

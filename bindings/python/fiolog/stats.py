@@ -5,9 +5,8 @@ import sys
 from collections import Counter
 
 from . import log, many, terminal, unjudged
-from .counts import Counts, in_words
-from .events import BAD, FRAME, LOSSES, OTHER, PASSED, PIECE
-from .message import message_of
+from .counts import Counts, in_words, placed
+from .events import OTHER, PASSED, PIECE
 
 MILLI = 1000
 
@@ -18,9 +17,9 @@ def add_arguments(parser):
     parser.add_argument('--json', action='store_true', help='one object; with several logs one for each, and one for all')
 
 
-def milliseconds(seconds):
-    """Seconds as milliseconds with a microsecond's digits."""
-    return None if seconds is None else round(seconds * MILLI, 3)
+def milliseconds(micro):
+    """Microseconds as milliseconds."""
+    return None if micro is None else micro / MILLI
 
 
 def numbers(counts):
@@ -30,12 +29,12 @@ def numbers(counts):
         'frames': counts.frames, 'damaged': counts.damaged, 'seconds': None if length is None else round(length, 6),
         'types': {str(code): count for code, count in sorted(counts.types.items())},
         'polls': counts.polls, 'polls_a_second': round(counts.polls / length, 3) if length else None,
-        'repeats': counts.repeats, 'answers_lost': counts.end(),
+        'repeats': counts.repeats, 'answers_lost': counts.in_short()['answers_lost'],
         'response_ms': {'count': times.count, 'median': milliseconds(times.at(0.5)),
                         'percentile_99': milliseconds(times.at(0.99)), 'most': milliseconds(times.most)},
         'entries': counts.entries, 'entries_a_second': round(counts.entries / length, 3) if length else None,
         'entries_by_input': {str(number): count for number, count in sorted(counts.inputs.items())},
-        'block_fill': {'blocks': counts.fill.count, 'median': counts.fill.at(0.5), 'most': counts.fill.most},
+        'block_fill': {'blocks': sum(counts.fills.values()), 'median': placed(counts.fills, 0.5), 'most': max(counts.fills, default=None)},
         'marks': counts.marks}
 
 
@@ -53,11 +52,8 @@ def run(option):
     if len(option.files) > 1 and not option.merge:
         return many.run(option, counts_alone=True)
     read, counts = log.Log(option, writes=False), Counts()
-    for event in read.events():
-        if event.kind in LOSSES:
-            counts.lose(event)
-        elif event.kind in (FRAME, BAD):
-            counts.add(event, message_of(event.octets) if event.kind == FRAME else None)
+    for batch in read.batches():
+        counts.take(batch)
     if not read.summary():
         return 1
     missing = counts.unjudged() + Counter(

@@ -9,8 +9,7 @@ import os
 from collections import Counter
 
 from .counts import Counts
-from .events import FRAME, JUDGED, LOSSES, OTHER, POSSIBLE
-from .message import message_of
+from .events import OTHER, POSSIBLE
 from .reader import Reader
 from .rules import Rules
 from .sides import Judgement
@@ -47,16 +46,9 @@ class Summary:
         both.reasons, both.verdicts = self.reasons + other.reasons, self.verdicts + other.verdicts
         return both
 
-    def add(self, event):
-        """Counts a frame, or a line that may have held one."""
-        if event.kind in LOSSES:
-            self.counts.lose(event)
-        else:
-            self.counts.add(event, message_of(event.octets) if event.kind == FRAME else None)
-
     def add_breaches(self, broken):
         """Counts breaches and restarts, each with its event."""
-        for event, found in broken:
+        for *_, event, found in broken:
             if found.is_restart:
                 self.restarted, self.first_restart = self.restarted + 1, self.first_restart or event.number
                 continue
@@ -86,8 +78,8 @@ def summary_of(source, at='auto', whole=False, limits=(), excepted=(), **setting
     summary, judgement = Summary(), Judgement(Rules(at, whole, limits, excepted))
     reader = Reader(**settings)
     for chunk in decoded(iter(chunks_of(source)), not settings.get('line')):
-        _judge(summary, judgement, reader.feed(chunk))
-    _judge(summary, judgement, reader.end())
+        _take(summary, judgement, reader.feed(chunk))
+    _take(summary, judgement, reader.end())
     summary.add_breaches(judgement.end(reader.reasons, reader.kinds[POSSIBLE]))
     summary.lines, summary.reasons = reader.count, reader.reasons
     if judgement.verdict:
@@ -96,10 +88,7 @@ def summary_of(source, at='auto', whole=False, limits=(), excepted=(), **setting
     return summary
 
 
-def _judge(summary, judgement, events):
-    for event in events:
-        if event.kind in JUDGED:
-            summary.add(event)
-            summary.add_breaches(judgement.add(event))
-        elif event.is_remark:
-            judgement.remark(event)
+def _take(summary, judgement, batches):
+    for batch in batches:
+        summary.add_breaches(judgement.take(batch))
+        summary.counts.take(batch)

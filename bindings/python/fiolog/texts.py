@@ -1,10 +1,31 @@
-"""The texts of lines, cut from the octets of a log."""
+"""The texts of lines, cut from the octets of a log where one is asked for."""
 
 import re
+from functools import cached_property
 
+from . import doubts
 from .events import LONGEST_TEXT
 
 _OWN_LINES = re.compile(rb'[^\n]*\n|[^\n]+')
+
+
+class Piece:
+    """Whole lines, of which the first has this number: their text, or they themselves."""
+
+    def __init__(self, first, text, lines=None):
+        self.first, self.text, self._lines = first, text, lines
+        self.end = first + (text.count(b'\n') if lines is None else len(lines))
+
+    def lines(self, split):
+        """The lines."""
+        if self._lines is None:
+            self._lines = split(self.text)
+        return self._lines
+
+    @cached_property
+    def may_have_numbers(self):
+        """Whether octets may be written in it as numbers."""
+        return doubts.may_have_numbers(self.text if self._lines is None else b''.join(self._lines))
 
 
 class Texts:
@@ -12,33 +33,56 @@ class Texts:
     the project's `own` texts at a line feed alone."""
 
     def __init__(self, is_own=False):
-        self.lines, self.first, self.left, self.count = [], 1, b'', 0
+        self.pieces, self.left, self.count, self.is_own = [], b'', 0, is_own
         self.split = _OWN_LINES.findall if is_own else lambda text: text.splitlines(keepends=True)
 
     def add(self, octets):
-        """Takes octets, and returns the lines that are whole now."""
-        lines = self.split(self.left + octets)
-        is_open = lines and not lines[-1].endswith(b'\n')     # a line feed may follow a carriage return
-        left = lines.pop() if is_open else b''
-        self.left = left if len(left) <= LONGEST_TEXT else left[:LONGEST_TEXT] + b'\r' * left.endswith(b'\r')
-        self.lines += lines
-        self.count += len(lines)
-        return lines
+        """Takes octets."""
+        text = self.left + octets
+        if not self.is_own and text.count(b'\r') != text.count(b'\r\n'):
+            lines = self.split(text)
+            # A line feed may follow a carriage return.
+            self.left = lines.pop() if lines and not lines[-1].endswith(b'\n') else b''
+            self._keep(b'', lines)
+        else:
+            end = text.rfind(b'\n') + 1
+            self.left = text[end:]
+            self._keep(text[:end])
+        if len(self.left) > LONGEST_TEXT:
+            self.left = self.left[:LONGEST_TEXT] + b'\r' * self.left.endswith(b'\r')
+
+    def _keep(self, text, lines=None):
+        if text or lines:
+            self.pieces.append(Piece(self.count + 1, text, lines))
+            self.count = self.pieces[-1].end - 1
 
     def end(self):
-        """Returns the line that has no end, if there is one."""
-        last, self.left = [self.left] * bool(self.left), b''
-        self.lines += last
-        self.count += len(last)
-        return last
+        """Takes the line that has no end, if there is one."""
+        self._keep(b'', [self.left] if self.left else [])
+        self.left = b''
 
     def of(self, number):
         """Returns a line; what came of it if its end was not seen yet: a line feed may follow its carriage return."""
-        index = number - self.first
-        return self.lines[index] if index < len(self.lines) else self.left
+        for piece in self.pieces:
+            if number < piece.end:
+                return piece.lines(self.split)[number - piece.first]
+        return self.left
+
+    def below(self, number):
+        """Returns the lines below this one."""
+        return [line for piece in self.pieces if piece.end > number + 1 for line in piece.lines(self.split)[max(number + 1 - piece.first, 0):]]
+
+    def may_have_numbers(self, lines):
+        """Whether octets may be written as numbers in a range of lines."""
+        return any(piece.may_have_numbers for piece in self.pieces if piece.first < lines.stop and lines.start < piece.end)
+
+    def take(self):
+        """Returns the lines that are whole, and forgets them."""
+        lines = self.below(0)
+        self.pieces.clear()
+        return lines
 
     def drop(self, number):
-        """Forgets the lines above this one."""
-        count = max(0, min(number - self.first, len(self.lines) - 1))
-        del self.lines[:count]
-        self.first += count
+        """Forgets lines above this one."""
+        while self.pieces and self.pieces[0].end <= number:
+            del self.pieces[0]

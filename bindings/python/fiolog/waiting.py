@@ -2,6 +2,7 @@
 now."""
 
 import time
+from itertools import chain
 
 from .events import FRAME, POSSIBLE
 from .reader import Reader
@@ -24,8 +25,8 @@ class Waiting:
         if not any(now - since >= PATIENCE and number not in self._shown for number, since in self._since.items()):
             return
         reader = Reader(address=self._address)
-        events = reader.feed(b''.join(raw for _, raw in lines)) + reader.end()
-        for event in events:
+        batches = chain(reader.feed(b''.join(raw for _, raw in lines)), reader.end())
+        for event in chain.from_iterable(batch.events() for batch in batches):
             number = lines[min(event.number, len(lines)) - 1][0]
             if event.kind in (FRAME, POSSIBLE) and number not in self._shown and now - self._since[number] >= PATIENCE:
                 self._shown[number] = event.octets
