@@ -2,6 +2,7 @@
 
 import array
 import itertools
+import operator
 import struct
 from typing import Iterator, List, NamedTuple, Optional, Sequence, Tuple, cast
 
@@ -21,9 +22,10 @@ _PIECE = 65536
 # The numbers of struct fio2070_log_verdict and struct fio2070_log_place, in the processor's order of octets: these, and the names
 # that take them below, are written by tools/generate-layouts.
 _VERDICT, _PLACE = struct.Struct('=QQIIBBBB4x'), struct.Struct('=QII')
-# Where in a verdict its kind, whether it has a time and its side are, and in words of 32 bits how many frames it has.
+# Where in a verdict its kind, whether it has a time and its side are; in words of 32 bits how many frames it has; and in words of 64
+# its line and its time.
 _KIND, _HAS_TIME, _SAID = c.CLogVerdict.kind.offset, c.CLogVerdict.has_time.offset, c.CLogVerdict.said.offset
-_FRAMES = c.CLogVerdict.frames.offset // 4
+_FRAMES, _LINE, _TIME = c.CLogVerdict.frames.offset // 4, c.CLogVerdict.line.offset // 8, c.CLogVerdict.time.offset // 8
 
 
 class Verdict(NamedTuple):
@@ -94,6 +96,18 @@ class LogBatch:
         """A number of each verdict that is an octet."""
         return bytes(self._verdicts[field:_VERDICT.size * len(self):_VERDICT.size])
 
+    def _words(self, field: int) -> List[int]:
+        """A number of each verdict that has 64 bits."""
+        return self._verdicts.cast('Q')[field:_VERDICT.size // 8 * len(self):_VERDICT.size // 8].tolist()
+
+    def numbers(self) -> List[int]:
+        """The number of each line."""
+        return self._words(_LINE)
+
+    def times(self) -> List[int]:
+        """The time of each line in microseconds, 0 if it has none."""
+        return self._words(_TIME)
+
     @property
     def kinds(self) -> bytes:
         """The kind of each line, one of `constants.LOG_BLANK` and those after it."""
@@ -131,9 +145,9 @@ class LogBatch:
     def types(self) -> bytes:
         """The type of each frame, 0 of one without octets."""
         lengths = self._lengths.cast('H')[:self.frame_count].tolist()
-        octets = bytes(self._octets[:self._batch.octet_count]) + b'\0'
-        types = bytes(map(octets.__getitem__, itertools.accumulate(lengths[:-1], initial=0))) if lengths else b''
-        return types if all(lengths) else bytes(length and code for length, code in zip(lengths, types))
+        begins = list(itertools.accumulate(lengths, initial=0))
+        types = bytes(operator.itemgetter(*begins, 0)(self._octets.tobytes()[:self._batch.octet_count] + b'\0'))[:len(lengths)]
+        return types if 0 not in lengths else bytes(length and code for length, code in zip(lengths, types))
 
     def set_kind(self, index: int, kind: int) -> None:
         """Changes the kind of a line, one of `constants.LOG_BLANK` and those after it."""

@@ -33,6 +33,7 @@ class Batch:
     # ---- Frames, by their index
 
     bad = frozenset()   # those that spell no message
+    file = None         # the name of their file, if it is one of several that are read as one log
 
     @cached_property
     def octets(self):
@@ -113,6 +114,9 @@ class Batch:
 
     def steps(self):
         """Each frame as its index and None, and each other event with None in place of the index, in order."""
+        return self._mixed() if self.others else zip(range(self.said.frame_count), repeat(None))
+
+    def _mixed(self):
         frame = 0
         for line, event in self.others:
             yield from ((index, None) for index in range(frame, self.frames_above(line)))
@@ -168,7 +172,7 @@ class Made(Batch):
     """Lines of which there are events."""
 
     def __init__(self, events, as_said=False):
-        self._events = events
+        self._events, self.file = events, ''
         super().__init__(fio2070.LogBatch([_verdict_of(event) for event in events]),
                          [(line, event) for line, event in enumerate(events) if _KINDS.get(event.kind) not in ('frames', 'blank', 'part')], as_said)
 

@@ -8,10 +8,12 @@ import re
 import sys
 import time
 
+from fio2070.constants import LOG_FROM_CPU
+
 from . import judge, log, terminal
-from .events import BAD, DAMAGED, DATED, DOUBTFUL, FRAME, LOSSES, OF_DAY, OTHER, PIECE, POSSIBLE
+from .events import BAD, DAMAGED, DATED, DOUBTFUL, END_OF_TIME, FRAME, LOSSES, OF_DAY, OTHER, PIECE, POSSIBLE
 from .log_words import POSSIBLE as UNSURE
-from .message import BLOCK, LETTERS, POLL, SENT_AGAIN, TYPE_ANSWER, message_of
+from .message import BLOCK, LETTERS, POLL, SENT_AGAIN, SHORT, TYPE_ANSWER, message_of
 from .options import line_range, message_type, number_in, status_letters
 from .shown import shown
 
@@ -21,6 +23,9 @@ SPOKEN = FRAME, *UNSURE_KINDS
 SHOWN = *SPOKEN, BAD, OTHER, DAMAGED, PIECE
 # The most characters of a damaged line that are shown.
 MOST_SHOWN = 100
+MICRO = 1_000_000
+# The stamp 0, at the end of the words of a block.
+_NO_STAMP = re.compile(r'(?<= stamp )0')
 COLUMNS = ['file', 'line', 'time', 'direction', 'octets', 'type', 'says', 'input', 'state', 'stamp', 'wide']
 
 
@@ -53,7 +58,11 @@ def clock(seconds):
         return ''
     if seconds < DATED:
         return '%.6f' % seconds
-    whole, part = divmod(round(seconds * 1e6), 1_000_000)
+    return _dated(*divmod(round(seconds * 1e6), MICRO))
+
+
+def _dated(whole, part):
+    """A time with a date, in seconds and microseconds."""
     return _date(whole) + ('%06d' % part if part % 1000 else '%03d' % (part // 1000))
 
 
@@ -114,23 +123,57 @@ class Filter:
         return self.option.input is None or part['input'] == self.option.input
 
 
-def as_text(write, paint, takes_part=lambda part: True):
+class Text:
     """Writes messages in the words of `show`, and what the bits of a status say; one that is not sure is marked."""
-    def line(name, event, message):
+
+    def __init__(self, write, paint, takes_part=lambda part: True):
+        self.write, self.paint, self.takes_part = write, paint, takes_part
+        self.short, self.empty = (functools.lru_cache(maxsize=1024)(says) for says in (self._says, self._empty))
+
+    def __call__(self, name, event, message):
         head = '%s%-6s %s%s ' % (event.head, '%d:' % event.number, clock_of(event) + ' ' if event.time is not None else '', event.direction or '?')
         if message is None:
-            write('%s%s\n' % (head, paint('fault', fault_in(event))))
+            self.write('%s%s\n' % (head, self.paint('fault', fault_in(event))))
             return
-        colour = 'heard' if event.direction == '<' else 'sent'
+        note = self.paint('fault', '  ' + UNSURE) if event.kind in UNSURE_KINDS else self.paint('dim', '  ' + event.note) if event.kind == OTHER else ''
+        self.write(head + self._says(event.octets, event.direction, note))
+
+    def _says(self, octets, direction, note=''):
+        """What a message says, to the end of its lines."""
+        message, paint = message_of(octets), self.paint
+        colour = 'heard' if direction == '<' else 'sent'
         if message.code == BLOCK and message.fields['status']:
             colour = 'mark'
         says, *lines = message.lines()
         again = paint('dim', '  ' + SENT_AGAIN) if message.is_repeat else ''
-        again += paint('fault', '  ' + UNSURE) if event.kind in UNSURE_KINDS else paint('dim', '  ' + event.note) if event.kind == OTHER else ''
         bits = ''.join(paint('dim', '  %s: %s' % bit) + '\n' for bit in message.bits().items())
-        write('%s%s%s\n%s' % (head, paint(colour, says), again, bits)
-              + ''.join(words + '\n' for part, words in zip(message.parts, lines) if takes_part(part)))
-    return line
+        return '%s%s%s\n%s' % (paint(colour, says), again, note, bits) + ''.join(
+            words + '\n' for part, words in zip(message.parts, lines) if self.takes_part(part))
+
+    def _empty(self, octets, direction):
+        """What a block without entries says, of which these are the first octets: what is above and below its stamp."""
+        return _NO_STAMP.split(self._says(octets + bytes(4), direction))
+
+    def takes(self, batch):
+        """Whether the lines have a frame each, and a date or no time."""
+        times = set(batch.said.timed)
+        return batch.is_plain and batch.file is None and (times == {0} or times == {1} and all(
+            DATED * MICRO <= time < END_OF_TIME for time in batch.said.times()))
+
+    def write_all(self, batch):
+        """Writes lines that it takes."""
+        rows = []
+        for number, time, octets, side in zip(batch.said.numbers(), batch.said.times(), batch.octets, batch.senders):
+            when = _dated(*divmod(time, MICRO)) + ' ' if time else ''
+            direction = '>' if side == LOG_FROM_CPU else '<'
+            if len(octets) < SHORT:
+                says = self.short(octets, direction)
+            elif octets[0] == BLOCK and not octets[2]:
+                says = str(int.from_bytes(octets[4:], 'big')).join(self.empty(octets[:4], direction))
+            else:
+                says = self._says(octets, direction)
+            rows.append('%-6s %s%s %s' % ('%d:' % number, when, direction, says))
+        self.write(''.join(rows))
 
 
 def as_json(write, takes_part):
@@ -185,15 +228,25 @@ def unanswered(events):
         yield poll
 
 
+def others(read, text):
+    """Writes the batches that a text takes at once, and yields the events of the others."""
+    for batch in read.batches():
+        if text.takes(batch):
+            text.write_all(batch)
+        else:
+            yield from read.events_of(batch)
+
+
 def run(option):
     """Decodes the logs; status 1 if a frame is damaged or there is none."""
     write, taken = sys.stdout.write, Filter(option)
     if option.json or option.csv:
         line = (as_json if option.json else as_csv)(write, taken.takes_part)
     else:
-        line = as_text(write, terminal.painter(option.color), taken.takes_part)
+        line = Text(write, terminal.painter(option.color), taken.takes_part)
     read = log.Log(option, sys.stdout.flush)
-    for event in unanswered(read.events()) if option.unanswered else read.events():
+    is_whole = isinstance(line, Text) and taken.is_open
+    for event in unanswered(read.events()) if option.unanswered else others(read, line) if is_whole else read.events():
         if event.kind not in SHOWN:
             continue
         message = spoken(event)

@@ -17,14 +17,14 @@ _IN_BRACKETS = re.compile(rb'[\[({<][\s\x80-\xff]*-?[\d\x80-\xff]+(?:[\s\x80-\xf
 _SHAPES = bytes(ord('0' if chr(octet) in '0123456789abcdefABCDEF' else 'x' if chr(octet) in 'xX' else
                     'a' if octet < 0x80 and chr(octet).isalnum() else ' ') for octet in range(256))
 # What is no part of a text as it is read: colours, NUL and marks.
-_LEFT_OUT = b'\x1b', b'\0', b'\xef\xbb\xbf'
+_LEFT_OUT, _MARK = (b'\x1b', b'\0'), b'\xef\xbb\xbf'
 
 
 def may_have_numbers(text):
     """Whether there may be numbers in brackets or octets of one digit anywhere in a text."""
-    shape = b' ' + text.translate(_SHAPES) + b' '
-    return b' 0 ' in shape or b' 0x0 ' in shape or any(mark in text for mark in _LEFT_OUT) or (
-        any(bracket in text for bracket in b'[({<') and bool(_IN_BRACKETS.search(text)))
+    shape = text.translate(_SHAPES) + b' '
+    return b' 0 ' in shape or b'0x' in shape and b' 0x0 ' in shape or shape.startswith((b'0 ', b'0x0 ')) or (
+        any(mark in text for mark in _LEFT_OUT) or not text.isascii() and _MARK in text or any(bracket in text for bracket in b'[({<') and bool(_IN_BRACKETS.search(text)))
 
 
 class Doubts:

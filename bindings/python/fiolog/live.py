@@ -16,7 +16,7 @@ import time
 from . import check, log, output, sides, terminal, unjudged
 from .batch import made_of
 from .counts import Counts, in_words
-from .decode import as_text, spoken
+from .decode import Text, spoken
 from .events import BAD, DAMAGED, FRAME, LOSSES, OTHER, PASSED, PIECE, POSSIBLE, Line, frame_of
 from .line import OCTETS
 from .options import number_in
@@ -150,7 +150,7 @@ class Station:
         self.name = '-'
         self.out = sys.stderr if option.pcapng == '-' else sys.stdout
         self.paint, self.status = terminal.painter('auto'), terminal.Status()
-        self.line = as_text(self._write, self.paint)
+        self.line = Text(self._write, self.paint)
         self.judgement = sides.Judgement(Rules(option.at, option.whole, option.limits, option.excepted, option.late_answers))
         self.transcript = output.recorded(option.transcript, option.force) if option.transcript else None
         self.capture = None

@@ -83,9 +83,14 @@ class Log:
     def events(self):
         """The events of all lines."""
         for batch in self.batches():
-            for line, event in batch.numbered():
+            yield from self.events_of(batch)
+
+    def events_of(self, batch):
+        """The events of the lines of the present batch; lines that are skipped are named."""
+        for line, event in batch.numbered():
+            if self._unnamed:
                 self.name_passed(line + 1)
-                yield event
+            yield event
 
     def _in_turn(self, readers):
         for self.name, self.reader in zip(self.option.files, readers):

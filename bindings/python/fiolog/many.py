@@ -5,7 +5,7 @@ import sys
 from functools import partial, reduce
 from operator import add
 
-from . import log, side_by_side, sides, terminal, unjudged
+from . import log, sides, terminal, unjudged
 from .counts import in_words
 from .options import number_in
 from .shown import shown
@@ -76,6 +76,7 @@ def write_json(rows, faults, total, counts_alone):
 def run(option, counts_alone=False):
     """Reads the files; status 1 if there is no frame or, unless it `counts_alone`, a rule is broken or a module
     restarted; 3 if a file cannot be read; 130 if Ctrl-C ended it: then the rows are those of the files that were read."""
+    from . import side_by_side      # which a single log does not need
     work, count = partial(summary_or_fault, settings_of(option)), len(option.files)
     done = side_by_side.results(work, option.files, side_by_side.jobs_of(option.jobs, count))
     found = [(option.files[index], done[index]) for index in sorted(done)]

@@ -5,7 +5,6 @@ import contextlib
 import errno
 import io
 import os
-import secrets
 import signal
 import stat
 import sys
@@ -122,6 +121,7 @@ def made(name, is_binary=False):
         with _file_of(os.open(name, _BEGIN | os.O_TRUNC, 0o666), name, is_binary) as file:
             yield file
         return
+    import secrets
     place = os.path.realpath(name)
     beside = os.path.join(os.path.dirname(place), '.fiolog-' + secrets.token_hex(4))
     try:    # a signal may come as soon as the file is there

@@ -20,6 +20,9 @@ from .shown import shown
 from .waveform import Block, draw
 
 _POLL, _BLOCK = bytes([POLL]), bytes([BLOCK])
+# What follows on a right link below a poll, if there is no news: a block without items; and below that, the next poll.
+_EMPTY = [bytes([BLOCK, number, 0, 0]) for number in range(256)]
+_BELOW = {**{bytes([POLL, block[1]]): block for block in _EMPTY}, **{block: bytes([POLL, (block[1] + 1) % 256]) for block in _EMPTY}}
 COLUMNS = ['line', 'time', 'input', 'state', 'stamp', 'wide']
 
 
@@ -57,6 +60,12 @@ class Hearing:
             self.number = asked
         return None if was_lost or self.number == due else due
 
+    def due(self, octets):
+        """The poll, or the beginning of the block without items, that a right link has below a frame; empty if that is not known."""
+        if self.number is None or self.is_lost:
+            return b''
+        return bytes([POLL, self.number]) if octets[:1] == _BLOCK else _BELOW[bytes([POLL, self.number])]
+
     def hear(self, octets):
         """What a block adds to the record, by the proved CPU's end; None if it is not taken."""
         number = octets[1]
@@ -81,11 +90,18 @@ def taken(read, option, is_drawn):
             yield from (Taken(where, (), one) for _, where, one in broken)
             continue
         first = judgement.commands_from if is_text else 0
+        frames, due = batch.octets, b''
         for frame, event in batch.steps():
             if event:
                 hearing.is_lost |= event.kind in LOSSES or event.is_remark
+                due = b''
                 continue
-            found, items, octets = None, None, batch.octets[frame]
+            octets = frames[frame]
+            if octets[:4] == due and not (broken or first or is_drawn):
+                due = _BELOW[due]
+                hearing.number = due[1]
+                continue
+            found, items = None, None
             while broken and broken[0][0] == frame:
                 _, where, found = broken.pop(0)
                 if found is not judgement.found.get(frame):
@@ -100,6 +116,7 @@ def taken(read, option, is_drawn):
                     terminal.say('%sline %d: block %d was due by what was heard, the CPU asked for %d' % (where.head, where.number, due, octets[1]))
             elif octets[:1] == _BLOCK and frame >= first and frame not in batch.bad:
                 items = hearing.hear(octets)
+            due = hearing.due(octets)
             if items or found or is_drawn and items is not None:
                 read.name_passed(batch.line_of(frame))
                 yield Taken(batch.event(frame), items or (), found, items is not None)

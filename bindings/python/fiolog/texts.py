@@ -39,7 +39,7 @@ class Texts:
     def add(self, octets):
         """Takes octets."""
         text = self.left + octets
-        if not self.is_own and text.count(b'\r') != text.count(b'\r\n'):
+        if not self.is_own and b'\r' in text and text.count(b'\r') != text.count(b'\r\n'):
             lines = self.split(text)
             # A line feed may follow a carriage return.
             self.left = lines.pop() if lines and not lines[-1].endswith(b'\n') else b''
