@@ -399,6 +399,64 @@ class Rules(unittest.TestCase):
                     self.assertIsNone((content.sent if is_sent else content.heard)(octets), (turn, start))
 
 
+class LogBatches(unittest.TestCase):
+    """What takes a batch says the same as what takes its lines one by one."""
+
+    TEXT = LOG + b''.join(b'07:15:%02d TX 36 %02x\n07:15:%02d.004 RX b6 %02x 00 00 00 00 00 %02x\n' % (turn, turn + turn // 5, turn, turn, turn)
+                          for turn in range(30)) + b'RX b6 0? 00\n3 messages lost\nTX 36 40\nTX 36 41 ?\n'
+
+    @staticmethod
+    def one_by_one(verdicts):
+        judge, counts, signs, found, taken = fio2070.LogJudge(), fio2070.LogCounts(), fio2070.LogSigns(), [], []
+        for one in verdicts:
+            if one.kind == 'possible' or one.reason == 'heading':
+                judge.possible()
+            elif one.reason == 'loss':
+                judge.miss()
+            elif one.kind == 'damaged':
+                judge.lose()
+            if one.kind in ('possible', 'damaged') or one.reason in ('loss', 'heading'):
+                counts.lose()
+            for octets in one.frames if one.kind == 'frames' else ():
+                found.append(judge.frame(octets, octets[0] < 128, one.said))
+                signs.frame(octets, octets[0] < 128, one.said)
+                taken.append(counts.frame(octets, one.time))
+        return [one for one in found if one.kind], [one for one in taken if one is not None], counts, signs.sign
+
+    def test_same(self):
+        reader, judge, counts, signs = fio2070.LogReader(), fio2070.LogJudge(), fio2070.LogCounts(), fio2070.LogSigns()
+        verdicts, found, taken = [], [], []
+        for batches in (reader.batches(self.TEXT), reader.last_batches()):
+            for batch in batches:
+                verdicts += batch.verdicts()
+                found += [outcome for _, outcome in judge.batch(batch)]
+                taken += counts.batch(batch)
+                signs.batch(batch)
+        outcomes, times, single, sign = self.one_by_one(verdicts)
+        self.assertEqual((found, taken, counts_words(counts), signs.sign), (outcomes, times, counts_words(single), sign))
+        self.assertGreater(len(outcomes), 3)
+        self.assertGreater(len(times), 20)
+        self.assertEqual((counts.command, counts.polled), (None, 64))
+        counts.frame(bytes([54, 5]))
+        self.assertEqual((counts.command, counts.polled), (54, 5))
+
+    def test_made(self):
+        verdicts = fio2070.LogReader().read(self.TEXT)
+        batch = fio2070.LogBatch(verdicts)
+        self.assertEqual(batch.verdicts(), verdicts)
+        self.assertEqual((len(batch), repr(batch)), (len(verdicts), '<LogBatch lines=%d frames=%d>' % (len(verdicts), batch.frame_count)))
+        self.assertEqual((batch.numbers(), batch.frames()), ([one.line for one in verdicts], [octets for one in verdicts for octets in one.frames]))
+        self.assertEqual(batch.types(), bytes(octets[0] for octets in batch.frames()))
+        self.assertEqual(batch.times(), [one.time or 0 for one in verdicts])
+        self.assertEqual([fio2070.LogJudge().batch(fio2070.LogBatch()), fio2070.LogBatch().types()], [[], b''])
+        batch.set_kind(0, fio2070.constants.LOG_DAMAGED)
+        batch.set_side(0, fio2070.constants.LOG_FROM_CPU)
+        self.assertEqual((batch.told(0).kind, batch.told(0).said, batch.kinds[0], batch.sides[0]), ('damaged', '>', 4, 1))
+        batch.truncate(1)
+        self.assertEqual([one.kind for one in batch.verdicts()], ['damaged'])
+        self.assertRaises(ValueError, fio2070.LogBatch, verdicts * 100)
+
+
 class LogJudges(unittest.TestCase):
     """The judge of a log, on runs of right ends whose answers come late and twice, and of ends with a fault."""
 

@@ -6,7 +6,6 @@ import ctypes
 from typing import Any, Counter, Dict, Optional
 
 from . import _library as c
-from ._standin import counts_batch
 from .encode import Octets, check_range, octets_of
 from .logs import MOST_FRAMES, LogBatch
 
@@ -90,9 +89,9 @@ class LogCounts:
         return int(self._taken.value) if is_known else None
 
     def batch(self, batch: LogBatch) -> 'array.array[int]':
-        """Counts all frames of a batch, in order, and takes the lines between them as `LogJudge.batch` does: a line at which the judge
-        may lose its place as by `lose`. Returns how long the module took for each answer of which that is known."""
+        """Counts all frames of a batch, in order; possible and damaged lines, headings and lines that speak of loss are taken as by `lose`.
+        Returns how long the module took for each answer of which that is known."""
         if self._times is None:
             self._times = (ctypes.c_uint64 * MOST_FRAMES)()
-        count = counts_batch(self._counts, batch, self._times)
+        count = c.library.fio2070_log_counts_batch(self._counts, batch._batch, self._times)
         return array.array('Q', memoryview(self._times).cast('B')[:8 * count].tobytes())

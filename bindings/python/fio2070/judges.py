@@ -7,7 +7,6 @@ from typing import Any, List, Tuple
 
 from . import _library as c
 from . import constants
-from ._standin import signs_batch
 from .encode import Octets, check_range, octets_of
 from .logs import MOST_FRAMES, LogBatch
 from .records import Breach, ContentBreach, Outcome
@@ -150,7 +149,7 @@ class LogSigns:
 
     def batch(self, batch: LogBatch, as_said: bool = False) -> None:
         """Takes the frames of a batch, in order. Who sent them is found as by `LogJudge.batch`."""
-        signs_batch(self._signs, as_said, batch)
+        c.library.fio2070_log_signs_batch(self._signs, as_said, batch._batch)
 
     @property
     def sign(self) -> str:

@@ -33,7 +33,6 @@ class Batch:
     # ---- Frames, by their index
 
     bad = frozenset()   # those that spell no message
-    file = None         # the name of their file, if it is one of several that are read as one log
 
     @cached_property
     def octets(self):
@@ -132,8 +131,8 @@ class Batch:
         """The events of all lines."""
         return [event for _, event in self.numbered()]
 
-    def numbered(self):
-        """The events of all lines, each with the index of its line."""
+    def numbered(self, first=0):
+        """The events of the lines from this one on, each with the index of its line."""
         raise NotImplementedError
 
     def last_line(self):
@@ -157,22 +156,18 @@ class Batch:
 
     def cut(self, line):
         """Takes away the lines from this one on, which give no frames, and returns their events."""
-        events = [event for event in self.events_from(line)]
+        events = [event for _, event in self.numbered(line)]
         self.said.truncate(line)
         self.kinds, self.is_plain = self.kinds[:line], False
         self.others = [one for one in self.others if one[0] < line]
         return events
-
-    def events_from(self, line):
-        """The events of the lines from this one on, which give no frames."""
-        raise NotImplementedError
 
 
 class Made(Batch):
     """Lines of which there are events."""
 
     def __init__(self, events, as_said=False):
-        self._events, self.file = events, ''
+        self._events = events
         super().__init__(fio2070.LogBatch([_verdict_of(event) for event in events]),
                          [(line, event) for line, event in enumerate(events) if _KINDS.get(event.kind) not in ('frames', 'blank', 'part')], as_said)
 
@@ -183,11 +178,8 @@ class Made(Batch):
     def bad(self):
         return frozenset(self.frames_above(line) for line, event in enumerate(self._events) if event.kind == BAD)
 
-    def events(self):
-        return self._events
-
-    def numbered(self):
-        return enumerate(self._events)
+    def numbered(self, first=0):
+        return enumerate(self._events[first:], first)
 
     def kinds_of_events(self):
         return Counter(event.kind for event in self._events)
@@ -200,9 +192,6 @@ class Made(Batch):
         events = super().cut(line)
         del self._events[line:]
         return events
-
-    def events_from(self, line):
-        return self._events[line:]
 
 
 def _verdict_of(event):

@@ -11,6 +11,7 @@ import time
 from fio2070.constants import LOG_FROM_CPU
 
 from . import judge, log, terminal
+from .batch import Made
 from .events import BAD, DAMAGED, DATED, DOUBTFUL, END_OF_TIME, FRAME, LOSSES, OF_DAY, OTHER, PIECE, POSSIBLE
 from .log_words import POSSIBLE as UNSURE
 from .message import BLOCK, LETTERS, POLL, SENT_AGAIN, SHORT, TYPE_ANSWER, message_of
@@ -157,7 +158,7 @@ class Text:
     def takes(self, batch):
         """Whether the lines have a frame each, and a date or no time."""
         times = set(batch.said.timed)
-        return batch.is_plain and batch.file is None and (times == {0} or times == {1} and all(
+        return batch.is_plain and not isinstance(batch, Made) and (times == {0} or times == {1} and all(
             DATED * MICRO <= time < END_OF_TIME for time in batch.said.times()))
 
     def write_all(self, batch):

@@ -40,12 +40,10 @@ class Read(Batch):
         line = self.line_of(frame)
         return self._of_line(line)[frame - self.frames_above(line)]
 
-    def numbered(self):
+    def numbered(self, first=0):
         pieces = {line: event for line, event in self.others if event.kind == PIECE}
-        return ((line, event) for line in range(len(self.kinds)) for event in ([pieces[line]] if line in pieces else self._of_line(line)))
-
-    def events_from(self, line):
-        return [event for index in range(line, len(self.kinds)) for event in self._of_line(index)]
+        return ((line, event) for line in range(first, len(self.kinds))
+                for event in ([pieces[line]] if line in pieces else self._of_line(line)))
 
 
 class Found:

@@ -40,7 +40,7 @@ class Pieces:
         """Yields the lines that are certain now; the lines of a message in two lines are of the kind PIECE."""
         blanks = len(batch.kinds) - len(batch.kinds.lstrip(_BLANK))
         if self.held and blanks == len(batch.kinds):
-            self.held += batch.events_from(0)
+            self.held += batch.events()
             return
         above, octets = -1 if self.held else None, self.octets      # the line that is held, by its index
         place_above = None
