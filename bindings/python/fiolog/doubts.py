@@ -24,7 +24,12 @@ def may_have_numbers(text):
     """Whether there may be numbers in brackets or octets of one digit anywhere in a text."""
     shape = text.translate(_SHAPES) + b' '
     return b' 0 ' in shape or b'0x' in shape and b' 0x0 ' in shape or shape.startswith((b'0 ', b'0x0 ')) or (
-        any(mark in text for mark in _LEFT_OUT) or not text.isascii() and _MARK in text or any(bracket in text for bracket in b'[({<') and bool(_IN_BRACKETS.search(text)))
+        any(mark in text for mark in _LEFT_OUT) or not text.isascii() and _MARK in text or _has_brackets(text) and bool(_IN_BRACKETS.search(text)))
+
+
+def _has_brackets(text):
+    """Whether there is a bracket, but for those in front of the answers of a transcript."""
+    return any(bracket in text for bracket in b'[({') or text.count(b'<') > text.count(b'< b')
 
 
 class Doubts:
