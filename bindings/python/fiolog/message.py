@@ -7,7 +7,7 @@ from typing import NamedTuple
 import fio2070
 from fio2070 import _library as c
 from fio2070.constants import BIT_AGAIN as AGAIN, BIT_LOST as LOST, BIT_MORE as MORE, BIT_OUT_OF_SEQUENCE as OUT_OF_SEQUENCE
-from fio2070.constants import BIT_WAS_RESET as RESET, TYPE_STATUS
+from fio2070.constants import TYPE_STATUS
 from fio2070.constants import TYPE_ANSWER, TYPE_CONFIGURE_INPUTS as CONFIGURATION, TYPE_POLL as POLL
 
 from . import judge
