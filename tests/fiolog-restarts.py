@@ -185,15 +185,19 @@ class Told:
 
 
 POLL, ANSWER, LATER = (('frames', '', (bytes.fromhex(digits),)) for digits in ('3605', 'b60500000000000a', '3607'))
-LOSS, HEADING, TEXT = (('passed over', reason, ()) for reason in ('loss', 'heading', 'no octets'))
+LOSS, HEADING, TEXT, SHORT = (('passed over', reason, ()) for reason in ('loss', 'heading', 'no octets', 'short message'))
 NEXT, AGAIN = (('frames', '', (bytes.fromhex(digits),)) for digits in ('3606', 'b60600020000000b'))
-# Lines, which rules are broken, and how often sync is lost. Block 6 is due below block 5. A remark of loss explains that up to the
-# next block or poll, and a block that is sent again up to the next block; a heading that, and what is up to the next poll.
+# Lines, which rules are broken, and how often sync is lost. Block 6 is due below block 5. A remark of loss, or a line that may be a
+# frame, explains that up to the next block or poll, and a block that is sent again up to the next block; a heading that, and what is
+# up to the next poll.
 REMARKS = {
     'other text': ([POLL, ANSWER, TEXT, LATER], {'advance': 1}, 1),
     'a remark of loss': ([POLL, ANSWER, LOSS, LATER], {}, None),
     'one above a block': ([POLL, LOSS, ANSWER, LATER], {'advance': 1}, None),
     'a remark above an answer that nothing waits for': ([POLL, ANSWER, LOSS, ANSWER], {}, None),
+    'a short message, not sure': ([POLL, ANSWER, SHORT, LATER], {}, None),
+    'a short message above such an answer': ([POLL, ANSWER, SHORT, ANSWER], {}, None),
+    'a short message above a block': ([POLL, SHORT, ANSWER, LATER], {'advance': 1}, None),
     'no remark above such an answer': ([POLL, ANSWER, ANSWER], {'pair': 1}, 1),
     'a remark above the poll for a block that is sent again': ([POLL, ANSWER, LOSS, NEXT, AGAIN], {}, None),
     'no remark above such a poll': ([POLL, ANSWER, NEXT, AGAIN], {'same': 1}, 1),

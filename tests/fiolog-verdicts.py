@@ -146,6 +146,9 @@ def check_places(check):
                                 ('the module, with arrows', ('<', '>'), 0)):
         done = fiolog('check', text=again % (sides * 2))
         check.equal('a block that is asked for again, in a log of %s' % name, (status, bool(status)), (done.status, 'line 3: advance' in done.out))
+    named = ['TX 36 05 poll', 'RX B6 05 00 00 00 00 00 01 block', 'TX 37%s outputs' % (' 00' * 16), 'RX B7 00 00 00 00 02 other',
+             'TX 36 06 poll', 'RX B6 06 00 00 00 00 00 03 block', 'TX 3C identify', 'RX BC 02 other']
+    check.equal('a command of one octet in a line with words of its own', '', re.sub('(?m)^(?!line).*\n?', '', fiolog('check', text='\n'.join(named) + '\n').out))
     with tempfile.TemporaryDirectory() as folder:
         paths = [os.path.join(folder, name) for name in ('first', 'second')]
         for path in paths:

@@ -17,7 +17,7 @@ MOST_LINES, MOST_OCTETS = 4096, 1 << 16
 _BY_TYPE = bytes(LOG_FROM_MODULE if code >= TYPE_ANSWER else LOG_FROM_CPU for code in range(256))
 # The kinds of lines as the library names them, of events; any other one is passed over.
 _KINDS = {FRAME: 'frames', BAD: 'frames', BLANK: 'blank', PART: 'part', **dict.fromkeys(LOSSES, 'damaged')}
-_REMARKS = {MISSING: 'loss', HEADING: 'heading'}
+_REMARKS = {**dict.fromkeys(MISSING, 'loss'), HEADING: 'heading'}
 POLL_LENGTH = 2
 
 

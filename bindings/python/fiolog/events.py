@@ -12,8 +12,10 @@ FRAME, BAD, OTHER, POSSIBLE, DOUBTFUL, DAMAGED, PIECE, PASSED, PART, BLANK = (
 # The kinds of lines at which judges lose their place, and the kinds that judges get.
 LOSSES = DAMAGED, DOUBTFUL, PIECE
 JUDGED = FRAME, BAD, *LOSSES
-# The notes of skipped lines that judges get too: frames are missing here, or another part of the log begins.
-MISSING, HEADING = REMARKS = REASONS.get('loss', 'loss'), REASONS.get('heading', 'heading')
+# The notes of skipped lines that judges get too: a frame may be missing here, since the line speaks of loss, or may be one itself; or
+# another part of the log begins.
+MISSING, HEADING = (REASONS['loss'], REASONS['short message']), REASONS['heading']
+REMARKS = *MISSING, HEADING
 # The octets that are kept of a line, at most.
 LONGEST_TEXT = 1 << 16
 # Times from here on have a date; an earlier one is a time of day if the line has one, else seconds since some start.

@@ -97,17 +97,12 @@ class Rules:
         return sorted(lines + outcomes, key=itemgetter(0)) if lines else outcomes
 
     def _judged(self, batch):
-        """What the judge says of frames that are not kept. A line of the project's own texts says who sent a frame, whatever its type
-        is; what has a wrong check was not heard by the CPU, if the log was taken there."""
-        own = [] if batch.as_said else [frame for frame in batch.contrary if batch.event(frame).text[:2] in OWN]
+        """What the judge says of frames that are not kept. What has a wrong check was not heard by the CPU, if the log was taken
+        there."""
         unheard = [line for line, event in batch.others if event.kind in LOSSES and event.note == WRONG_CHECK] if self.at == 'cpu' else ()
-        for frame in own:
-            batch.said.set_side(batch.line_of(frame), batch.senders[frame])
         for line in unheard:
             batch.said.set_kind(line, LOG_PASSED_OVER)
         outcomes = self.judge.batch(batch.said, batch.as_said)
-        for frame in own:
-            batch.said.set_side(batch.line_of(frame), batch.sides[frame])
         for line in unheard:
             batch.said.set_kind(line, LOG_DAMAGED)
         return outcomes
@@ -119,12 +114,12 @@ class Rules:
             self._is_lost, self._has_polls = False, True
 
     def _note(self, event):
-        """Takes a line that may have held a frame, or says that frames are missing or that another part of the log begins."""
+        """Takes a line that may have held a frame, or says that frames may be missing or that another part of the log begins."""
         if event.kind in LOSSES:
             self.unjudged['pieces' if event.kind == PIECE else 'damaged_lines'] += 1
             if not (self.at == 'cpu' and event.note == WRONG_CHECK):
                 self._lose_place()
-        elif event.note != MISSING and self._has_frames:
+        elif event.note not in MISSING and self._has_frames:
             self._lose_place()
 
     def _lose_place(self):

@@ -86,12 +86,12 @@ is_sent_frame as_said said octets = nat_lt (unwrap_or (slice_get octets 0) 0) AN
 abbrev pub event_of_frame : Bool → Option Bool → List ℕ → LogEvent
 event_of_frame as_said said octets = Found (is_sent_frame as_said said octets) said octets
 
--- the event that a line without frames is to the judge, if any, by its kind and its reason: a message that nothing confirms,
--- damage, a remark of loss, or a heading
+-- The event that a line without frames is to the judge, if any, by its kind and its reason: a message that nothing confirms, or a
+-- heading; damage; a remark of loss, or a short message in a line unlike those of other messages, which may have been a frame.
 abbrev pub event_of_line : ℕ → ℕ → List LogEvent
 event_of_line kind reason = if kind == 3 || kind == 5 && reason == 11 then Possible ∷ []
     else if kind == 4 then Lost ∷ []
-    else if kind == 5 && reason == 10 then Missing ∷ []
+    else if kind == 5 && (reason == 3 || reason == 10) then Missing ∷ []
     else []
 
 -- the judge after one item more: a frame of a line whose kind has no frames is not judged

@@ -105,7 +105,7 @@ fn take_line(judge: &mut LogJudge, kind: u8, reason: u8)
     match (kind, reason) {
         (3, _) | (5, 11) => judge.possible(),
         (4, _) => judge.lose(),
-        (5, 10) => judge.miss(),
+        (5, 3 | 10) => judge.miss(),
         _ => {}
     }
 }

@@ -2,7 +2,7 @@
 
 // Who sent a message, by the numbers of LOG_SIDES.
 export const DIRECTION = { none: 0, sent: 1, heard: 2 };
-// What lines without octets say above a message: that frames were lost, or that another part of the log begins.
+// What skipped lines say above a message: that frames may be lost, or that another part of the log begins.
 export const MARKS = { loss: 1, heading: 2 };
 
 // Twice as much room.

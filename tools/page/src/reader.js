@@ -36,8 +36,8 @@ export function octetsOf(file) {
 // The lines of a log.
 export const linesOf = (octets, form) => new TextDecoder().decode(octets).split(form === LOG_FORMS.auto ? /\r\n|\r|\n/ : '\n');
 
-// What a skipped line says of the messages below it, by the number of its reason.
-const MARK_OF = { [LOG_REASONS.loss]: MARKS.loss, [LOG_REASONS.heading]: MARKS.heading };
+// What a skipped line says of the messages below it, by the number of its reason. One with a short message may have been a frame.
+const MARK_OF = { [LOG_REASONS.loss]: MARKS.loss, [LOG_REASONS.shortMessage]: MARKS.loss, [LOG_REASONS.heading]: MARKS.heading };
 
 const WITHOUT_MESSAGE = [LOG_KINDS.damaged, LOG_KINDS.passedOver];
 
