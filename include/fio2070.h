@@ -1258,9 +1258,10 @@ FIO2070_MUST_USE
 uint8_t fio2070_log_judge_frame(struct fio2070_log_judge *judge, uint8_t from_cpu, uint8_t said, const uint8_t *octets,
                                 size_t length, struct fio2070_judge_outcome *outcome);
 /** Takes the verdicts of a batch that fio2070_log_read wrote, in order, as the calls above take them: frames; possible and damaged
- * lines; headings, and lines that speak of loss. Who sent a frame is said by its type; if `as_said` is not 0 by its line, if that
- * says it, as in a transcript that is read by order. Writes what each frame of the batch is, in their order, and
- * returns how many they are. The frame of a possible line is not judged, for no reason. */
+ * lines; headings; lines that speak of loss, and such as them skipped lines with a short message, which may have been a frame. Who
+ * sent a frame is said by its type; if `as_said` is not 0 by its line, if that says it, as in a transcript that is read by order.
+ * Writes what each frame of the batch is, in their order, and returns how many they are. The frame of a possible line is not judged,
+ * for no reason. */
 FIO2070_MUST_USE
 uint32_t fio2070_log_judge_batch(struct fio2070_log_judge *judge, uint8_t as_said, const struct fio2070_log_batch *batch,
                                  struct fio2070_judge_outcome outcomes[20480]);
@@ -1398,7 +1399,8 @@ void fio2070_log_counts_lose(struct fio2070_log_counts *counts);
 uint8_t fio2070_log_counts_frame(struct fio2070_log_counts *counts, uint8_t has_time, uint64_t time, const uint8_t *octets,
                                  size_t length, uint64_t *taken);
 /** Counts the frames of a batch that fio2070_log_read wrote, in order, as the calls above do, each by the time of its verdict. A
- * frame may be lost at a possible or damaged line, at a heading, and at a line that speaks of loss. The frame of a possible line is
+ * frame may be lost at a possible or damaged line, at a heading, at a line that speaks of loss, and at a skipped one with a short
+ * message. The frame of a possible line is
  * not counted. Writes how long the module took, in microseconds, for each answer of which fio2070_log_counts_frame returns 1, in
  * order, and returns how many these are; what is after them in `taken` stays. */
 uint32_t fio2070_log_counts_batch(struct fio2070_log_counts *counts, const struct fio2070_log_batch *batch,

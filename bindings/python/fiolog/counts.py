@@ -4,7 +4,6 @@ from array import array
 from collections import Counter
 
 import fio2070
-from fio2070.constants import LOG_BLANK, LOG_PASSED_OVER
 
 from .events import BAD, DAMAGED, DOUBTFUL, seconds_of
 
@@ -99,13 +98,7 @@ class Counts:
         """Counts the frames of a batch; at a line that may have held one it is not known whether the last poll was answered."""
         kinds = batch.kinds_of_events()
         self.damaged += kinds[BAD] + kinds[DAMAGED] + kinds[DOUBTFUL]
-        # What a remark says of lost frames, and a heading, are for the judges alone.
-        remarks = [line for line, event in batch.others if event.is_remark]
-        for line in remarks:
-            batch.said.set_kind(line, LOG_BLANK)
         self.responses.add(self.now.batch(batch.said))
-        for line in remarks:
-            batch.said.set_kind(line, LOG_PASSED_OVER)
         self._note_times(batch)
 
     def _note_times(self, batch):

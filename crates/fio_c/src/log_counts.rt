@@ -107,7 +107,7 @@ fn count_line(counts: &mut LogCounts, verdict: &LogVerdict)
     ensures { counts.new ≡ counts_with_item counts.old (verdict.now, None) }
 {
     match (verdict.kind, verdict.reason) {
-        (3 | 4, _) | (5, 10 | 11) => counts.lose(),
+        (3 | 4, _) | (5, 3 | 10 | 11) => counts.lose(),
         _ => {}
     }
 }
