@@ -186,7 +186,7 @@ class Told:
 
 POLL, ANSWER, LATER = (('frames', '', (bytes.fromhex(digits),)) for digits in ('3605', 'b60500000000000a', '3607'))
 LOSS, HEADING, TEXT, SHORT = (('passed over', reason, ()) for reason in ('loss', 'heading', 'no octets', 'short message'))
-NEXT, AGAIN = (('frames', '', (bytes.fromhex(digits),)) for digits in ('3606', 'b60600020000000b'))
+NEXT_POLL, SENT_AGAIN = (('frames', '', (bytes.fromhex(digits),)) for digits in ('3606', 'b60600020000000b'))
 # Lines, which rules are broken, and how often sync is lost. Block 6 is due below block 5. A remark of loss, or a line that may be a
 # frame, explains that up to the next block or poll, and a block that is sent again up to the next block; a heading that, and what is
 # up to the next poll.
@@ -199,9 +199,9 @@ REMARKS = {
     'a short message above such an answer': ([POLL, ANSWER, SHORT, ANSWER], {}, None),
     'a short message above a block': ([POLL, SHORT, ANSWER, LATER], {'advance': 1}, None),
     'no remark above such an answer': ([POLL, ANSWER, ANSWER], {'pair': 1}, 1),
-    'a remark above the poll for a block that is sent again': ([POLL, ANSWER, LOSS, NEXT, AGAIN], {}, None),
-    'no remark above such a poll': ([POLL, ANSWER, NEXT, AGAIN], {'same': 1}, 1),
-    'one above the block before': ([POLL, LOSS, ANSWER, NEXT, AGAIN], {'same': 1}, 1),
+    'a remark above the poll for a block that is sent again': ([POLL, ANSWER, LOSS, NEXT_POLL, SENT_AGAIN], {}, None),
+    'no remark above such a poll': ([POLL, ANSWER, NEXT_POLL, SENT_AGAIN], {'same': 1}, 1),
+    'one above the block before': ([POLL, LOSS, ANSWER, NEXT_POLL, SENT_AGAIN], {'same': 1}, 1),
     'a heading': ([POLL, ANSWER, HEADING, LATER], {}, 1),
     'a heading above an answer': ([POLL, ANSWER, HEADING, ANSWER], {}, 1),
     'a heading above all': ([HEADING, POLL, ANSWER, LATER], {'advance': 1}, 1),

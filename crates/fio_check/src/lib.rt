@@ -37,6 +37,7 @@ mod block_rows;
 mod checker;
 mod content;
 mod content_above;
+mod content_blocks;
 mod content_inputs;
 mod content_judging;
 mod content_rules;

@@ -1,15 +1,16 @@
 -- Where no frame is missing, and no load takes effect, each frame of a right link keeps all rules for the judge, from the first
 -- command on.
-use Rattle.fio_ends.proofs.Names.{◌≡◌, ◌∙◌, ◌+◌, ◌<◌, ◌≤◌, inr, ℕ, Bool, true, false, List, [], ◌∷◌, ◌++◌, map, Option, Some, None, refl, ap, ap₂, sym, subst, arith, ◌==◌, AllByRecursion, if◌then◌else◌, option_and_then, Life, life_of, loads_of, Settings, AreInRange, Answer, answer_in, ContentFacts, ContentKept, kept_with, facts_with, no_facts, is_some_and, Facts, RuleLimits, observation_in, observation_of, answer_type_to, names_absent, says_again, Done, Event, Machine, SentFrame, start, number_of, number_of-fits, refusal, after, Leads, item_numbered, IsNotRestart, HaveNoRestart, IsKept, kept, CpuFrame, frame_heard, frames_at, due_after, ArePrompt, IsPrompt, IsWithinRanges, SuitModule, command_octets}
+use Rattle.fio_ends.proofs.Names.{number_due, ◌≡◌, ◌∙◌, ◌+◌, ◌<◌, ◌≤◌, inr, ℕ, Bool, true, false, List, [], ◌∷◌, ◌++◌, map, Option, Some, None, refl, ap, ap₂, sym, subst, arith, ◌==◌, AllByRecursion, if◌then◌else◌, option_and_then, Life, life_of, loads_of, Settings, AreInRange, Answer, answer_in, ContentFacts, ContentKept, kept_with, facts_with, no_facts, is_some_and, Facts, RuleLimits, observation_in, observation_of, answer_type_to, names_absent, says_again, Done, Event, Machine, SentFrame, start, number_of, number_of-fits, refusal, after, Leads, item_numbered, IsNotRestart, HaveNoRestart, IsKept, kept, CpuFrame, frame_heard, frames_at, due_after, ArePrompt, IsPrompt, IsWithinRanges, SuitModule, command_octets}
 use Rattle.std.specs.Option.{option_or}
 use Rattle.std.specs.Prelude.{◌||◌}
 use Rattle.fio_message.specs.declared.answers.Answer.TheVariants as answers
 use Rattle.fio_message.specs.declared.commands.Command.TheVariants as commands
 use Rattle.fio_check.specs.Checkers.{checker_skipping, passes_over}
+use Rattle.fio_check.specs.ContentCheckers.{ContentChecking}
 use Rattle.fio_check.specs.ContentSaid.{is_before, stamp_of}
-use Rattle.fio_check.specs.LinkJudges.{Judging, LogLine, asked_below, is_answer_set_back, judging_anywhere, judging_at, judging_below, judging_kept, judging_passed, judging_taken, judging_with, outcome_in, outcomes_of, stamp_in, unjudged_by}
+use Rattle.fio_check.specs.LinkJudges.{Judging, LogLine, asked_below, is_answer_set_back, judging_anywhere, judging_at, judging_below, judging_kept, judging_passed, judging_taken, judging_with, judging_with_line, outcome_in, outcomes_of, stamp_in, unjudged_by}
 use Rattle.fio_check.specs.declared.checker.Checker.{Checker}
-use Rattle.fio_check.specs.declared.checker.Skips.TheVariants.{ToCommand}
+use Rattle.fio_check.specs.declared.checker.Skips.TheVariants.{Nothing, ToCommand}
 use Rattle.fio_check.specs.declared.observation.Observation.TheVariants as seen
 use Rattle.fio_check.specs.declared.outcome.LogPlace.{LogPlace}
 use Rattle.fio_check.specs.declared.outcome.FrameOutcome.{FrameOutcome}
@@ -20,6 +21,7 @@ use Rattle.fio_link.specs.declared.event.Event.TheVariants as events
 use Rattle.fio_ends.specs.ContentPremises.{AreTimesNear, LoadsAreSent, loads_sent}
 use Rattle.fio_ends.specs.LinkLogs.{AreLogged, IsCalm, IsRight, JudgeKeepsAll, LogStep, Logged, Marked, Missing, events_of, log_from, logged_at}
 use Rattle.fio_ends.specs.PromptRuns.{IsPromptRun, events_from_command, is_command, machine_at_command}
+use Rattle.fio_ends.specs.RestartedLogs.{JudgesOn}
 use Rattle.fio_ends.proofs.AllRules.{AllKnown, agrees_again, kept_again, none_in_frame}
 use Rattle.fio_ends.proofs.BegunAgain.{Sends, Went, asks_begun, asks_further, went-again, went-on}
 use Rattle.fio_ends.proofs.ClockKept.{clock_above}
@@ -128,6 +130,33 @@ sent_stamps judging s facts octets answer absent says h = record {
 right_of : (outcome : FrameOutcome) → outcome ≡ Kept → IsRight outcome
 right_of outcome is = subst IsRight (sym is) tt
 
+-- the judge below lines, and others below them
+pub below_both : (judging : Judging) (lines more : List LogLine) → judging_below judging (lines ++ more) ≡ judging_below (judging_below judging lines) more
+below_both judging [] more = refl
+below_both judging (line ∷ lines) more = below_both (judging_with_line judging line) lines more
+
+-- if a judge judges each frame at the end of a log, the next poll has the number that is due
+abbrev pub EndsAt : ℕ → RuleLimits → Machine → Judging → Type 0
+EndsAt first limits last judging = judging.checker.skips ≡ Nothing → JudgesOn limits (number_of first last.round) judging
+
+pub ends_judging : (first : ℕ) (limits : RuleLimits) (last : Machine) (facts : Facts) (kept : ContentKept) (judging : Judging) → judging.checker ≡ taking limits facts
+    → judging.content ≡ record { begun = true; kept = kept } → ((due : ℕ) → number_due facts ≡ Some due → due ≡ number_of first last.round) → EndsAt first limits last judging
+ends_judging first limits last facts kept judging checker content due all = record {
+  limits_are = ap (λ (c : Checker). c.limits) checker;
+  all = all;
+  content = ap (λ (c : ContentChecking). c.begun) content;
+  due = λ n is. due n (sym (ap (λ (c : Checker). number_due c.facts) checker) ∙ is);
+}
+
+-- lines of which each frame keeps all rules, to the end of a log
+abbrev pub RightTo : ℕ → RuleLimits → Machine → Judging → List LogLine → Type 0
+RightTo first limits last judging lines = AllByRecursion IsRight (outcomes_of judging lines) × EndsAt first limits last (judging_below judging lines)
+
+right_both : (first : ℕ) (limits : RuleLimits) (last : Machine) (judging : Judging) (front rest : List LogLine) → AllByRecursion IsRight (outcomes_of judging front)
+    → RightTo first limits last (judging_below judging front) rest → RightTo first limits last judging (front ++ rest)
+right_both first limits last judging front rest above below =
+    (outcomes-append IsRight front rest judging above below.0, subst (EndsAt first limits last) (sym (below_both judging front rest)) below.1)
+
 module _ (settings : Settings) (range : AreInRange settings) (first : ℕ) (limits : RuleLimits) (suit : SuitModule settings limits) (begin : Machine) where
   abbrev pub loads_at : ℕ
   loads_at = loads_of (life_of begin.history)
@@ -229,7 +258,7 @@ module _ (settings : Settings) (range : AreInRange settings) (first : ℕ) (limi
           (frame_kept limits judging at frame facts kept checker_is content_is refl (went.rules limits suit).0 (none_in_frame kept frame [] went.content.keep)) went stamps has
 
   -- an event
-  pub calm_step : (c : ClockState) (t : StateState) (s : StampState) (at : LogPlace) (event : Event) (rest : List Event) (machine : Machine) (due : ℕ) (judging : Judging) → (j : IsCalmly c t s machine due judging)
+  calm_step : (c : ClockState) (t : StateState) (s : StampState) (at : LogPlace) (event : Event) (rest : List Event) (machine : Machine) (due : ℕ) (judging : Judging) → (j : IsCalmly c t s machine due judging)
       → AsksTimes settings first begin None (time_at c t j.sent) machine (event ∷ rest) → IsCalmOn settings range first begin machine (event ∷ rest)
       → refusal machine event ≡ None → IsNotRestart event → IsWithinRanges event → IsPrompt machine due event
       → KeepsCalm (clock_after c machine event) (state_after settings t machine event) (j.sent + loads_sent event) (stamps_after first s machine event) (after settings first machine event) (due_after machine due event) judging
@@ -267,13 +296,14 @@ module _ (settings : Settings) (range : AreInRange settings) (first : ℕ) (limi
   pub calm_all : (steps : List LogStep) (c : ClockState) (t : StateState) (s : StampState) (machine last : Machine) (due : ℕ) (judging : Judging) → (j : IsCalmly c t s machine due judging)
       → AsksTimes settings first begin None (time_at c t j.sent) machine (events_of steps) → IsCalmOn settings range first begin machine (events_of steps)
       → Leads settings first machine (events_of steps) last → HaveNoRestart (events_of steps) → AllByRecursion IsWithinRanges (events_of steps) → ArePrompt settings first machine due (events_of steps)
-      → AreLogged steps → AllByRecursion IsRight (outcomes_of judging (log_from settings first machine steps))
-  calm_all [] c t s machine last due judging j asks calm leads none within prompt logged = tt
+      → AreLogged steps → RightTo first limits last judging (log_from settings first machine steps)
+  calm_all [] c t s machine last due judging j asks calm leads none within prompt logged =
+      (tt, ends_judging first limits last j.facts j.kept judging j.checker_is j.content_is (λ n is. j.follows.number n is ∙ ap (λ (m : Machine). number_of first m.round) (sym leads)))
   calm_all (Logged at event ∷ steps) c t s machine last due judging j asks calm leads none within prompt logged =
       let next = after settings first machine event in
       let lines = map (logged_at at) (frames_at first machine event) in
       let k = calm_step c t s at event (events_of steps) machine due judging j asks calm leads.0 none.0 within.0 prompt.0 in
-      outcomes-append IsRight lines (log_from settings first next steps) judging k.right
+      right_both first limits last judging lines (log_from settings first next steps) k.right
       (calm_all steps (clock_after c machine event) (state_after settings t machine event) (stamps_after first s machine event) next last (due_after machine due event) (judging_below judging lines) k.there
       (subst (λ n. AsksTimes settings first begin None (time_at (clock_after c machine event) (state_after settings t machine event) n) next (events_of steps)) (sym k.sent_is)
       (asks_further settings range first begin false None (time_at c t j.sent) machine event (events_of steps) asks))
@@ -318,7 +348,7 @@ module _ (settings : Settings) (range : AreInRange settings) (first : ℕ) (limi
   AtStart = judging_anywhere limits
 
   abbrev AllRight : Machine → List LogStep → Type 0
-  AllRight machine steps = AllByRecursion IsRight (outcomes_of AtStart (log_from settings first machine steps))
+  AllRight machine steps = RightTo first limits last AtStart (log_from settings first machine steps)
 
   abbrev Asked : Machine → List Event → Type 0
   Asked machine events = IsCalm machine last × AreTimesNear false settings first machine events last
@@ -350,7 +380,7 @@ module _ (settings : Settings) (range : AreInRange settings) (first : ℕ) (limi
           let asks = asks_begun false settings first machine last 0 (event ∷ events_of steps) r.no_restart r.leads
           (none_loaded settings range first (event ∷ events_of steps) machine last (loads_of now + 0) r.leads r.no_restart (omega (arith, same))) near in
           let calm : IsCalmOn settings range first machine machine (event ∷ events_of steps) = record { last = last; leads = r.leads; none = r.no_restart; steady = asked.0.no_loads; short = asked.0.short } in
-          outcomes-append IsRight lines (log_from settings first next steps) AtStart k.right
+          right_both first limits last AtStart lines (log_from settings first next steps) k.right
           (calm_all settings range first limits suit machine steps (clock_after (clock_above false) machine event) (state_after settings state_above machine event) (stamps_after first above machine event) next last
           (due_after machine r.due event) (judging_below AtStart lines) k.there
           (subst (λ n. AsksTimes settings first machine None (record { clock = clock_after (clock_above false) machine event; state = state_after settings state_above machine event; sent = n }) next (events_of steps)) (sym k.sent_is)
@@ -398,9 +428,9 @@ module _ (settings : Settings) (range : AreInRange settings) (first : ℕ) (limi
       by events.Restart sends r near = absurd sends
 
   -- what is above it
-  calm_above : (steps : List LogStep) (before : List Event) (machine : Machine) → IsPromptRun settings first (before ++ events_of steps) last → Leads settings first start before machine → AreLogged steps
+  pub calm_above : (steps : List LogStep) (before : List Event) (machine : Machine) → IsPromptRun settings first (before ++ events_of steps) last → Leads settings first start before machine → AreLogged steps
       → Asked (machine_at_command settings first machine (events_of steps)) (events_from_command (events_of steps)) → AllRight machine steps
-  calm_above [] before machine run leads logged asked = tt
+  calm_above [] before machine run leads logged asked = (tt, λ all. absurd (let is : ToCommand ≡ Nothing = all in cc is))
   calm_above (Missing event ∷ steps) before machine run leads logged asked = absurd logged
   calm_above (Marked ∷ steps) before machine run leads logged asked = absurd logged
   calm_above (Logged at event ∷ steps) before machine run leads logged asked =
@@ -420,10 +450,10 @@ module _ (settings : Settings) (range : AreInRange settings) (first : ℕ) (limi
       by true is further = calm_begins at event steps before machine (sends_if event is) run leads (asked_if true is) logged
       by false is further =
           let heard = heard_above limits AtStart refl at (frames_at first machine event) (all_heard first machine event is) in
-          outcomes-append IsRight (map (logged_at at) (frames_at first machine event)) (log_from settings first (after settings first machine event) steps) AtStart heard.0
-          (subst (λ j. AllByRecursion IsRight (outcomes_of j (log_from settings first (after settings first machine event) steps))) (sym heard.1) (further (asked_if false is)))
+          right_both first limits last AtStart (map (logged_at at) (frames_at first machine event)) (log_from settings first (after settings first machine event) steps) heard.0
+          (subst (λ j. RightTo first limits last j (log_from settings first (after settings first machine event) steps)) (sym heard.1) (further (asked_if false is)))
 
 pub judge_keeps_all : JudgeKeepsAll
 unfolding JudgeKeepsAll
 judge_keeps_all settings limits first before steps machine last range suit run leads logged calm near =
-    calm_above settings range first limits suit last steps before machine run leads logged (calm, near)
+    (calm_above settings range first limits suit last steps before machine run leads logged (calm, near)).0

@@ -7,7 +7,7 @@ use Rattle.fio_message.specs.declared.commands.Command.TheVariants as commands
 use Rattle.fio_check.specs.Checkers.{checker_below_breach, checker_skipping, found_by, passes_over}
 use Rattle.fio_check.specs.ContentCheckers.{ContentChecking, content_found, found_in_frame}
 use Rattle.fio_check.specs.ContentSaid.{is_before, stamp_of}
-use Rattle.fio_check.specs.LinkJudges.{Judging, LogLine, content_above, any_stamp_in, any_stamp_of, is_set_back, judging_at, judging_below, judging_below_outcome, judging_taken, judging_with, judging_with_line, loads_below, loads_left, outcome_in, outcome_on, outcome_set_back, outcomes_of, place_lost}
+use Rattle.fio_check.specs.LinkJudges.{judging_anywhere, Judging, LogLine, content_above, any_stamp_in, any_stamp_of, is_set_back, judging_at, judging_below, judging_below_outcome, judging_taken, judging_with, judging_with_line, loads_below, loads_left, outcome_in, outcome_on, outcome_set_back, outcomes_of, place_lost}
 use Rattle.fio_check.specs.declared.checker.Checker.{Checker}
 use Rattle.fio_check.specs.declared.checker.Skips.TheVariants.{Nothing, ToPoll}
 use Rattle.fio_check.specs.declared.observation.Observation.TheVariants as seen
@@ -19,7 +19,7 @@ use Rattle.fio_check.proofs.Checkers.{found-taking, taking}
 use Rattle.fio_link.specs.declared.event.Event.TheVariants as events
 use Rattle.fio_ends.specs.ContentPremises.{loads_sent}
 use Rattle.fio_ends.specs.LinkLogs.{AccusesNeither, AreLogged, LogStep, Logged, Marked, Missing, events_of, log_from, logged_at}
-use Rattle.fio_ends.specs.RestartedLogs.{AreRestarted, BeginsEarlier, HaveRestarts, IsRestarted, JudgeFindsRestarts, JudgesOn, LoggedLife, is_earlier, is_restart, lines_of_lives}
+use Rattle.fio_ends.specs.RestartedLogs.{AreRestarted, BeginsEarlier, HaveRestarts, IsRestarted, JudgeFindsRestarts, JudgeFindsRestartsAnywhere, JudgesOn, LoggedLife, is_earlier, is_restart, lines_of_lives}
 use Rattle.fio_ends.proofs.AllRules.{AllKnown, again_known, agrees_again, kept_again, none_in_frame}
 use Rattle.fio_ends.proofs.BegunAgain.{Went, asks_begun, asks_further, went-again, went-on}
 use Rattle.fio_ends.proofs.ClockKept.{clock_above}
@@ -31,7 +31,7 @@ use Rattle.fio_ends.proofs.Following.{Follows, facts_below, follows-start, from_
 use Rattle.fio_ends.proofs.JudgeLost.{life_on}
 use Rattle.fio_ends.proofs.JudgeStamps.{IsCalmOn, IsOf, KeepsStamps, StampState, calm_on, of_later, stamps_above, stamps_after, stamps_are_invariant, stamps_begin, stamps_heard, stamps_polled}
 use Rattle.fio_ends.proofs.JudgeSteps.{frame_again, frame_kept, heard_passed, outcomes-append, passed, passed_is, takes_all}
-use Rattle.fio_ends.proofs.JudgedCalm.{IsCalmly, calm_all, calm_step, kept_on, none_loaded, polled_stamps}
+use Rattle.fio_ends.proofs.JudgedCalm.{EndsAt, below_both, calm_above, calm_all, ends_judging, kept_on, none_loaded, polled_stamps}
 use Rattle.fio_ends.proofs.Lives.{loads_grow}
 use Rattle.fio_ends.proofs.Rules.{no_rule_broken}
 use Rattle.fio_ends.proofs.Sends.{other_said, poll_keeps, said_of}
@@ -39,19 +39,14 @@ use Rattle.fio_ends.proofs.Stamps.{ClockState, clock_after}
 use Rattle.fio_ends.proofs.StateKept.{state_above}
 use Rattle.fio_ends.proofs.StateKnown.{StateState, state_after}
 use Rattle.fio_ends.proofs.TimesKept.{AsksTimes, TimeState}
-use Rattle.fio_ends.proofs.RestartedFrames.{HaveOneRestart, IsPlain, IsQuiet, IsSame, back_of, either, is_none, latest_heard, lost_by, not_back, one_back, one_quiet, plain_heard, quiet_of, same_stamp, sent_absent, sent_none, set_back_is, watchdog_is, answered_option}
+use Rattle.fio_ends.proofs.RestartedFrames.{AreQuiet, HaveOneRestart, are_quiet, IsPlain, IsQuiet, IsSame, back_of, either, is_none, latest_heard, lost_by, not_back, one_back, one_quiet, plain_heard, quiet_of, same_stamp, sent_absent, sent_none, set_back_is, watchdog_is, answered_option}
 
 -- ---- a run
-
--- the judge below lines, and others below them
-below_both : (judging : Judging) (lines more : List LogLine) → judging_below judging (lines ++ more) ≡ judging_below (judging_below judging lines) more
-below_both judging [] more = refl
-below_both judging (line ∷ lines) more = below_both (judging_with_line judging line) lines more
 
 module _ (settings : Settings) (range : AreInRange settings) (first : ℕ) (limits : RuleLimits) (suit : SuitModule settings limits) where
   -- if a judge judges each frame there, the next poll has the number that is due
   abbrev IsEnd : Machine → Judging → Type 0
-  IsEnd last judging = judging.checker.skips ≡ Nothing → JudgesOn limits (number_of first last.round) judging
+  IsEnd last judging = EndsAt first limits last judging
 
   -- lines of one life, and what the judge is below them
   abbrev AllQuietTo : Machine → Judging → List LogLine → Type 0
@@ -64,35 +59,6 @@ module _ (settings : Settings) (range : AreInRange settings) (first : ℕ) (limi
       → AllQuietTo last judging (front ++ rest)
   quiet_both last judging front rest above below =
       (outcomes-append IsQuiet front rest judging above below.0, subst (IsEnd last) (sym (below_both judging front rest)) below.1)
-
-  ends_judging : (last : Machine) (facts : Facts) (kept : ContentKept) (judging : Judging) → judging.checker ≡ taking limits facts → judging.content ≡ record { begun = true; kept = kept }
-      → ((due : ℕ) → number_due facts ≡ Some due → due ≡ number_of first last.round) → IsEnd last judging
-  ends_judging last facts kept judging checker content due all = record {
-    limits_are = ap (λ (c : Checker). c.limits) checker;
-    all = all;
-    content = ap (λ (c : ContentChecking). c.begun) content;
-    due = λ n is. due n (sym (ap (λ (c : Checker). number_due c.facts) checker) ∙ is);
-  }
-
-  -- where each frame is judged, up to the end
-  calm_end : (steps : List LogStep) (c : ClockState) (t : StateState) (s : StampState) (machine last : Machine) (due : ℕ) (judging : Judging) → (j : IsCalmly settings range first limits suit start c t s machine due judging)
-      → AsksTimes settings first start None (record { clock = c; state = t; sent = j.sent }) machine (events_of steps) → IsCalmOn settings range first start machine (events_of steps)
-      → Leads settings first machine (events_of steps) last → HaveNoRestart (events_of steps) → AllByRecursion IsWithinRanges (events_of steps) → ArePrompt settings first machine due (events_of steps)
-      → AreLogged steps → IsEnd last (judging_below judging (log_from settings first machine steps))
-  calm_end [] c t s machine last due judging j asks calm leads none within prompt logged =
-      ends_judging last j.facts j.kept judging j.checker_is j.content_is
-      (λ n is. j.follows.number n is ∙ ap (λ (m : Machine). number_of first m.round) (sym leads))
-  calm_end (Logged at event ∷ steps) c t s machine last due judging j asks calm leads none within prompt logged =
-      let next = after settings first machine event in
-      let lines = map (logged_at at) (frames_at first machine event) in
-      let k = calm_step settings range first limits suit start c t s at event (events_of steps) machine due judging j asks calm leads.0 none.0 within.0 prompt.0 in
-      subst (IsEnd last) (sym (below_both judging lines (log_from settings first next steps)))
-      (calm_end steps (clock_after c machine event) (state_after settings t machine event) (stamps_after first s machine event) next last (due_after machine due event) (judging_below judging lines) k.there
-      (subst (λ n. AsksTimes settings first start None (record { clock = clock_after c machine event; state = state_after settings t machine event; sent = n }) next (events_of steps)) (sym k.sent_is)
-      (asks_further settings range first start false None (record { clock = c; state = t; sent = j.sent }) machine event (events_of steps) asks))
-      (calm_on settings range first start machine event (events_of steps) calm) leads.1 none.1 within.1 prompt.1 logged)
-  calm_end (Missing event ∷ steps) c t s machine last due judging j asks calm leads none within prompt logged = absurd logged
-  calm_end (Marked ∷ steps) c t s machine last due judging j asks calm leads none within prompt logged = absurd logged
 
   abbrev times : ClockState → StateState → ℕ → TimeState
   times c t sent = record { clock = c; state = t; sent = sent }
@@ -250,13 +216,10 @@ module _ (settings : Settings) (range : AreInRange settings) (first : ℕ) (limi
           let below = judging_below judging (map (logged_at at) (frame ∷ [])) in
           let rest = log_from settings first next steps in
           let going = subst (λ n. AsksTimes settings first start None (times (clock_after c machine events.Poll) (state_after settings t machine events.Poll) n) next (events_of steps)) (sym kept_by.sent_is) asks in
-          quiet_both last judging (map (logged_at at) (frame ∷ [])) rest (quiet_of (outcomes_of judging (map (logged_at at) (frame ∷ []))) kept_by.right) (
-            quiet_of (outcomes_of below rest)
-                (calm_all settings range first limits suit start steps (clock_after c machine events.Poll) (state_after settings t machine events.Poll) (stamps_polled s_above number) next last 0 below kept_by.there going
-                further.calm further.leads further.none further.within further.prompt logged),
-            calm_end steps (clock_after c machine events.Poll) (state_after settings t machine events.Poll) (stamps_polled s_above number) next last 0 below kept_by.there going
-                further.calm further.leads further.none further.within further.prompt logged,
-          )
+          let calm = calm_all settings range first limits suit start steps (clock_after c machine events.Poll) (state_after settings t machine events.Poll) (stamps_polled s_above number) next last 0 below kept_by.there going
+          further.calm further.leads further.none further.within further.prompt logged in
+          quiet_both last judging (map (logged_at at) (frame ∷ [])) rest (quiet_of (outcomes_of judging (map (logged_at at) (frame ∷ []))) kept_by.right)
+          (quiet_of (outcomes_of below rest) calm.0, calm.1)
 
       by : LostAll steps last → (event : Event) → Rest c t sent machine last due (event ∷ events_of steps) → AllQuiet event
       by again events.Poll r = begins r
@@ -445,7 +408,7 @@ module _ (settings : Settings) (range : AreInRange settings) (first : ℕ) (limi
   -- all events
   between : (latest : Option ℕ) (steps : List LogStep) (last : Machine) → AreLogged steps → BetweenAll latest steps last
   between latest [] last logged c t s sent from facts kept machine due judging k b r earlier =
-      (record { none_accused = tt; few = omega arith }, ends_judging last b.above b.content judging b.checker_is b.content_is (λ n is. b.due n is ∙ ap (λ (m : Machine). number_of first m.round) (sym r.leads)))
+      (record { none_accused = tt; few = omega arith }, ends_judging first limits last b.above b.content judging b.checker_is b.content_is (λ n is. b.due n is ∙ ap (λ (m : Machine). number_of first m.round) (sym r.leads)))
   between latest (Missing event ∷ steps) last logged c t s sent from facts kept machine due judging k b r earlier = absurd logged
   between latest (Marked ∷ steps) last logged c t s sent from facts kept machine due judging k b r earlier = absurd logged
   between latest (Logged at event ∷ steps) last logged c t s sent from facts kept machine due judging k b r earlier = by (between latest steps last logged) event r earlier
@@ -603,7 +566,34 @@ lives_found settings limits range suit (life ∷ lives) first judging judges res
     (lives_found settings limits range suit lives (first + life.last.round) (judging_below judging lines)
     (λ all. subst (λ number. JudgesOn limits number (judging_below judging lines)) same (one.1 all)) restarted.2))
 
+pub judge_finds_restarts_anywhere : JudgeFindsRestartsAnywhere
+unfolding JudgeFindsRestartsAnywhere
+judge_finds_restarts_anywhere settings limits first lives judging range suit judges restarted =
+    lives_found settings limits range suit lives first judging (λ all. judges) restarted
+
+-- below outcomes that say of no restart
+none_more : (outcomes more : List FrameOutcome) (count : ℕ) → AreQuiet outcomes → HaveRestarts count more → HaveRestarts count (outcomes ++ more)
+none_more outcomes more count quiet rest = record { none_accused = both outcomes quiet.none_accused; few = fewer }
+  where
+    both : (outcomes : List FrameOutcome) → AllByRecursion AccusesNeither outcomes → AllByRecursion AccusesNeither (outcomes ++ more)
+    both [] none = rest.none_accused
+    both (outcome ∷ outcomes) none = (none.0, both outcomes none.1)
+
+    counted : length (filter is_restart (outcomes ++ more)) ≡ length (filter is_restart outcomes) + length (filter is_restart more)
+    counted = ap length (filter-append is_restart outcomes more) ∙ length-append (filter is_restart outcomes) (filter is_restart more)
+
+    fewer : length (filter is_restart (outcomes ++ more)) ≤ count
+    fewer = let is = counted in let none = quiet.none in let few = rest.few in omega (arith, is, none, few)
+
 pub judge_finds_restarts : JudgeFindsRestarts
 unfolding JudgeFindsRestarts
-judge_finds_restarts settings limits first lives judging range suit judges restarted =
-    lives_found settings limits range suit lives first judging (λ all. judges) restarted
+judge_finds_restarts settings limits first before steps machine last lives range suit run leads logged calm near restarted =
+    let lines = log_from settings first machine steps in
+    let more = lines_of_lives settings (first + last.round) lives in
+    let judging = judging_anywhere limits in
+    let right = calm_above settings range first limits suit last steps before machine run leads logged (calm, near) in
+    let same : number_of first last.round ≡ number_of (first + last.round) 0 = ap (λ n. n % 256) (omega arith) in
+    subst (HaveRestarts (length lives)) (sym (outcomes_both judging lines more))
+    (none_more (outcomes_of judging lines) (outcomes_of (judging_below judging lines) more) (length lives) (are_quiet (outcomes_of judging lines) (quiet_of (outcomes_of judging lines) right.0))
+    (lives_found settings limits range suit lives (first + last.round) (judging_below judging lines)
+    (λ all. subst (λ number. JudgesOn limits number (judging_below judging lines)) same (right.1 all)) restarted))

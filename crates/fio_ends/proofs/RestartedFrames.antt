@@ -38,11 +38,11 @@ abbrev pub HaveOneRestart : List FrameOutcome → Type 0
 HaveOneRestart outcomes = HaveRestarts 1 outcomes
 
 -- such outcomes
-record AreQuiet (outcomes : List FrameOutcome) : Type 0 where
+pub record AreQuiet (outcomes : List FrameOutcome) : Type 0 where
   pub none_accused : AllByRecursion AccusesNeither outcomes
   pub none : length (filter is_restart outcomes) ≡ 0
 
-are_quiet : (outcomes : List FrameOutcome) → AllByRecursion IsQuiet outcomes → AreQuiet outcomes
+pub are_quiet : (outcomes : List FrameOutcome) → AllByRecursion IsQuiet outcomes → AreQuiet outcomes
 are_quiet [] quiet = record { none_accused = tt; none = refl }
 are_quiet (Kept ∷ outcomes) quiet =
     let rest = are_quiet outcomes quiet.1 in record { none_accused = (tt, rest.none_accused); none = rest.none }

@@ -5,16 +5,17 @@ use Rattle.std.specs.List.{AllByRecursion}
 use Rattle.fio_module.specs.Settings.{Settings, AreInRange}
 use Rattle.fio_check.specs.ContentSaid.{is_before}
 use Rattle.fio_check.specs.Facts.{number_due}
-use Rattle.fio_check.specs.LinkJudges.{Judging, LogLine, Frame, Lost, any_stamp_in, judging_below, outcomes_of, stamp_in}
+use Rattle.fio_check.specs.LinkJudges.{Judging, LogLine, Frame, Lost, any_stamp_in, judging_anywhere, judging_below, outcomes_of, stamp_in}
 use Rattle.fio_check.specs.Places.{is_some_and}
 use Rattle.fio_check.specs.declared.checker.Skips.TheVariants.{Nothing}
 use Rattle.fio_check.specs.declared.limits.RuleLimits.{RuleLimits}
 use Rattle.fio_check.specs.declared.outcome.FrameOutcome.{FrameOutcome}
 use Rattle.fio_check.specs.declared.outcome.FrameOutcome.TheVariants.{Restarted}
-use Rattle.fio_link.specs.Link.{Machine, number_of, start}
+use Rattle.fio_link.specs.declared.event.Event.{Event}
+use Rattle.fio_link.specs.Link.{Leads, Machine, number_of, start}
 use Rattle.fio_ends.specs.ContentPremises.{AreTimesNear}
 use Rattle.fio_ends.specs.LinkLogs.{AccusesNeither, AreLogged, IsCalm, LogStep, events_of, log_from}
-use Rattle.fio_ends.specs.PromptRuns.{IsPromptRun, SuitModule}
+use Rattle.fio_ends.specs.PromptRuns.{IsPromptRun, SuitModule, events_from_command, machine_at_command}
 
 -- a judge that judges each frame, with these limits, where the next poll has this number, if one is due
 pub record JudgesOn (limits : RuleLimits) (number : ℕ) (judging : Judging) : Type 0 where
@@ -78,10 +79,25 @@ AreRestarted settings first judging (life ∷ lives) =
 
 -- Over restarts of the module the judge accuses nobody, and says once at most for each that it was restarted, whatever it took
 -- above the first one.
-unfoldable pub JudgeFindsRestarts : Type 0
-JudgeFindsRestarts =
+unfoldable pub JudgeFindsRestartsAnywhere : Type 0
+JudgeFindsRestartsAnywhere =
     (settings : Settings) (limits : RuleLimits) (first : ℕ) (lives : List LoggedLife) (judging : Judging) →
     AreInRange settings → SuitModule settings limits →
     JudgesOn limits (number_of first 0) judging →
     AreRestarted settings first judging lives →
     HaveRestarts (length lives) (outcomes_of judging (lines_of_lives settings first lives))
+
+-- So it is with a log that begins in one life, at any event, as `JudgeKeepsAll` asks of it, and goes on over restarts.
+unfoldable pub JudgeFindsRestarts : Type 0
+JudgeFindsRestarts =
+    (settings : Settings) (limits : RuleLimits) (first : ℕ) (before : List Event) (steps : List LogStep) (machine last : Machine) (lives : List LoggedLife) →
+    AreInRange settings → SuitModule settings limits →
+    IsPromptRun settings first (before ++ events_of steps) last →
+    Leads settings first start before machine →
+    AreLogged steps →
+    IsCalm (machine_at_command settings first machine (events_of steps)) last →
+    AreTimesNear false settings first (machine_at_command settings first machine (events_of steps))
+    (events_from_command (events_of steps)) last →
+    AreRestarted settings (first + last.round) (judging_below (judging_anywhere limits) (log_from settings first machine steps)) lives →
+    HaveRestarts (length lives) (outcomes_of (judging_anywhere limits)
+    (log_from settings first machine steps ++ lines_of_lives settings (first + last.round) lives))

@@ -10,7 +10,7 @@ ghost use Rattle.fio_ends.specs.Explainable.{AccusedAreNotExplainable};
 ghost use Rattle.fio_ends.specs.PollLogs.{AreOfBothKinds, LogsOfPollsAreDecided, WholeLogsOfPollsAreDecided};
 ghost use Rattle.fio_ends.specs.Pollers.{GoodIsOfPoller};
 ghost use Rattle.fio_ends.specs.PromptRuns.{FromCommand, HasNoBreach, HasNoBreachAnywhere, IsGood, NeverAccuses, NeverAccusesLater};
-ghost use Rattle.fio_ends.specs.RestartedLogs.{JudgeFindsRestarts};
+ghost use Rattle.fio_ends.specs.RestartedLogs.{JudgeFindsRestarts, JudgeFindsRestartsAnywhere};
 ghost use Rattle.fio_ends.specs.RunRecords.{KeepsRecord};
 
 /// A good transcript comes from a right CPU's end: a poller that starts with the first poll's number has at each poll that
@@ -145,13 +145,14 @@ pub fn judge_keeps_each_right_frame()
     ensures { JudgeKeepsAll }
 {}
 
-/// Over restarts of the module the judge accuses nobody either, and says once at most for each that it was restarted, whatever it took
-/// above the first one: if the first stamp that is heard below each is before the latest one above, and no block that is sent again
-/// has it. Nothing is under way at a restart, no frame is missing below it, no load of the counter takes effect, and each life of the
-/// module lasts fewer than 2^31 scans.
-#[tactic(auto, using(crate::proofs::Restarted::judge_finds_restarts))]
+/// Over restarts of the module the judge accuses nobody either, and says once at most for each that it was restarted: if the first
+/// stamp that is heard below each is before the latest one above, and no block that is sent again has it. Nothing is under way at a
+/// restart, no frame is missing, no load of the counter takes effect, and the log of each life of the module lasts fewer than 2^31
+/// scans. Above the first restart the judge may have taken anything, too.
+#[tactic(auto, using(crate::proofs::Restarted::judge_finds_restarts, crate::proofs::Restarted::judge_finds_restarts_anywhere))]
 pub fn judge_finds_restarts()
-    ensures { JudgeFindsRestarts }
+    ensures anywhere { JudgeFindsRestartsAnywhere }
+    ensures whole { JudgeFindsRestarts }
 {}
 
 /// Each log that the checker of content accuses is one that no right link explains, whatever its samples, losses and earlier

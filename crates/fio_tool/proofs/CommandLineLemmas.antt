@@ -118,21 +118,10 @@ names_tool first Record = record { faultless = refl; named = refl }
 
 same_name : (tool other : Tool) → name_of tool ≡ name_of other → tool ≡ other
 same_name Show Show same = refl
-same_name Show Simulate same = absurd (cc)
-same_name Show Check same = absurd (cc)
-same_name Show Record same = absurd (cc)
-same_name Simulate Show same = absurd (cc)
 same_name Simulate Simulate same = refl
-same_name Simulate Check same = absurd (cc)
-same_name Simulate Record same = absurd (cc)
-same_name Check Show same = absurd (cc)
-same_name Check Simulate same = absurd (cc)
 same_name Check Check same = refl
-same_name Check Record same = absurd (cc)
-same_name Record Show same = absurd (cc)
-same_name Record Simulate same = absurd (cc)
-same_name Record Check same = absurd (cc)
 same_name Record Record same = refl
+same_name tool other same = absurd (cc)
 
 pub only_tool : (words : List Text) (tool other : Tool) → Some (name_of tool) ≡ chosen_name words → NamesTool words other
     → tool ≡ other

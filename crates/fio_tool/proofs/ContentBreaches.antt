@@ -35,15 +35,7 @@ first-poll : (command : Option Command)
     × (items_of_cpu (option_map (λ first. record { number = first; items = [] }) (number_polled (observation_of command None))) ≡ [])
 first-poll None = (refl, refl)
 first-poll (Some (commands.Poll polled)) = (refl, refl)
-first-poll (Some (commands.LoadCounter load)) = (refl, refl)
-first-poll (Some (commands.ConfigureInputs items)) = (refl, refl)
-first-poll (Some (commands.Status clear)) = (refl, refl)
-first-poll (Some commands.RawInputs) = (refl, refl)
-first-poll (Some commands.FilteredInputs) = (refl, refl)
-first-poll (Some (commands.SetOutputs levels controls)) = (refl, refl)
-first-poll (Some (commands.Watchdog timeout)) = (refl, refl)
-first-poll (Some commands.Identify) = (refl, refl)
-first-poll (Some (commands.Other kind body)) = (refl, refl)
+first-poll (Some other) = (refl, refl)
 
 later-command : (number : ℕ) (command : Option Command) → Some number ≡ number_after (Some number) command None
 later-command number None = refl
@@ -58,13 +50,7 @@ pub record PassesOver (answer : Option Answer) : Type 0 where
 first-answer : (answer : Option Answer) → PassesOver answer
 first-answer None = record { polled = refl; number = refl; items = refl }
 first-answer (Some (answers.Block block entries status stamp)) = record { polled = refl; number = refl; items = refl }
-first-answer (Some (answers.ConfigureInputs status)) = record { polled = refl; number = refl; items = refl }
-first-answer (Some (answers.Status flags receive transmit stamp)) = record { polled = refl; number = refl; items = refl }
-first-answer (Some (answers.LoadCounter status)) = record { polled = refl; number = refl; items = refl }
-first-answer (Some (answers.RawInputs inputs stamp)) = record { polled = refl; number = refl; items = refl }
-first-answer (Some (answers.FilteredInputs inputs stamp)) = record { polled = refl; number = refl; items = refl }
-first-answer (Some (answers.Watchdog status)) = record { polled = refl; number = refl; items = refl }
-first-answer (Some (answers.Other kind body)) = record { polled = refl; number = refl; items = refl }
+first-answer (Some other) = record { polled = refl; number = refl; items = refl }
 
 -- ---- what a frame does to the record
 
@@ -106,13 +92,7 @@ answer-step : (cpu : Polling) (answer : Option Answer)
 answer-step cpu None = no-item (Some cpu) (Some cpu) (Some cpu.number) [] refl refl refl
 answer-step cpu (Some (answers.Block block entries status stamp)) =
     block-step cpu (record { number = block; entries = entries.items; status = status; stamp = stamp }) (block == cpu.number) (taken-same block cpu.number)
-answer-step cpu (Some (answers.ConfigureInputs status)) = no-item (Some cpu) (Some cpu) (Some cpu.number) _ refl refl refl
-answer-step cpu (Some (answers.Status flags receive transmit stamp)) = no-item (Some cpu) (Some cpu) (Some cpu.number) _ refl refl refl
-answer-step cpu (Some (answers.LoadCounter status)) = no-item (Some cpu) (Some cpu) (Some cpu.number) _ refl refl refl
-answer-step cpu (Some (answers.RawInputs inputs stamp)) = no-item (Some cpu) (Some cpu) (Some cpu.number) _ refl refl refl
-answer-step cpu (Some (answers.FilteredInputs inputs stamp)) = no-item (Some cpu) (Some cpu) (Some cpu.number) _ refl refl refl
-answer-step cpu (Some (answers.Watchdog status)) = no-item (Some cpu) (Some cpu) (Some cpu.number) _ refl refl refl
-answer-step cpu (Some (answers.Other kind body)) = no-item (Some cpu) (Some cpu) (Some cpu.number) _ refl refl refl
+answer-step cpu (Some other) = no-item (Some cpu) (Some cpu) (Some cpu.number) _ refl refl refl
 
 -- any frame
 frame_step : (cpu : Option Polling) (number : ℕ) (from_cpu : Bool) (octets : List ℕ)
