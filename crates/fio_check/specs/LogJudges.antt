@@ -2,7 +2,7 @@
 --
 -- It is the judge of a link that also finds out where the log was taken, loses the place at lines that may have held a frame,
 -- and can leave out late answers.
-use Rattle.std.specs.Prelude.{ℕ, ◌+◌, ◌&&◌, Bool, List, [], ◌∷◌, ◌++◌, true, false, not, nat_lt, Option, Some, None, option_map, if◌then◌else◌}
+use Rattle.std.specs.Prelude.{ℕ, ◌+◌, nat_le, ◌*◌, ◌&&◌, Bool, List, [], ◌∷◌, ◌++◌, true, false, not, nat_lt, Option, Some, None, option_map, if◌then◌else◌}
 use Rattle.fio_check.specs.Checkers.{checker_with, found_by, passes_over}
 use Rattle.fio_check.specs.LateAnswers.{late_above, late_with, lateness_of}
 use Rattle.fio_check.specs.LinkJudges.{Judging, checking_again, judging_anywhere, judging_begun, judging_lost, judging_with, loads_left, outcome_found, outcome_in, unjudged_by}
@@ -142,10 +142,12 @@ log_reaching log from_cpu said observation = record (log_above (log_counting log
   missing = missing_below log.missing observation;
 }
 
--- where a frame with a direction was logged: at the module, if more directions contradict the types of the messages than agree,
--- else at the CPU's end
+-- Where a frame with a direction was logged: at the CPU's end, if at least four of five directions agree with the types of the
+-- messages; at the module, if at least four of five contradict them. Else they say nothing of where it was: on the bus.
 abbrev pub end_of : LogJudging → LogPlace
-end_of log = if nat_lt log.agreeing log.contrary then Module else Cpu
+end_of log = if nat_le (4 * log.contrary) log.agreeing then Cpu
+    else if nat_le (4 * log.agreeing) log.contrary then Module
+    else Bus
 
 -- where a frame with this direction, or none, was logged
 abbrev pub place_found : LogJudging → Option Bool → LogPlace

@@ -2,7 +2,7 @@
 //! between them.
 ghost use Rattle.std.specs.Prelude.{◌≡◌};
 ghost use Rattle.fio_check.specs.LinkKept.{judging};
-ghost use Rattle.fio_check.specs.LogJudges.{is_excused_late, is_explained, is_of_late, judging_in_time, log_counting, log_forgetting, log_judging, log_kept_late, log_lost, log_missing, log_possible, log_reaching, log_starting, log_with, log_with_late, outcome_in_log, outcome_in_time, outcome_kept_late, outcome_late, place_of};
+ghost use Rattle.fio_check.specs.LogJudges.{end_of, is_excused_late, is_explained, is_of_late, judging_in_time, log_counting, log_forgetting, log_judging, log_kept_late, log_lost, log_missing, log_possible, log_reaching, log_starting, log_with, log_with_late, outcome_in_log, outcome_in_time, outcome_kept_late, outcome_late, place_of};
 ghost use Rattle.fio_check.specs.Observations.{observation_in};
 ghost use Rattle.fio_check.specs.declared.log_judge.LogOutcome.TheVariants.{Late};
 
@@ -188,8 +188,21 @@ impl LogJudge {
         match (self.place, said) {
             (Some(place), _) => place,
             (None, None) => LogPlace::Bus,
-            (None, Some(_)) if self.contrary > self.agreeing => LogPlace::Module,
-            (None, Some(_)) => LogPlace::Cpu,
+            (None, Some(_)) => self.end_of(),
+        }
+    }
+
+    /// Returns where a frame with a direction was logged, by how many directions agree with the types of the messages.
+    fn end_of(&self) -> LogPlace
+        ensures { result ≡ end_of (log_judging self.now) }
+    {
+        let (agreeing, contrary) = (u64::from(self.agreeing), u64::from(self.contrary));
+        if 4 * contrary <= agreeing {
+            LogPlace::Cpu
+        } else if 4 * agreeing <= contrary {
+            LogPlace::Module
+        } else {
+            LogPlace::Bus
         }
     }
 
