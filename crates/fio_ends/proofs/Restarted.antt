@@ -5,7 +5,7 @@ use Rattle.fio_ends.proofs.Names.{length-append, append_assoc, ◌%◌, ◌≡�
 use Rattle.std.specs.Prelude.{filter, ◌||◌, nat_lt}
 use Rattle.fio_message.specs.declared.commands.Command.TheVariants as commands
 use Rattle.fio_check.specs.Checkers.{checker_below_breach, checker_skipping, found_by, passes_over}
-use Rattle.fio_check.specs.ContentCheckers.{ContentChecking, content_found, found_in_frame}
+use Rattle.fio_check.specs.ContentCheckers.{content_found, found_in_frame}
 use Rattle.fio_check.specs.ContentSaid.{is_before, stamp_of}
 use Rattle.fio_check.specs.LinkJudges.{judging_anywhere, Judging, LogLine, content_above, any_stamp_in, any_stamp_of, is_set_back, judging_at, judging_below, judging_below_outcome, judging_taken, judging_with, judging_with_line, loads_below, loads_left, outcome_in, outcome_on, outcome_set_back, outcomes_of, place_lost}
 use Rattle.fio_check.specs.declared.checker.Checker.{Checker}
