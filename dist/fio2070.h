@@ -3,9 +3,9 @@
  *
  * The field I/O transition link of the Model 2070: the header of fio2070.c.
  *
- * Sources: c9064799331139e77a55aad62a399edd37e0c214c617314f79de0eb4627b4b40 (SHA-256; packaging/release-files --sources)
+ * Sources: 686e8e36bd8679a50a64d6cec152a4fddbdb62d9e56b0deafba2da47c19a8a01 (SHA-256; packaging/release-files --sources)
  * Kit: rattle-kit-13f logic dac8208d650f15bf
- * Proof: logic=proved functions=215 target=wasm64-unknown-unknown sum=dac8208d650f15bf native=nat,char,string
+ * Proof: logic=proved functions=225 target=wasm64-unknown-unknown sum=dac8208d650f15bf native=nat,char,string
  * Made by `make release-files`: do not edit.
  *
  * Proved is the module of which fio2070.c was made, for wasm64: each call does what fio2070.h says for all octets,
@@ -101,7 +101,7 @@ extern "C" {
 /** Returns that number of the library that is linked. */
 uint32_t fio2070_version(void);
 
-/** The count that says that there is nothing such: more than any room. */
+/** The count that says that there is no such message, or that it lacks what is asked for: more than any room. */
 #define FIO2070_NO_MESSAGE SIZE_MAX
 
 /** The input of a breach of a rule on content that has none. */
@@ -268,8 +268,8 @@ struct fio2070_command {
 struct fio2070_configuration_item {
     /** The input, from 0 to 127. The module has the inputs 0 to 63. */
     uint8_t input;
-    /** 1 where the input's transitions are left out of the blocks, else 0. Calls that are given an item
-     *  take any number but 0 as 1. */
+    /** 1 if the input's transitions are left out of the blocks, else 0. In an item from the caller any
+     *  number other than 0 counts as 1. */
     uint8_t ignore;
     /** The leading filter: how many successive samples of 0 change the state from 1 to 0; 0 acts as 1. */
     uint8_t leading;
@@ -448,7 +448,7 @@ enum fio2070_wire_limit {
 enum fio2070_wire_heard {
     FIO2070_WIRE_NOTHING = 0, /**< neither a frame nor damage */
     FIO2070_WIRE_MESSAGE = 1, /**< a frame with one's own address and control octet; it is held until the next one is read */
-    FIO2070_WIRE_OTHER = 2,   /**< a frame with another address or control octet; it is held likewise */
+    FIO2070_WIRE_OTHER = 2,   /**< a frame with another address or control octet; its octets are held as well */
     FIO2070_WIRE_DAMAGED = 3  /**< a part that is no frame */
 };
 
@@ -641,7 +641,7 @@ size_t fio2070_heard_text(const struct fio2070_heard *heard, char *text, size_t 
 /** The rules, in the order in which they are tried (own profile; docs/FORMATS.md). */
 enum fio2070_rule {
     FIO2070_RULE_NONE = 0, /**< no rule is broken */
-    /** A line that spells no message of its direction. */
+    /** A line that is no message of its direction. */
     FIO2070_RULE_READABLE = 1,
     /** A line that is an answer, but not directly below a command whose type is 128 less. */
     FIO2070_RULE_PAIR = 2,
@@ -686,24 +686,24 @@ enum fio2070_start_kind {
 
 /** A checker of what the CPU's end sends and hears. Its fields are the library's own. */
 struct fio2070_checker {
-    /** 1 where a command is directly above. */
+    /** 1 if a command is directly above. */
     uint8_t has_awaited;
     /** The type of the answer to it. */
     uint8_t awaited;
-    /** 1 where it names an input above 63. */
+    /** 1 if it names an input above 63. */
     uint8_t absent_named;
-    /** 1 where a poll is above. */
+    /** 1 if a poll is above. */
     uint8_t has_polled;
     /** The number of the latest poll. */
     uint8_t polled;
-    /** 1 where the latest poll or block answer is a block answer. */
+    /** 1 if the latest poll or block answer is a block answer. */
     uint8_t answered;
-    /** 1 where the latest poll has another number than the poll before it. */
+    /** 1 if the latest poll has another number than the poll before it. */
     uint8_t advanced;
-    /** 0 where no block answer is above, 1 where the latest has no C, 2 where it has. */
+    /** 0 if no block answer is above, 1 if the latest has no C, 2 if it has. */
     uint8_t more;
-    /** What is passed over: 0 nothing; 1 all frames to the next poll, as below a breach; 2 what is heard
-     *  above the first command. */
+    /** What is skipped: 0 nothing; 1 all frames to the next poll, as below a breach; 2 what is heard above
+     *  the first command. */
     uint8_t skips;
     /** The most entries of a block of the module. */
     uint8_t per_block;
@@ -717,11 +717,11 @@ struct fio2070_checker {
 struct fio2070_breach {
     /** 0 for none, else the number of the rule: one of `FIO2070_RULE_READABLE` and those after it. */
     uint8_t rule;
-    /** 1 where `due` and `got` are set: for advance and number, and for pair below a command. */
+    /** 1 if `due` and `got` are set: for advance and number, and for pair below a command. */
     uint8_t has_due;
     /** The number of the poll or the block answer, or the type of the answer, that was due. */
     uint8_t due;
-    /** The one that the frame has. */
+    /** The number or type that the frame has. */
     uint8_t got;
 };
 
@@ -880,7 +880,7 @@ struct fio2070_content_checker {
 struct fio2070_content_breach {
     /** 0 for none, else the number of the rule: one of `FIO2070_CONTENT_ORDER` and those after it. */
     uint8_t rule;
-    /** The input of the entry that breaks it, or that whose state is another; 255 for an answer. */
+    /** The input of the entry that breaks the rule, or the input with another state; 255 for an answer. */
     uint8_t input;
     /** How many items of the frame's block are recorded above the breach, a gap mark with them: for an
      *  answer none, at the end of a block all. */
@@ -920,7 +920,7 @@ uint8_t fio2070_content_heard(struct fio2070_content_checker *content, const uin
 /** @defgroup judge The judge of a link
  * A struct fio2070_judge judges a log in which lines may be lost, of a module that may be restarted and whose counter may be
  * loaded. It is both checkers, of the rules of the groups checker and content, and says of each frame what it is. Where lines
- * are lost, below a restart, below a load that took effect, and below a breach of a rule of transcripts the place is lost: to
+ * are lost, below a restart, below a load that took effect, and below a breach of a rule of transcripts sync is lost: to
  * the next poll nothing is judged, and from there on all rules are applied anew.
  * @code
  * const uint8_t poll[] = {54, 0}, block[] = {182, 0, 0, 0, 0, 0, 0, 11}, again[] = {182, 1, 0, 0, 0, 0, 0, 10}; // 11 ms, 10 ms
@@ -981,19 +981,19 @@ struct fio2070_judge {
 struct fio2070_judge_outcome {
     /** One of `FIO2070_OUTCOME_KEPT` and those after it. */
     uint8_t kind;
-    /** Why it is excused or not judged, one of `FIO2070_WHY_LOAD` and those after it; else 0. */
+    /** Why the frame is excused or not judged, one of `FIO2070_WHY_LOAD` and those after it; else 0. */
     uint8_t why;
-    /** The number of the rule that it breaks, one of `FIO2070_RULE_READABLE` or of `FIO2070_CONTENT_ORDER`
-     *  and those after it by its kind; else 0. */
+    /** The number of the rule that the frame breaks: by its kind one of `FIO2070_RULE_READABLE` and those
+     *  after it, or of `FIO2070_CONTENT_ORDER` and those after it; else 0. */
     uint8_t rule;
-    /** 1 where `due` and `got` are set: of rules of transcripts for advance and number, and for pair below
-     *  a command. */
+    /** 1 if `due` and `got` are set: of rules of transcripts for advance and number, and for pair below a
+     *  command. */
     uint8_t has_due;
     /** The number of the poll or the block answer, or the type of the answer, that was due. */
     uint8_t due;
-    /** The one that the frame has. */
+    /** The number or type that the frame has. */
     uint8_t got;
-    /** The input of the entry that breaks a rule on content, or that whose state is another; else 255. */
+    /** The input of the entry that breaks a rule on content, or the input with another state; else 255. */
     uint8_t input;
     /** 0. */
     uint8_t reserved;
@@ -1061,7 +1061,7 @@ enum fio2070_log_kind {
     FIO2070_LOG_BLANK = 0,      /**< it has nothing but blanks; by order: it is empty or begins with `#` */
     FIO2070_LOG_SAYS = 1,       /**< it says frames, with the lines below that go on with it */
     FIO2070_LOG_PART = 2,       /**< it has octets of the frames of a line above */
-    FIO2070_LOG_POSSIBLE = 3,   /**< it says a message, and nothing makes that sure */
+    FIO2070_LOG_POSSIBLE = 3,   /**< it says a message, and nothing in the log confirms it */
     FIO2070_LOG_DAMAGED = 4,    /**< it may have held a frame, and gives none; by order: each other that gives none */
     FIO2070_LOG_PASSED_OVER = 5 /**< it is none of these */
 };
@@ -1070,17 +1070,17 @@ enum fio2070_log_kind {
 enum fio2070_log_reason {
     FIO2070_LOG_NO_REASON = 0,        /**< it does, or it is blank */
     FIO2070_LOG_NO_OCTETS = 1,        /**< it has no octets */
-    FIO2070_LOG_NO_MESSAGE = 2,       /**< its octets spell no message */
+    FIO2070_LOG_NO_MESSAGE = 2,       /**< its octets are no message */
     FIO2070_LOG_SHORT_MESSAGE = 3,    /**< a short message in a line unlike those of other messages */
     FIO2070_LOG_SEVERAL_MESSAGES = 4, /**< it says more than one message */
     FIO2070_LOG_MAY_BE_LONGER = 5,    /**< it may be one message with the line below or above, or one by itself */
     FIO2070_LOG_TOO_LONG = 6,         /**< it is longer than a line, or than the octets of several lines, that are kept */
     FIO2070_LOG_BAD_LINE = 7,         /**< it is no line of the text that it is read as by order */
-    FIO2070_LOG_EXCHANGED = 8,        /**< its octets spell a message with a count if those of each pair are exchanged */
-    FIO2070_LOG_TWO_MORE = 9,         /**< its octets spell a message with a count but for two at one end */
+    FIO2070_LOG_EXCHANGED = 8,        /**< its octets are a message with a count if those of each pair are exchanged */
+    FIO2070_LOG_TWO_MORE = 9,         /**< its octets are a message with a count but for two at one end */
     FIO2070_LOG_LOSS = 10,            /**< it has no octets, and its words speak of loss: an answer may be missing here */
-    FIO2070_LOG_HEADING = 11,         /**< it has no octets, and is the heading of a log or of a part of one */
-    FIO2070_LOG_ONE_LESS = 12         /**< its octets spell a message with a count but for one missing at their end */
+    FIO2070_LOG_HEADING = 11,         /**< it says no message, and is the heading of a log or of a part of one */
+    FIO2070_LOG_ONE_LESS = 12         /**< its octets are a message with a count but for one missing at their end */
 };
 
 /** Who sent the octets of a line, as the line says: by its last word or arrow before them that says it. */
@@ -1097,7 +1097,7 @@ struct fio2070_log_verdict {
     /** The time in microseconds since 1970, or since midnight or a start if the log has no date; 0 if
      *  there is none. */
     uint64_t time;
-    /** How many frames the line gives, with those of the lines below that go on with it. */
+    /** How many frames the line gives, with those of the lines below that continue it. */
     uint32_t frames;
     /** At how many places the octets of these frames are written. */
     uint32_t places;
@@ -1121,28 +1121,28 @@ struct fio2070_log_place {
     uint64_t line;
     /** The index of the first octet in the line, with its mark, bracket or quote. */
     uint32_t start;
-    /** The index after the last one. */
+    /** The index after the last octet. */
     uint32_t end;
 };
 
 /** Verdicts on lines of a log, with their frames and places, each at the front of its array and in order: the frames of the
  * first verdict, then those of the second, and so the places. */
 struct fio2070_log_batch {
-    /** How many verdicts there are. */
+    /** The number of verdicts. */
     uint32_t verdict_count;
-    /** How many frames these have. */
+    /** The number of frames of these verdicts. */
     uint32_t frame_count;
-    /** How many octets the frames have. */
+    /** The number of octets of these frames. */
     uint32_t octet_count;
-    /** How many places there are. */
+    /** The number of places. */
     uint32_t place_count;
     /** The verdicts. */
     struct fio2070_log_verdict verdicts[4096];
-    /** The places of all verdicts, those of each after those of the one before. */
+    /** The places of all verdicts, verdict after verdict. */
     struct fio2070_log_place places[20480];
     /** How many octets each frame has. */
     uint16_t lengths[20480];
-    /** The octets of all frames, those of each after those of the one before. */
+    /** The octets of all frames, frame after frame. */
     uint8_t octets[65536];
 };
 
@@ -1162,9 +1162,9 @@ void fio2070_log_start(struct fio2070_log_reader *reader, uint8_t form);
  * whose lines are counted from 1.
  *
  * Proved are: which lines the octets make that it takes; that the verdicts in a batch are those of the next lines, each once
- * and in order, with all their frames and places; that each frame spells a message and is written at its places; that a line
- * with the reason FIO2070_LOG_LOSS or FIO2070_LOG_HEADING has such words; and that a new log begins as said. How many octets it
- * takes, when a verdict is due and what else it says are tested. */
+ * and in order, with all their frames and places; that the octets of each frame are a message and are written at its
+ * places; that a line with the reason FIO2070_LOG_LOSS or FIO2070_LOG_HEADING has such words; and that a new log begins as
+ * said. How many octets it takes, when a verdict is due and what else it says are tested. */
 FIO2070_MUST_USE
 size_t fio2070_log_read(struct fio2070_log_reader *reader, const uint8_t *octets, size_t length,
                         struct fio2070_log_batch *batch);
@@ -1178,7 +1178,7 @@ void fio2070_log_end(struct fio2070_log_reader *reader);
 /** @defgroup log_judge The judge of a log
  * A struct fio2070_log_judge judges the frames that a reader of a log finds, by what it says of the lines between them too. It
  * is a judge of a link (group judge), which finds by the directions of the log where it was taken. A line that may have held a
- * frame loses the place; a remark of loss, which has no octets, excuses what a lost frame explains. Of a log that was taken at
+ * frame loses sync; a remark of loss, which has no octets, excuses what a lost frame explains. Of a log that was taken at
  * a CPU which waits for each answer only until a deadline, late answers can be left out (docs/CAPTURES.md, Late answers). A
  * struct fio2070_log_signs says what kind of log it looks like, if it is not the log of one link in order. If FIO2070_NO_LOG is
  * defined, there are no such calls.
@@ -1237,18 +1237,19 @@ struct fio2070_log_judge {
  * FIO2070_LOG_BEGINS_ANYWHERE. Returns 0; where a limit is out of its range 1, and nothing changes.
  *
  * FIO2070_LOG_TAKEN_AUTO finds the place of each frame: a frame whose line says no direction was logged on the bus; another one
- * at the module, if down to it more directions contradict the types of their messages than agree, as they do where the module's
- * driver writes `TX` for an answer; else at the CPU's end. FIO2070_LOG_BEGINS_WITH_ENDS can accuse a right link in a log that
- * begins elsewhere. FIO2070_LOG_LEAVES_OUT_LATE is for a log that was taken at the CPU's end. */
+ * at the CPU's end, if down to it at least four of five directions agree with the types of their messages; at the module, if at
+ * least four of five contradict them, as they do where the module's driver writes `TX` for an answer; else on the bus.
+ * FIO2070_LOG_BEGINS_WITH_ENDS can accuse a right link in a log that begins elsewhere. FIO2070_LOG_LEAVES_OUT_LATE is for a log that was taken at the CPU's end. */
 FIO2070_MUST_USE
 uint8_t fio2070_log_judge_start(struct fio2070_log_judge *judge, struct fio2070_limits limits, uint8_t place, uint8_t start);
 /** Takes a line that may have held a frame, such as a damaged one: up to the next poll nothing is judged. */
 void fio2070_log_judge_lose(struct fio2070_log_judge *judge);
-/** Takes a line that says a message which nothing makes sure (FIO2070_LOG_POSSIBLE), or the heading of a part of the log
+/** Takes a line that says a message which nothing confirms (FIO2070_LOG_POSSIBLE), or the heading of a part of the log
  * (FIO2070_LOG_HEADING): below a frame it does what `fio2070_log_judge_lose` does; above the first frame nothing. */
 void fio2070_log_judge_possible(struct fio2070_log_judge *judge);
 /** Takes a line without octets that speaks of loss. If a frame down to and with the next poll or block answer breaks `pair`,
- * `number` or `advance`, the place is lost above it instead. No other breach is excused, on content none. */
+ * `number` or `advance`, or the next block answer breaks `same`, sync is lost above it instead. No other breach is excused, on
+ * content none. */
 void fio2070_log_judge_miss(struct fio2070_log_judge *judge);
 /** Takes a frame that the CPU's end sent if `from_cpu` is not 0, else the module. `said` is who sent it as its line says, one of
  * enum fio2070_log_side. Writes what it is, as `fio2070_judge_sent` does, and returns its kind, one of enum fio2070_outcome. A
@@ -1257,9 +1258,10 @@ FIO2070_MUST_USE
 uint8_t fio2070_log_judge_frame(struct fio2070_log_judge *judge, uint8_t from_cpu, uint8_t said, const uint8_t *octets,
                                 size_t length, struct fio2070_judge_outcome *outcome);
 /** Takes the verdicts of a batch that fio2070_log_read wrote, in order, as the calls above take them: frames; possible and damaged
- * lines; headings, and lines that speak of loss. Who sent a frame is said by its type; if `as_said` is not 0 by its line, if that
- * says it, as in a transcript that is read by order. Writes what each frame of the batch is, in their order, and
- * returns how many they are. The frame of a possible line is not judged, for no reason. */
+ * lines; headings; lines that speak of loss, and such as them skipped lines with a short message, which may have been a frame. Who
+ * sent a frame is said by its type; if `as_said` is not 0 by its line, if that says it, as in a transcript that is read by order.
+ * Writes what each frame of the batch is, in their order, and returns how many they are. The frame of a possible line is not judged,
+ * for no reason. */
 FIO2070_MUST_USE
 uint32_t fio2070_log_judge_batch(struct fio2070_log_judge *judge, uint8_t as_said, const struct fio2070_log_batch *batch,
                                  struct fio2070_judge_outcome outcomes[20480]);
@@ -1302,10 +1304,13 @@ void fio2070_log_signs_start(struct fio2070_log_signs *signs);
  * enum fio2070_log_side. Give it each frame of the log, in order. It changes nothing of what a judge says of the frame. */
 void fio2070_log_signs_frame(struct fio2070_log_signs *signs, uint8_t from_cpu, uint8_t said, const uint8_t *octets,
                              size_t length);
+/** Takes the frames of a batch that fio2070_log_read wrote, in order. `as_said` is as for fio2070_log_judge_batch, and the frame of a
+ * possible line is not taken. */
+void fio2070_log_signs_batch(struct fio2070_log_signs *signs, uint8_t as_said, const struct fio2070_log_batch *batch);
 /** Returns what kind of log it looks like by the frames down to here, one of enum fio2070_log_sign: the first of these that holds.
  *
- * FIO2070_LOG_SIGN_TWICE holds if of 8 or more answers at least two of five have the octets of the frame directly above, where
- * that one has not those of the frame above it. If for at least half of those the two lines say different senders, it is
+ * FIO2070_LOG_SIGN_TWICE holds if of 8 or more answers at least two of five have the octets of the frame directly above,
+ * which differs from the frame above it. If for at least half of those the two lines say different senders, it is
  * FIO2070_LOG_SIGN_BOTH_ENDS. FIO2070_LOG_SIGN_REVERSED holds if of 8 or more block answers more than half have the number of
  * the block answer above less one, and a stamp that is not later. FIO2070_LOG_SIGN_TWO_LINKS holds if of 8 or more block
  * answers at least a quarter go on with the other of two rows of numbers than the block answer above, and at most one in ten
@@ -1318,7 +1323,7 @@ uint8_t fio2070_log_signs_sign(const struct fio2070_log_signs *signs);
 
 /** @defgroup log_counts Counts of a log
  * A struct fio2070_log_counts has what is counted of the frames of a log: of each type, polls and how often they are sent again
- * or not answered, restarts, gap marks and entries. Its numbers are there to be read at any time. If FIO2070_NO_LOG is defined,
+ * or not answered, restarts, gap marks and entries. Its numbers may be read at any time. If FIO2070_NO_LOG is defined,
  * there are no such calls.
  * @code
  * const uint8_t poll[] = {54, 5}, block[] = {182, 5, 1, 140, 3, 231, 0, 0, 0, 3, 232};
@@ -1341,13 +1346,13 @@ struct fio2070_log_counts {
     uint64_t polls;
     /** The polls with the number of the poll above. */
     uint64_t repeats;
-    /** The polls below which a command comes before a block answer. */
+    /** The polls after which a command comes before a block answer. */
     uint64_t unanswered;
     /** The gap marks. */
     uint64_t marks;
     /** The entries of blocks. */
     uint64_t entries;
-    /** How often the module says that it was reset, and did not say so before. */
+    /** How often the module says that it was reset, though it did not say so before. */
     uint64_t restarts;
     /** The messages of each type. */
     uint64_t types[256];
@@ -1357,27 +1362,27 @@ struct fio2070_log_counts {
     uint64_t fills[256];
     /** When the command above was sent, in microseconds. */
     uint64_t sent_at;
-    /** 1 where that is known. */
+    /** 1 if that is known. */
     uint8_t has_sent_at;
     /** The type of the latest command, until it is answered. */
     uint8_t command;
-    /** 1 where there is one. */
+    /** 1 if there is one. */
     uint8_t has_command;
     /** The number of the latest poll. */
     uint8_t polled;
-    /** 1 where there is one. */
+    /** 1 if there is one. */
     uint8_t has_polled;
-    /** 1 where that poll is not answered yet. */
+    /** 1 if that poll is not answered yet. */
     uint8_t waits;
     /** The number of the latest block answer. */
     uint8_t block;
-    /** 1 where there is one. */
+    /** 1 if there is one. */
     uint8_t has_block;
-    /** 1 where the latest status answer says that the module was reset. */
+    /** 1 if the latest status answer says that the module was reset. */
     uint8_t reset;
-    /** 1 where the first one says so. */
+    /** 1 if the first one says so. */
     uint8_t first_reset;
-    /** 1 where there is one. */
+    /** 1 if there is one. */
     uint8_t has_reset;
     /** 0 in each octet that the library writes. */
     uint8_t reserved[5];
@@ -1389,10 +1394,17 @@ void fio2070_log_counts_start(struct fio2070_log_counts *counts);
 void fio2070_log_counts_lose(struct fio2070_log_counts *counts);
 /** Counts a frame, sent at `time`, in microseconds, if `has_time` is not 0. If it is the answer that the latest command waits for,
  * both have a time, and its time is not before the command's, it returns 1, and `taken` is how long the module took for the
- * answer, in microseconds; else it returns 0, and `taken` is 0. A frame that spells no message is counted in `frames` alone. Of
+ * answer, in microseconds; else it returns 0, and `taken` is 0. A frame that is no message is counted in `frames` alone. Of
  * a block that is sent again below the same block neither entries nor a gap mark are counted. */
 uint8_t fio2070_log_counts_frame(struct fio2070_log_counts *counts, uint8_t has_time, uint64_t time, const uint8_t *octets,
                                  size_t length, uint64_t *taken);
+/** Counts the frames of a batch that fio2070_log_read wrote, in order, as the calls above do, each by the time of its verdict. A
+ * frame may be lost at a possible or damaged line, at a heading, at a line that speaks of loss, and at a skipped one with a short
+ * message. The frame of a possible line is
+ * not counted. Writes how long the module took, in microseconds, for each answer of which fio2070_log_counts_frame returns 1, in
+ * order, and returns how many these are; what is after them in `taken` stays. */
+uint32_t fio2070_log_counts_batch(struct fio2070_log_counts *counts, const struct fio2070_log_batch *batch,
+                                  uint64_t taken[20480]);
 #endif
 
 /** @} */
@@ -1450,7 +1462,7 @@ struct fio2070_configured {
     uint8_t kind;
     /** 0 in each octet that the library writes. */
     uint8_t reserved[7];
-    /** The place of the first item that names an input above 63, counted from 0, for kind 1. */
+    /** For kind 1 the index of the first item that names an input above 63, from 0. */
     uint64_t place;
 };
 

@@ -3,9 +3,9 @@
  *
  * The field I/O transition link of the Model 2070: the header for C++17, above fio2070.h.
  *
- * Sources: c9064799331139e77a55aad62a399edd37e0c214c617314f79de0eb4627b4b40 (SHA-256; packaging/release-files --sources)
+ * Sources: 686e8e36bd8679a50a64d6cec152a4fddbdb62d9e56b0deafba2da47c19a8a01 (SHA-256; packaging/release-files --sources)
  * Kit: rattle-kit-13f logic dac8208d650f15bf
- * Proof: logic=proved functions=215 target=wasm64-unknown-unknown sum=dac8208d650f15bf native=nat,char,string
+ * Proof: logic=proved functions=225 target=wasm64-unknown-unknown sum=dac8208d650f15bf native=nat,char,string
  * Made by `make release-files`: do not edit.
  *
  * Proved is the module of which fio2070.c was made, for wasm64: each call does what fio2070.h says for all octets,
@@ -388,7 +388,7 @@ public:
         if (::fio2070_checker_start_within(&checker->checker_, {waiting, per_block, 0}) != FIO2070_STARTED) checker.reset();
         return checker;
     }
-    /// As `within`, of a log that begins anywhere: what is heard above the first frame that is sent is passed over.
+    /// As `within`, of a log that begins anywhere: what is heard above the first frame that is sent is not judged.
     static std::optional<Checker> anywhere(std::uint8_t per_block = FIO2070_MOST_ENTRIES,
                                            std::uint16_t waiting = FIO2070_STANDARD_WAITING) {
         std::optional<Checker> checker{Checker()};
@@ -413,7 +413,7 @@ private:
 
 /// A checker of the rules on content: it judges answers, and the entries of each block that a poller takes whose first
 /// number is that of the first poll sent. The log may begin anywhere: what is heard above the first frame that is sent is
-/// passed over.
+/// not judged.
 class ContentChecker {
 public:
     ContentChecker() { ::fio2070_content_start(&content_); }
@@ -510,9 +510,9 @@ public:
     }
     /// A line may have held a frame, such as a damaged one.
     void lose() { ::fio2070_log_judge_lose(&judge_); }
-    /// A line says a message which nothing makes sure: below a frame it is as for `lose`.
+    /// A line says a message which nothing confirms: below a frame it is as for `lose`.
     void possible() { ::fio2070_log_judge_possible(&judge_); }
-    /// A line without octets speaks of loss: down to the next poll or block answer nobody is accused of what a lost frame explains.
+    /// A line without octets speaks of loss: nobody is accused of what a frame explains that is missing here.
     void miss() { ::fio2070_log_judge_miss(&judge_); }
     /// What a frame is that the CPU sent, or the module. `said` is who sent it as its line says.
     ::fio2070_judge_outcome frame(Octets octets, bool from_cpu, ::fio2070_log_side said = FIO2070_LOG_NO_SIDE) {
@@ -520,6 +520,13 @@ public:
         outcome.kind = ::fio2070_log_judge_frame(&judge_, from_cpu, static_cast<std::uint8_t>(said), octets.data(), octets.size(),
                                                  &outcome);
         return outcome;
+    }
+    /// Takes the lines of a batch that `LogReader::read` wrote, in order, and returns what each of its frames is. Who sent a frame is
+    /// said by its type; if `as_said` by its line, if that says it.
+    std::vector<::fio2070_judge_outcome> batch(const ::fio2070_log_batch &batch, bool as_said = false) {
+        std::vector<::fio2070_judge_outcome> outcomes(std::size(batch.lengths));
+        outcomes.resize(::fio2070_log_judge_batch(&judge_, as_said, &batch, outcomes.data()));
+        return outcomes;
     }
 
 private:
@@ -537,6 +544,8 @@ public:
     void frame(Octets octets, bool from_cpu, ::fio2070_log_side said = FIO2070_LOG_NO_SIDE) {
         ::fio2070_log_signs_frame(&signs_, from_cpu, static_cast<std::uint8_t>(said), octets.data(), octets.size());
     }
+    /// Takes the frames of a batch that `LogReader::read` wrote, in order. `as_said` is as for `LogJudge::batch`.
+    void batch(const ::fio2070_log_batch &batch, bool as_said = false) { ::fio2070_log_signs_batch(&signs_, as_said, &batch); }
     /// What kind of log it looks like by the frames down to here.
     ::fio2070_log_sign sign() const { return static_cast<::fio2070_log_sign>(::fio2070_log_signs_sign(&signs_)); }
 
@@ -557,6 +566,14 @@ public:
         const bool is_known = ::fio2070_log_counts_frame(&counts_, time.has_value(), time.value_or(0), octets.data(), octets.size(),
                                                          &taken) != 0;
         return is_known ? std::optional<std::uint64_t>(taken) : std::nullopt;
+    }
+    /// Counts the frames of a batch that `LogReader::read` wrote, in order, each by the time of its line, and takes the lines between
+    /// them: a frame may be lost where `LogJudge` may lose its place. Returns how long the module took for its answers, of each of which
+    /// that is known.
+    std::vector<std::uint64_t> batch(const ::fio2070_log_batch &batch) {
+        std::vector<std::uint64_t> taken(std::size(batch.lengths));
+        taken.resize(::fio2070_log_counts_batch(&counts_, &batch, taken.data()));
+        return taken;
     }
     /// The numbers.
     const ::fio2070_log_counts &operator*() const { return counts_; }
