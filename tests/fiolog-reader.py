@@ -201,7 +201,9 @@ def check_parts(check):
 
 # What is written before the octets of a line, and the side that it says of them.
 SIDES = {
-    'TX': '>', 'rx:': '<', 'Sent ': '>', 'recv(3, ': '<', 'TX then RX': '<', 'in 5 ms': '<', 'CPU -> FIO:': '<', 'CPU ->': '>', 'FIO <-': '<',
+    'TX': '>', 'rx:': '<', 'Sent ': '>', 'recv(3, ': '<', 'TX then RX': '<', 'in 5 ms': '<', 'CPU ->': '>', 'FIO <-': '<',
+    'CPU -> FIO:': '>', 'FIO -> CPU:': '<', 'CPU <- FIO': '<', '[FIO] > [CPU] ': '<', '> CPU ': '>', 'FIO \u2192 CPU': '<', '=> FIO': '>',
+    'sent to fio: ': '>', 'from FIO to CPU ': '<', 'to port 3, TX': '>', 'CPU -> 3 RX': '<',
     '-->': '>', '=>': '>', '<<': '<', '<->': '', '>=': '', '> ': '>', '< TX': '<', '>TX RX': '<', '\u2192': '>', '\u2190\u2192': '>',
     '\u00e9\u2190': '<', 'tx_data': '>', 'tx1': '>', 'text': '', 'incoming': '<', 'wrote': '>', '': '', '07:15:02.100': '', 'TX ' + 'x ' * 300: '>',
 }

@@ -94,7 +94,8 @@ def rest_of(text, octets):
 
 SENT = {'tx', 'sent', 'send', 'out', 'write', 'wrote', 'cpu', 'outgoing', '>'}
 HEARD = {'rx', 'received', 'recv', 'in', 'read', 'fio', 'incoming', '<'}
-SAYING = re.compile('[a-z]+|[<>=-]+|[\u2190\u2192]', re.ASCII)
+NAMES = {'cpu', 'fio'}
+SAYING = re.compile('[a-z]+|[<>=-]+|[^\\x00-\\x7f]', re.ASCII)
 
 
 def direction_of(shape):
@@ -106,15 +107,21 @@ def direction_of(shape):
 
 
 def said_in(text, start):
-    """The side that a text says of the octets from a place on: as a transcript does, or by the last word that says one."""
+    """The side that a text says of the octets from a place on: as a transcript does, or by the last word that says one. A name after
+    an arrow to the right, or after `to`, is the receiver's; a lone `>` is such an arrow after a name."""
     if text[:2] in ('> ', '< '):
         return text[0]
-    said = ''
+    said, is_to, is_name = '', False, False
     for word in SAYING.findall(''.join(char.lower() if char.isascii() else char for char in text[:start])):
-        if word in SENT or word == '\u2192' or word[-1] == '>' and '<' not in word:
-            said = '>'
-        elif word in HEARD or word == '\u2190' or word[0] == '<' and '>' not in word:
-            said = '<'
+        is_right = word == '\u2192' or word[-1] == '>' and '<' not in word
+        if word in SENT or is_right:
+            side = '>'
+        else:
+            side = '<' if word in HEARD or word == '\u2190' or word[0] == '<' and '>' not in word else ''
+        if word in NAMES and is_to:
+            side = '<' if side == '>' else '>'
+        is_to = word == 'to' or is_right and (word != '>' or is_name)
+        said, is_name = side or said, word in NAMES
     return said
 
 
