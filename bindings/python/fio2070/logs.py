@@ -146,7 +146,7 @@ class LogBatch:
         """The type of each frame, 0 of one without octets."""
         lengths = self._lengths.cast('H')[:self.frame_count].tolist()
         begins = list(itertools.accumulate(lengths, initial=0))
-        types = bytes(operator.itemgetter(*begins, 0)(self._octets.tobytes()[:self._batch.octet_count] + b'\0'))[:len(lengths)]
+        types = bytes(operator.itemgetter(*begins, 0)(bytes(self._octets[:self._batch.octet_count]) + b'\0'))[:len(lengths)]
         return types if 0 not in lengths else bytes(length and code for length, code in zip(lengths, types))
 
     def set_kind(self, index: int, kind: int) -> None:
