@@ -53,7 +53,7 @@ WRONG = [
     ('step of a loop', Wrong(ACCESSES, "'%s += %d;' % (pointer, step)", "'%s += %d;' % (pointer, step + 1)", True)),
     ('first turn of a loop', Wrong(ACCESSES, "(start - name[1]) % 2", "(start - name[1] + 1) % 2", True)),
     ('data that instructions name', Wrong(PARTS, "if self.address <= number < self.end}", "if self.address < number < self.end - 512}", True)),
-    ('data that data names', Wrong(PARTS, "further = names | self.pointers(first, end)", "further = names", True)),
+    ('data that data names', Wrong(PARTS, "further = names | self.pointers(first, end, foreign)", "further = names", True)),
     ('functions of functions', Wrong(PARTS, "for it in found)) for name", "for it in [dict(module.exports)[name]])) for name", True)),
     ('field of a result', Wrong(CALLS, "header->stamp = get32(into + 4);", "header->stamp = get32(into + 3);", True)),
 ]
