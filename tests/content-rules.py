@@ -104,10 +104,10 @@ def check_found(check):
     logs, counted = found.count()
     rows = found.table_of(logs, counted)
     if check.given.write:
-        found.write(rows)
+        found.TABLE.write(rows)
         print(found.HEAD + rows)
     check.equal('what is found can be found', [], found.fault_of_limits(counted))
-    check.equal('what is found is what docs/TESTS.md says', rows, found.shown())
+    check.equal('what is found is what docs/TESTS.md says', rows, found.TABLE.shown())
 
 
 def main():

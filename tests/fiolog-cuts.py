@@ -127,9 +127,9 @@ def check_survivors(check):
     if check.wants(name) and (check.given.write or check.whole(name)):
         rows = survivors.table_of(survivors.count())
         if check.given.write:
-            survivors.write(rows)
+            survivors.TABLE.write(rows)
             print(survivors.HEAD + rows)
-        check.equal(name, rows, survivors.shown())
+        check.equal(name, rows, survivors.TABLE.shown())
 
 
 def main():

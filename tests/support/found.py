@@ -1,23 +1,20 @@
 """How many single faults of random right links the library finds, beside the most that can be found, and the table of
 docs/TESTS.md that says so."""
 
-import os
 import random
-import re
 from collections import Counter
 
 from support.faults import FAULTS, with_fault
 from support.links import Kind, Link, check_breach, content_breach
-from support.tables import TOP
+from support.page_table import PageTable
 
 LINKS = 1000
-PAGE = os.path.join(TOP, 'docs', 'TESTS.md')
 NAMES = [fault.__name__ for fault in FAULTS]
 # Where the fault is: in a log that is judged from its first command on, below its first clear block; in one that begins with
 # both ends and is judged as such; in one that is judged from its first command on.
 PLACES = ('below a clear block', 'both ends', 'anywhere')
 HEAD = '| An entry is | %s |\n|---|---|---|---|\n' % ' | '.join(PLACES)
-TABLE = re.compile('(?<=%s)(?:.+\n)+' % re.escape(HEAD))
+TABLE = PageTable('TESTS.md', HEAD)
 # In how many of these logs no right link explains the fault, so that it can be found. Each log in which nothing is found was
 # decided by a search, not in this repository, for samples, losses, scans and earlier configurations that lead to it.
 LIMITS = {'below a clear block': (685, 796, 776, 777), 'both ends': (848, 938, 934, 931), 'anywhere': (736, 856, 830, 838)}
@@ -65,20 +62,3 @@ def table_of(logs, found):
 def fault_of_limits(found):
     """Nothing is found that a right link explains."""
     return [(place, name) for place in PLACES for name, most in zip(NAMES, LIMITS[place]) if found[place, name] > most]
-
-
-def text_of_page():
-    with open(PAGE, encoding='utf-8') as file:
-        return file.read()
-
-
-def shown():
-    """The rows of the table on the page."""
-    return TABLE.search(text_of_page())[0]
-
-
-def write(rows):
-    """Writes the rows into the page."""
-    text = TABLE.sub(lambda _: rows, text_of_page())
-    with open(PAGE, 'w', encoding='utf-8') as file:
-        file.write(text)

@@ -1,21 +1,18 @@
 """How many single faults in logs of right links `fiolog check` still finds if lines of the log are damaged, and the table of
 docs/CAPTURES.md that says so."""
 
-import os
 import random
-import re
 from collections import Counter
 
 from support.faults import doubled, dropped, swapped, turned, with_fault
 from support.links import Kind, Link
+from support.page_table import PageTable
 from support.restarting import damaged, found_in, lines_of
-from support.tables import TOP
 
-PAGE = os.path.join(TOP, 'docs', 'CAPTURES.md')
 SEEDS, LINKS = (1, 2, 3), 40        # each seed has this many links
 CHANCES = (0.01, 0.02, 0.05, 0.1)   # of a line to be damaged
 HEAD = '| Fault | %s |\n|---|%s\n' % (' | '.join('%d %%' % round(100 * chance) for chance in CHANCES), '---|' * len(CHANCES))
-TABLE = re.compile('(?<=%s)(?:.+\n)+' % re.escape(HEAD))
+TABLE = PageTable('CAPTURES.md', HEAD)
 KIND = Kind(commands=300, inputs=8, change=0.02, longest=5, lost=0.01, unheard=0.02, configures=0.005, asks=0.1)
 POLL, BLOCK, STAMPED = 54, 182, (177, 180, 181, 182)
 AGAIN, LOST = 2, 4
@@ -121,20 +118,3 @@ def fault_of_floors():
 def table_of(found):
     """The rows of the table."""
     return ''.join('| %s | %s |\n' % (name, ' | '.join('%.0f' % percent(found, (name,), chance) for chance in CHANCES)) for name in FAULTS)
-
-
-def text_of_page():
-    with open(PAGE, encoding='utf-8') as file:
-        return file.read()
-
-
-def shown():
-    """The rows of the table on the page."""
-    return TABLE.search(text_of_page())[0]
-
-
-def write(rows):
-    """Writes the rows into the page."""
-    text = TABLE.sub(lambda _: rows, text_of_page())
-    with open(PAGE, 'w', encoding='utf-8') as file:
-        file.write(text)
