@@ -5,9 +5,9 @@ use Rattle.fio_message.specs.Bits.{bit_of}
 use Rattle.fio_check.specs.declared.checker.Checker.{Checker}
 use Rattle.fio_check.specs.declared.checker.Skips.{Skips}
 use Rattle.fio_check.specs.declared.checker.Skips.TheVariants.{Nothing, ToCommand, ToPoll}
-use Rattle.fio_c.specs.Checkers.{checker_in, flat_checker, flat_more, flat_skips, more_in, octet_in, skips_in}
+use Rattle.fio_c.specs.Checkers.{checker_in, flat_checker, flat_more, flat_skips, more_in, octet_if, skips_in}
 
-octet-kept : (octet : Option ℕ) → octet_in (bit_of (is_some octet)) (unwrap_or octet 0) ≡ octet
+octet-kept : (octet : Option ℕ) → octet_if (bit_of (is_some octet)) (unwrap_or octet 0) ≡ octet
 octet-kept None = refl
 octet-kept (Some octet) = refl
 

@@ -14,7 +14,7 @@ use Rattle.fio_log.specs.declared.own_texts.OwnForm.{OwnForm}
 use Rattle.fio_log.specs.declared.verdict.Form.TheVariants.{Auto}
 use Rattle.fio_log.specs.declared.verdict.LineVerdict.{LineVerdict}
 use Rattle.fio_c.specs.Logs.{AreNext, HasNoneDue, HasReadOn, HasRoomFirst, HasTakenOctets, HasVerdicts, Holds, content_of, flat_told, has_room}
-use Rattle.fio_c.specs.Told.{AreLinesAfter, HasReadOf, IsVerdictOf, Returns, ReturnsAll, Told, log_of, told_by}
+use Rattle.fio_c.specs.Told.{AreLinesAfter, HasReadOf, IsVerdictOf, Returns, ReturnsAll, Told, octets_by_line, told_by}
 use Rattle.fio_c.specs.declared.log_batch.LogBatch.{LogBatch}
 use Rattle.fio_c.proofs.Batches.{next_more}
 
@@ -22,7 +22,7 @@ use Rattle.fio_c.proofs.Batches.{next_more}
 pub nothing_read : (telling : Telling) → telling.making ≡ no_line → ((log : Log) → IsReaderOf log telling) → (texts : Texts) → HasReadOf texts telling
 nothing_read telling none kept texts = record {
   text = λ is. let no : false ≡ true = ap (λ (m : Making). is_whole m.ending) (sym none) ∙ is in absurd (cc);
-  kept = kept (log_of texts);
+  kept = kept (octets_by_line texts);
 }
 
 -- a reader that makes and has read the same
@@ -30,7 +30,7 @@ pub same_read : (texts : Texts) (before after : Telling) → after.making ≡ be
     → ((log : Log) → IsReaderOf log before → IsReaderOf log after) → HasReadOf texts before → HasReadOf texts after
 same_read texts before after making read kept has = record {
   text = λ is. ap (λ (m : Making). m.text) making ∙ has.text (ap (λ (m : Making). is_whole m.ending) (sym making) ∙ is) ∙ ap texts (sym read);
-  kept = kept (log_of texts) has.kept;
+  kept = kept (octets_by_line texts) has.kept;
 }
 
 -- a reader that has read a line more
@@ -38,7 +38,7 @@ pub line_read : (texts : Texts) (before after : Telling) → IsTextOf texts afte
     → ((log : Log) → IsReaderOf log before → IsLineOf log after → IsReaderOf log after) → HasReadOf texts before → HasReadOf texts after
 line_read texts before after text kept has = record {
   text = text;
-  kept = kept (log_of texts) has.kept (λ is. ap (λ (t : Text). t.octets) (text is));
+  kept = kept (octets_by_line texts) has.kept (λ is. ap (λ (t : Text). t.octets) (text is));
 }
 
 -- a verdict that a reader of a log returns is of that log
@@ -53,8 +53,8 @@ verdict_of texts before after verdict told kept written words own last has =
     let read = same_read texts before after told.making told.read kept has in (
       read,
       record {
-        written = written (log_of texts) has.kept;
-        words = words (log_of texts) has.kept;
+        written = written (octets_by_line texts) has.kept;
+        words = words (octets_by_line texts) has.kept;
         own = λ form is.
             let line = last form is in
             subst (λ text. IsOwnVerdict form text verdict.kind verdict.reason (frames_of after))

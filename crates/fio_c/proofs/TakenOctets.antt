@@ -2,7 +2,7 @@
 use Rattle.std.proofs.Common.{◌≡◌, ℕ, ◌+◌, Bool, true, false, if◌then◌else◌, List, [], ◌∷◌, ◌++◌, length, refl, sym, ap, ◌∙◌, append_assoc, append-nil, add-zero, add_assoc}
 use Rattle.std.proofs.lemmas.List.{length-append}
 use Rattle.std.proofs.lemmas.List.Sums.{fold-append}
-use Rattle.fio_log.specs.Lines.{Lines, Text, is_whole, lines_after, only, with_octet, with_octet_of}
+use Rattle.fio_log.specs.Lines.{Lines, Text, is_whole, lines_after, only, with_octet_made, with_octet_of}
 use Rattle.fio_log.specs.Telling.{HasTaken, Telling, read_after}
 use Rattle.fio_c.specs.Logs.{HasTakenOctets}
 
@@ -19,7 +19,7 @@ whole_before whole more text false = refl
 pub lines_after-before : (whole : List Text) (lines : Lines) (octets : List ℕ) → lines_after (before whole lines) octets ≡ before whole (lines_after lines octets)
 lines_after-before whole lines [] = refl
 lines_after-before whole lines (octet ∷ octets) =
-    let making = with_octet lines.making octet in
+    let making = with_octet_made lines.making octet in
     ap (λ all. lines_after (record { whole = all; making = making }) octets) (whole_before whole lines.whole making.text (is_whole making.ending))
     ∙ lines_after-before whole (with_octet_of lines octet) octets
 

@@ -20,8 +20,8 @@ abbrev pub limits_of : FlatLimits → RuleLimits
 limits_of limits = record { per_block = limits.per_block; waiting = limits.waiting }
 
 -- a number, if its flag is set
-abbrev pub octet_in : ℕ → ℕ → Option ℕ
-octet_in has octet = if has == 0 then None else Some octet
+abbrev pub octet_if : ℕ → ℕ → Option ℕ
+octet_if has octet = if has == 0 then None else Some octet
 
 -- whether the latest block answer has C, if one is above
 abbrev pub more_in : ℕ → Option Bool
@@ -48,9 +48,9 @@ abbrev pub checker_in : FlatChecker → Checker
 checker_in flat = record {
   limits = record { per_block = flat.per_block; waiting = flat.waiting };
   facts = record {
-    awaited = octet_in flat.has_awaited flat.awaited;
+    awaited = octet_if flat.has_awaited flat.awaited;
     absent_named = not (flat.absent_named == 0);
-    polled = octet_in flat.has_polled flat.polled;
+    polled = octet_if flat.has_polled flat.polled;
     answered = not (flat.answered == 0);
     advanced = not (flat.advanced == 0);
     more = more_in flat.more;

@@ -12,7 +12,7 @@ use Rattle.fio_check.specs.declared.outcome.FrameOutcome.{FrameOutcome}
 use Rattle.fio_check.specs.declared.outcome.FrameOutcome.TheVariants.{Broken, BrokenContent, Excused, Kept, NotJudged, Restarted}
 use Rattle.fio_check.specs.declared.outcome.Unjudged.{Unjudged}
 use Rattle.fio_check.specs.declared.outcome.Unjudged.TheVariants.{AboveCommand, PlaceLost}
-use Rattle.fio_c.specs.Checkers.{checker_in, octet_in, with_due}
+use Rattle.fio_c.specs.Checkers.{checker_in, octet_if, with_due}
 use Rattle.fio_c.specs.declared.checker.FlatBreach.{FlatBreach}
 use Rattle.fio_c.specs.declared.judge.FlatJudge.{FlatJudge}
 use Rattle.fio_c.specs.declared.judge.JudgeOutcome.{JudgeOutcome}
@@ -22,8 +22,8 @@ abbrev pub judge_in : FlatJudge → Judging
 judge_in flat = record {
   checker = checker_in flat.checker;
   content = content_checking flat.content;
-  latest = octet_in flat.has_latest flat.latest;
-  asked = octet_in flat.has_asked flat.asked;
+  latest = octet_if flat.has_latest flat.latest;
+  asked = octet_if flat.has_asked flat.asked;
   lost = not (flat.lost == 0);
 }
 

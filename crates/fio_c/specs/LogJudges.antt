@@ -11,7 +11,7 @@ use Rattle.fio_check.specs.declared.missing_frames.MissingFrames.TheVariants.{Ab
 use Rattle.fio_check.specs.declared.outcome.LogPlace.{LogPlace}
 use Rattle.fio_check.specs.declared.outcome.LogPlace.TheVariants.{Bus, Cpu, Module}
 use Rattle.fio_c.specs.BatchItems.{BatchItem}
-use Rattle.fio_c.specs.Checkers.{octet_in}
+use Rattle.fio_c.specs.Checkers.{octet_if}
 use Rattle.fio_c.specs.Judges.{flat_outcome, judge_in, without_breach}
 use Rattle.fio_c.specs.declared.judge.JudgeOutcome.{JudgeOutcome}
 use Rattle.fio_c.specs.declared.log_batch.LogVerdict.{LogVerdict}
@@ -51,8 +51,8 @@ end_in said = if said == 1 then Some true else if said == 2 then Some false else
 abbrev pub late_in : FlatLogJudge → Option LateAnswers
 late_in flat = if flat.has_late == 0 then None else Some (record {
   settled = not (flat.settled == 0);
-  awaited = octet_in flat.has_awaited flat.awaited;
-  polled = octet_in flat.has_polled flat.polled;
+  awaited = octet_if flat.has_awaited flat.awaited;
+  polled = octet_if flat.has_polled flat.polled;
   first = not (flat.first == 0);
   answered = not (flat.answered == 0);
 })

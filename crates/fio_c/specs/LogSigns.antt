@@ -4,7 +4,7 @@ use Rattle.fio_check.specs.declared.block_order.BlockSeen.{BlockSeen}
 use Rattle.fio_check.specs.declared.log_signs.LogSign.{LogSign}
 use Rattle.fio_check.specs.declared.log_signs.LogSign.TheVariants.{BothEnds, Reversed, Twice, TwoLinks}
 use Rattle.fio_check.specs.declared.log_signs.LogSigns.{LogSigns}
-use Rattle.fio_c.specs.Checkers.{octet_in}
+use Rattle.fio_c.specs.Checkers.{octet_if}
 use Rattle.fio_check.specs.LogSigns.{signs_with}
 use Rattle.fio_c.specs.BatchItems.{BatchItem}
 use Rattle.fio_c.specs.LogJudges.{end_in, is_sent_frame}
@@ -27,8 +27,8 @@ log_signs_in flat = record {
   };
   order = record { above = block_seen_of flat; blocks = flat.blocks; backward = flat.backward };
   rows = record {
-    first = octet_in flat.has_first flat.first;
-    second = octet_in flat.has_second flat.second;
+    first = octet_if flat.has_first flat.first;
+    second = octet_if flat.has_second flat.second;
     changes = flat.changes;
     jumps = flat.jumps;
   };

@@ -9,17 +9,17 @@ use Rattle.fio_flat.specs.Faults.{error_in}
 use Rattle.fio_flat.specs.declared.poller.FlatHeard.{FlatHeard}
 
 -- the text for a value, or the empty text if there is none
-abbrev pub words_of : {X : Type 0} → (X → List ℕ) → Option X → List ℕ
-words_of words None = []
-words_of words (Some one) = words one
+abbrev pub words_if_any : {X : Type 0} → (X → List ℕ) → Option X → List ℕ
+words_if_any words None = []
+words_if_any words (Some one) = words one
 
 -- the name of the rule with this number; empty if no rule has it
 abbrev pub text_of_rule : ℕ → List ℕ
-text_of_rule number = words_of rule_name (rule_of_number number)
+text_of_rule number = words_if_any rule_name (rule_of_number number)
 
 -- the name of the rule on content with this number; empty if no rule has it
 abbrev pub text_of_content_rule : ℕ → List ℕ
-text_of_content_rule number = words_of content_rule_name (content_rule_of_number number)
+text_of_content_rule number = words_if_any content_rule_name (content_rule_of_number number)
 
 -- what was heard, by the kind in a struct of C, whatever its other numbers are
 abbrev pub heard_in : FlatHeard → Option Heard
@@ -35,4 +35,4 @@ heard_in heard =
 abbrev pub text_of_heard : FlatHeard → List ℕ
 text_of_heard heard =
     if heard.kind == 4 then codes "no room needed " ++ decimal heard.items
-    else words_of heard_text (heard_in heard)
+    else words_if_any heard_text (heard_in heard)

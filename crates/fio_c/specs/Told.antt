@@ -38,13 +38,13 @@ ReturnsAll first (one ∷ more) last =
     (before : Telling) × (after : Telling) × (before.told ≡ first.told) × Returns before one after × ReturnsAll after more last
 
 -- a log by its lines
-abbrev pub log_of : Texts → Log
-log_of texts = λ line. (texts line).octets
+abbrev pub octets_by_line : Texts → Log
+octets_by_line texts = λ line. (texts line).octets
 
 -- A reader has read a log with these lines: what it keeps is written there.
 pub record HasReadOf (texts : Texts) (telling : Telling) : Type 0 where
   pub text : IsTextOf texts telling
-  pub kept : IsReaderOf (log_of texts) telling
+  pub kept : IsReaderOf (octets_by_line texts) telling
 
 -- some lines of a log: the next ones after a number of lines
 abbrev pub AreLinesAfter : ℕ → Texts → List Text → Type 0
@@ -54,7 +54,7 @@ AreLinesAfter above texts (text ∷ more) = (text ≡ texts (above + 1)) × AreL
 -- A verdict is of a log with these lines: its frames are written at its places, and what it says of the words of its line is
 -- true; or, if lines are read as one of the program's own texts, it is what `read_own_line` says of its line.
 pub record IsVerdictOf (texts : Texts) (form : Form) (one : Told) : Type 0 where
-  pub written : form ≡ Auto → AreFramesAt (log_of texts) one.frames one.places
+  pub written : form ≡ Auto → AreFramesAt (octets_by_line texts) one.frames one.places
   pub words : form ≡ Auto → SaysWords (texts one.verdict.line).octets one.verdict.reason
   pub own : (own : OwnForm) → own_form_of form ≡ Some own
       → IsOwnVerdict own (texts one.verdict.line) one.verdict.kind one.verdict.reason one.frames

@@ -1,6 +1,6 @@
 //! What a batch of the reader of logs says, one after another.
 ghost use Rattle.std.specs.Prelude.{◌≡◌, ◌≤◌, [], ◌∷◌, List, IfNone, IfSome};
-ghost use Rattle.fio_c.specs.BatchItems.{frame_count, frames_in, items_of, items_of_told};
+ghost use Rattle.fio_c.specs.BatchItems.{frame_count, frames_by_counts, items_of_content, items_of_told};
 ghost use Rattle.fio_c.specs.Logs.{Content, Holds, content_of};
 ghost use Rattle.fio_c.specs.Told.{Told};
 
@@ -25,17 +25,17 @@ pub(crate) struct BatchItems<'a> {
 
 impl<'a> Model for BatchItems<'a> {
     ghost use Rattle.std.specs.Prelude.{List, ◌++◌, take, drop};
-    ghost use Rattle.fio_c.specs.BatchItems.{BatchItem, frames_in, frames_of, items_in};
+    ghost use Rattle.fio_c.specs.BatchItems.{BatchItem, frames_by_counts, frame_items, items_of_verdicts};
 
     ghost Value = { List BatchItem };
 
-    ghost view = { λ v. let frames = frames_in v.lengths.now v.octets.now in
-        frames_of v.verdict.now (take v.left frames) ++ items_in v.verdicts.now (drop v.left frames) };
+    ghost view = { λ v. let frames = frames_by_counts v.lengths.now v.octets.now in
+        frame_items v.verdict.now (take v.left frames) ++ items_of_verdicts v.verdicts.now (drop v.left frames) };
 }
 
 /// Returns what a batch says: each verdict, and below it each of its frames.
 pub(crate) fn items_of(batch: &LogBatch) -> BatchItems<'_>
-    ensures items { (content : Content) → Holds batch.now content → result ≡ items_of content }
+    ensures items { (content : Content) → Holds batch.now content → result ≡ items_of_content content }
     ensures told { (told : List Told) → Holds batch.now (content_of told) → result ≡ items_of_told told }
     ensures few { frame_count result ≤ LOG_FRAMES }
 {
@@ -50,9 +50,9 @@ pub(crate) fn items_of(batch: &LogBatch) -> BatchItems<'_>
 
 /// Returns the first of the frames with these lengths, if there is one, and the lengths and octets below it.
 fn first_frame<'a>(lengths: &'a [u16], octets: &'a [u8]) -> Option<(&'a [u8], &'a [u16], &'a [u8])>
-    ensures none { IfNone result (frames_in lengths.now octets.now ≡ []) }
-    ensures some { IfSome result (λ found. frames_in lengths.now octets.now
-        ≡ found.0.now ∷ frames_in found.1.now found.2.now) }
+    ensures none { IfNone result (frames_by_counts lengths.now octets.now ≡ []) }
+    ensures some { IfSome result (λ found. frames_by_counts lengths.now octets.now
+        ≡ found.0.now ∷ frames_by_counts found.1.now found.2.now) }
 {
     let (length, below) = lengths.split_first()?;
     let (frame, rest) = octets.split_at(usize::from(*length).min(octets.len()));

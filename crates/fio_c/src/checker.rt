@@ -2,8 +2,8 @@
 ghost use Rattle.std.specs.Prelude.{◌≡◌, IfNone, IfSome, true, false};
 ghost use Rattle.fio_check.specs.Checkers.{checker_anywhere, checker_with, checker_within, found_by, new_checker};
 ghost use Rattle.fio_check.specs.Observations.{observation_in};
-ghost use Rattle.fio_flat.specs.Module.{are_limits};
-ghost use Rattle.fio_c.specs.Checkers.{checker_in, flat_breach, flat_checker, flat_more, flat_skips, limits_of, more_in, octet_in, skips_in};
+ghost use Rattle.fio_flat.specs.Module.{are_flat_limits};
+ghost use Rattle.fio_c.specs.Checkers.{checker_in, flat_breach, flat_checker, flat_more, flat_skips, limits_of, more_in, octet_if, skips_in};
 
 use fio_check::{Breach, Checker, Facts, RuleLimits, Skips};
 use fio_flat::FlatLimits;
@@ -75,9 +75,9 @@ pub extern "C" fn fio2070_checker_start(checker: &mut FlatChecker)
 /// without any change if a limit is out of its range.
 #[unsafe(no_mangle)]
 pub extern "C" fn fio2070_checker_start_within(checker: &mut FlatChecker, limits: FlatLimits) -> u8
-    ensures made { are_limits limits ≡ true → checker_in checker.new ≡ checker_within (limits_of limits) }
-    ensures octets { are_limits limits ≡ true → (result ≡ 0) × (checker.new ≡ flat_checker (checker_within (limits_of limits))) }
-    ensures refused { are_limits limits ≡ false → (result ≡ 1) × (checker.new ≡ checker.old) }
+    ensures made { are_flat_limits limits ≡ true → checker_in checker.new ≡ checker_within (limits_of limits) }
+    ensures octets { are_flat_limits limits ≡ true → (result ≡ 0) × (checker.new ≡ flat_checker (checker_within (limits_of limits))) }
+    ensures refused { are_flat_limits limits ≡ false → (result ≡ 1) × (checker.new ≡ checker.old) }
 {
     let Some(limits) = limits_from(limits) else {
         return 1;
@@ -93,9 +93,9 @@ pub extern "C" fn fio2070_checker_start_anywhere(
     checker: &mut FlatChecker,
     limits: FlatLimits,
 ) -> u8
-    ensures made { are_limits limits ≡ true → checker_in checker.new ≡ checker_anywhere (limits_of limits) }
-    ensures octets { are_limits limits ≡ true → (result ≡ 0) × (checker.new ≡ flat_checker (checker_anywhere (limits_of limits))) }
-    ensures refused { are_limits limits ≡ false → (result ≡ 1) × (checker.new ≡ checker.old) }
+    ensures made { are_flat_limits limits ≡ true → checker_in checker.new ≡ checker_anywhere (limits_of limits) }
+    ensures octets { are_flat_limits limits ≡ true → (result ≡ 0) × (checker.new ≡ flat_checker (checker_anywhere (limits_of limits))) }
+    ensures refused { are_flat_limits limits ≡ false → (result ≡ 1) × (checker.new ≡ checker.old) }
 {
     let Some(limits) = limits_from(limits) else {
         return 1;
@@ -106,8 +106,8 @@ pub extern "C" fn fio2070_checker_start_anywhere(
 
 /// Returns the limits in a struct of C; `None` if one is out of its range.
 pub(crate) fn limits_from(limits: FlatLimits) -> Option<RuleLimits>
-    ensures none { IfNone result (are_limits limits ≡ false) }
-    ensures some { IfSome result (λ found. (are_limits limits ≡ true) × (found ≡ limits_of limits)) }
+    ensures none { IfNone result (are_flat_limits limits ≡ false) }
+    ensures some { IfSome result (λ found. (are_flat_limits limits ≡ true) × (found ≡ limits_of limits)) }
 {
     if limits.waiting == 0 || limits.waiting > MOST_WAITING || limits.per_block == 0 {
         return None;
@@ -213,7 +213,7 @@ pub(crate) fn flat_from(checker: &Checker) -> FlatChecker
 
 /// Returns a number, if its flag is set.
 fn octet_in(has: u8, octet: u8) -> Option<u8>
-    ensures { result ≡ octet_in has octet }
+    ensures { result ≡ octet_if has octet }
 {
     if has == 0 { None } else { Some(octet) }
 }

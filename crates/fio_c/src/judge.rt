@@ -2,8 +2,8 @@
 ghost use Rattle.std.specs.Prelude.{◌≡◌, Bool, false, true};
 ghost use Rattle.fio_check.specs.LinkJudges.{judging_anywhere, judging_begun, judging_lost, judging_with, outcome_in};
 ghost use Rattle.fio_check.specs.LinkKept.{judging};
-ghost use Rattle.fio_flat.specs.Module.{are_limits};
-ghost use Rattle.fio_c.specs.Checkers.{limits_of, octet_in};
+ghost use Rattle.fio_flat.specs.Module.{are_flat_limits};
+ghost use Rattle.fio_c.specs.Checkers.{limits_of, octet_if};
 ghost use Rattle.fio_c.specs.Judges.{excuse_number, flat_outcome, judge_in, place_in, unjudged_number, without_breach};
 
 use crate::checker::{FlatChecker, breach_from, checker_from, flat_from, limits_from};
@@ -65,8 +65,8 @@ pub struct JudgeOutcome {
 /// above the first frame that it sent is not judged. Returns 0, or 1 without any change if a limit is out of its range.
 #[unsafe(no_mangle)]
 pub extern "C" fn fio2070_judge_start_anywhere(judge: &mut FlatJudge, limits: FlatLimits) -> u8
-    ensures made { are_limits limits ≡ true → (result ≡ 0) × (judge_in judge.new ≡ judging_anywhere (limits_of limits)) }
-    ensures refused { are_limits limits ≡ false → (result ≡ 1) × (judge.new ≡ judge.old) }
+    ensures made { are_flat_limits limits ≡ true → (result ≡ 0) × (judge_in judge.new ≡ judging_anywhere (limits_of limits)) }
+    ensures refused { are_flat_limits limits ≡ false → (result ≡ 1) × (judge.new ≡ judge.old) }
 {
     let Some(limits) = limits_from(limits) else {
         return 1;
@@ -79,8 +79,8 @@ pub extern "C" fn fio2070_judge_start_anywhere(judge: &mut FlatJudge, limits: Fl
 /// `fio2070_judge_start_anywhere` does.
 #[unsafe(no_mangle)]
 pub extern "C" fn fio2070_judge_start_begun(judge: &mut FlatJudge, limits: FlatLimits) -> u8
-    ensures made { are_limits limits ≡ true → (result ≡ 0) × (judge_in judge.new ≡ judging_begun (limits_of limits)) }
-    ensures refused { are_limits limits ≡ false → (result ≡ 1) × (judge.new ≡ judge.old) }
+    ensures made { are_flat_limits limits ≡ true → (result ≡ 0) × (judge_in judge.new ≡ judging_begun (limits_of limits)) }
+    ensures refused { are_flat_limits limits ≡ false → (result ≡ 1) × (judge.new ≡ judge.old) }
 {
     let Some(limits) = limits_from(limits) else {
         return 1;
@@ -159,7 +159,7 @@ pub(crate) fn judge_from(flat: &FlatJudge) -> LinkJudge
 
 /// Returns a stamp, if its flag is set.
 fn stamp_in(has: u8, stamp: u32) -> Option<u32>
-    ensures { result ≡ octet_in has stamp }
+    ensures { result ≡ octet_if has stamp }
 {
     if has == 0 { None } else { Some(stamp) }
 }

@@ -2,7 +2,7 @@
 ghost use Rattle.std.specs.Prelude.{◌≡◌, ◌≤◌, ◌++◌, List, Some, None, drop, fold, is_some, length, unwrap_or};
 ghost use Rattle.fio_message.specs.Bits.{bit_of};
 ghost use Rattle.fio_check.specs.LogCounts.{counted_lost, counts_above, counts_with, time_to_frame};
-ghost use Rattle.fio_c.specs.BatchItems.{frame_count, items_of, items_of_told};
+ghost use Rattle.fio_c.specs.BatchItems.{frame_count, items_of_content, items_of_told};
 ghost use Rattle.fio_c.specs.LogCounts.{counts_with_item, time_in, time_to_item, times_to_items};
 ghost use Rattle.fio_c.specs.Logs.{Content, Holds, content_of};
 ghost use Rattle.fio_c.specs.Told.{Told};
@@ -57,10 +57,10 @@ pub extern "C" fn fio2070_log_counts_batch(
     batch: &LogBatch,
     taken: &mut [u64; LOG_FRAMES],
 ) -> u32
-    ensures next { (content : Content) → Holds batch.now content → counts.new ≡ fold counts_with_item counts.old (items_of content) }
+    ensures next { (content : Content) → Holds batch.now content → counts.new ≡ fold counts_with_item counts.old (items_of_content content) }
     ensures taken { (content : Content) → Holds batch.now content
-        → let times = times_to_items counts.old (items_of content) in taken.new ≡ times ++ drop (length times) taken.old }
-    ensures count { (content : Content) → Holds batch.now content → result ≡ length (times_to_items counts.old (items_of content)) }
+        → let times = times_to_items counts.old (items_of_content content) in taken.new ≡ times ++ drop (length times) taken.old }
+    ensures count { (content : Content) → Holds batch.now content → result ≡ length (times_to_items counts.old (items_of_content content)) }
     ensures told { (told : List Told) → Holds batch.now (content_of told)
         → counts.new ≡ fold counts_with_item counts.old (items_of_told told) }
     ensures within { result ≤ LOG_FRAMES }

@@ -1,8 +1,8 @@
 //! The judge of a log, in memory of the caller.
 ghost use Rattle.std.specs.Prelude.{◌≡◌, ◌==◌, None, Some, false, not, true};
 ghost use Rattle.fio_check.specs.LogJudges.{log_judging, log_lost, log_missing, log_possible, log_starting, log_with, outcome_in_log};
-ghost use Rattle.fio_flat.specs.Module.{are_limits};
-ghost use Rattle.fio_c.specs.Checkers.{limits_of, octet_in};
+ghost use Rattle.fio_flat.specs.Module.{are_flat_limits};
+ghost use Rattle.fio_c.specs.Checkers.{limits_of, octet_if};
 ghost use Rattle.fio_c.specs.LogJudges.{end_in, flat_log_outcome, late_in, log_judge_in, missing_in, missing_number, place_number, place_taken, start_in};
 
 use crate::checker::limits_from;
@@ -58,9 +58,9 @@ pub extern "C" fn fio2070_log_judge_start(
     place: u8,
     start: u8,
 ) -> u8
-    ensures made { are_limits limits ≡ true → (result ≡ 0)
+    ensures made { are_flat_limits limits ≡ true → (result ≡ 0)
         × (log_judge_in judge.new ≡ log_starting (limits_of limits) (place_taken place) (start_in start)) }
-    ensures refused { are_limits limits ≡ false → (result ≡ 1) × (judge.new ≡ judge.old) }
+    ensures refused { are_flat_limits limits ≡ false → (result ≡ 1) × (judge.new ≡ judge.old) }
 {
     let Some(limits) = limits_from(limits) else {
         return 1;
@@ -174,7 +174,7 @@ fn late_from(flat: &FlatLogJudge) -> Option<LateAnswers>
 
 /// Returns an octet, if its flag is set.
 pub(crate) fn octet_from(has: u8, octet: u8) -> Option<u8>
-    ensures { result ≡ octet_in has octet }
+    ensures { result ≡ octet_if has octet }
 {
     if has == 0 { None } else { Some(octet) }
 }

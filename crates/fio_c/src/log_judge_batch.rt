@@ -2,7 +2,7 @@
 ghost use Rattle.std.specs.Prelude.{◌≡◌, ◌==◌, ◌++◌, ◌≤◌, List, Some, None, drop, fold, length, min, not};
 ghost use Rattle.std.specs.List.{sum_by};
 ghost use Rattle.fio_check.specs.LogJudges.{log_below_events, log_judging};
-ghost use Rattle.fio_c.specs.BatchItems.{frame_count, items_of, items_of_told};
+ghost use Rattle.fio_c.specs.BatchItems.{frame_count, items_of_content, items_of_told};
 ghost use Rattle.fio_c.specs.LogJudges.{event_of_line, is_sent_frame, log_below_item, log_judge_in, outcome_of_item, outcomes_of_items};
 ghost use Rattle.fio_c.specs.Logs.{Content, Holds, content_of};
 ghost use Rattle.fio_c.specs.Told.{Told};
@@ -26,12 +26,12 @@ pub extern "C" fn fio2070_log_judge_batch(
     outcomes: &mut [JudgeOutcome; LOG_FRAMES],
 ) -> u32
     ensures next { (content : Content) → Holds batch.now content → log_judge_in judge.new
-        ≡ fold (log_below_item (not (as_said == 0))) (log_judge_in judge.old) (items_of content) }
+        ≡ fold (log_below_item (not (as_said == 0))) (log_judge_in judge.old) (items_of_content content) }
     ensures outcomes { (content : Content) → Holds batch.now content
-        → let found = outcomes_of_items (not (as_said == 0)) (log_judge_in judge.old) (items_of content) in
+        → let found = outcomes_of_items (not (as_said == 0)) (log_judge_in judge.old) (items_of_content content) in
         outcomes.new ≡ found ++ drop (length found) outcomes.old }
     ensures count { (content : Content) → Holds batch.now content
-        → result ≡ length (outcomes_of_items (not (as_said == 0)) (log_judge_in judge.old) (items_of content)) }
+        → result ≡ length (outcomes_of_items (not (as_said == 0)) (log_judge_in judge.old) (items_of_content content)) }
     ensures each { (content : Content) → Holds batch.now content
         → result ≡ min (sum_by (λ verdict. verdict.frames) content.verdicts) (length content.frames) }
     ensures told { (told : List Told) → Holds batch.now (content_of told) → log_judge_in judge.new

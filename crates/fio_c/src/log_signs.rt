@@ -1,7 +1,7 @@
 //! What kind of log a log looks like, in memory of the caller.
 ghost use Rattle.std.specs.Prelude.{◌≡◌, ◌==◌, List, Some, fold, not, length, take};
 ghost use Rattle.fio_check.specs.LogSigns.{no_signs, sign_of, signs_with};
-ghost use Rattle.fio_c.specs.BatchItems.{items_of, items_of_told};
+ghost use Rattle.fio_c.specs.BatchItems.{items_of_content, items_of_told};
 ghost use Rattle.fio_c.specs.LogJudges.{end_in};
 ghost use Rattle.fio_c.specs.LogSigns.{block_seen_of, log_signs_in, sign_number, signs_with_item};
 ghost use Rattle.fio_c.specs.Logs.{Content, Holds, content_of};
@@ -87,7 +87,7 @@ pub extern "C" fn fio2070_log_signs_frame(
 #[unsafe(no_mangle)]
 pub extern "C" fn fio2070_log_signs_batch(signs: &mut FlatLogSigns, as_said: u8, batch: &LogBatch)
     ensures next { (content : Content) → Holds batch.now content → log_signs_in signs.new
-        ≡ fold (signs_with_item (not (as_said == 0))) (log_signs_in signs.old) (items_of content) }
+        ≡ fold (signs_with_item (not (as_said == 0))) (log_signs_in signs.old) (items_of_content content) }
     ensures told { (told : List Told) → Holds batch.now (content_of told) → log_signs_in signs.new
         ≡ fold (signs_with_item (not (as_said == 0))) (log_signs_in signs.old) (items_of_told told) }
 {

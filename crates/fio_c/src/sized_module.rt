@@ -19,7 +19,7 @@ ghost use Rattle.fio_module.specs.Blocks.{newest_end};
 ghost use Rattle.fio_module.specs.Flags.{flags_of, watchdog_of, outputs_of};
 ghost use Rattle.fio_module.specs.Replies.{longest_answer};
 ghost use Rattle.fio_flat.specs.declared.written.TheConstants.{NO_MESSAGE};
-ghost use Rattle.fio_flat.specs.Module.{AddsEvent, AddsEventAlone, DeviceHistory, ErrorsChanged, IsDeviceAfter, OneMoreInReceiving, OneMoreInTransmitting, Reached, Replies, Set, are_limits, errors_of, events_reached, module_at_start, settings_of};
+ghost use Rattle.fio_flat.specs.Module.{AddsEvent, AddsEventAlone, DeviceHistory, ErrorsChanged, IsDeviceAfter, OneMoreInReceiving, OneMoreInTransmitting, Reached, Replies, Set, are_flat_limits, errors_of, events_reached, module_at_start, flat_settings};
 
 use crate::answering::{answer, scan};
 use fio_flat::{ErrorCounts, FlatLimits, NO_MESSAGE, SizedModule};
@@ -42,10 +42,10 @@ pub extern "C" fn fio2070_sized_module_start(
     id: u8,
     limits: FlatLimits,
 ) -> u8
-    ensures made { are_limits limits ≡ true → (slots : List (List ℕ)) → limits.waiting ≤ length slots
-        → IsDeviceAfter (settings_of id limits) device.new slots [] }
-    ensures octets { are_limits limits ≡ true → (result ≡ 0) × (device.new ≡ module_at_start id limits) }
-    ensures refused { are_limits limits ≡ false → (result ≡ 1) × (device.new ≡ device.old) }
+    ensures made { are_flat_limits limits ≡ true → (slots : List (List ℕ)) → limits.waiting ≤ length slots
+        → IsDeviceAfter (flat_settings id limits) device.new slots [] }
+    ensures octets { are_flat_limits limits ≡ true → (result ≡ 0) × (device.new ≡ module_at_start id limits) }
+    ensures refused { are_flat_limits limits ≡ false → (result ≡ 1) × (device.new ≡ device.old) }
 {
     if limits.waiting == 0 || limits.waiting > MOST_WAITING || limits.per_block == 0 {
         return 1;

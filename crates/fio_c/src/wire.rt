@@ -2,7 +2,7 @@
 ghost use Rattle.std.specs.Prelude.{◌≡◌, ◌≤◌, ◌<◌, ◌+◌, ◌-◌, ◌*◌, ◌%◌, ◌==◌, ◌⊎◌, [], fold, length, take, drop};
 ghost use Rattle.fio_message.specs.declared.limits.TheConstants.{FRAME_OCTETS};
 ghost use Rattle.fio_wire.specs.Checks.{frame_check_of};
-ghost use Rattle.fio_wire.specs.Frames.{WireSettings, address_in, control_in, heard_as, message_in};
+ghost use Rattle.fio_wire.specs.Frames.{WireSettings, address_in, control_in, wire_heard, message_of_frame};
 ghost use Rattle.fio_wire.specs.Octets.{IsWire, held_frame, lost, next, reading_of, said_of, says, sent, settings_of, start, wire_at_start};
 ghost use Rattle.fio_wire.specs.Bits as line;
 ghost use Rattle.fio_c.specs.Wires.{heard_code};
@@ -38,7 +38,7 @@ pub extern "C" fn fio2070_wire_start(wire: &mut Wire, address: u16, control: u16
 #[unsafe(no_mangle)]
 pub extern "C" fn fio2070_wire_read(wire: &mut Wire, octet: u8) -> u8
     ensures is { IsWire wire.old → IsWire wire.new }
-    ensures heard { IsWire wire.old → result ≡ heard_code (heard_as (settings_of wire.old) (says (reading_of wire.old) octet)) }
+    ensures heard { IsWire wire.old → result ≡ heard_code (wire_heard (settings_of wire.old) (says (reading_of wire.old) octet)) }
     ensures next { IsWire wire.old → reading_of wire.new ≡ next (reading_of wire.old) octet }
     ensures settings { settings_of wire.new ≡ settings_of wire.old }
 {
@@ -51,7 +51,7 @@ pub extern "C" fn fio2070_wire_read(wire: &mut Wire, octet: u8) -> u8
 pub extern "C" fn fio2070_wire_read_many(wire: &mut Wire, octets: &[u8], heard: &mut u8) -> usize
     ensures within { result ≤ length octets.now }
     ensures is { IsWire wire.old → IsWire wire.new }
-    ensures heard { IsWire wire.old → heard.new ≡ heard_code (heard_as (settings_of wire.old) (said_of (reading_of wire.old) (take result octets.now))) }
+    ensures heard { IsWire wire.old → heard.new ≡ heard_code (wire_heard (settings_of wire.old) (said_of (reading_of wire.old) (take result octets.now))) }
     ensures last { IsWire wire.old → said_of (reading_of wire.old) (take (result - 1) octets.now) ≡ [] }
     ensures all { heard.new ≡ 0 → result ≡ length octets.now }
     ensures next { IsWire wire.old → reading_of wire.new ≡ fold next (reading_of wire.old) (take result octets.now) }
@@ -77,8 +77,8 @@ pub extern "C" fn fio2070_wire_lose(wire: &mut Wire)
 #[unsafe(no_mangle)]
 pub extern "C" fn fio2070_wire_message_length(wire: &Wire) -> usize
     ensures within { result ≤ FRAME_OCTETS }
-    ensures message { IsWire wire.now → take result (drop 2 wire.now.octets) ≡ message_in (held_frame (reading_of wire.now)) }
-    ensures length { IsWire wire.now → result ≡ length (message_in (held_frame (reading_of wire.now))) }
+    ensures message { IsWire wire.now → take result (drop 2 wire.now.octets) ≡ message_of_frame (held_frame (reading_of wire.now)) }
+    ensures length { IsWire wire.now → result ≡ length (message_of_frame (held_frame (reading_of wire.now))) }
 {
     wire.message().len()
 }
@@ -127,7 +127,7 @@ pub extern "C" fn fio2070_wire_bits_start(bits: &mut WireBits, address: u16, con
 pub extern "C" fn fio2070_wire_bits_read(bits: &mut WireBits, bit: u8) -> u8
     ensures is { line.IsWireBits bits.old → line.IsWireBits bits.new }
     ensures heard { line.IsWireBits bits.old
-        → result ≡ heard_code (heard_as (line.settings_of bits.old) (line.says (line.reading_of bits.old) (bit % 2 == 1))) }
+        → result ≡ heard_code (wire_heard (line.settings_of bits.old) (line.says (line.reading_of bits.old) (bit % 2 == 1))) }
     ensures next { line.IsWireBits bits.old → line.reading_of bits.new ≡ line.next (line.reading_of bits.old) (bit % 2 == 1) }
     ensures settings { line.settings_of bits.new ≡ line.settings_of bits.old }
 {
@@ -144,7 +144,7 @@ pub extern "C" fn fio2070_wire_bits_read_many(
 ) -> usize
     ensures within { result ≤ length octets.now }
     ensures is { line.IsWireBits bits.old → line.IsWireBits bits.new }
-    ensures heard { line.IsWireBits bits.old → heard.new ≡ heard_code (heard_as (line.settings_of bits.old)
+    ensures heard { line.IsWireBits bits.old → heard.new ≡ heard_code (wire_heard (line.settings_of bits.old)
         (line.said_of (line.reading_of bits.old) (take result (line.lowest_bits octets.now)))) }
     ensures last { line.IsWireBits bits.old
         → line.said_of (line.reading_of bits.old) (take (result - 1) (line.lowest_bits octets.now)) ≡ [] }
@@ -163,8 +163,8 @@ pub extern "C" fn fio2070_wire_bits_read_many(
 #[unsafe(no_mangle)]
 pub extern "C" fn fio2070_wire_bits_message_length(bits: &WireBits) -> usize
     ensures within { result ≤ FRAME_OCTETS }
-    ensures message { line.IsWireBits bits.now → take result (drop 2 bits.now.octets) ≡ message_in (line.held_frame (line.reading_of bits.now)) }
-    ensures length { line.IsWireBits bits.now → result ≡ length (message_in (line.held_frame (line.reading_of bits.now))) }
+    ensures message { line.IsWireBits bits.now → take result (drop 2 bits.now.octets) ≡ message_of_frame (line.held_frame (line.reading_of bits.now)) }
+    ensures length { line.IsWireBits bits.now → result ≡ length (message_of_frame (line.held_frame (line.reading_of bits.now))) }
 {
     bits.message().len()
 }

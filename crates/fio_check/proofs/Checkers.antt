@@ -6,7 +6,7 @@ use Rattle.fio_check.specs.declared.checker.Breach.{Breach}
 use Rattle.fio_check.specs.declared.checker.Checker.{Checker}
 use Rattle.fio_check.specs.declared.facts.Facts.{Facts}
 use Rattle.fio_check.specs.declared.limits.RuleLimits.{RuleLimits}
-use Rattle.fio_check.specs.Rules.{first_broken_within, standard_limits}
+use Rattle.fio_check.specs.Rules.{first_broken_within, standard_rule_limits}
 use Rattle.fio_check.specs.declared.observation.Observation.{Observation}
 use Rattle.fio_check.specs.declared.observation.Observation.TheVariants.{Unreadable, Poll, Command, Block, Answer}
 use Rattle.fio_check.proofs.FirstCommands.{IsBelowHeard, below_heard}
@@ -46,7 +46,7 @@ unbroken number (Some rule) is = absurd (cc)
 -- a checker found the earliest breach above a place, and where there is none it has the facts of the lines
 record AgreesSoFar (lines : List TranscriptLine) (place : ℕ) : Type 0 where
   pub found : earliest_above (verdict_found_at lines) place ≡ earliest_above (breach_at lines) place
-  pub kept : earliest_above (breach_at lines) place ≡ None → checker_at standard_limits lines place ≡ taking standard_limits (facts_at lines place)
+  pub kept : earliest_above (breach_at lines) place ≡ None → checker_at standard_rule_limits lines place ≡ taking standard_rule_limits (facts_at lines place)
 
 agrees-more : (lines : List TranscriptLine) (place : ℕ) (line : TranscriptLine) (earlier : Option Verdict) → slice_get lines place ≡ Some line
     → earliest_above (breach_at lines) place ≡ earlier → AgreesSoFar lines place → AgreesSoFar lines (suc place)
@@ -61,8 +61,8 @@ agrees-more lines place line None here is so_far =
     let observation = observation_at lines place in
     let from_cpu = is_sent_at lines place in
     let kept = so_far.kept is in
-    let found_here : found_at standard_limits lines place ≡ breach_of standard_limits facts observation =
-    ap (λ checker. found_by checker from_cpu observation) kept ∙ found-taking standard_limits facts from_cpu observation in
+    let found_here : found_at standard_rule_limits lines place ≡ breach_of standard_rule_limits facts observation =
+    ap (λ checker. found_by checker from_cpu observation) kept ∙ found-taking standard_rule_limits facts from_cpu observation in
     let verdict_here : verdict_found_at lines place ≡ breach_at lines place =
     ap (λ found. option_and_then (λ l. option_map (λ breach. Broken l.number breach.rule) found) (slice_get lines place)) found_here
     ∙ verdict-of facts observation (first_broken facts observation) (slice_get lines place) in
@@ -74,8 +74,8 @@ agrees-more lines place line None here is so_far =
           let keeps : rule_broken lines place ≡ None =
           unbroken line.number (rule_broken lines place) (sym (breach-is lines place line (rule_broken lines place) here refl) ∙ none_here) in
           ap (λ checker. checker_with checker from_cpu observation) kept
-          ∙ with-taking standard_limits facts from_cpu observation keeps
-          ∙ ap (taking standard_limits) (ap (facts_with facts) (seen_at lines place line here) ∙ sym (facts_next lines place line here)));
+          ∙ with-taking standard_rule_limits facts from_cpu observation keeps
+          ∙ ap (taking standard_rule_limits) (ap (facts_with facts) (seen_at lines place line here) ∙ sym (facts_next lines place line here)));
     }
 
 agrees : (lines : List TranscriptLine) (place : ℕ) → place ≤ length lines → AgreesSoFar lines place

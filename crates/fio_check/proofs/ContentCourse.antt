@@ -2,7 +2,7 @@
 use Rattle.fio_check.proofs.Names.{◌≡◌, ◌<◌, ◌≤◌, ◌∙◌, ℕ, zero, suc, ◌+◌, List, [], ◌∷◌, ◌++◌, length, drop, take, map, Option, Some, None, refl, sym, ap, ap₂, arith, append_assoc, append-nil, length-append, fold, option_map, option_and_then, slice_get, flat_map, option_or, slice_get_within, Item, ContentFacts, content_at, content_with, breach_among, breach_below, items_below, ContentEvent, LineEvent, item_of_event, recorded_items, earliest_above}
 use Rattle.std.proofs.lemmas.List.{drop_at, flat_map_more, take_at}
 use Rattle.fio_check.specs.ContentRules.{rule_broken_by}
-use Rattle.fio_check.specs.ContentFaults.{ContentFault, content_fault_at, fault_of}
+use Rattle.fio_check.specs.ContentFaults.{ContentFault, content_fault_at, fault_by}
 use Rattle.fio_check.specs.declared.content.ContentBreach.{ContentBreach}
 use Rattle.fio_check.specs.declared.content_rules.BrokenRule.{BrokenRule}
 use Rattle.fio_check.proofs.ContentNext.{content_next}
@@ -26,7 +26,7 @@ tagged line event = record { line = line; event = event }
 
 -- the fault of an event, below these items
 abbrev pub broken_by : ContentFacts → List Item → ℕ → ContentEvent → Option ContentFault
-broken_by facts items line event = option_map (fault_of line items) (rule_broken_by facts event)
+broken_by facts items line event = option_map (fault_by line items) (rule_broken_by facts event)
 
 -- the first fault of events
 abbrev pub broken_among : ContentFacts → List Item → ℕ → List ContentEvent → Option ContentFault
@@ -55,8 +55,8 @@ one_event all rest place line event facts items broken left course =
       facts_are = content_next all place (tagged line event) cut.0 ∙ ap (λ above. content_with above event) course.facts_are;
       items_are = ap recorded_items cut.2 ∙ sym (flat_map_more (λ found. item_of_event found.event) [] (take place all) (tagged line event)) ∙ ap (λ known. known ++ item_of_event event) course.items_are;
       broken_is = ap₂ option_or course.broken_is
-          (ap (option_and_then (λ found. option_map (fault_of found.line (recorded_items (take place all))) (rule_broken_by (content_at all place) found.event))) cut.0
-          ∙ ap₂ (λ known above. option_map (fault_of line known) (rule_broken_by above event)) course.items_are course.facts_are);
+          (ap (option_and_then (λ found. option_map (fault_by found.line (recorded_items (take place all))) (rule_broken_by (content_at all place) found.event))) cut.0
+          ∙ ap₂ (λ known above. option_map (fault_by line known) (rule_broken_by above event)) course.items_are course.facts_are);
       within = omega (arith, below);
     }
 
@@ -101,8 +101,8 @@ front-more whole (item ∷ some) rest count left =
 
 first-fault : (rule : Option BrokenRule) (line count above : ℕ) (items whole : List Item) (later : Option ContentFault) (later_breach : Option ContentBreach)
     → items ≡ take (above + count) whole → later ≡ option_map (fault_at line whole above) later_breach
-    → option_or (option_map (fault_of line items) rule) later ≡ option_map (fault_at line whole above) (option_or (option_map (breach_below count) rule) later_breach)
-first-fault (Some broken) line count above items whole later later_breach is further = ap (λ known. Some (fault_of line known broken)) is
+    → option_or (option_map (fault_by line items) rule) later ≡ option_map (fault_at line whole above) (option_or (option_map (breach_below count) rule) later_breach)
+first-fault (Some broken) line count above items whole later later_breach is further = ap (λ known. Some (fault_by line known broken)) is
 first-fault None line count above items whole later later_breach is further = further
 
 events-broken : (events : List ContentEvent) (line count above : ℕ) (facts : ContentFacts) (items whole : List Item)

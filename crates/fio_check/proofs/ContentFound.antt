@@ -7,7 +7,7 @@ use Rattle.fio_check.specs.ContentCheckers.{FoundFault}
 use Rattle.fio_check.specs.ContentEvents.{judged_lines}
 use Rattle.fio_check.specs.ContentRules.{rule_broken_by}
 use Rattle.fio_check.specs.ContentFacts.{content_step}
-use Rattle.fio_check.specs.ContentFaults.{ContentFault, content_fault_at, content_fault_in, fault_of}
+use Rattle.fio_check.specs.ContentFaults.{ContentFault, content_fault_at, content_fault_in, fault_by}
 use Rattle.fio_check.specs.declared.content_rules.BrokenRule.{BrokenRule}
 use Rattle.fio_check.specs.declared.content_rules.ContentRule.TheVariants.{Clock}
 use Rattle.fio_check.proofs.Unexcused.{sent_step, step_only}
@@ -21,7 +21,7 @@ map-or f None b = refl
 map-or f (Some x) b = refl
 
 same-rule : (rule : Option BrokenRule) (line count : ℕ) (items : List Item)
-    → option_map fault_found (option_map (fault_of line items) rule) ≡ option_map (found_on line) (option_map (breach_below count) rule)
+    → option_map fault_found (option_map (fault_by line items) rule) ≡ option_map (found_on line) (option_map (breach_below count) rule)
 same-rule (Some rule) line count items = refl
 same-rule None line count items = refl
 
@@ -62,7 +62,7 @@ found-lines (line ∷ lines) all place kept items broken left course =
 -- an event that breaks none, and others
 none-more : (facts : ContentFacts) (items : List Item) (line : ℕ) (event : ContentEvent) (events : List ContentEvent) → rule_broken_by facts event ≡ None
     → broken_among (content_with facts event) (items ++ item_of_event event) line events ≡ None → broken_among facts items line (event ∷ events) ≡ None
-none-more facts items line event events none rest = ap₂ option_or (ap (option_map (fault_of line items)) none) rest
+none-more facts items line event events none rest = ap₂ option_or (ap (option_map (fault_by line items)) none) rest
 
 taken-breaks-none : (facts : ContentFacts) (status : ℕ) → says_error status ≡ false → rule_broken_by facts (Heard (answers.ConfigureInputs status)) ≡ None
 taken-breaks-none facts status taken = rw taken (by (facts.excuses == 0))

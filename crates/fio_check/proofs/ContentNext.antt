@@ -10,7 +10,7 @@ use Rattle.fio_message.specs.declared.fields.InputItem.{InputItem}
 use Rattle.fio_message.specs.declared.limits.TheConstants.{INPUTS}
 use Rattle.fio_check.specs.ContentAbove.{Excuses, awaited_command, content_above, content_from, excuses_at, excuses_below, floor_known, full_above, input_at, is_polled, is_since_poll, is_timely, is_touched, is_unlogged, item_named, latest_said, least_with, one_excuse_less, one_excuse_more, seen_at, settled_at, told_at}
 use Rattle.fio_check.specs.ContentRules.{is_excused}
-use Rattle.fio_check.specs.ContentKnown.{InputAbove, WatchedState, if_comes, tells_other, told_by}
+use Rattle.fio_check.specs.ContentKnown.{InputAbove, WatchedState, if_comes, tells_other, state_told}
 use Rattle.fio_check.specs.ContentSaid.{accepts_items, block_stamp, ends_told, floor_of, full_end, ignores, is_clear_end, is_loading, is_set_dog, item_for, item_kept, item_of_input, item_sent, items_sent, opens, polling, said_if, states_heard, stamp_heard}
 use Rattle.fio_check.specs.ContentFacts.{below_clear, coming, content_step, forgetting, input_below_clear, input_ended, input_with_answer, input_with_entry, input_with_item, is_aging, seen_below, seen_with, settled_now, settles, shaded, unless_shaded, unnamed, unwatched}
 use Rattle.fio_check.specs.ContentKnown.{input_coming, told_after, unlogged_after}
@@ -130,7 +130,7 @@ module _ (timed : List LineEvent) (at : ℕ) (events : List LineEvent) (place : 
       with-states : (comes : Option Seen) → is_touched timed input at ≡ is_touched events input place
           → told_within timed at event (same ∙ is) input (nat_lt input INPUTS) (is_touched timed input at) comes ≡ told_after input comes now
       with-states None alike = refl
-      with-states (Some seen) alike = ap (λ t. if nat_lt input INPUTS then told_by input t seen else told_at timed input at) alike
+      with-states (Some seen) alike = ap (λ t. if nat_lt input INPUTS then state_told input t seen else told_at timed input at) alike
 
       by : (seen : Option Seen) → seen_at timed at ≡ seen
           → told_within timed at event (same ∙ is) input (nat_lt input INPUTS) (is_touched timed input at) (option_and_then (if_comes event) seen)

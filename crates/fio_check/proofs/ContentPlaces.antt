@@ -7,7 +7,7 @@ use Rattle.fio_message.specs.declared.answers.Answer.TheVariants as answers
 use Rattle.fio_message.specs.declared.commands.Command.{Command}
 use Rattle.fio_message.specs.declared.limits.TheConstants.{INPUTS}
 use Rattle.fio_check.specs.ContentAbove.{aging_at, clearing_at, is_timely, losing_at, floor_known, full_above, hiding_at, is_aged, is_lost_between, is_polled, is_since_poll, is_touched, is_unlogged, seen_at, told_at, telling_at, unlogging_at, is_at, is_clear_above, is_hidden, is_reopened, is_reopened_for, is_said_between, is_shaded, is_shut_by, is_taken_above, last_said, latest_said, least_between, least_since, least_with, one_sample, reopening_at, reopens_for, seen_still, settled, settled_at, since_poll_at, taking_at, timed_below, touching_at, watched_state}
-use Rattle.fio_check.specs.ContentKnown.{WatchedState, tells_other, told_by, if_comes}
+use Rattle.fio_check.specs.ContentKnown.{WatchedState, tells_other, state_told, if_comes}
 use Rattle.fio_check.specs.ContentSaid.{Floor, TimedState, block_stamp, comes_to, ends_told, entry_recorded, floor_of, full_end, ignoring, is_again_end, is_clear_end, is_end, is_far, is_gap, item_of_input, opening, polling, said_if, states_heard}
 use Rattle.fio_check.specs.ContentFacts.{settles, seen_below}
 use Rattle.fio_check.proofs.Places.{is_the_latest}
@@ -520,17 +520,17 @@ module _ (events : List LineEvent) (place : ℕ) (event : ContentEvent) (is : co
   -- what is told where the record comes to states, by whether the input is below 64, and whether an item of it was sent
   abbrev pub told_within : Bool → Bool → Option Seen → Option Bool
   told_within within touched None = told_at events input place
-  told_within within touched (Some seen) = if within then told_by input touched seen else told_at events input place
+  told_within within touched (Some seen) = if within then state_told input touched seen else told_at events input place
 
   pub told_next : told_at events input (suc place) ≡ (if ends_told input event then None else told_within (nat_lt input INPUTS) (is_touched events input place) comes)
   told_next =
       join-more (telling_at events input place) (latest_above (telling_at events input) place)
       ∙ ap (λ e. unwrap_or (if is_some_and e (ends_told input) then Some None
-      else (if nat_lt input INPUTS then option_map (told_by input (is_touched events input place)) (option_and_then (λ event. option_and_then (if_comes event) (seen_at events place)) e) else None)) (told_at events input place)) is
+      else (if nat_lt input INPUTS then option_map (state_told input (is_touched events input place)) (option_and_then (λ event. option_and_then (if_comes event) (seen_at events place)) e) else None)) (told_at events input place)) is
       ∙ by (ends_told input event) (nat_lt input INPUTS) comes
     where
       by : (ends within : Bool) (coming : Option Seen)
-          → unwrap_or (if ends then Some None else (if within then option_map (told_by input (is_touched events input place)) coming else None)) (told_at events input place)
+          → unwrap_or (if ends then Some None else (if within then option_map (state_told input (is_touched events input place)) coming else None)) (told_at events input place)
           ≡ (if ends then None else told_within within (is_touched events input place) coming)
       by true within coming = refl
       by false true None = refl

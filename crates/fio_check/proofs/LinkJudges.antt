@@ -5,7 +5,7 @@ use Rattle.fio_check.specs.Checkers.{checker_below_breach, checker_with}
 use Rattle.fio_check.specs.ContentCheckers.{ContentKept, breach_among, checking_with, found_in_frame}
 use Rattle.fio_check.specs.ContentEvents.{content_events}
 use Rattle.fio_check.specs.Lines.{command_from}
-use Rattle.fio_check.specs.LinkJudges.{Judging, checking_again, content_above, content_here, loads_below, place_lost}
+use Rattle.fio_check.specs.LinkJudges.{Judging, checking_again, checking_above, content_here, loads_below, place_lost}
 use Rattle.fio_check.specs.Observations.{observation_in}
 use Rattle.fio_check.proofs.Checkers.{limits-stay}
 use Rattle.fio_check.specs.declared.checker.Checker.{Checker}
@@ -27,8 +27,8 @@ again-finds-nothing loads true octets = command-keeps (checking_again loads).kep
 again-finds-nothing loads false octets = refl
 
 here-by : (judging : Judging) (skips : Skips) (from_cpu : Bool) (octets : List ℕ) (breach : ContentBreach)
-    → found_in_frame (content_above judging skips) from_cpu octets ≡ Some breach
-    → content_above judging skips ≡ judging.content
+    → found_in_frame (checking_above judging skips) from_cpu octets ≡ Some breach
+    → checking_above judging skips ≡ judging.content
 here-by judging Nothing from_cpu octets breach found = refl
 here-by judging ToCommand from_cpu octets breach found = refl
 here-by judging ToPoll from_cpu octets breach found =

@@ -7,8 +7,8 @@ use Rattle.fio_check.specs.ContentAbove.{one_excuse_more}
 use Rattle.fio_check.specs.ContentEvents.{content_events}
 use Rattle.fio_check.specs.ContentSaid.{is_loading}
 use Rattle.fio_check.specs.Lines.{command_from}
-use Rattle.fio_check.specs.LinkJudges.{Frame, Judging, LogLine, Lost, checker_below_lines, content_above, content_here, is_set_back, judging_anywhere, judging_at, judging_begun, judging_below, judging_below_outcome, is_unheard, judging_kept, judging_lost, judging_taken, judging_with, loads_left, outcome_found, outcome_in, outcome_judged, outcome_of_content, outcome_set_back, outcomes_of, stamp_in, unjudged_by, with_loads}
-use Rattle.fio_check.specs.LinkLaws.{Accused, HasOutcomes, IsLost, LinkGoesOn, LosesPlace, RunsOn, SaysTheSame, accused, accused_first, are_lost, both_find_first, broken_on, content_on, is_frame, is_of_watchdog, is_poll, is_poll_line, judging_again, loads_below_lines, loads_with, loses_place}
+use Rattle.fio_check.specs.LinkJudges.{Frame, Judging, LogLine, Lost, checker_below_lines, checking_above, content_here, is_set_back, judging_anywhere, judging_at, judging_begun, judging_below, judging_below_outcome, is_unheard, judging_kept, judging_lost, judging_taken, judging_with, loads_left, outcome_found, outcome_in, outcome_judged, outcome_of_content, outcome_set_back, outcomes_of, stamp_in, unjudged_by, with_loads}
+use Rattle.fio_check.specs.LinkLaws.{Accused, HasOutcomes, IsLost, LinkGoesOn, LosesPlace, RunsOn, SaysTheSame, accused, accused_first, are_lost, both_find_first, broken_on, content_on, is_frame_line, is_of_watchdog, is_poll, is_poll_line, judging_again, loads_below_lines, loads_with, loses_place}
 use Rattle.fio_check.specs.Observations.{observation_in}
 use Rattle.fio_check.specs.declared.checker.Breach.{Breach}
 use Rattle.fio_check.specs.declared.checker.Checker.{Checker}
@@ -86,7 +86,7 @@ module _ (limits : RuleLimits) (latest asked : Option ℕ) where
       ∙ passed-is content lost from_cpu octets
 
   passes_lines : (content : ContentChecking) (lost : Bool) (lines : List LogLine) → list_any is_poll_line lines ≡ false
-      → outcomes_of (lost_at limits content latest asked lost) lines ≡ map (λ line. NotJudged PlaceLost) (filter is_frame lines)
+      → outcomes_of (lost_at limits content latest asked lost) lines ≡ map (λ line. NotJudged PlaceLost) (filter is_frame_line lines)
   passes_lines content lost [] none = refl
   passes_lines content lost (Frame at from_cpu octets ∷ lines) none =
       let both = either-not (is_poll from_cpu octets) (list_any is_poll_line lines) none in
@@ -281,8 +281,8 @@ Aligned judging =
     (judging.checker.skips ≡ Nothing) ⊎ ((judging.checker.skips ≡ ToCommand) × (judging.content.begun ≡ false))
 
 unfolded-here : (judging : Judging) → Aligned judging → content_here judging ≡ judging.content
-unfolded-here judging (inl nothing) = ap (content_above judging) nothing
-unfolded-here judging (inr closed) = ap (content_above judging) closed.0
+unfolded-here judging (inl nothing) = ap (checking_above judging) nothing
+unfolded-here judging (inr closed) = ap (checking_above judging) closed.0
 
 -- one that passes over nothing
 passes-open : (checker : Checker) (from_cpu : Bool) (observation : Observation) → checker.skips ≡ Nothing

@@ -3,7 +3,7 @@
 use Rattle.fio_check.proofs.Names.{◌≡◌, ◌<◌, ◌≤◌, ◌∙◌, ◌+◌, ◌++◌, inl, inr, false, from_first_command, ℕ, zero, suc, Bool, true, List, [], ◌∷◌, Option, Some, None, refl, sym, ap, ap₂, arith, length, drop, take, map, length-append, append_assoc, append-nil, fold, is_some, option_map, option_and_then, option_or, slice_get, slice_get_within, ContentFacts, content_at, content_with, no_content, LineEvent, events_above, events_below, events_of_lines, events_of_log, recorded_items, TranscriptLine, earliest_above}
 use Rattle.fio_check.specs.ContentEvents.{events_on, number_below}
 use Rattle.fio_check.specs.ContentRules.{rule_broken_by}
-use Rattle.fio_check.specs.ContentFaults.{ContentFault, content_fault_at, content_fault_in, fault_of, first_fault_in}
+use Rattle.fio_check.specs.ContentFaults.{ContentFault, content_fault_at, content_fault_in, fault_by, first_fault_in}
 use Rattle.fio_check.specs.Finding.{IsFoundBy, number_below_lines}
 use Rattle.fio_check.proofs.ContentCourse.{dropped_first}
 use Rattle.fio_check.proofs.ContentNext.{content_is_kept, content_next}
@@ -90,7 +90,7 @@ earliest-same one other (suc count) same =
 fault-above : (above below : List LineEvent) (place : ℕ) → place < length above → content_fault_at (above ++ below) place ≡ content_fault_at above place
 fault-above above below place within =
     let judged = λ (items : List _) (facts : ContentFacts) (at : Option LineEvent).
-    option_and_then (λ found. option_map (fault_of found.line (recorded_items items)) (rule_broken_by facts found.event)) at in
+    option_and_then (λ found. option_map (fault_by found.line (recorded_items items)) (rule_broken_by facts found.event)) at in
     ap₂ (λ items facts. judged items facts (slice_get (above ++ below) place)) (taken-above above below place (omega (arith, within))) (content-above above below place (omega (arith, within)))
     ∙ ap (judged (take place above) (content_at above place)) (event-above above below place within)
 
@@ -105,7 +105,7 @@ fault-stays above below fault is =
 pub fault_at_event : (events : List LineEvent) (place : ℕ) (found : LineEvent) → slice_get events place ≡ Some found
     → is_some (rule_broken_by (content_at events place) found.event) ≡ true → is_some (first_fault_in events) ≡ true
 fault_at_event events place found here broken =
-    let judged : is_some (content_fault_at events place) ≡ true = rw here (some-mapped (fault_of found.line (recorded_items (take place events))) (rule_broken_by (content_at events place) found.event) broken) in
+    let judged : is_some (content_fault_at events place) ≡ true = rw here (some-mapped (fault_by found.line (recorded_items (take place events))) (rule_broken_by (content_at events place) found.event) broken) in
     some_said (content_fault_at events) (length events) place (slice_get_within events place found here) judged
   where
     some-mapped : {A B : Type 0} (f : A → B) (option : Option A) → is_some option ≡ true → is_some (option_map f option) ≡ true
@@ -117,7 +117,7 @@ pub no_fault_at : (events : List LineEvent) (place : ℕ) (found : LineEvent) �
     → first_fault_in events ≡ None → rule_broken_by (content_at events place) found.event ≡ None
 no_fault_at events place found here none =
     let judged = none_said (content_fault_at events) (length events) place none (slice_get_within events place found here) in
-    none-mapped (fault_of found.line (recorded_items (take place events))) (rule_broken_by (content_at events place) found.event) (rw here at judged)
+    none-mapped (fault_by found.line (recorded_items (take place events))) (rule_broken_by (content_at events place) found.event) (rw here at judged)
   where
     none-mapped : {A B : Type 0} (f : A → B) (option : Option A) → option_map f option ≡ None → option ≡ None
     none-mapped f None is = refl

@@ -5,7 +5,7 @@ use Rattle.fio_check.specs.Facts.{facts_with, no_facts, number_due, number_polle
 use Rattle.fio_check.specs.Lines.{TranscriptLine, from_first_command}
 use Rattle.fio_check.specs.Observations.{is_sent_at, observation_at}
 use Rattle.fio_check.specs.Places.{earliest_above}
-use Rattle.fio_check.specs.Rules.{first_broken_within, standard_limits}
+use Rattle.fio_check.specs.Rules.{first_broken_within, standard_rule_limits}
 use Rattle.fio_check.specs.declared.checker.Breach.{Breach}
 use Rattle.fio_check.specs.declared.checker.Checker.{Checker}
 use Rattle.fio_check.specs.declared.checker.Due.{Due}
@@ -51,7 +51,7 @@ checker_within limits = checker_skipping Nothing limits
 
 -- a checker above the first line, with the limits of TEES 2009
 abbrev pub new_checker : Checker
-new_checker = checker_within standard_limits
+new_checker = checker_within standard_rule_limits
 
 -- a checker above the first line of a log that begins anywhere
 abbrev pub checker_anywhere : RuleLimits → Checker
@@ -109,7 +109,7 @@ found_at limits = found_from (checker_within limits)
 -- that finding as a verdict, with the limits of TEES 2009
 abbrev pub verdict_found_at : List TranscriptLine → ℕ → Option Verdict
 verdict_found_at lines place =
-    option_and_then (λ line. option_map (λ breach. Broken line.number breach.rule) (found_at standard_limits lines place))
+    option_and_then (λ line. option_map (λ breach. Broken line.number breach.rule) (found_at standard_rule_limits lines place))
     (slice_get lines place)
 
 -- the verdict by the first breach that a checker finds

@@ -15,7 +15,7 @@ use Rattle.fio_message.specs.declared.fields.InputItem.{InputItem}
 use Rattle.fio_check.specs.ContentEvents.{ContentEvent, LineEvent, content_event_at}
 use Rattle.fio_check.specs.ContentSaid.{FilterPair, Floor, Seen, SentItem, TimedState, awaiting, block_stamp, comes_to, ends_told, entry_recorded, filters_of, floor_of, full_end, ignoring, is_accepting, is_again_end, is_clear_end, is_end, is_far, is_gap, is_loading, is_set_dog, item_for, item_of_input, item_sent, items_sent, opening, polling, said_if, stamp_heard, states_heard}
 use Rattle.fio_check.specs.Observations.{names_absent}
-use Rattle.fio_check.specs.ContentKnown.{ContentFacts, InputAbove, WatchedState, if_comes, tells_other, told_by}
+use Rattle.fio_check.specs.ContentKnown.{ContentFacts, InputAbove, WatchedState, if_comes, tells_other, state_told}
 use Rattle.fio_check.specs.ContentRules.{is_excused}
 use Rattle.fio_check.specs.Places.{Placed, is_some_and, latest_above}
 
@@ -244,7 +244,7 @@ is_touched events input place = is_some_and (latest_above (touching_at events in
 -- record comes to
 abbrev pub telling_at : List LineEvent → ℕ → ℕ → Option (Option Bool)
 telling_at events input place = if is_at (ends_told input) events place then Some None
-    else (if nat_lt input INPUTS then option_map (told_by input (is_touched events input place)) (coming_at events place) else None)
+    else (if nat_lt input INPUTS then option_map (state_told input (is_touched events input place)) (coming_at events place) else None)
 
 -- the state of this input that is known by a 181
 abbrev pub told_at : List LineEvent → ℕ → ℕ → Option Bool

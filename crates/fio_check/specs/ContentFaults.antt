@@ -18,14 +18,14 @@ pub record ContentFault : Type 0 where
   pub above : List Item
 
 -- a rule that is broken by an event in a line with this number, below these items
-abbrev pub fault_of : ℕ → List Item → BrokenRule → ContentFault
-fault_of line above broken =
+abbrev pub fault_by : ℕ → List Item → BrokenRule → ContentFault
+fault_by line above broken =
     record { line = line; input = broken.input; rule = broken.rule; above = above }
 
 -- the fault at a place
 abbrev pub content_fault_at : List LineEvent → ℕ → Option ContentFault
 content_fault_at events place = option_and_then
-    (λ found. option_map (fault_of found.line (recorded_items (take place events))) (rule_broken_by (content_at events place) found.event))
+    (λ found. option_map (fault_by found.line (recorded_items (take place events))) (rule_broken_by (content_at events place) found.event))
     (slice_get events place)
 
 -- the first fault of these events

@@ -87,8 +87,8 @@ abbrev pub if_comes : ContentEvent → Seen → Option Seen
 if_comes event seen = if comes_to seen event then Some seen else None
 
 -- the state of this input in states, if no item of it was sent since the latest block that settles it
-abbrev pub told_by : ℕ → Bool → Seen → Option Bool
-told_by input touched seen = if touched then None else Some (is_set seen.levels input)
+abbrev pub state_told : ℕ → Bool → Seen → Option Bool
+state_told input touched seen = if touched then None else Some (is_set seen.levels input)
 
 -- the states contradict the known state of this input
 abbrev pub tells_other : ℕ → Bool → Option Bool → Seen → Bool
@@ -99,7 +99,7 @@ tells_other input touched told seen =
 abbrev pub told_after : ℕ → Option Seen → InputAbove → Option Bool
 told_after input None above = above.told
 told_after input (Some seen) above =
-    if nat_lt input INPUTS then told_by input above.touched seen else above.told
+    if nat_lt input INPUTS then state_told input above.touched seen else above.told
 
 -- whether the changes of an input are not logged, after the record comes to these states, if it does
 abbrev pub unlogged_after : ℕ → Option Seen → InputAbove → Bool

@@ -156,13 +156,13 @@ is_unheard judging at observation = not (is_at_cpu at) && is_asked_again judging
 
 -- the checker of the rules on content above a frame that is judged, by what the checker of transcripts skips: at the poll that
 -- ends a lost place it begins anew
-abbrev pub content_above : Judging → Skips → ContentChecking
-content_above judging ToPoll = checking_again (loads_left judging)
-content_above judging skips = judging.content
+abbrev pub checking_above : Judging → Skips → ContentChecking
+checking_above judging ToPoll = checking_again (loads_left judging)
+checking_above judging skips = judging.content
 
 -- the checker of the rules on content above a frame that the judge judges
 abbrev pub content_here : Judging → ContentChecking
-content_here judging = content_above judging judging.checker.skips
+content_here judging = checking_above judging judging.checker.skips
 
 -- why a frame is not judged, by what is skipped
 abbrev pub unjudged_by : Skips → Unjudged

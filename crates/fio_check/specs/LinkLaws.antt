@@ -29,13 +29,13 @@ use Rattle.fio_check.specs.declared.outcome.Unjudged.TheVariants.{PlaceLost}
 -- ---- each frame
 
 -- a line is a frame, not a mark
-abbrev pub is_frame : LogLine → Bool
-is_frame (Frame at from_cpu octets) = true
-is_frame Lost = false
+abbrev pub is_frame_line : LogLine → Bool
+is_frame_line (Frame at from_cpu octets) = true
+is_frame_line Lost = false
 
 -- each frame has one outcome
 abbrev pub HasOutcomes : Judging → List LogLine → Type 0
-HasOutcomes judging lines = length (outcomes_of judging lines) ≡ length (filter is_frame lines)
+HasOutcomes judging lines = length (outcomes_of judging lines) ≡ length (filter is_frame_line lines)
 
 -- ---- a place that is lost
 
@@ -92,7 +92,7 @@ judging_again judging loads lost = record judging {
 -- begins there with the number of loads that may still take effect.
 pub record LinkGoesOn (judging : Judging) (above : List LogLine) : Type 0 where
   pub passes : IsLost judging → list_any is_poll_line above ≡ false
-      → outcomes_of judging above ≡ map (λ line. NotJudged PlaceLost) (filter is_frame above)
+      → outcomes_of judging above ≡ map (λ line. NotJudged PlaceLost) (filter is_frame_line above)
   pub starts : (at : LogPlace) (octets : List ℕ) (below : List LogLine) → IsLost judging
       → list_any is_poll_line above ≡ false → is_poll true octets ≡ true
       → outcomes_of (judging_below judging above) (Frame at true octets ∷ below)
@@ -144,13 +144,13 @@ both_find_first checker content (line ∷ lines) =
     (checking_with content line.from_cpu line.octets) lines))
 
 -- a breach of a rule on content, in a line with this number
-abbrev pub fault_in : ℕ → FrameOutcome → Option FoundFault
-fault_in line (BrokenContent breach) = Some (found_on line breach)
-fault_in line outcome = None
+abbrev pub fault_on_line : ℕ → FrameOutcome → Option FoundFault
+fault_on_line line (BrokenContent breach) = Some (found_on line breach)
+fault_on_line line outcome = None
 
 -- the breach of a rule on content that is accused
 abbrev pub fault_accused : Accused → Option FoundFault
-fault_accused accused = fault_in accused.line accused.outcome
+fault_accused accused = fault_on_line accused.line accused.outcome
 
 -- what the checker of transcripts finds in the line at a place
 abbrev pub broken_at : Checker → List TranscriptLine → ℕ → Option Accused

@@ -32,13 +32,13 @@ abbrev pub octets_kept : List ℕ → List ℕ
 octets_kept octets = if nat_le (length octets) FRAME_OCTETS then octets else []
 
 -- a frame has the same octets as the frame directly above it
-abbrev pub is_repeated : RepeatedFrames → List ℕ → Bool
-is_repeated frames [] = false
-is_repeated frames (code ∷ fields) = bytes_eq frames.above.items (code ∷ fields)
+abbrev pub repeats_above : RepeatedFrames → List ℕ → Bool
+repeats_above frames [] = false
+repeats_above frames (code ∷ fields) = bytes_eq frames.above.items (code ∷ fields)
 
 -- A frame is the second of equal frames. A third one is no sign of a log that has each frame twice.
 abbrev pub is_second : RepeatedFrames → List ℕ → Bool
-is_second frames octets = is_repeated frames octets && not frames.again
+is_second frames octets = repeats_above frames octets && not frames.again
 
 -- two lines name different senders
 abbrev pub are_contrary : Option Bool → Option Bool → Bool
@@ -59,7 +59,7 @@ repeats_with frames from_cpu said octets =
     record (if from_cpu then frames else repeats_with_answer frames said octets) {
       above = record { items = octets_kept octets };
       said = said;
-      again = is_repeated frames octets;
+      again = repeats_above frames octets;
     }
 
 -- Of 8 or more answers at least two of five are the second of equal frames.

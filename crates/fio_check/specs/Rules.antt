@@ -23,8 +23,8 @@ abbrev pub is_unasked : Facts → ℕ → Bool
 is_unasked facts answer = not (is_some_and facts.awaited (λ awaited. awaited == answer))
 
 -- the limits of TEES 2009
-abbrev pub standard_limits : RuleLimits
-standard_limits = record { per_block = BLOCK_ENTRIES; waiting = 1024 }
+abbrev pub standard_rule_limits : RuleLimits
+standard_rule_limits = record { per_block = BLOCK_ENTRIES; waiting = 1024 }
 
 -- F without C, if more entries may wait than a block takes; or C with another count than a block takes
 abbrev pub is_overfull_within : RuleLimits → ℕ → ℕ → Bool
@@ -102,7 +102,7 @@ first_broken_within limits facts observation = find (breaks_within limits facts 
 
 -- the first rule that a line with this observation breaks, with the limits of TEES 2009
 abbrev pub first_broken : Facts → Observation → Option Rule
-first_broken facts observation = first_broken_within standard_limits facts observation
+first_broken facts observation = first_broken_within standard_rule_limits facts observation
 
 -- the first rule that the line at a place breaks, with the limits of TEES 2009
 abbrev pub rule_broken : List TranscriptLine → ℕ → Option Rule

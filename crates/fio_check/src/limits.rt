@@ -13,11 +13,11 @@ pub struct RuleLimits {
 
 impl RuleLimits {
     ghost use Rattle.std.specs.Prelude.{◌≡◌};
-    ghost use Rattle.fio_check.specs.Rules.{standard_limits};
+    ghost use Rattle.fio_check.specs.Rules.{standard_rule_limits};
 
     /// Returns the limits of TEES 2009.
     pub fn standard() -> RuleLimits
-        ensures { result ≡ standard_limits }
+        ensures { result ≡ standard_rule_limits }
     {
         RuleLimits {
             per_block: BLOCK_ENTRIES as u8,

@@ -1,7 +1,7 @@
 //! Frames that occur twice: how many answers of a log have the octets of the frame directly above.
 ghost use Rattle.std.specs.Prelude.{◌≡◌};
 ghost use Rattle.std.specs.Str.{bytes_eq};
-ghost use Rattle.fio_check.specs.LogSigns.{are_contrary, is_of_both_ends, is_repeated, is_second, is_twice, no_repeats, octets_kept, one_more_if, repeats_with, repeats_with_answer};
+ghost use Rattle.fio_check.specs.LogSigns.{are_contrary, is_of_both_ends, repeats_above, is_second, is_twice, no_repeats, octets_kept, one_more_if, repeats_with, repeats_with_answer};
 
 use fio_message::Frame;
 
@@ -71,7 +71,7 @@ impl RepeatedFrames {
 
     /// Returns whether a frame has the octets of the frame directly above.
     fn is_repeated(&self, octets: &[u8]) -> bool
-        ensures { result ≡ is_repeated self.now octets.now }
+        ensures { result ≡ repeats_above self.now octets.now }
     {
         !octets.is_empty() && are_same(self.above.as_slice(), octets)
     }

@@ -1,5 +1,5 @@
 -- The checkers begin anew at any command of a prompt run, below loads of the counter that may take effect, and go on.
-use Rattle.fio_ends.proofs.Names.{◌≡◌, ◌+◌, inr, ℕ, Bool, false, true, List, [], ◌∷◌, ◌++◌, map, Option, None, refl, ap, ap₂, sym, subst, arith, AllByRecursion, option_map, if◌then◌else◌, Life, life_of, loads_of, Settings, AreInRange, ContentKept, kept_with, no_facts, Done, Facts, RuleLimits, Event, Machine, start, refusal, after, Leads, IsNotRestart, HaveNoRestart, kept, kept_all, CpuFrame, TranscriptLine, frame_on, frames_at, frames_from, due_after, ArePrompt, IsPrompt, IsWithinRanges, SuitModule}
+use Rattle.fio_ends.proofs.Names.{◌≡◌, ◌+◌, inr, ℕ, Bool, false, true, List, [], ◌∷◌, ◌++◌, map, Option, None, refl, ap, ap₂, sym, subst, arith, AllByRecursion, option_map, if◌then◌else◌, Life, life_of, loads_of, Settings, AreInRange, ContentKept, kept_with, no_facts, Done, Facts, RuleLimits, Event, Machine, start, refusal, after, Leads, IsNotRestart, HaveNoRestart, kept, kept_all, CpuFrame, TranscriptLine, cpu_frame_on, frames_at, frames_from, due_after, ArePrompt, IsPrompt, IsWithinRanges, SuitModule}
 use Rattle.std.specs.Option.{option_or}
 use Rattle.fio_check.specs.ContentCheckers.{checking_with, content_found, found_first, found_in_frame, found_on}
 use Rattle.fio_check.specs.Lines.{from_first_command}
@@ -147,12 +147,12 @@ module _ (settings : Settings) (range : AreInRange settings) (first : ℕ) (begi
 -- ---- what a checker of content finds
 
 -- in frames that keep all rules nothing
-none_judging : (lines : List TranscriptLine) (kept : ContentKept) → OfEach (λ rule. FramesKeep rule kept (map frame_on lines)) → found_first (record { begun = true; kept = kept }) lines ≡ None
+none_judging : (lines : List TranscriptLine) (kept : ContentKept) → OfEach (λ rule. FramesKeep rule kept (map cpu_frame_on lines)) → found_first (record { begun = true; kept = kept }) lines ≡ None
 none_judging [] kept keep = refl
 none_judging (line ∷ lines) kept keep =
-    by line.from_cpu (none_in_frame kept (frame_on line) (map frame_on lines) keep)
+    by line.from_cpu (none_in_frame kept (cpu_frame_on line) (map cpu_frame_on lines) keep)
     (none_judging lines (kept_with kept line.from_cpu line.octets)
-    (each_follows (λ rule. FramesKeep rule kept (map frame_on (line ∷ lines))) (λ rule. FramesKeep rule (kept_with kept line.from_cpu line.octets) (map frame_on lines)) (λ rule keep. keep.1) keep))
+    (each_follows (λ rule. FramesKeep rule kept (map cpu_frame_on (line ∷ lines))) (λ rule. FramesKeep rule (kept_with kept line.from_cpu line.octets) (map cpu_frame_on lines)) (λ rule keep. keep.1) keep))
   where
     by : (sent : Bool) → content_found kept sent line.octets ≡ None → found_first (record { begun = true; kept = kept_with kept sent line.octets }) lines ≡ None
         → option_or (option_map (found_on line.number) (found_in_frame (record { begun = true; kept = kept }) sent line.octets))

@@ -32,7 +32,7 @@ use Rattle.fio_link.proofs.Spelled.{no_block_in}
 use Rattle.fio_flat.specs.declared.poller.FlatHeard.{FlatHeard}
 use Rattle.fio_flat.specs.declared.poller.RecordItem.{RecordItem}
 use Rattle.fio_flat.specs.Module as module_events
-use Rattle.fio_flat.specs.Module.{DeviceHistory, Reached, ErrorsChanged, ErrorChange, IsDeviceAfter, WritesReply, are_limits, events_reached, errors_of, with_errors, settings_of}
+use Rattle.fio_flat.specs.Module.{DeviceHistory, Reached, ErrorsChanged, ErrorChange, IsDeviceAfter, WritesReply, are_flat_limits, events_reached, errors_of, with_errors, flat_settings}
 use Rattle.fio_flat.specs.declared.module.FlatLimits.{FlatLimits}
 use Rattle.fio_flat.specs.declared.module.ErrorCounts.{ErrorCounts}
 use Rattle.fio_flat.specs.Written.{Writes}
@@ -371,12 +371,12 @@ follow_all settings first (ChangeErrors change ∷ calls) machine held last f ca
     follow_all settings first calls machine called.0 last
     (follows_errors settings first machine held called.0 f change called.1) called.2
 
-some_entries : (limits : FlatLimits) → are_limits limits ≡ true → 1 ≤ limits.per_block
+some_entries : (limits : FlatLimits) → are_flat_limits limits ≡ true → 1 ≤ limits.per_block
 some_entries limits are = grind (arith, nat_tests)
 
 pub calls_are_runs : CallsAreRuns
 calls_are_runs id first limits device ring calls last id_low first_low few are started called =
-    let settings = settings_of id limits in
+    let settings = flat_settings id limits in
     let begin : Follows settings first start (caller_at_start device ring first) = record {
       history = [];
       device = started;

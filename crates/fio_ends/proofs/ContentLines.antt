@@ -1,5 +1,5 @@
 -- Events that keep a rule on content, frame by frame, are those of a log in which none breaks it.
-use Rattle.fio_ends.proofs.Names.{◌&&◌, true, false, ◌≡◌, ◌∙◌, ◌-◌, ◌≤◌, inl, inr, ℕ, suc, Bool, List, [], ◌∷◌, ◌++◌, drop, length, map, Option, Some, None, refl, ap, sym, subst, arith, fold, option_map, slice_get, eqb_tells, length-drop, same_Some, slice_get_within, ContentFacts, content_with, no_content, ContentKept, kept_at_start, kept_with, ContentEvent, LineEvent, content_event_at, events_above, events_below, events_in, events_of_lines, TranscriptLine, ContentRule, CpuFrame, frame_on}
+use Rattle.fio_ends.proofs.Names.{◌&&◌, true, false, ◌≡◌, ◌∙◌, ◌-◌, ◌≤◌, inl, inr, ℕ, suc, Bool, List, [], ◌∷◌, ◌++◌, drop, length, map, Option, Some, None, refl, ap, sym, subst, arith, fold, option_map, slice_get, eqb_tells, length-drop, same_Some, slice_get_within, ContentFacts, content_with, no_content, ContentKept, kept_at_start, kept_with, ContentEvent, LineEvent, content_event_at, events_above, events_below, events_in, events_of_lines, TranscriptLine, ContentRule, CpuFrame, cpu_frame_on}
 use Rattle.fio_check.specs.ContentAbove.{content_at}
 use Rattle.fio_check.proofs.ContentCourse.{dropped_first}
 use Rattle.fio_check.proofs.ContentNext.{content_is_kept, content_next}
@@ -51,7 +51,7 @@ untagged line [] more = refl
 untagged line (event ∷ events) more = ap (λ all. event ∷ all) (untagged line events more)
 
 -- the events of lines whose frames keep the rule
-lines_keep : (rule : ContentRule) (kept : ContentKept) (lines : List TranscriptLine) → FramesKeep rule kept (map frame_on lines)
+lines_keep : (rule : ContentRule) (kept : ContentKept) (lines : List TranscriptLine) → FramesKeep rule kept (map cpu_frame_on lines)
     → EventsKeep rule kept.facts (map event_of (events_below kept.number lines))
 lines_keep rule kept [] keep = tt
 lines_keep rule kept (line ∷ lines) keep =
@@ -102,7 +102,7 @@ NoneBreaksIn begun rule lines =
 
 -- lines whose frames keep the rule, and so do the events above them
 pub none_breaks : (rule : ContentRule) (begun : Bool) (lines : List TranscriptLine) → EventsKeep rule no_content (events_above begun)
-    → FramesKeep rule (kept_at_start begun) (map frame_on lines) → NoneBreaksIn begun rule lines
+    → FramesKeep rule (kept_at_start begun) (map cpu_frame_on lines) → NoneBreaksIn begun rule lines
 none_breaks rule begun lines above keep place event at =
     let all : List LineEvent = map (λ event. record { line = 0; event = event }) (events_above begun) ++ events_of_lines lines in
     at_places rule all all 0 refl

@@ -6,7 +6,7 @@ use Rattle.fio_check.specs.ContentAbove.{content_at}
 use Rattle.fio_check.specs.ContentSaid.{TimedState}
 use Rattle.fio_check.specs.ContentEvents.{recorded_items}
 use Rattle.fio_check.specs.ContentRules.{answer_rules, breaks_answer, breaks_entry, entry_rules}
-use Rattle.fio_check.specs.ContentFaults.{content_fault_at, content_fault_in, fault_of}
+use Rattle.fio_check.specs.ContentFaults.{content_fault_at, content_fault_in, fault_by}
 use Rattle.fio_check.specs.declared.content_rules.BrokenRule.{BrokenRule}
 use Rattle.fio_ends.specs.ContentPremises.{HasNearTimes}
 use Rattle.fio_ends.specs.ContentRuns.{AccusesNone, ContentNeverAccuses, KeepsRule}
@@ -68,10 +68,10 @@ module _ (begun : Bool) (lines : List TranscriptLine) (keeps : (place : ℕ) (ev
   all = events_of_log begun lines
 
   none_at : (place : ℕ) (here : Option LineEvent) → slice_get all place ≡ here
-      → option_and_then (λ found. option_map (fault_of found.line (recorded_items (take place all))) (rule_broken_by (content_at all place) found.event)) here ≡ None
+      → option_and_then (λ found. option_map (fault_by found.line (recorded_items (take place all))) (rule_broken_by (content_at all place) found.event)) here ≡ None
   none_at place None at = refl
   none_at place (Some here) at =
-      ap (option_map (fault_of here.line (recorded_items (take place all))))
+      ap (option_map (fault_by here.line (recorded_items (take place all))))
       (none_broken (content_at all place) here.event (keeps place here.event (ap (option_map (λ (found : LineEvent). found.event)) at)))
 
   no_faults : content_fault_in begun lines ≡ None

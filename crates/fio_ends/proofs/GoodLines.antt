@@ -1,5 +1,5 @@
 -- In frames that break no rule, one after the other, a checker finds nothing.
-use Rattle.fio_ends.proofs.Names.{◌≡◌, ◌∙◌, ◌+◌, ◌<◌, ◌≤◌, inl, inr, ℕ, zero, suc, List, [], ◌∷◌, ◌++◌, length, map, Option, Some, None, refl, ap, ap₂, sym, arith, length-append, append_assoc, slice_get, eqb_tells, facts_with, no_facts, TranscriptLine, observation_in, observation_on, first_broken_within, standard_limits, verdict_on, Facts, RuleLimits, Observation, Good, seen_at, CpuFrame, frame_on}
+use Rattle.fio_ends.proofs.Names.{◌≡◌, ◌∙◌, ◌+◌, ◌<◌, ◌≤◌, inl, inr, ℕ, zero, suc, List, [], ◌∷◌, ◌++◌, length, map, Option, Some, None, refl, ap, ap₂, sym, arith, length-append, append_assoc, slice_get, eqb_tells, facts_with, no_facts, TranscriptLine, observation_in, observation_on, first_broken_within, standard_rule_limits, verdict_on, Facts, RuleLimits, Observation, Good, seen_at, CpuFrame, cpu_frame_on}
 use Rattle.std.specs.Option.{option_or}
 use Rattle.std.specs.Prelude.{option_and_then, option_map, unwrap_or}
 use Rattle.fio_check.specs.Checkers.{checker_at, checker_with, found_at, found_by, verdict_found_at}
@@ -26,7 +26,7 @@ line_here (first ∷ before) rest line = line_here before rest line
 
 -- a checker of the lines above a place finds nothing from there on, if the lines left keep the rules
 none_from : (limits : RuleLimits) (lines before rest : List TranscriptLine) (place : ℕ) (facts : Facts) → lines ≡ before ++ rest
-    → place ≡ length before → checker_at limits lines place ≡ taking limits facts → KeepRules limits facts (map frame_on rest)
+    → place ≡ length before → checker_at limits lines place ≡ taking limits facts → KeepRules limits facts (map cpu_frame_on rest)
     → (above : ℕ) → place ≤ above → above < length lines → found_at limits lines above ≡ None
 none_from limits lines before [] place facts is at checker kept above low high =
     let all : length lines ≡ length before + 0 = ap length is ∙ length-append before [] in
@@ -48,7 +48,7 @@ none_from limits lines before (line ∷ rest) place facts is at checker kept abo
     ]
 
 -- in lines whose frames break no rule a checker finds nothing
-pub nothing_found : (limits : RuleLimits) (lines : List TranscriptLine) → KeepRules limits no_facts (map frame_on lines)
+pub nothing_found : (limits : RuleLimits) (lines : List TranscriptLine) → KeepRules limits no_facts (map cpu_frame_on lines)
     → (place : ℕ) → place < length lines → found_at limits lines place ≡ None
 nothing_found limits lines kept place within = none_from limits lines [] lines 0 no_facts refl refl refl kept place (omega arith) within
 
@@ -66,9 +66,9 @@ no_verdict found (Some line) none = rw none refl
 
 -- if a checker with the limits of TEES 2009 finds nothing, the transcript is good
 pub good_if_none : (lines : List TranscriptLine)
-    → ((place : ℕ) → place < length lines → found_at standard_limits lines place ≡ None) → verdict_on lines ≡ Good (length lines)
+    → ((place : ℕ) → place < length lines → found_at standard_rule_limits lines place ≡ None) → verdict_on lines ≡ Good (length lines)
 good_if_none lines none =
     sym (finds_the_first_breach lines)
     ∙ ap (λ found. unwrap_or found (Good (length lines)))
     (none_earliest (verdict_found_at lines) (length lines)
-    (λ place within. no_verdict (found_at standard_limits lines place) (slice_get lines place) (none place within)))
+    (λ place within. no_verdict (found_at standard_rule_limits lines place) (slice_get lines place) (none place within)))

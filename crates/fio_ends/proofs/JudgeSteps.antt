@@ -3,7 +3,7 @@ use Rattle.fio_ends.proofs.Names.{◌≡◌, ◌∙◌, ℕ, Bool, true, false, 
 use Rattle.std.specs.Prelude.{◌||◌}
 use Rattle.fio_check.specs.Checkers.{checker_skipping, checker_with, found_by, passes_over}
 use Rattle.fio_check.specs.ContentCheckers.{checking_with, content_found, found_in_frame}
-use Rattle.fio_check.specs.LinkJudges.{Frame, Judging, LogLine, Lost, content_above, content_here, is_set_back, is_unheard, judging_at, judging_below, judging_below_outcome, judging_kept, judging_passed, judging_taken, judging_with, judging_with_line, loads_below, loads_left, outcome_found, outcome_in, outcome_judged, outcome_set_back, outcomes_of, place_lost, stamp_in, unjudged_by}
+use Rattle.fio_check.specs.LinkJudges.{Frame, Judging, LogLine, Lost, checking_above, content_here, is_set_back, is_unheard, judging_at, judging_below, judging_below_outcome, judging_kept, judging_passed, judging_taken, judging_with, judging_with_line, loads_below, loads_left, outcome_found, outcome_in, outcome_judged, outcome_set_back, outcomes_of, place_lost, stamp_in, unjudged_by}
 use Rattle.fio_check.specs.declared.checker.Checker.{Checker}
 use Rattle.fio_check.specs.declared.checker.Skips.{Skips}
 use Rattle.fio_check.specs.declared.checker.Skips.TheVariants.{Nothing, ToCommand, ToPoll}
@@ -165,7 +165,7 @@ module _ (limits : RuleLimits) (judging : Judging) (at : LogPlace) (frame : CpuF
       → first_broken_within limits facts said_here ≡ None → content_found kept sent frame.octets ≡ None
       → KeepsFrame limits judging at frame (facts_with facts said_here) (kept_with kept sent frame.octets)
   frame_kept facts kept checker content back none finds =
-      let on : content_here judging ≡ record { begun = true; kept = kept } = ap (λ (c : Checker). content_above judging c.skips) checker ∙ content in
+      let on : content_here judging ≡ record { begun = true; kept = kept } = ap (λ (c : Checker). checking_above judging c.skips) checker ∙ content in
       by_kept (facts_with facts said_here) (kept_with kept sent frame.octets) (ap (λ c. passes_over c sent said_here) checker ∙ takes_all limits facts sent said_here) back
       (ap (λ c. found_by c sent said_here) checker ∙ found-taking limits facts sent said_here ∙ rw none refl)
       (ap (λ c. found_in_frame c sent frame.octets) on ∙ finds_on kept sent frame.octets finds)
@@ -174,12 +174,12 @@ module _ (limits : RuleLimits) (judging : Judging) (at : LogPlace) (frame : CpuF
 
 -- a command at which both checkers begin anew
 pub frame_again : (limits : RuleLimits) (judging : Judging) (at : LogPlace) (octets : List ℕ) (skips : Skips) (kept : ContentKept) → judging.checker ≡ checker_skipping skips limits
-    → content_above judging skips ≡ record { begun = false; kept = kept } → passes_over (checker_skipping skips limits) true (observation_in true octets) ≡ false
+    → checking_above judging skips ≡ record { begun = false; kept = kept } → passes_over (checker_skipping skips limits) true (observation_in true octets) ≡ false
     → first_broken_within limits no_facts (observation_in true octets) ≡ None → content_found kept true octets ≡ None
     → KeepsFrame limits judging at (record { from_cpu = true; octets = octets }) (facts_with no_facts (observation_in true octets)) (kept_with kept true octets)
 frame_again limits judging at octets skips kept checker above over none finds =
     let said_here = observation_in true octets in
-    let on : content_here judging ≡ record { begun = false; kept = kept } = ap (λ (c : Checker). content_above judging c.skips) checker ∙ above in
+    let on : content_here judging ≡ record { begun = false; kept = kept } = ap (λ (c : Checker). checking_above judging c.skips) checker ∙ above in
     let rules : found_by (checker_skipping skips limits) true said_here ≡ None = rw (over, none) refl in
     let takes : checker_with (checker_skipping skips limits) true said_here ≡ taking limits (facts_with no_facts said_here) = rw (over, none) refl in
     by_kept limits judging at (record { from_cpu = true; octets = octets }) (facts_with no_facts said_here) (kept_with kept true octets)

@@ -6,7 +6,7 @@ use Rattle.fio_message.specs.declared.commands.Command.TheVariants as commands
 use Rattle.fio_message.specs.Commands.{command_octets}
 use Rattle.fio_check.specs.Checkers.{checker_below_breach, checker_skipping, passes_over}
 use Rattle.fio_check.specs.ContentCheckers.{ContentChecking, checking_with}
-use Rattle.fio_check.specs.LinkJudges.{Judging, LogLine, checker_below_lines, checking_again, content_above, judging_anywhere, judging_begun, judging_below, judging_lost, loads_below, loads_left, outcomes_of, with_loads}
+use Rattle.fio_check.specs.LinkJudges.{Judging, LogLine, checker_below_lines, checking_again, checking_above, judging_anywhere, judging_begun, judging_below, judging_lost, loads_below, loads_left, outcomes_of, with_loads}
 use Rattle.fio_check.specs.declared.checker.Checker.{Checker}
 use Rattle.fio_check.specs.declared.checker.Skips.{Skips}
 use Rattle.fio_check.specs.declared.checker.Skips.TheVariants.{ToCommand, ToPoll}
@@ -237,7 +237,7 @@ module _ (settings : Settings) (range : AreInRange settings) (first : ℕ) (limi
       (from : Life) (facts : Facts) → IsReached settings range first limits begin machine
       → Follows settings first from machine due facts → MayTakeEffect settings range first limits begin None machine (event ∷ rest) (loads_left judging) → Sends event
       → refusal machine event ≡ None → IsWithinRanges event → (octets : List ℕ) → frames_at first machine event ≡ record { from_cpu = true; octets = octets } ∷ []
-      → passes_over (checker_skipping skips limits) true (observation_in true octets) ≡ false → content_above judging skips ≡ checking_again (loads_left judging)
+      → passes_over (checker_skipping skips limits) true (observation_in true octets) ≡ false → checking_above judging skips ≡ checking_again (loads_left judging)
       → KeepsJudge None (clock_after c machine event) (state_after settings t machine event) (after settings first machine event) (due_after machine due event) rest judging
       (map (logged_at at) (frames_at first machine event))
   begins_again judging skips checker c t at event rest machine due from facts r follows may sends fine within octets frames_are over above_is =

@@ -1,5 +1,5 @@
 -- A log that begins at any event of a prompt run: what it has from its first command on is a log that begins there.
-use Rattle.fio_ends.proofs.Names.{◌≡◌, ◌∙◌, ◌+◌, ◌-◌, ◌<◌, ◌≤◌, inl, inr, ℕ, true, false, List, [], ◌∷◌, ◌++◌, length, Option, Some, None, refl, ap, sym, subst, arith, append_assoc, if◌then◌else◌, Settings, AreInRange, no_facts, standard_limits, TranscriptLine, Event, Machine, SentFrame, start, after, Leads, item_numbered, kept, CpuFrame, frame_heard, frame_on, frames_from}
+use Rattle.fio_ends.proofs.Names.{◌≡◌, ◌∙◌, ◌+◌, ◌-◌, ◌<◌, ◌≤◌, inl, inr, ℕ, true, false, List, [], ◌∷◌, ◌++◌, length, Option, Some, None, refl, ap, sym, subst, arith, append_assoc, if◌then◌else◌, Settings, AreInRange, no_facts, standard_rule_limits, TranscriptLine, Event, Machine, SentFrame, start, after, Leads, item_numbered, kept, CpuFrame, frame_heard, cpu_frame_on, frames_from}
 use Rattle.std.proofs.lemmas.Bool.{cases_lt}
 use Rattle.fio_check.specs.Checkers.{checker_anywhere, found_from}
 use Rattle.fio_check.specs.Lines.{from_first_command}
@@ -18,7 +18,7 @@ first_sent : (P : List TranscriptLine → Type 0) (lines : List TranscriptLine) 
     → HaveFrames lines (frame ∷ frames) → P lines → P (from_first_command lines)
 first_sent P [] frame frames sent has holds = absurd (cc has)
 first_sent P (line ∷ lines) frame frames sent has holds =
-    let same : frame_on line ≡ frame = cc in
+    let same : cpu_frame_on line ≡ frame = cc in
     let is : line.from_cpu ≡ true = ap (λ (f : CpuFrame). f.from_cpu) same ∙ sent in
     subst P (sym (ap (λ s. if s then line ∷ lines else from_first_command lines) is)) holds
 
@@ -28,7 +28,7 @@ first_heard : (P : List TranscriptLine → Type 0) (lines : List TranscriptLine)
 first_heard P lines None frames has further = further lines has
 first_heard P [] (Some frame) frames has further = absurd (cc has)
 first_heard P (line ∷ lines) (Some frame) frames has further =
-    let same : frame_on line ≡ record { from_cpu = false; octets = frame.octets } = cc in
+    let same : cpu_frame_on line ≡ record { from_cpu = false; octets = frame.octets } = cc in
     let is : line.from_cpu ≡ false = ap (λ (f : CpuFrame). f.from_cpu) same in
     let rest : HaveFrames lines frames = cc in
     subst P (sym (ap (λ s. if s then line ∷ lines else from_first_command lines) is)) (further lines rest)
@@ -108,7 +108,7 @@ never_accuses_later settings first before later machine last range run leads lin
 
 pub is_good_later : NeverAccusesLater (FromCommand IsGood)
 is_good_later settings first before later machine last range run leads lines has suit =
-    good_if_none (from_first_command lines) (never_accuses_later settings first before later machine last range run leads lines has standard_limits suit)
+    good_if_none (from_first_command lines) (never_accuses_later settings first before later machine last range run leads lines has standard_rule_limits suit)
 
 pub never_accuses_anywhere : NeverAccusesLater HasNoBreachAnywhere
 never_accuses_anywhere settings first before later machine last range run leads lines has limits suit place within =

@@ -17,7 +17,7 @@ use Rattle.fio_wire.specs.Octets as wire
 use Rattle.fio_module.specs.Life as lives
 use Rattle.fio_ends.proofs.LinePremises.{at_module, at_cpu, frame_comes, struck_comes}
 use Rattle.fio_wire.specs.Laws.{Octet, Loss}
-use Rattle.fio_ends.specs.Lines.{Framing, WiredEnds, ends_at_start, EndOf, WireEvent, IsStruck, Happens, AtModule, AtCpu, events_of_lines, after_line_event, Arrives}
+use Rattle.fio_ends.specs.Lines.{Framing, WiredEnds, ends_at_start, EndOf, WireEvent, IsStruck, Happens, AtModule, AtCpu, events_on_wire, after_line_event, Arrives}
 use Rattle.fio_ends.specs.LineRuns.{LinesBringRecords, MayFollow, LeadOverLines, part_brought}
 
 abbrev framing : Framing
@@ -225,7 +225,7 @@ leads =
     (join answered answered_again ends_4 ends_5 ends_6 leads_5 leads_6))))
 
 -- the events of the link, and what the CPU has at the end
-delivered : events_of_lines all_events ≡ opened ∷ ToModule 1 ∷ Scan zero_low ∷ Poll ∷ Poll ∷ ToModule 3 ∷ ToCpu 2 ∷ ToCpu 2 ∷ []
+delivered : events_on_wire all_events ≡ opened ∷ ToModule 1 ∷ Scan zero_low ∷ Poll ∷ Poll ∷ ToModule 3 ∷ ToCpu 2 ∷ ToCpu 2 ∷ []
 unfolding divided with_octet
 delivered = refl
 

@@ -7,7 +7,7 @@ use Rattle.fio_link.specs.Link.{item_numbered, delivery_refusal, answer_frames}
 use Rattle.fio_wire.specs.declared.limits.TheConstants.{FLAG}
 use Rattle.fio_wire.specs.Octets.{sent}
 use Rattle.fio_wire.specs.Laws.{Octet, Loss}
-use Rattle.fio_ends.specs.Lines.{Framing, IsFraming, WireLine, EndOf, ComesWhole, MayBring, line_after, message_heard, with_written, with_answer, Arrives}
+use Rattle.fio_ends.specs.Lines.{Framing, IsFraming, WireLine, EndOf, ComesWhole, MayBring, line_after, message_heard, with_written, with_answer_written, Arrives}
 use Rattle.fio_ends.specs.LineRuns.{written_of}
 use Rattle.fio_ends.proofs.LineMessages.{IsMessage}
 use Rattle.fio_ends.proofs.LineParts.{IsReading, octet_heard, whole_heard, read_flag, read_loss}
@@ -70,7 +70,7 @@ module _ (framing : Framing) (is_framing : IsFraming framing) (frames : List Sen
 
   -- an answer is written, if there is one
   pub line_answered : (reply : Option Answer) (round : ℕ) → ((answer : Answer) → reply ≡ Some answer → IsMessage (answer_octets answer))
-      → IsLine framing (frames ++ answer_frames reply round) last (with_answer framing line reply)
+      → IsLine framing (frames ++ answer_frames reply round) last (with_answer_written framing line reply)
   line_answered None round are = record {
     written = l.written ∙ ap (written_of framing) (sym (append-nil frames));
     same_last = l.same_last;

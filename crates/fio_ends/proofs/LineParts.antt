@@ -6,7 +6,7 @@ use Rattle.fio_message.specs.Octets.{IsOctet}
 use Rattle.fio_wire.specs.declared.heard.WireHeard.{WireHeard}
 use Rattle.fio_wire.specs.declared.heard.WireHeard.TheVariants.{Nothing, Message, Other, Damaged}
 use Rattle.fio_wire.specs.declared.limits.TheConstants.{FLAG}
-use Rattle.fio_wire.specs.Frames.{Said, Frame, Damage, frame_of, heard_as, is_own, message_in, with_check}
+use Rattle.fio_wire.specs.Frames.{Said, Frame, Damage, frame_of, wire_heard, is_own, message_of_frame, with_check}
 use Rattle.fio_wire.specs.Frames as frames
 use Rattle.fio_wire.specs.Octets.{HasNoFlag, Phase, Hunting, Within, Escaped, Lost, Whole, Reading, begun, ended_by, ending, fresh, lost, next, said_in, said_of, says, stuffed, sent}
 use Rattle.fio_wire.specs.Laws.{Octet, Struck}
@@ -99,7 +99,7 @@ flag_says part reading r =
     sym (append-nil (says reading FLAG)) ∙ r.same (FLAG ∷ []) ∙ flag_said part r.free
 
 deaf_flag : (own : frames.WireSettings) (octets : List ℕ) (phase : Phase) → IsDeaf phase
-    → heard_as own (says (record { octets = octets; phase = phase }) FLAG) ≢ Message
+    → wire_heard own (says (record { octets = octets; phase = phase }) FLAG) ≢ Message
 deaf_flag own octets Hunting deaf e = absurd (cc e)
 deaf_flag own octets Lost deaf e = absurd (cc e)
 deaf_flag own octets Within deaf e = absurd deaf
@@ -128,12 +128,12 @@ no_message Damaged reading other = refl
 -- at a flag after which a line may bring no frame whole
 flag_heard : (own : frames.WireSettings) (part : Option (List ℕ)) (reading : Reading) → IsReading part reading
     → ((octets : List ℕ) → part ≡ Some octets → IsStruck octets ⊎ IsNoise own octets)
-    → heard_as own (says reading FLAG) ≢ Message
+    → wire_heard own (says reading FLAG) ≢ Message
 flag_heard own None reading deaf brings e = deaf_flag own reading.octets reading.phase deaf e
 flag_heard own (Some part) reading r brings e =
-    let said : heard_as own (says reading FLAG) ≡ heard_as own (said_in part) = ap (heard_as own) (flag_says part reading r) in
+    let said : wire_heard own (says reading FLAG) ≡ wire_heard own (said_in part) = ap (wire_heard own) (flag_says part reading r) in
     elim (brings part refl) [
-      | inl struck ↦ (let damage : heard_as own (said_in part) ≡ Damaged = ap (heard_as own) (struck_said part r.free struck) in absurd (cc (e, said, damage)))
+      | inl struck ↦ (let damage : wire_heard own (said_in part) ≡ Damaged = ap (wire_heard own) (struck_said part r.free struck) in absurd (cc (e, said, damage)))
       | inr noise ↦ absurd (noise (sym said ∙ e))
     ]
 
@@ -145,11 +145,11 @@ octet_heard own line o r brings =
       | inl flag ↦
           let P : ℕ → Type 0 = λ n. (message_heard own line.reading (Octet n) ≡ None) × IsReading (part_after line.part (Octet n)) (next line.reading n) in
           subst P (sym flag.1) (
-            no_message (heard_as own (says line.reading FLAG)) (next line.reading FLAG) (flag_heard own line.part line.reading r (brings flag.1)),
+            no_message (wire_heard own (says line.reading FLAG)) (next line.reading FLAG) (flag_heard own line.part line.reading r (brings flag.1)),
             read_flag line.reading,
           )
       | inr other ↦ (
-        no_message (heard_as own (says line.reading o)) (next line.reading o) (λ e. (let none : heard_as own (says line.reading o) ≡ Nothing = ap (heard_as own) (nothing_said line.reading o other.1) in absurd (cc (e, none)))),
+        no_message (wire_heard own (says line.reading o)) (next line.reading o) (λ e. (let none : wire_heard own (says line.reading o) ≡ Nothing = ap (wire_heard own) (nothing_said line.reading o other.1) in absurd (cc (e, none)))),
         subst (λ b. IsReading (if b then Some [] else option_map (λ before. before ++ o ∷ []) line.part) (next line.reading o)) (sym other.0)
             (read_more line.part line.reading o other.1 r),
       )
@@ -157,10 +157,10 @@ octet_heard own line o r brings =
 
 -- the message that is heard where a line says this at a flag
 abbrev message_said : frames.WireSettings → List Said → Option (List ℕ)
-message_said own said = message_if (heard_as own said) (ended_by said)
+message_said own said = message_if (wire_heard own said) (ended_by said)
 
 own_heard : (own : frames.WireSettings) (is : Bool) (frame : List ℕ) → is ≡ true
-    → message_if (if is then Message else Other) (record { octets = frame; phase = Whole }) ≡ Some (message_in frame)
+    → message_if (if is then Message else Other) (record { octets = frame; phase = Whole }) ≡ Some (message_of_frame frame)
 own_heard own true frame e = refl
 own_heard own false frame e = absurd (false≢true e)
 

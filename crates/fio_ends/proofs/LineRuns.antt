@@ -13,7 +13,7 @@ use Rattle.fio_link.proofs.Promises.{runs_are_sound, headline}
 use Rattle.fio_link.proofs.RoundNumbers.{number_of-fits, number_of-next}
 use Rattle.fio_wire.specs.declared.limits.TheConstants.{FLAG}
 use Rattle.fio_wire.specs.Laws.{Octet, Loss}
-use Rattle.fio_ends.specs.Lines.{Framing, IsFraming, WireLine, WiredEnds, ends_at_start, EndOf, WireEvent, Happens, AtModule, AtCpu, events_of_lines, MayHappen, line_after, message_heard, with_written, with_answer, after_receipt, after_message, after_happening, after_line_event, Arrives}
+use Rattle.fio_ends.specs.Lines.{Framing, IsFraming, WireLine, WiredEnds, ends_at_start, EndOf, WireEvent, Happens, AtModule, AtCpu, events_on_wire, MayHappen, line_after, message_heard, with_written, with_answer_written, after_receipt, after_message, after_happening, after_line_event, Arrives}
 use Rattle.fio_ends.specs.LineRuns.{HoldsOverLines, LeadOverLines, LinesAreRuns, HeadlineOverLines}
 use Rattle.fio_ends.proofs.LineMessages.{command_is_message, reply_is_message}
 use Rattle.fio_ends.proofs.LineFrames.{IsLine, Ended, line_written, line_answered, line_octet, line_lost, line_ended}
@@ -53,7 +53,7 @@ module _ (settings : Settings) (range : AreInRange settings) (framing : Framing)
       let before = record ends { to_module = line_after ends.to_module (EndOf number) } in
       let reply : History → Option Answer = λ history. reply_to settings history frame.octets in
       let answered : IsLine framing (machine.to_cpu ++ answer_frames (reply machine.history) frame.round) machine.last_to_cpu
-      (with_answer framing ends.to_cpu (reply machine.history)) =
+      (with_answer_written framing ends.to_cpu (reply machine.history)) =
       line_answered framing is_framing machine.to_cpu machine.last_to_cpu ends.to_cpu f.to_cpu (reply machine.history) frame.round
       (λ answer is. reply_is_message settings range machine.history frame.octets e.message.0 answer is) in
       let next : Follows framing first (after_delivery_to_module settings machine number (Some frame))
@@ -64,7 +64,7 @@ module _ (settings : Settings) (range : AreInRange settings) (framing : Framing)
         to_module = e.next_line;
         to_cpu =
             subst (λ h. IsLine framing (machine.to_cpu ++ answer_frames (reply machine.history) frame.round) machine.last_to_cpu
-            (with_answer framing ends.to_cpu (reply h))) (sym f.history) answered;
+            (with_answer_written framing ends.to_cpu (reply h))) (sym f.history) answered;
       } in (
         e.fine,
         subst (λ found. Follows framing first (after_delivery_to_module settings machine number found)
@@ -169,11 +169,11 @@ module _ (settings : Settings) (range : AreInRange settings) (framing : Framing)
   -- the machine to which the events of the link lead
   abbrev LeadsOn : Machine → List WireEvent → WiredEnds → Type 0
   LeadsOn machine events last =
-      (end : Machine) × Leads settings first machine (events_of_lines events) end × Follows framing first end last
+      (end : Machine) × Leads settings first machine (events_on_wire events) end × Follows framing first end last
 
   on : (machine : Machine) (event : Event) (events : List WireEvent) (next last : WiredEnds) → Goes machine event next
       → (Follows framing first (after settings first machine event) next → LeadsOn (after settings first machine event) events last)
-      → (end : Machine) × Leads settings first machine (event ∷ events_of_lines events) end × Follows framing first end last
+      → (end : Machine) × Leads settings first machine (event ∷ events_on_wire events) end × Follows framing first end last
   on machine event events later last goes rest =
       let last_machine = rest goes.1 in
       (last_machine.0, (goes.0, last_machine.1), last_machine.2)
@@ -227,7 +227,7 @@ module _ (settings : Settings) (range : AreInRange settings) (framing : Framing)
 -- the machine to which the events of the link lead
 record IsFollowed (settings : Settings) (framing : Framing) (first : ℕ) (events : List WireEvent) (last : WiredEnds) : Type 0 where
   machine : Machine
-  is_run : IsRun settings first (events_of_lines events) machine
+  is_run : IsRun settings first (events_on_wire events) machine
   follows : Follows framing first machine last
 
 followed : HoldsOverLines IsFollowed
@@ -242,7 +242,7 @@ lines_are_runs settings framing first events last range is_framing fits lead =
     let run = followed settings framing first events last range is_framing fits lead in
     record {
       machine = run.machine;
-      sound = runs_are_sound settings first (events_of_lines events) run.machine range run.is_run;
+      sound = runs_are_sound settings first (events_on_wire events) run.machine range run.is_run;
       history = run.follows.history;
       polling = run.follows.polling;
       to_module = run.follows.to_module.written;
@@ -253,5 +253,5 @@ lines_are_runs settings framing first events last range is_framing fits lead =
 pub headline_over_lines : HeadlineOverLines
 headline_over_lines settings framing first events last range is_framing fits lead =
     let run = followed settings framing first events last range is_framing fits lead in
-    subst (λ (polling : Polling). Headline settings first (events_of_lines events) polling.items) (sym run.follows.polling)
-    (headline settings first (events_of_lines events) run.machine range run.is_run)
+    subst (λ (polling : Polling). Headline settings first (events_on_wire events) polling.items) (sym run.follows.polling)
+    (headline settings first (events_on_wire events) run.machine range run.is_run)

@@ -46,7 +46,7 @@ pub use Rattle.fio_check.specs.Lines.{TranscriptLine}
 pub use Rattle.fio_check.specs.Observations.{answer_type_to, names_absent, is_absent, observation_of, observation_in, observation_on}
 pub use Rattle.fio_check.specs.Places.{is_some_and}
 pub use Rattle.fio_check.specs.Pollers.{block_on, poller_with, poller_of}
-pub use Rattle.fio_check.specs.Rules.{first_broken, first_broken_within, rule_broken, standard_limits}
+pub use Rattle.fio_check.specs.Rules.{first_broken, first_broken_within, rule_broken, standard_rule_limits}
 pub use Rattle.fio_check.specs.Verdicts.{verdict_on}
 pub use Rattle.fio_check.specs.declared.content_rules.ContentRule.{ContentRule}
 pub use Rattle.fio_check.specs.declared.content_rules.ContentRule.TheVariants.{Accepted, Alternate, Apart, Cleared, Clock, Done, Fresh, Ignored, Order, State, Watchdog}
@@ -69,4 +69,4 @@ pub use Rattle.fio_link.specs.Rounds.{next_round, CarriesBlockOf}
 pub use Rattle.fio_link.specs.declared.event.Event.{Event}
 pub use Rattle.fio_link.specs.declared.event.Event.TheVariants.{ToModule, ToCpu}
 pub use Rattle.fio_ends.specs.PromptRuns.{due_after, IsPrompt, ArePrompt, IsWithinRanges, SuitModule}
-pub use Rattle.fio_ends.specs.Transcripts.{CpuFrame, frame_on, frame_heard, frames_at, frames_from}
+pub use Rattle.fio_ends.specs.Transcripts.{CpuFrame, cpu_frame_on, frame_heard, frames_at, frames_from}

@@ -1,5 +1,5 @@
 -- What a log of polls without a fault keeps: its entries are one behind the other, and turn the levels of their inputs.
-use Rattle.fio_ends.proofs.Names.{AllByRecursion, Answer, Block, Bool, Command, ContentEvent, ContentFacts, CpuFrame, Ended, Heard, IsCommand, List, None, Option, Recorded, Sent, Some, TranscriptLine, [], answer_in, answer_octets, ap, arith, content_with, false, frame_on, if◌then◌else◌, map, nat_tests, option_map, refl, rule_broken_by, subst, true, ℕ, ◌%◌, ◌++◌, ◌+◌, ◌<◌, ◌==◌, ◌^◌, ◌∙◌, ◌∷◌, ◌≡◌}
+use Rattle.fio_ends.proofs.Names.{AllByRecursion, Answer, Block, Bool, Command, ContentEvent, ContentFacts, CpuFrame, Ended, Heard, IsCommand, List, None, Option, Recorded, Sent, Some, TranscriptLine, [], answer_in, answer_octets, ap, arith, content_with, false, cpu_frame_on, if◌then◌else◌, map, nat_tests, option_map, refl, rule_broken_by, subst, true, ℕ, ◌%◌, ◌++◌, ◌+◌, ◌<◌, ◌==◌, ◌^◌, ◌∙◌, ◌∷◌, ◌≡◌}
 use Rattle.std.specs.Option.{option_or}
 use Rattle.std.specs.Prelude.{fold}
 use Rattle.fio_message.specs.declared.answers.Answer.TheVariants as answers
@@ -11,7 +11,7 @@ use Rattle.fio_message.specs.Status.{block_status}
 use Rattle.fio_message.proofs.StatusBits.{block_status-fits, status_back}
 use Rattle.fio_check.specs.ContentCheckers.{ContentChecking, breach_among, breach_below, checking_with, found_first, found_in_frame, found_on, kept_below}
 use Rattle.fio_check.specs.ContentEvents.{content_events, events_of_block, number_after, number_with_command}
-use Rattle.fio_ends.specs.PollLogs.{IsBlock, IsEntryOf64, block_frame, sent_frame, states_frame}
+use Rattle.fio_ends.specs.PollLogs.{IsBlock, IsEntryOf64, block_frame, command_frame, states_frame}
 use Rattle.fio_ends.proofs.Sends.{read_back}
 
 -- ---- frames
@@ -41,7 +41,7 @@ NoneFound checking [] = Unit {0}
 NoneFound checking (frame ∷ frames) =
     (found_in_frame checking frame.from_cpu frame.octets ≡ None) × NoneFound (checking_with checking frame.from_cpu frame.octets) frames
 
-pub none_found : (lines : List TranscriptLine) (checking : ContentChecking) → found_first checking lines ≡ None → NoneFound checking (map frame_on lines)
+pub none_found : (lines : List TranscriptLine) (checking : ContentChecking) → found_first checking lines ≡ None → NoneFound checking (map cpu_frame_on lines)
 none_found [] checking is = tt
 none_found (line ∷ lines) checking is =
     let parts = none_or (option_map (found_on line.number) (found_in_frame checking line.from_cpu line.octets)) _ is in
@@ -53,7 +53,7 @@ judging number facts = record { begun = true; kept = record { number = number; f
 
 -- below a command
 module _ (begun : Bool) (number : Option ℕ) (facts : ContentFacts) (command : Command) (within : IsCommand command) (frames : List CpuFrame) where
-  pub below_command : NoneFound (record { begun = begun; kept = record { number = number; facts = facts } }) (sent_frame command ∷ frames)
+  pub below_command : NoneFound (record { begun = begun; kept = record { number = number; facts = facts } }) (command_frame command ∷ frames)
       → NoneFound (judging (number_with_command number command) (content_with facts (Sent command))) frames
   below_command n =
       subst (λ read. NoneFound (record { begun = true; kept = kept_below (record { number = number; facts = facts }) (number_after number read None) (content_events number read None) }) frames)

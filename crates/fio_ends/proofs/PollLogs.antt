@@ -1,7 +1,7 @@
 -- Of logs of polls exactly those are accused that no right link explains.
 use Rattle.fio_ends.proofs.Marks.{Agree, EndsBefore, Known, Look, LookHolds, all_see, entries_in, looks_hold, looks_in, marks_turn, turned_from}
 use Rattle.fio_ends.proofs.PollBlocks.{block_floor, end_is, status}
-use Rattle.fio_ends.proofs.Names.{content_step, ◌||◌, AllByRecursion, Bool, ContentEvent, ContentFacts, CpuFrame, Ended, Heard, InputAbove, List, None, Option, Sent, Some, TranscriptLine, [], ap, append_assoc, arith, content_with, false, frame_on, if◌then◌else◌, map, nat_le, nat_lt, nat_tests, no_content, option_map, refl, subst, suc, sym, true, ℕ, ◌%◌, ◌&&◌, ◌++◌, ◌+◌, ◌<◌, ◌==◌, ◌||◌, ◌∙◌, ◌∷◌, ◌≡◌, ◌≤◌}
+use Rattle.fio_ends.proofs.Names.{content_step, ◌||◌, AllByRecursion, Bool, ContentEvent, ContentFacts, CpuFrame, Ended, Heard, InputAbove, List, None, Option, Sent, Some, TranscriptLine, [], ap, append_assoc, arith, content_with, false, cpu_frame_on, if◌then◌else◌, map, nat_le, nat_lt, nat_tests, no_content, option_map, refl, subst, suc, sym, true, ℕ, ◌%◌, ◌&&◌, ◌++◌, ◌+◌, ◌<◌, ◌==◌, ◌||◌, ◌∙◌, ◌∷◌, ◌≡◌, ◌≤◌}
 use Rattle.std.specs.Prelude.{fold, option_and_then}
 use Rattle.fio_message.specs.Bits.{is_set}
 use Rattle.fio_message.specs.declared.commands.Command.TheVariants as commands
@@ -12,7 +12,7 @@ use Rattle.fio_check.specs.ContentKnown.{if_comes}
 use Rattle.fio_check.specs.ContentFacts.{coming, input_below_clear, input_recorded, input_with_answer, input_with_entry, no_input, seen_below, settled_now, unnamed, watched_now}
 use Rattle.fio_check.specs.ContentKnown.{input_coming}
 use Rattle.fio_check.specs.ContentFaults.{ContentFault, content_fault_in}
-use Rattle.fio_check.specs.Rules.{standard_limits}
+use Rattle.fio_check.specs.Rules.{standard_rule_limits}
 use Rattle.fio_check.specs.ContentSaid.{SentItem, milliseconds_between}
 use Rattle.fio_check.proofs.ContentFound.{finds_the_fault}
 use Rattle.fio_link.proofs.MadeBlocks.{each-append, each-map}
@@ -95,7 +95,7 @@ after_first facts stamp u = subst (λ f. Within f stamp (block_floor stamp) None
 
 -- ---- levels that hold a log
 
-pub no_fault : (begun : Bool) (lines : List TranscriptLine) → content_fault_in begun lines ≡ None → NoneFound (checking_at_start begun) (map frame_on lines)
+pub no_fault : (begun : Bool) (lines : List TranscriptLine) → content_fault_in begun lines ≡ None → NoneFound (checking_at_start begun) (map cpu_frame_on lines)
 no_fault begun lines is = none_found lines (checking_at_start begun) (finds_the_fault begun lines ∙ ap (option_map fault_found) is)
 
 agree_first : (es : List Timed) → Agree nothing (turned_from es) es
@@ -224,7 +224,7 @@ module _ (lines : List TranscriptLine) (l : IsLogOfPolls lines) (good : content_
       keeps_turns l.turns next 0 l.stamp (Some next) (below asked l.number false l.entries l.stamp) None nothing (number_fits l.number) l.first.fits refl
       (after_first (fold content_with first_heard (map (recorded l.stamp) l.entries)) l.stamp (unwatched_all l.entries first_heard l.stamp first_unwatched)) tt l.in_step n.1
 
-  good_is_explained : IsExplainable standard_limits false lines
+  good_is_explained : IsExplainable standard_rule_limits false lines
   good_is_explained =
       let all = timed_of 0 l.stamp l.turns in
       let looks = looks_of_turns 0 l.stamp l.turns in
@@ -232,13 +232,13 @@ module _ (lines : List TranscriptLine) (l : IsLogOfPolls lines) (good : content_
       (holds (turned_from all) all looks l.turns 0 l.stamp None [] refl tt l.in_step (looks_of 0 l.stamp l.turns kept))
 
 -- nor is a log accused that a right link explains
-pub explained_is_good : (begun : Bool) (lines : List TranscriptLine) → IsExplainable standard_limits begun lines → content_fault_in begun lines ≡ None
+pub explained_is_good : (begun : Bool) (lines : List TranscriptLine) → IsExplainable standard_rule_limits begun lines → content_fault_in begun lines ≡ None
 unfolding AccusedAreNotExplainable
 explained_is_good begun lines e = by (content_fault_in begun lines) refl
   where
     by : (found : Option ContentFault) → content_fault_in begun lines ≡ found → content_fault_in begun lines ≡ None
     by None is = is
-    by (Some fault) is = absurd (accused_not_explainable standard_limits begun lines (λ none. absurd (cc (sym is ∙ none))) e)
+    by (Some fault) is = absurd (accused_not_explainable standard_rule_limits begun lines (λ none. absurd (cc (sym is ∙ none))) e)
 
 pub logs_of_polls_are_decided : LogsOfPollsAreDecided
 unfolding LogsOfPollsAreDecided

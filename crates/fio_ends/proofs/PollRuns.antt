@@ -10,7 +10,7 @@ use Rattle.fio_message.specs.Answers.{answer_octets}
 use Rattle.fio_message.specs.Status.{block_status}
 use Rattle.fio_module.specs.Sendings.{answer_of_sending, is_out_of_sequence}
 use Rattle.fio_module.specs.Settings.{standard_settings}
-use Rattle.fio_check.specs.Rules.{standard_limits}
+use Rattle.fio_check.specs.Rules.{standard_rule_limits}
 use Rattle.fio_link.specs.declared.event.Event.TheVariants as events
 use Rattle.fio_ends.specs.Explainable.{IsExplainable}
 use Rattle.fio_ends.specs.PollLogs.{IsEntryOf64, IsLogOfPolls, block_frame, frames_of_turns, poll_frame, scans_of_turns}
@@ -162,7 +162,7 @@ module _ (lines : List TranscriptLine) (l : IsLogOfPolls lines) (start_levels : 
   short : scans_of (life_of polled.last.history) < 2 ^ 31
   short = omega (arith, polled.scans, told.scans, since_few, l.first.few, l.lasts)
 
-  pub explained : IsExplainable standard_limits false lines
+  pub explained : IsExplainable standard_rule_limits false lines
   explained = record {
     settings = settings;
     range = in_range;

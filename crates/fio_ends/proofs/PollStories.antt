@@ -16,7 +16,7 @@ use Rattle.fio_message.specs.Status.{block_status}
 use Rattle.fio_message.specs.declared.commands.Command.TheVariants as commands
 use Rattle.fio_module.specs.Sendings.{answer_of_sending, repeat_of}
 use Rattle.fio_link.proofs.MadeBlocks.{each-append, each-map}
-use Rattle.fio_ends.specs.PollLogs.{AreInStep, IsBlock, IsEntryOf64, IsSeenBy, Turn, block_frame, frames_of_turns, poll_frame, scans_of_turns, sent_frame}
+use Rattle.fio_ends.specs.PollLogs.{AreInStep, IsBlock, IsEntryOf64, IsSeenBy, Turn, block_frame, frames_of_turns, poll_frame, scans_of_turns, command_frame}
 use Rattle.fio_ends.specs.PollLogs as turns_of
 use Rattle.fio_ends.proofs.Plans.{AreTakeable, IsTakeable, Keep, Look, Lose, LosePoll, Plan, Poll, Repeat, Step, frame_of_answer, frames_of, logged, made_at, scan_after, sending_at}
 use Rattle.fio_ends.proofs.TimedEntries.{Rise, Timed, change_of, logged_is, plan_of, upto}
@@ -332,7 +332,7 @@ module _ (settings : Settings) (range : AreInRange settings) (first : ℕ) (per_
       record { takeable = t.takeable; frames = ap (λ fs. poll_frame (number_of first round) ∷ fs) t.frames; scans = t.scans }
   tells (turns_of.Lost command ∷ turns) scan before taken round seen done is past taken_is stamped step fresh holds =
       let t = tells turns scan before taken round seen done is past taken_is stamped step.2 fresh holds in
-      record { takeable = (step.0, step.1, t.takeable); frames = ap (λ fs. sent_frame command ∷ fs) t.frames; scans = t.scans }
+      record { takeable = (step.0, step.1, t.takeable); frames = ap (λ fs. command_frame command ∷ fs) t.frames; scans = t.scans }
   tells (turns_of.Saw states stamp ∷ turns) scan before taken round (Some seen) done is past taken_is stamped step fresh holds = absurd (cc step.0)
   tells (turns_of.Saw states stamp ∷ turns) scan before taken round None done is past taken_is stamped step fresh holds =
       let gap = milliseconds_between before stamp in
@@ -342,9 +342,9 @@ module _ (settings : Settings) (range : AreInRange settings) (first : ℕ) (per_
       let at = stamp_then base scan before stamp stamped step.2 in
       record {
         takeable = subst (λ n. AreTakeable plan n taken None (steps_of before gap turns)) (sym same) t.takeable;
-        frames = ap (λ n. sent_frame commands.FilteredInputs ∷ (frame_of_answer (answers.FilteredInputs (word_of 64 (plan.levels n)) ((base + n) % 2 ^ 32))
+        frames = ap (λ n. command_frame commands.FilteredInputs ∷ (frame_of_answer (answers.FilteredInputs (word_of 64 (plan.levels n)) ((base + n) % 2 ^ 32))
             ∷ frames_of plan n taken round None (steps_of before gap turns))) same
-            ∙ ap₂ (λ (w : ℕ) (rest : ℕ × List CpuFrame). sent_frame commands.FilteredInputs ∷ (frame_of_answer (answers.FilteredInputs w rest.0) ∷ rest.1)) word
+            ∙ ap₂ (λ (w : ℕ) (rest : ℕ × List CpuFrame). command_frame commands.FilteredInputs ∷ (frame_of_answer (answers.FilteredInputs w rest.0) ∷ rest.1)) word
             (ap₂ (λ (st : ℕ) (fs : List CpuFrame). (st, fs)) at t.frames);
         scans = ap (λ n. scan_after n (steps_of before gap turns)) same ∙ t.scans;
       }

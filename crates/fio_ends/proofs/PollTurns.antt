@@ -173,7 +173,7 @@ polled number found facts frames fits is none =
     (below_command true found facts (commands.Poll number) (omega arith) frames none)
 
 pub lost : (command : Command) (found : Option ℕ) (facts : ContentFacts) (frames : List CpuFrame) → IsQuiet command → IsCommand command
-    → NoneFound (judging found facts) (turns_of.sent_frame command ∷ frames) → NoneFound (judging found (content_with facts (Sent command))) frames
+    → NoneFound (judging found facts) (turns_of.command_frame command ∷ frames) → NoneFound (judging found (content_with facts (Sent command))) frames
 lost command found facts frames quiet within none =
     subst (λ n. NoneFound (judging n (content_with facts (Sent command))) frames) (same_number found command quiet)
     (below_command true found facts command within frames none)

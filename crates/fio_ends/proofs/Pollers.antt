@@ -1,5 +1,5 @@
 -- A good transcript is that of its poller.
-use Rattle.fio_ends.proofs.Names.{◌≡◌, ◌∙◌, ◌+◌, ◌%◌, ◌<◌, ◌≤◌, ℕ, zero, suc, Bool, true, false, List, [], ◌∷◌, ◌++◌, length, take, Option, Some, None, refl, ap, sym, subst, arith, if◌then◌else◌, ◌==◌, not, option_map, slice_get, option_map_or, nat_tests, fold-append, same_Some, slice_get_within, Answer, Command, answer_in, answered_block, command_in, after_hearing, Polling, items_of_block, facts_at, facts_with, number_due, number_polled, TranscriptLine, observation_in, observation_of, observation_on, first_broken, rule_broken, standard_limits, Facts, Observation, Good, facts_next, seen_at, take_one_more, block_on, poller_with, poller_of}
+use Rattle.fio_ends.proofs.Names.{◌≡◌, ◌∙◌, ◌+◌, ◌%◌, ◌<◌, ◌≤◌, ℕ, zero, suc, Bool, true, false, List, [], ◌∷◌, ◌++◌, length, take, Option, Some, None, refl, ap, sym, subst, arith, if◌then◌else◌, ◌==◌, not, option_map, slice_get, option_map_or, nat_tests, fold-append, same_Some, slice_get_within, Answer, Command, answer_in, answered_block, command_in, after_hearing, Polling, items_of_block, facts_at, facts_with, number_due, number_polled, TranscriptLine, observation_in, observation_of, observation_on, first_broken, rule_broken, standard_rule_limits, Facts, Observation, Good, facts_next, seen_at, take_one_more, block_on, poller_with, poller_of}
 use Rattle.fio_message.specs.declared.answers.Answer.TheVariants as answers
 use Rattle.fio_message.specs.declared.commands.Command.TheVariants as commands
 use Rattle.fio_message.specs.declared.commands.OtherCommand.TheVariants as other_commands
@@ -71,7 +71,7 @@ module _ (facts : Facts) (poller : Option Polling) (agrees : Agrees facts poller
   poll_due None number kept = refl
   poll_due (Some p) number kept = ap Some (sym (kept p.number refl))
 
-  goes-poll : (number : ℕ) → KeepsRules standard_limits facts (Poll number)
+  goes-poll : (number : ℕ) → KeepsRules standard_rule_limits facts (Poll number)
       → Goes (Poll number) None facts poller (poller_by poller (Some number) None)
   goes-poll number k =
       let met = poll_due poller number (λ d is. same_as (number_due facts) number (k tried.Advance) d (agrees.due ∙ is)) in
@@ -106,7 +106,7 @@ module _ (facts : Facts) (poller : Option Polling) (agrees : Agrees facts poller
       ap (λ met. if met then (record { number = (p.number + 1) % 256; items = p.items ++ items_of_block b }) else p) same
 
   goes-block : (number status entries : ℕ) (absent : Bool) (b : BlockOf) → b.number ≡ number
-      → KeepsRules standard_limits facts (Block number status entries absent)
+      → KeepsRules standard_rule_limits facts (Block number status entries absent)
       → Goes (Block number status entries absent) (Some b) facts poller (poller_by poller None (Some b))
   goes-block number status entries absent b of_block k =
       let asked = agrees.awaiting (is_awaited facts.awaited (k tried.Pair)) in
@@ -141,7 +141,7 @@ module _ (facts : Facts) (poller : Option Polling) (agrees : Agrees facts poller
   goes-command answer other absent =
       goes-other (CommandSeen answer absent) refl refl (λ is. other (same_Some _ _ is))
 
-  goes-sent : (command : Option Command) → KeepsRules standard_limits facts (observation_of command None)
+  goes-sent : (command : Option Command) → KeepsRules standard_rule_limits facts (observation_of command None)
       → Goes (observation_of command None) None facts poller
       (poller_by poller (number_polled (observation_of command None)) None)
   goes-sent None k = absurd (cc (k tried.Readable))
@@ -149,7 +149,7 @@ module _ (facts : Facts) (poller : Option Polling) (agrees : Agrees facts poller
   goes-sent (Some (commands.Other other_commands.TrackInputs body)) k = goes-command _ (λ is. absurd (omega arith)) _
   goes-sent (Some other) k = goes-command _ (λ is. absurd (omega arith)) _
 
-  goes-heard : (answer : Option Answer) → KeepsRules standard_limits facts (observation_of None answer)
+  goes-heard : (answer : Option Answer) → KeepsRules standard_rule_limits facts (observation_of None answer)
       → Goes (observation_of None answer) (answered_block answer) facts poller
       (poller_by poller (number_polled (observation_of None answer)) (answered_block answer))
   goes-heard None k = absurd (cc (k tried.Readable))
@@ -158,7 +158,7 @@ module _ (facts : Facts) (poller : Option Polling) (agrees : Agrees facts poller
   goes-heard (Some other) k = goes-other (observation_of None (Some other)) refl refl (λ is. absurd (cc is))
 
   -- a line of the transcript, by whether the CPU sent it
-  goes-frame : (from_cpu : Bool) (octets : List ℕ) → KeepsRules standard_limits facts (observation_in from_cpu octets)
+  goes-frame : (from_cpu : Bool) (octets : List ℕ) → KeepsRules standard_rule_limits facts (observation_in from_cpu octets)
       → Goes (observation_in from_cpu octets) (answered_block (answer_from from_cpu octets)) facts poller
       (poller_by poller (number_polled (observation_in from_cpu octets)) (answered_block (answer_from from_cpu octets)))
   goes-frame true octets k = goes-sent (command_in octets) k

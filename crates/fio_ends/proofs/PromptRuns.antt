@@ -1,5 +1,5 @@
 -- In the transcript of a prompt run a checker finds nothing.
-use Rattle.fio_ends.proofs.Names.{◌≡◌, arith, ℕ, List, [], ◌∷◌, ◌++◌, None, refl, sym, subst, AllByRecursion, Settings, AreInRange, facts_with, no_facts, standard_limits, Facts, RuleLimits, Event, Machine, start, refusal, after, Leads, IsNotRestart, HaveNoRestart, IsKept, kept_all, kept, CpuFrame, frames_at, frames_from, due_after, IsPrompt, ArePrompt, IsWithinRanges, Life, Scanned, LineSynced, Raised, SuitModule}
+use Rattle.fio_ends.proofs.Names.{◌≡◌, arith, ℕ, List, [], ◌∷◌, ◌++◌, None, refl, sym, subst, AllByRecursion, Settings, AreInRange, facts_with, no_facts, standard_rule_limits, Facts, RuleLimits, Event, Machine, start, refusal, after, Leads, IsNotRestart, HaveNoRestart, IsKept, kept_all, kept, CpuFrame, frames_at, frames_from, due_after, IsPrompt, ArePrompt, IsWithinRanges, Life, Scanned, LineSynced, Raised, SuitModule}
 use Rattle.fio_module.specs.Life as module_events
 use Rattle.fio_link.specs.declared.event.Event.TheVariants as events
 use Rattle.fio_ends.specs.PromptRuns.{HasNoBreach, IsGood, NeverAccuses}
@@ -124,4 +124,4 @@ never_accuses settings first events machine range run lines has limits suit =
 
 pub is_good : NeverAccuses IsGood
 is_good settings first events machine range run lines has suit =
-    good_if_none lines (never_accuses settings first events machine range run lines has standard_limits suit)
+    good_if_none lines (never_accuses settings first events machine range run lines has standard_rule_limits suit)

@@ -7,7 +7,7 @@ use Rattle.fio_message.specs.declared.commands.Command.TheVariants as commands
 use Rattle.fio_check.specs.Checkers.{checker_below_breach, checker_skipping, found_by, passes_over}
 use Rattle.fio_check.specs.ContentCheckers.{content_found, found_in_frame}
 use Rattle.fio_check.specs.ContentSaid.{is_before, stamp_of}
-use Rattle.fio_check.specs.LinkJudges.{judging_anywhere, Judging, LogLine, content_above, any_stamp_in, any_stamp_of, is_set_back, judging_at, judging_below, judging_below_outcome, judging_taken, judging_with, judging_with_line, loads_below, loads_left, outcome_in, outcome_on, outcome_set_back, outcomes_of, place_lost}
+use Rattle.fio_check.specs.LinkJudges.{judging_anywhere, Judging, LogLine, checking_above, any_stamp_in, any_stamp_of, is_set_back, judging_at, judging_below, judging_below_outcome, judging_taken, judging_with, judging_with_line, loads_below, loads_left, outcome_in, outcome_on, outcome_set_back, outcomes_of, place_lost}
 use Rattle.fio_check.specs.declared.checker.Checker.{Checker}
 use Rattle.fio_check.specs.declared.checker.Skips.TheVariants.{Nothing, ToPoll}
 use Rattle.fio_check.specs.declared.observation.Observation.TheVariants as seen
@@ -375,7 +375,7 @@ module _ (settings : Settings) (range : AreInRange settings) (first : ℕ) (limi
               lost_at Restarted
               (watchdog_is judging at octets breach over (not_back judging (answer_in octets) none)
               (ap (λ c. found_by c false said) b.checker_is ∙ found-taking limits b.above false said ∙ rw p.rules refl)
-              (ap (λ c. found_in_frame c false octets) (ap (λ (c : Checker). content_above judging c.skips) b.checker_is ∙ b.content_is) ∙ dog) is)
+              (ap (λ c. found_in_frame c false octets) (ap (λ (c : Checker). checking_above judging c.skips) b.checker_is ∙ b.content_is) ∙ dog) is)
               (inl refl) (λ stamp some. absurd (cc (sym none ∙ some)))
         ]
           where

@@ -1,5 +1,5 @@
 -- No first rule is broken exactly if none is.
-use Rattle.fio_ends.proofs.Names.{◌≡◌, ◌∙◌, ◌-◌, slice_get, Bool, true, false, List, [], ◌∷◌, Some, None, refl, ap, if◌then◌else◌, AllByRecursion, first_broken, first_broken_within, standard_limits, Facts, RuleLimits, Observation, each-at}
+use Rattle.fio_ends.proofs.Names.{◌≡◌, ◌∙◌, ◌-◌, slice_get, Bool, true, false, List, [], ◌∷◌, Some, None, refl, ap, if◌then◌else◌, AllByRecursion, first_broken, first_broken_within, standard_rule_limits, Facts, RuleLimits, Observation, each-at}
 use Rattle.std.specs.Prelude.{find}
 use Rattle.fio_check.specs.Rules.{breaks_within, rule_number, rules}
 use Rattle.fio_check.specs.declared.rules.Rule.{Rule}
@@ -44,9 +44,9 @@ KeepsRules limits facts observation = (rule : Rule) → breaks_within limits fac
 
 -- if no first rule is broken with the limits of TEES 2009, none is
 pub rules_kept : (facts : Facts) (observation : Observation) → first_broken facts observation ≡ None
-    → KeepsRules standard_limits facts observation
+    → KeepsRules standard_rule_limits facts observation
 rules_kept facts observation none =
-    kept_of (breaks_within standard_limits facts observation) (each_kept (breaks_within standard_limits facts observation) rules none)
+    kept_of (breaks_within standard_rule_limits facts observation) (each_kept (breaks_within standard_rule_limits facts observation) rules none)
 
 -- and conversely, with any limits
 pub no_rule_broken : (limits : RuleLimits) (facts : Facts) (observation : Observation) → KeepsRules limits facts observation

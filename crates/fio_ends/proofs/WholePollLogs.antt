@@ -9,7 +9,7 @@ use Rattle.fio_check.specs.ContentFacts.{coming, content_begun, input_begun, inp
 use Rattle.fio_check.specs.ContentKnown.{input_coming}
 use Rattle.fio_check.specs.ContentFaults.{content_fault_in}
 use Rattle.fio_check.specs.ContentSaid.{Seen, SentItem, item_for, milliseconds_between}
-use Rattle.fio_check.specs.Rules.{standard_limits}
+use Rattle.fio_check.specs.Rules.{standard_rule_limits}
 use Rattle.fio_ends.specs.Explainable.{IsExplainable}
 use Rattle.fio_ends.specs.PollLogs.{IsWholeLogOfPolls, Turn, WholeLogsOfPollsAreDecided, frames_of_turns}
 use Rattle.fio_ends.specs.PollLogs as turns_of
@@ -232,7 +232,7 @@ module _ (lines : List TranscriptLine) (l : IsWholeLogOfPolls lines) (good : con
   number_is : number_of l.number 0 ≡ l.number
   number_is = (let low = l.number_fits in omega arith)
 
-  good_is_explained : IsExplainable standard_limits true lines
+  good_is_explained : IsExplainable standard_rule_limits true lines
   good_is_explained = record {
     settings = settings;
     range = in_range;

@@ -13,7 +13,7 @@ use Rattle.fio_link.specs.declared.event.Event.TheVariants.{Scan, LineSync, Rais
 use Rattle.fio_link.specs.Link.{Machine, item_numbered, delivery_refusal, sending_refusal}
 use Rattle.fio_link.specs.Sound.{IsSoundRun}
 use Rattle.fio_flat.specs.Module as module_events
-use Rattle.fio_flat.specs.Module.{Reached, ErrorsChanged, ErrorChange, AddsEvent, Replies, IsDeviceAfter, are_limits, settings_of}
+use Rattle.fio_flat.specs.Module.{Reached, ErrorsChanged, ErrorChange, AddsEvent, Replies, IsDeviceAfter, are_flat_limits, flat_settings}
 use Rattle.fio_flat.specs.Written.{Writes}
 use Rattle.fio_flat.specs.Hearing.{Hears, flat_record_item}
 use Rattle.fio_flat.specs.declared.module.FlatLimits.{FlatLimits}
@@ -162,7 +162,7 @@ abbrev pub CallsAreRuns : Type 0
 CallsAreRuns =
     (id first : ℕ) (limits : FlatLimits) (device : SizedModule) (ring : List (List ℕ)) (calls : List Call)
     (last : CallerState)
-    → id < 256 → first < 256 → limits.per_block < 256 → are_limits limits ≡ true
-    → IsDeviceAfter (settings_of id limits) device ring []
+    → id < 256 → first < 256 → limits.per_block < 256 → are_flat_limits limits ≡ true
+    → IsDeviceAfter (flat_settings id limits) device ring []
     → AreCalled calls (caller_at_start device ring first) last
-    → AreRun (settings_of id limits) first (link_events calls) last
+    → AreRun (flat_settings id limits) first (link_events calls) last

@@ -10,7 +10,7 @@ use Rattle.fio_wire.specs.declared.limits.TheConstants.{FLAG}
 use Rattle.fio_wire.specs.Frames.{frame_of}
 use Rattle.fio_wire.specs.Laws.{Octet}
 use Rattle.fio_wire.specs.Octets.{sent, stuffed}
-use Rattle.fio_ends.specs.Lines.{Framing, IsFraming, WireLine, WiredEnds, ends_at_start, Brought, WireEvent, events_of_lines, IsStruck, MayCome, after_line_event, Arrives, EndOf}
+use Rattle.fio_ends.specs.Lines.{Framing, IsFraming, WireLine, WiredEnds, ends_at_start, Brought, WireEvent, events_on_wire, IsStruck, MayCome, after_line_event, Arrives, EndOf}
 
 -- these events may come one after the other, and lead from some ends to others
 abbrev pub LeadOverLines : Settings → Framing → WiredEnds → List WireEvent → WiredEnds → Type 0
@@ -46,12 +46,12 @@ HoldsOverLines Holds =
 -- Whatever the lines may bring, what the ends do is a run of the link.
 abbrev pub LinesAreRuns : Type 0
 LinesAreRuns =
-    HoldsOverLines (λ settings framing first events last. AreOfRun settings framing first (events_of_lines events) last)
+    HoldsOverLines (λ settings framing first events last. AreOfRun settings framing first (events_on_wire events) last)
 
 -- So the headline holds over lines.
 abbrev pub HeadlineOverLines : Type 0
 HeadlineOverLines =
-    HoldsOverLines (λ settings framing first events last. Headline settings first (events_of_lines events) last.polling.items)
+    HoldsOverLines (λ settings framing first events last. Headline settings first (events_on_wire events) last.polling.items)
 
 -- ---- What the premise leaves open
 

@@ -18,7 +18,7 @@ use Rattle.fio_link.specs.Link.{item_numbered, sending_refusal}
 use Rattle.fio_wire.specs.declared.heard.WireHeard.{WireHeard}
 use Rattle.fio_wire.specs.declared.heard.WireHeard.TheVariants.{Message}
 use Rattle.fio_wire.specs.declared.limits.TheConstants.{FLAG}
-use Rattle.fio_wire.specs.Frames.{heard_as, is_own, message_in}
+use Rattle.fio_wire.specs.Frames.{wire_heard, is_own, message_of_frame}
 use Rattle.fio_wire.specs.Frames as frames
 use Rattle.fio_wire.specs.Laws.{Arrival, IsFate, Loss, Octet, Struck, after_arrival, arrival_says}
 use Rattle.fio_wire.specs.Octets.{Reading, held_frame, said_in, sent}
@@ -92,12 +92,12 @@ pub data WireEvent : Type 0 where
   AtCpu : (brought : Brought) → WireEvent
 
 -- the events of the link: a frame that comes whole is delivered, and whatever else a line brings is nothing
-abbrev pub events_of_lines : List WireEvent → List Event
-events_of_lines [] = []
-events_of_lines (Happens event ∷ events) = event ∷ events_of_lines events
-events_of_lines (AtModule (EndOf number) ∷ events) = ToModule number ∷ events_of_lines events
-events_of_lines (AtCpu (EndOf number) ∷ events) = ToCpu number ∷ events_of_lines events
-events_of_lines (other ∷ events) = events_of_lines events
+abbrev pub events_on_wire : List WireEvent → List Event
+events_on_wire [] = []
+events_on_wire (Happens event ∷ events) = event ∷ events_on_wire events
+events_on_wire (AtModule (EndOf number) ∷ events) = ToModule number ∷ events_on_wire events
+events_on_wire (AtCpu (EndOf number) ∷ events) = ToCpu number ∷ events_on_wire events
+events_on_wire (other ∷ events) = events_on_wire events
 
 -- ---- What a line may bring
 
@@ -107,7 +107,7 @@ IsStruck part = (frame : List ℕ) × (errors : List Bool) × IsFate (Struck fra
 
 -- octets between two flags that are not a frame of the decoder's own: no octets, octets with a wrong check, or another's frame
 abbrev pub IsNoise : frames.WireSettings → List ℕ → Type 0
-IsNoise own part = heard_as own (said_in part) ≢ Message
+IsNoise own part = wire_heard own (said_in part) ≢ Message
 
 -- octets between two flags that are the frame with this number, as it was written, before any later frame
 pub record ComesWhole (line : WireLine) (number : ℕ) : Type 0 where
@@ -162,13 +162,13 @@ line_after line brought =
 
 -- the message that the decoder holds, if it has heard one of its own
 abbrev pub message_if : WireHeard → Reading → Option (List ℕ)
-message_if Message reading = Some (message_in (held_frame reading))
+message_if Message reading = Some (message_of_frame (held_frame reading))
 message_if _ reading = None
 
 -- the message that the receiver hears at what arrives
 abbrev pub message_heard : frames.WireSettings → Reading → Arrival → Option (List ℕ)
 message_heard own reading arrival =
-    message_if (heard_as own (arrival_says reading arrival)) (after_arrival reading arrival)
+    message_if (wire_heard own (arrival_says reading arrival)) (after_arrival reading arrival)
 
 -- a line to which a message is written
 abbrev pub with_written : Framing → WireLine → List ℕ → WireLine
@@ -176,9 +176,9 @@ with_written framing line message =
     record line { written = line.written ++ sent framing.address framing.control message ∷ [] }
 
 -- a line to which an answer is written, if there is one
-abbrev pub with_answer : Framing → WireLine → Option Answer → WireLine
-with_answer framing line None = line
-with_answer framing line (Some answer) = with_written framing line (answer_octets answer)
+abbrev pub with_answer_written : Framing → WireLine → Option Answer → WireLine
+with_answer_written framing line None = line
+with_answer_written framing line (Some answer) = with_written framing line (answer_octets answer)
 
 -- the ends after the module has received a message, if it has received one: it writes its reply
 abbrev pub after_receipt : Settings → Framing → WiredEnds → Option (List ℕ) → WiredEnds
@@ -186,7 +186,7 @@ after_receipt settings framing ends None = ends
 after_receipt settings framing ends (Some message) =
     record ends {
       history = lives.Received message ∷ ends.history;
-      to_cpu = with_answer framing ends.to_cpu (reply_to settings ends.history message);
+      to_cpu = with_answer_written framing ends.to_cpu (reply_to settings ends.history message);
     }
 
 -- the ends after the CPU has heard a message, if it has heard one

@@ -11,7 +11,7 @@ use Rattle.fio_message.specs.Status.{block_status}
 use Rattle.fio_check.specs.ContentFaults.{content_fault_in}
 use Rattle.fio_check.specs.ContentSaid.{milliseconds_between}
 use Rattle.fio_check.specs.Lines.{TranscriptLine}
-use Rattle.fio_check.specs.Rules.{standard_limits}
+use Rattle.fio_check.specs.Rules.{standard_rule_limits}
 use Rattle.fio_ends.specs.Explainable.{IsExplainable}
 use Rattle.fio_ends.specs.Transcripts.{CpuFrame, HaveFrames}
 
@@ -25,12 +25,12 @@ pub data Turn : Type 0 where
   Repeated : (entries : List Entry) → (stamp : ℕ) → Turn
 
 -- the frame of a command
-abbrev pub sent_frame : Command → CpuFrame
-sent_frame command = record { from_cpu = true; octets = command_octets command }
+abbrev pub command_frame : Command → CpuFrame
+command_frame command = record { from_cpu = true; octets = command_octets command }
 
 -- the frame of a poll with this number
 abbrev pub poll_frame : ℕ → CpuFrame
-poll_frame number = sent_frame (commands.Poll number)
+poll_frame number = command_frame (commands.Poll number)
 
 -- the frame of a block without C, F and G, with E or not
 abbrev pub block_frame : ℕ → Bool → List Entry → ℕ → CpuFrame
@@ -47,9 +47,9 @@ states_frame levels stamp = record { from_cpu = false; octets = answer_octets (a
 abbrev pub frames_of_turns : ℕ → List Turn → List CpuFrame
 frames_of_turns number [] = []
 frames_of_turns number (Unanswered ∷ turns) = poll_frame number ∷ frames_of_turns number turns
-frames_of_turns number (Lost command ∷ turns) = sent_frame command ∷ frames_of_turns number turns
+frames_of_turns number (Lost command ∷ turns) = command_frame command ∷ frames_of_turns number turns
 frames_of_turns number (Saw levels stamp ∷ turns) =
-    sent_frame commands.FilteredInputs ∷ (states_frame levels stamp ∷ frames_of_turns number turns)
+    command_frame commands.FilteredInputs ∷ (states_frame levels stamp ∷ frames_of_turns number turns)
 frames_of_turns number (Answered entries stamp ∷ turns) =
     poll_frame number ∷ (block_frame number false entries stamp ∷ frames_of_turns ((number + 1) % 256) turns)
 frames_of_turns number (Repeated entries stamp ∷ turns) =
@@ -136,15 +136,15 @@ pub record IsWholeLogOfPolls (lines : List TranscriptLine) : Type 0 where
 -- Exactly those logs of polls are accused that no right link explains.
 unfoldable pub LogsOfPollsAreDecided : Type 0
 LogsOfPollsAreDecided = (lines : List TranscriptLine) → IsLogOfPolls lines →
-    (content_fault_in false lines ≡ None) ↔ IsExplainable standard_limits false lines
+    (content_fault_in false lines ≡ None) ↔ IsExplainable standard_rule_limits false lines
 
 -- exactly those logs of polls that begin with both ends are accused that no right link explains
 unfoldable pub WholeLogsOfPollsAreDecided : Type 0
 WholeLogsOfPollsAreDecided = (lines : List TranscriptLine) → IsWholeLogOfPolls lines →
-    (content_fault_in true lines ≡ None) ↔ IsExplainable standard_limits true lines
+    (content_fault_in true lines ≡ None) ↔ IsExplainable standard_rule_limits true lines
 
 -- there are logs of polls of both kinds: one that a right link explains, and one that none explains
 unfoldable pub AreOfBothKinds : Type 0
 AreOfBothKinds =
-    ((lines : List TranscriptLine) × IsLogOfPolls lines × IsExplainable standard_limits false lines)
-    × ((lines : List TranscriptLine) × IsLogOfPolls lines × (IsExplainable standard_limits false lines → ⊥))
+    ((lines : List TranscriptLine) × IsLogOfPolls lines × IsExplainable standard_rule_limits false lines)
+    × ((lines : List TranscriptLine) × IsLogOfPolls lines × (IsExplainable standard_rule_limits false lines → ⊥))

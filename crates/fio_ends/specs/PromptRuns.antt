@@ -5,7 +5,7 @@ use Rattle.fio_message.specs.Commands.{IsCommand}
 use Rattle.fio_module.specs.Settings.{Settings, AreInRange}
 use Rattle.fio_check.specs.Checkers.{checker_anywhere, found_at, found_from}
 use Rattle.fio_check.specs.Lines.{TranscriptLine, from_first_command}
-use Rattle.fio_check.specs.Rules.{standard_limits}
+use Rattle.fio_check.specs.Rules.{standard_rule_limits}
 use Rattle.fio_check.specs.Verdicts.{verdict_on}
 use Rattle.fio_check.specs.declared.limits.RuleLimits.{RuleLimits}
 use Rattle.fio_check.specs.declared.verdict.Verdict.TheVariants.{Good}
@@ -67,7 +67,7 @@ HasNoBreach settings lines =
 
 -- if the limits of TEES 2009 are such limits, the transcript is good
 abbrev pub IsGood : Settings → List TranscriptLine → Type 0
-IsGood settings lines = SuitModule settings standard_limits → verdict_on lines ≡ Good (length lines)
+IsGood settings lines = SuitModule settings standard_rule_limits → verdict_on lines ≡ Good (length lines)
 
 -- No false accusation: a statement holds for the transcript of each prompt run.
 abbrev pub NeverAccuses : (Settings → List TranscriptLine → Type 0) → Type 0

@@ -37,9 +37,9 @@ abbrev pub transcript_of : Settings → ℕ → List Event → List CpuFrame
 transcript_of settings first events = frames_from settings first start events
 
 -- the frame on a line
-abbrev pub frame_on : TranscriptLine → CpuFrame
-frame_on line = record { from_cpu = line.from_cpu; octets = line.octets }
+abbrev pub cpu_frame_on : TranscriptLine → CpuFrame
+cpu_frame_on line = record { from_cpu = line.from_cpu; octets = line.octets }
 
 -- lines have these frames, in order, and any numbers
 abbrev pub HaveFrames : List TranscriptLine → List CpuFrame → Type 0
-HaveFrames lines frames = map frame_on lines ≡ frames
+HaveFrames lines frames = map cpu_frame_on lines ≡ frames

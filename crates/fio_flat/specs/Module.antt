@@ -37,14 +37,14 @@ events_reached (Reached event ∷ history) = event ∷ events_reached history
 events_reached (ErrorsChanged change ∷ history) = events_reached history
 
 -- one more error: 255 stays 255 (own profile)
-abbrev pub one_more : ℕ → ℕ
-one_more count = min (count + 1) 255
+abbrev pub one_error_more : ℕ → ℕ
+one_error_more count = min (count + 1) 255
 
 -- error counts after a change
 abbrev pub changed : ErrorChange → ErrorCounts → ErrorCounts
 changed (Set receive transmit) errors = record { receive = receive; transmit = transmit }
-changed OneMoreInReceiving errors = record errors { receive = one_more errors.receive }
-changed OneMoreInTransmitting errors = record errors { transmit = one_more errors.transmit }
+changed OneMoreInReceiving errors = record errors { receive = one_error_more errors.receive }
+changed OneMoreInTransmitting errors = record errors { transmit = one_error_more errors.transmit }
 
 -- the error counts: 0 at the start and after a restart
 abbrev pub errors_of : DeviceHistory → ErrorCounts
@@ -65,13 +65,13 @@ reply_after settings history octets =
     with_errors (errors_of history) (reply_to settings (events_reached history) octets)
 
 -- 1 to 8,192 entries may wait, and a block takes at most 1 to 255, the largest octet
-abbrev pub are_limits : FlatLimits → Bool
-are_limits limits =
+abbrev pub are_flat_limits : FlatLimits → Bool
+are_flat_limits limits =
     nat_le 1 limits.waiting && (nat_le limits.waiting MOST_WAITING && nat_le 1 limits.per_block)
 
 -- the settings that a module is made with
-abbrev pub settings_of : ℕ → FlatLimits → Settings
-settings_of id limits = record { id = id; per_block = limits.per_block; waiting = limits.waiting }
+abbrev pub flat_settings : ℕ → FlatLimits → Settings
+flat_settings id limits = record { id = id; per_block = limits.per_block; waiting = limits.waiting }
 
 -- a module as it is started, with each of its octets given
 abbrev pub module_at_start : ℕ → FlatLimits → SizedModule

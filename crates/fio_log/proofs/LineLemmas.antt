@@ -7,12 +7,12 @@ use Rattle.std.proofs.lemmas.Bool.Decides.{nat_tests}
 use Rattle.std.proofs.Math.Seq.{take-add}
 use Rattle.std.proofs.lemmas.List.{length-take-le, take-append-drop}
 use Rattle.std.proofs.lemmas.List.Sums.{fold-append}
-use Rattle.fio_log.specs.Lines.{Text, Lines, is_plain, lines_after, only, open_line, pushed, with_all, with_octet, with_octet_of}
+use Rattle.fio_log.specs.Lines.{Text, Lines, is_plain, lines_after, only, open_line, pushed, with_all, with_octet_made, with_octet_of}
 use Rattle.fio_log.specs.declared.lines.TheConstants.{LINE_OCTETS}
 
 -- a printable octet is appended
 plain-octet : (text : Text) (octet : ℕ) → is_plain octet ≡ true
-    → with_octet (open_line text) octet ≡ open_line (pushed text octet)
+    → with_octet_made (open_line text) octet ≡ open_line (pushed text octet)
 plain-octet text octet plain =
     let feed : (octet == 10) ≡ false = grind (arith, nat_tests, plain) in
     let return : (octet == 13) ≡ false = grind (arith, nat_tests, plain) in

@@ -7,8 +7,8 @@ use Rattle.std.proofs.lemmas.List.{length-take}
 use Rattle.std.proofs.lemmas.List.Edits.{length-between}
 use Rattle.fio_log.proofs.NumberLemmas.{at-part, then-some}
 use Rattle.fio_log.proofs.NumberListLemmas.{octet-if}
-use Rattle.fio_log.specs.Digits.{is_between, octet_of}
-use Rattle.fio_log.specs.Literals.{character_of, escape_of, is_hexadecimal, is_itself, is_octal, is_printable, is_short_octal, length_with, octal_digit, octet_in, with_octal}
+use Rattle.fio_log.specs.Digits.{is_between, octet_of_digits}
+use Rattle.fio_log.specs.Literals.{character_of, escape_of, is_hexadecimal, is_itself, is_octal, is_printable, is_short_octal, length_with, octal_digit, octet_of_character, with_octal}
 
 -- a test whose first value is there was true
 test-some : (test : Bool) (value : Option ℕ) (n : ℕ) → (if test then value else None) ≡ Some n
@@ -37,7 +37,7 @@ escape-other e octet is = (grind (arith, nat_tests, is), grind (arith, nat_tests
 
 -- four characters are a hexadecimal escape or an octal one
 four-if : (test : Bool) (s a b c octet : ℕ) → (s == 92) ≡ true → (a == 120) ≡ test
-    → (if test then octet_of (b ∷ c ∷ [])
+    → (if test then octet_of_digits (b ∷ c ∷ [])
     else option_and_then (λ number. if nat_le number 255 then Some number else None)
     (option_and_then (λ number. option_and_then (λ eights. with_octal eights c) (with_octal number b)) (octal_digit a))) ≡ Some octet
     → 4 ≡ length_with s a b c
@@ -84,7 +84,7 @@ long-three s a b fourth octet is apart =
 long-four : (s a b c octet : ℕ) → character_of (s ∷ a ∷ b ∷ c ∷ []) ≡ Some octet → 4 ≡ length_with s a b c
 long-four s a b c octet is =
     let rest = λ (number : ℕ). option_and_then (λ eights. with_octal eights c) (with_octal number b) in
-    let hexadecimal = octet_of (b ∷ c ∷ []) in
+    let hexadecimal = octet_of_digits (b ∷ c ∷ []) in
     let octal = option_and_then (λ number. if nat_le number 255 then Some number else None) (option_and_then rest (octal_digit a)) in
     let escape = test-some (s == 92) (if a == 120 then hexadecimal else octal) octet is in
     let slash = escape.0 in
@@ -92,7 +92,7 @@ long-four s a b c octet is =
 
 long-six : (s u a b high low octet : ℕ) → character_of (s ∷ u ∷ a ∷ b ∷ high ∷ low ∷ []) ≡ Some octet → 6 ≡ length_with s u a b
 long-six s u a b high low octet is =
-    let escape = test-some (s == 92 && u == 117 && a == 48 && b == 48) (octet_of (high ∷ low ∷ [])) octet is in
+    let escape = test-some (s == 92 && u == 117 && a == 48 && b == 48) (octet_of_digits (high ∷ low ∷ [])) octet is in
     let slash : (s == 92) ≡ true = grind (arith, nat_tests, escape.0) in
     let wide : (u == 117) ≡ true = grind (arith, nat_tests, escape.0) in
     let other : (u == 120) ≡ false = grind (arith, nat_tests, wide) in
@@ -205,7 +205,7 @@ character-whole (s ∷ a ∷ b ∷ []) line from octet is at long =
 character-whole (s ∷ a ∷ b ∷ c ∷ rest) line from octet is at long = refl
 
 -- an octet of a literal is that of its character
-pub octet-of : (is_plain : Bool) (text : List ℕ) (octet : ℕ) → octet_in is_plain text ≡ Some octet → character_of text ≡ Some octet
+pub octet-of : (is_plain : Bool) (text : List ℕ) (octet : ℕ) → octet_of_character is_plain text ≡ Some octet → character_of text ≡ Some octet
 octet-of is_plain text octet is =
     let own = λ (one : ℕ). if (if is_plain then is_hexadecimal text && is_printable one else is_itself text) then None else Some one in
     let value = then-some own (character_of text) octet is in
@@ -219,7 +219,7 @@ text-some (first ∷ rest) octet is = omega arith
 
 -- a part that is a character is some of its line
 pub character-inside : (is_plain : Bool) (line : List ℕ) (from end octet : ℕ)
-    → octet_in is_plain (slice_range line from end) ≡ Some octet → (from < end) × (from < length line)
+    → octet_of_character is_plain (slice_range line from end) ≡ Some octet → (from < end) × (from < length line)
 character-inside is_plain line from end octet is =
     let some = text-some (slice_range line from end) octet (octet-of is_plain (slice_range line from end) octet is) in
     let long = length-take (end - from) (drop from line) in
@@ -228,7 +228,7 @@ character-inside is_plain line from end octet is =
 
 -- a character of a literal ends where the line says
 pub character-ends : (is_plain : Bool) (line : List ℕ) (from end octet : ℕ) → end ≤ length line
-    → octet_in is_plain (slice_range line from end) ≡ Some octet
+    → octet_of_character is_plain (slice_range line from end) ≡ Some octet
     → (is_short_octal (slice_range line from end) && is_octal (slice_index line end)) ≡ false
     → end ≡ from + length_at line from
 character-ends is_plain line from end octet within is apart =
@@ -242,7 +242,7 @@ character-ends is_plain line from end octet within is apart =
 
 -- a character that ends where the line says is all that is written
 pub character-apart : (is_plain : Bool) (line : List ℕ) (from end octet : ℕ) → end ≤ length line → from ≤ end
-    → octet_in is_plain (slice_range line from end) ≡ Some octet → end ≡ from + length_at line from
+    → octet_of_character is_plain (slice_range line from end) ≡ Some octet → end ≡ from + length_at line from
     → (is_short_octal (slice_range line from end) && is_octal (slice_index line end)) ≡ false
 character-apart is_plain line from end octet within order is ends =
     let long : length (slice_range line from end) ≡ end - from = length-between line from end within in

@@ -4,7 +4,7 @@ use Rattle.std.specs.Prelude.{◌==◌, ◌||◌, ◌&&◌, not, if◌then◌els
 use Rattle.std.proofs.lemmas.Bool.Decides.{nat_tests}
 use Rattle.fio_log.proofs.LiteralLemmas.{character-ends, character-inside, length_at}
 use Rattle.fio_log.proofs.NumberListLemmas.{octet-if, outside-both}
-use Rattle.fio_log.specs.Literals.{AreCharacters, IsMarked, is_octal, is_open, is_short_octal, kept_in, length_with, octet_in}
+use Rattle.fio_log.specs.Literals.{AreCharacters, IsMarked, is_octal, is_within_literal, is_short_octal, kept_in, length_with, octet_of_character}
 use Rattle.fio_log.specs.Numbers.{are_outside}
 use Rattle.fio_log.specs.declared.literals.LiteralCharacter.{LiteralCharacter}
 
@@ -19,7 +19,7 @@ characters-order is_plain quote line from (octet ∷ octets) to (end, value, who
 
 -- a character more
 pub character-more : (is_plain : Bool) (quote : ℕ) (line : List ℕ) (first : ℕ) (octets : List ℕ) (to octet end : ℕ)
-    → AreCharacters is_plain quote line first octets to → octet_in is_plain (slice_range line to end) ≡ Some octet
+    → AreCharacters is_plain quote line first octets to → octet_of_character is_plain (slice_range line to end) ≡ Some octet
     → (is_short_octal (slice_range line to end) && is_octal (slice_index line end)) ≡ false
     → (slice_index line to == quote) ≡ false → AreCharacters is_plain quote line first (octets ++ octet ∷ []) end
 character-more is_plain quote line first [] to octet end same value whole unquoted = rw same (end, value, whole, unquoted, refl)
@@ -46,18 +46,18 @@ pub record IsNextCharacter (is_plain : Bool) (quote : ℕ) (line : List ℕ) (fr
   pub all_of : all ≡ octet ∷ more
   pub order : from < behind
   pub within : behind ≤ length line
-  pub value : octet_in is_plain (slice_range line from behind) ≡ Some octet
+  pub value : octet_of_character is_plain (slice_range line from behind) ≡ Some octet
   pub rest : AreCharacters is_plain quote line behind more last
 
 -- an open place is in the line, and no quote is there
-pub open-is : (line : List ℕ) (place quote : ℕ) → is_open line place quote ≡ true
+pub open-is : (line : List ℕ) (place quote : ℕ) → is_within_literal line place quote ≡ true
     → (place < length line) × ((slice_index line place == quote) ≡ false)
 open-is line place quote is = (grind (arith, nat_tests, is), grind (arith, nat_tests, is))
 
 -- the character that begins where the others of a literal do
 pub next-character : (is_plain : Bool) (quote : ℕ) (line : List ℕ) (from behind : ℕ) (all : List ℕ) (last : ℕ)
     → AreCharacters is_plain quote line from all last → last < length line → slice_index line last ≡ quote
-    → is_open line from quote ≡ true → behind ≡ from + length_at line from
+    → is_within_literal line from quote ≡ true → behind ≡ from + length_at line from
     → IsNextCharacter is_plain quote line from behind all last
 next-character is_plain quote line from behind [] last same within closed unquoted long =
     let at = open-is line from quote unquoted in
@@ -81,7 +81,7 @@ next-character is_plain quote line from behind (octet ∷ more) last (end, value
 
 -- where a literal is not open it has no more characters
 pub closed-at : (is_plain : Bool) (quote : ℕ) (line : List ℕ) (from : ℕ) (all : List ℕ) (last : ℕ)
-    → AreCharacters is_plain quote line from all last → is_open line from quote ≡ false → (all ≡ []) × (from ≡ last)
+    → AreCharacters is_plain quote line from all last → is_within_literal line from quote ≡ false → (all ≡ []) × (from ≡ last)
 closed-at is_plain quote line from [] last same shut = (refl, same)
 closed-at is_plain quote line from (octet ∷ more) last (end, value, whole, apart, others) shut =
     let inside = (character-inside is_plain line from end octet value).1 in
@@ -89,7 +89,7 @@ closed-at is_plain quote line from (octet ∷ more) last (end, value, whole, apa
 
 -- where a literal is open it has more characters
 pub more-at : (is_plain : Bool) (quote : ℕ) (line : List ℕ) (from : ℕ) (all : List ℕ) (last : ℕ)
-    → AreCharacters is_plain quote line from all last → slice_index line last ≡ quote → is_open line from quote ≡ true
+    → AreCharacters is_plain quote line from all last → slice_index line last ≡ quote → is_within_literal line from quote ≡ true
     → 0 < length all
 more-at is_plain quote line from [] last same closed unquoted =
     let apart = (open-is line from quote unquoted).1 in
@@ -111,8 +111,8 @@ kept-some is_plain character octet is =
 -- one character of a literal more is read
 pub read-here : (is_plain : Bool) (quote : ℕ) (line octets : List ℕ) (to behind : ℕ) (itself escaped : Bool) (all : List ℕ)
     (last : ℕ) (character : LiteralCharacter) → AreReadHere is_plain quote line octets to itself escaped all last
-    → last < length line → slice_index line last ≡ quote → is_open line to quote ≡ true → behind ≡ to + length_at line to
-    → octet_in is_plain (slice_range line to behind) ≡ kept_in is_plain character
+    → last < length line → slice_index line last ≡ quote → is_within_literal line to quote ≡ true → behind ≡ to + length_at line to
+    → octet_of_character is_plain (slice_range line to behind) ≡ kept_in is_plain character
     → AreReadHere is_plain quote line (octets ++ character.octet ∷ []) behind (itself || character.is_itself)
     (escaped || character.is_escaped) all last
 read-here is_plain quote line octets to behind itself escaped all last character read within closed unquoted long is =

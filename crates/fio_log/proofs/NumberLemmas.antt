@@ -8,7 +8,7 @@ use Rattle.std.proofs.lemmas.List.{length-take}
 use Rattle.fio_log.proofs.Standing.{stands-long}
 use Rattle.fio_log.proofs.WordLemmas.{part-first}
 use Rattle.fio_log.specs.Digits.{is_between}
-use Rattle.fio_log.specs.Numbers.{bracket_of, closing_of, decimal_digit, decimal_of, is_comma, number_of, opening_of, with_digit}
+use Rattle.fio_log.specs.Numbers.{bracket_of, closing_of, decimal_digit, decimal_of, is_comma, octet_of_number, opening_of, with_digit}
 use Rattle.fio_log.specs.Words.{StandsAt}
 use Rattle.fio_log.specs.declared.numbers.Bracket.{Bracket}
 use Rattle.fio_log.specs.declared.numbers.Bracket.TheVariants.{Round, Square, Curly, Angles}
@@ -116,7 +116,7 @@ sign-is : (first : ℕ) → (first == 45) ≡ true → first ≡ 45
 sign-is first is = grind (arith, nat_tests, is)
 
 -- a text that spells a number is a numeral
-pub numeral : (is_signed : Bool) (text : List ℕ) (octet : ℕ) → number_of is_signed text ≡ Some octet → IsNumeral text
+pub numeral : (is_signed : Bool) (text : List ℕ) (octet : ℕ) → octet_of_number is_signed text ≡ Some octet → IsNumeral text
 numeral is_signed [] octet is = cc
 numeral is_signed (first ∷ rest) octet is = numeral-if (first == 45) _ _ first rest octet (sign-is first) is
 
@@ -145,7 +145,7 @@ part-digits line from end within others k above below =
 
 -- a part that spells a number ends where the number does
 pub number-ends : (is_signed : Bool) (line : List ℕ) (from end stop octet : ℕ) → end ≤ length line
-    → number_of is_signed (slice_range line from end) ≡ Some octet → is_between 48 57 (slice_index line end) ≡ false
+    → octet_of_number is_signed (slice_range line from end) ≡ Some octet → is_between 48 57 (slice_index line end) ≡ false
     → IsNumberEnd line from stop → end ≡ stop
 number-ends is_signed line from end stop octet within is apart there =
     let text = numeral is_signed (slice_range line from end) octet is in

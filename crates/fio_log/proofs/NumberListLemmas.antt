@@ -8,7 +8,7 @@ use Rattle.fio_log.proofs.Standing.{stands-once}
 use Rattle.fio_log.proofs.NumberLemmas.{IsNumberEnd, at-part, closing-at, comma-at, number-ends, numeral}
 use Rattle.fio_log.proofs.WrittenLemmas.{written-more}
 use Rattle.fio_log.specs.Digits.{is_between}
-use Rattle.fio_log.specs.Numbers.{AreNumbers, are_outside, closing_of, is_comma, least_in, number_of, octet_in, opening_of}
+use Rattle.fio_log.specs.Numbers.{AreNumbers, are_outside, closing_of, is_comma, least_in, octet_of_number, octet_in, opening_of}
 use Rattle.fio_log.specs.Runs.{IsNumbers}
 use Rattle.fio_log.specs.Words.{StandsAt}
 use Rattle.fio_log.specs.Written.{IsWritten}
@@ -25,13 +25,13 @@ AreBefore is_signed line first (octet ∷ octets) to =
 
 -- a number more
 pub numbers-more : (is_signed : Bool) (line : List ℕ) (first : ℕ) (octets : List ℕ) (to octet end : ℕ)
-    → AreBefore is_signed line first octets to → number_of is_signed (slice_range line to end) ≡ Some octet
+    → AreBefore is_signed line first octets to → octet_of_number is_signed (slice_range line to end) ≡ Some octet
     → AreNumbers is_signed line first (octets ++ octet ∷ []) end
 numbers-more is_signed line first [] to octet end before is = (end, rw before is, refl)
 numbers-more is_signed line first (one ∷ octets) to octet end (last, order, comma, (stop, value, others)) is = (
   stop,
   value,
-  written-more (number_of is_signed) is_comma line stop octets last to octet end order comma is others,
+  written-more (octet_of_number is_signed) is_comma line stop octets last to octet end order comma is others,
 )
 
 -- a comma more
@@ -55,12 +55,12 @@ pub record IsNext (is_signed : Bool) (line : List ℕ) (from behind : ℕ) (all 
   pub more : List ℕ
   pub all_of : all ≡ octet ∷ more
   pub inside : from < length line
-  pub value : number_of is_signed (slice_range line from behind) ≡ Some octet
-  pub rest : IsWritten (number_of is_signed) is_comma line behind more last
+  pub value : octet_of_number is_signed (slice_range line from behind) ≡ Some octet
+  pub rest : IsWritten (octet_of_number is_signed) is_comma line behind more last
 
 -- a text that spells a number is in its line
 pub number-inside : (is_signed : Bool) (line : List ℕ) (from end octet : ℕ)
-    → number_of is_signed (slice_range line from end) ≡ Some octet
+    → octet_of_number is_signed (slice_range line from end) ≡ Some octet
     → (from < end) × (from < length line) × ((slice_index line from == 32) ≡ false)
 number-inside is_signed line from end octet is =
     let text = numeral is_signed (slice_range line from end) octet is in
@@ -82,7 +82,7 @@ number-inside is_signed line from end octet is =
 
 -- a number of a list ends within the line, where no digit is
 number-apart : (is_signed : Bool) (line : List ℕ) (bracket : Bracket) (end : ℕ) (more : List ℕ) (last stop : ℕ)
-    → IsWritten (number_of is_signed) is_comma line end more last → StandsAt line (closing_of bracket) last stop
+    → IsWritten (octet_of_number is_signed) is_comma line end more last → StandsAt line (closing_of bracket) last stop
     → (end < length line) × (is_between 48 57 (slice_index line end) ≡ false)
 number-apart is_signed line bracket end [] last stop same closed =
     let at = closing-at line bracket end stop (rw same closed) in (at.within, at.apart)
@@ -115,7 +115,7 @@ next-number is_signed line bracket from behind (octet ∷ more) last stop (end, 
 
 -- where the bracket closes no number follows
 pub closed-here : (is_signed : Bool) (line : List ℕ) (bracket : Bracket) (behind shut : ℕ) (more : List ℕ) (last stop : ℕ)
-    → IsWritten (number_of is_signed) is_comma line behind more last → StandsAt line (closing_of bracket) behind shut
+    → IsWritten (octet_of_number is_signed) is_comma line behind more last → StandsAt line (closing_of bracket) behind shut
     → StandsAt line (closing_of bracket) last stop → (more ≡ []) × (shut ≡ stop)
 closed-here is_signed line bracket behind shut [] last stop same here closed =
     (refl, stands-once line (closing_of bracket) behind shut stop here (rw same closed))
@@ -132,7 +132,7 @@ pub record IsMore (is_signed : Bool) (line : List ℕ) (behind : ℕ) (more : Li
 
 -- where the bracket does not close a number follows
 pub open-here : (is_signed : Bool) (line : List ℕ) (bracket : Bracket) (behind : ℕ) (more : List ℕ) (last stop : ℕ)
-    → IsWritten (number_of is_signed) is_comma line behind more last
+    → IsWritten (octet_of_number is_signed) is_comma line behind more last
     → ((shut : ℕ) → StandsAt line (closing_of bracket) behind shut → ⊥)
     → StandsAt line (closing_of bracket) last stop → IsMore is_signed line behind more last
 open-here is_signed line bracket behind [] last stop same not closed = absurd (not stop (rw same closed))
@@ -228,13 +228,13 @@ pub record AreReadOn (is_signed : Bool) (line octets : List ℕ) (behind : ℕ) 
   pub outside : are_outside is_signed is_negative is_high ≡ false
   pub more : List ℕ
   pub all_of : all ≡ octets ++ more
-  pub rest : IsWritten (number_of is_signed) is_comma line behind more last
+  pub rest : IsWritten (octet_of_number is_signed) is_comma line behind more last
 
 -- one number of a list more is read
 pub read-on : (is_signed : Bool) (line : List ℕ) (bracket : Bracket) (octets : List ℕ) (to behind : ℕ) (negative high : Bool)
     (all : List ℕ) (last stop : ℕ) (number : Number) → AreRead is_signed line octets to negative high all last
     → StandsAt line (closing_of bracket) last stop → IsNumberEnd line to behind
-    → number_of is_signed (slice_range line to behind) ≡ octet_in is_signed number
+    → octet_of_number is_signed (slice_range line to behind) ≡ octet_in is_signed number
     → AreReadOn is_signed line (octets ++ number.octet ∷ []) behind (negative || number.is_negative) (high || number.is_high) all last
 read-on is_signed line bracket octets to behind negative high all last stop number read closed there is =
     let next = next-number is_signed line bracket to behind read.more last stop read.rest closed there in

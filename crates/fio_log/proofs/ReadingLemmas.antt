@@ -4,7 +4,7 @@ use Rattle.std.specs.Prelude.{MatchOption, option_to_list, slice_index}
 use Rattle.std.proofs.lemmas.List.{take_all, take-append-le}
 use Rattle.fio_log.specs.Digits.{digit_of}
 use Rattle.std.proofs.lemmas.List.Sums.{fold_more}
-use Rattle.fio_log.specs.Readings.{DigitReading, made_whole, no_reading, octets_of, paired, reading_of, waits_then, with_reading}
+use Rattle.fio_log.specs.Readings.{DigitReading, made_whole, no_reading, octets_of, paired, digits_read, waits_then, with_reading}
 
 -- what was cut before is cut as if it was not
 pub take-cut : (most : ℕ) (xs ys : List ℕ) → take most (take most xs ++ ys) ≡ take most (xs ++ ys)
@@ -49,11 +49,11 @@ next-octets most kept reading character waiting digit made after is waits read m
 
 -- what is kept of a text that is read to its end
 pub all-octets : (most : ℕ) (kept front text : List ℕ) (waiting : Option ℕ) (after : List ℕ) → front ≡ text
-    → kept ≡ take most (reading_of front).octets → waiting ≡ (reading_of front).waiting
+    → kept ≡ take most (digits_read front).octets → waiting ≡ (digits_read front).waiting
     → MatchOption waiting (after ≡ kept) (λ x. after ≡ take most (kept ++ x ∷ []))
     → after ≡ take most (octets_of text)
 all-octets most kept front text waiting after whole is waits more =
-    let ends = kept-more most kept (reading_of front).octets after waiting is more in
+    let ends = kept-more most kept (digits_read front).octets after waiting is more in
     rw whole at (rw waits at ends)
 
 -- what is kept of a text with two digits more, of which the first one finds none that waits
@@ -79,8 +79,8 @@ pair-waits None (Some h) below octet waits both = refl
 
 -- a text that is read up to two characters more
 two-more : (text : List ℕ) (place : ℕ) → place + 2 ≤ length text
-    → reading_of (take (place + 2) text)
-    ≡ with_reading (with_reading (reading_of (take place text)) (slice_index text place)) (slice_index text (place + 1))
+    → digits_read (take (place + 2) text)
+    ≡ with_reading (with_reading (digits_read (take place text)) (slice_index text place)) (slice_index text (place + 1))
 two-more text place within =
     let first = fold_more with_reading no_reading text place 0 (omega (arith, within)) in
     let second = fold_more with_reading no_reading text (place + 1) 0 (omega (arith, within)) in
@@ -89,21 +89,21 @@ two-more text place within =
 
 -- what is kept of a text that is read up to two digits more
 pub pair-octets : (most : ℕ) (kept after text : List ℕ) (place octet : ℕ) → place + 2 ≤ length text
-    → kept ≡ take most (reading_of (take place text)).octets → (reading_of (take place text)).waiting ≡ None
+    → kept ≡ take most (digits_read (take place text)).octets → (digits_read (take place text)).waiting ≡ None
     → Some octet ≡ paired (digit_of (slice_index text place)) (digit_of (slice_index text (place + 1)))
-    → after ≡ take most (kept ++ octet ∷ []) → after ≡ take most (reading_of (take (place + 2) text)).octets
+    → after ≡ take most (kept ++ octet ∷ []) → after ≡ take most (digits_read (take (place + 2) text)).octets
 pair-octets most kept after text place octet within is waits both more =
-    rw (two-more text place within) (pair-kept most (reading_of (take place text)).octets kept after
-    (reading_of (take place text)).waiting (digit_of (slice_index text place)) (digit_of (slice_index text (place + 1)))
+    rw (two-more text place within) (pair-kept most (digits_read (take place text)).octets kept after
+    (digits_read (take place text)).waiting (digit_of (slice_index text place)) (digit_of (slice_index text (place + 1)))
     (slice_index text place) (slice_index text (place + 1)) octet waits is both more)
 
 -- and none waits after them
 pub pair-none : (text : List ℕ) (place octet : ℕ) → place + 2 ≤ length text
-    → (reading_of (take place text)).waiting ≡ None
+    → (digits_read (take place text)).waiting ≡ None
     → Some octet ≡ paired (digit_of (slice_index text place)) (digit_of (slice_index text (place + 1)))
-    → (reading_of (take (place + 2) text)).waiting ≡ None
+    → (digits_read (take (place + 2) text)).waiting ≡ None
 pair-none text place octet within waits both =
-    rw (two-more text place within) (pair-waits (reading_of (take place text)).waiting (digit_of (slice_index text place))
+    rw (two-more text place within) (pair-waits (digits_read (take place text)).waiting (digit_of (slice_index text place))
     (digit_of (slice_index text (place + 1))) octet waits both)
 
 -- a blank, 32, adds nothing where no digit waits
@@ -115,9 +115,9 @@ blank-kept octets None character is waits = rw is (append-nil octets, refl)
 
 -- a text that is read up to a blank more
 pub blank-octets : (text : List ℕ) (place : ℕ) → place < length text → slice_index text place ≡ 32
-    → (reading_of (take place text)).waiting ≡ None
-    → ((reading_of (take (place + 1) text)).octets ≡ (reading_of (take place text)).octets)
-    × ((reading_of (take (place + 1) text)).waiting ≡ None)
+    → (digits_read (take place text)).waiting ≡ None
+    → ((digits_read (take (place + 1) text)).octets ≡ (digits_read (take place text)).octets)
+    × ((digits_read (take (place + 1) text)).waiting ≡ None)
 blank-octets text place within is waits =
     rw (fold_more with_reading no_reading text place 0 within)
-    (blank-kept (reading_of (take place text)).octets (reading_of (take place text)).waiting (slice_index text place) is waits)
+    (blank-kept (digits_read (take place text)).octets (digits_read (take place text)).waiting (slice_index text place) is waits)

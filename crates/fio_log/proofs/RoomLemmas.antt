@@ -4,7 +4,7 @@ use Rattle.std.specs.List.{concat, sum_by}
 use Rattle.std.proofs.lemmas.List.{length-take}
 use Rattle.std.proofs.lemmas.List.Sums.{sum_by-cons}
 use Rattle.fio_log.specs.Chains.{part_length, part_of}
-use Rattle.fio_log.specs.Frames.{octets_in}
+use Rattle.fio_log.specs.Frames.{octets_of_message}
 use Rattle.fio_log.specs.declared.chains.ChainPart.{ChainPart}
 use Rattle.fio_log.specs.declared.messages.Message.{Message}
 use Rattle.fio_log.proofs.OwnTextLemmas.{spelled_short}
@@ -22,12 +22,12 @@ parts_few octets (part ∷ parts) =
     )
 
 -- messages have no more octets than frames hold
-pub messages_short : (messages : List Message) → length (concat (map octets_in messages)) ≤ 773 * length messages
+pub messages_short : (messages : List Message) → length (concat (map octets_of_message messages)) ≤ 773 * length messages
 messages_short [] = omega arith
 messages_short (message ∷ messages) =
     omega (
       arith,
       messages_short messages,
-      length-append (octets_in message) (concat (map octets_in messages)),
-      spelled_short (octets_in message) message.spelled,
+      length-append (octets_of_message message) (concat (map octets_of_message messages)),
+      spelled_short (octets_of_message message) message.spelled,
     )

@@ -5,15 +5,15 @@ use Rattle.fio_message.specs.Octets.{IsFrameLength}
 use Rattle.fio_message.specs.Refusals.{Refuses}
 use Rattle.fio_message.specs.declared.faults.DecodeError.{DecodeError}
 use Rattle.fio_message.specs.declared.faults.DecodeError.TheVariants.{WrongLength}
-use Rattle.fio_log.specs.Sayings.{frame_end, is_checked, length_of, needed_of}
+use Rattle.fio_log.specs.Sayings.{frame_end, is_checked_between, length_of, needed_of}
 use Rattle.fio_log.specs.declared.sayings.TheConstants.{FLAG}
 
-pub ends-here : (octets : List ℕ) (start end : ℕ) → 0 < end → is_checked octets start end ≡ true
+pub ends-here : (octets : List ℕ) (start end : ℕ) → 0 < end → is_checked_between octets start end ≡ true
     → Some end ≡ frame_end octets start end
 ends-here octets start zero some is = absurd (omega arith)
 ends-here octets start (suc less) some is = rw is refl
 
-pub ends-nowhere : (octets : List ℕ) (start end : ℕ) → 0 < end → is_checked octets start end ≡ false
+pub ends-nowhere : (octets : List ℕ) (start end : ℕ) → 0 < end → is_checked_between octets start end ≡ false
     → slice_index octets (end - 1) ≢ FLAG → None ≡ frame_end octets start end
 ends-nowhere octets start zero some is other = refl
 ends-nowhere octets start (suc less) some is other =
@@ -21,7 +21,7 @@ ends-nowhere octets start (suc less) some is other =
     let none : (slice_index octets less == FLAG) ≡ false = grind (arith, nat_tests, rw one at other) in
     rw (is, none) refl
 
-pub ends-before : (octets : List ℕ) (start end : ℕ) → 0 < end → is_checked octets start end ≡ false
+pub ends-before : (octets : List ℕ) (start end : ℕ) → 0 < end → is_checked_between octets start end ≡ false
     → slice_index octets (end - 1) ≡ FLAG → frame_end octets start (end - 1) ≡ frame_end octets start end
 ends-before octets start zero some is flag = refl
 ends-before octets start (suc less) some is flag =

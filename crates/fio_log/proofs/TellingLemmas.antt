@@ -2,7 +2,7 @@
 use Rattle.std.proofs.Common.{◌≡◌, ℕ, Bool, true, false, List, refl, if◌then◌else◌, map}
 use Rattle.std.proofs.lemmas.List.Elements.{All-map}
 use Rattle.fio_log.specs.Chains.{IsPart, part_of}
-use Rattle.fio_log.specs.Frames.{AreFramesAt, AreJoined, AreWithin, Log, octets_in, row_places}
+use Rattle.fio_log.specs.Frames.{AreFramesAt, AreJoined, AreWithin, Log, octets_of_message, row_places}
 use Rattle.fio_log.specs.Telling.{IsReaderOf, Telling, frames_of, places_of}
 use Rattle.fio_log.specs.declared.chains.ChainPart.{ChainPart}
 use Rattle.fio_log.specs.declared.judge.joined.Joined.{Joined}
@@ -40,7 +40,7 @@ pub frames-written : (log : Log) (telling : Telling) → IsReaderOf log telling 
 frames-written log telling is auto =
     of-either log telling.last.are_chain
     (map (part_of telling.judge.join.lines.chain.octets.items) telling.judge.join.lines.chain.parts.items)
-    (map octets_in telling.last.messages.items)
+    (map octets_of_message telling.last.messages.items)
     (row_places telling.judge.join.lines.from telling.judge.join.lines.notation telling.judge.join.lines.rows.items)
     telling.last.places.items
     (chain-frames log telling.judge.join.lines is.judge.joined) (is.frames auto)

@@ -14,10 +14,10 @@ digit_of character =
     else None
 
 -- the octet of two digits, or of one alone
-abbrev pub octet_of : List ℕ → Option ℕ
-octet_of (digit ∷ []) = digit_of digit
-octet_of (high ∷ low ∷ []) = option_and_then (λ h. option_map (λ l. h * 16 + l) (digit_of low)) (digit_of high)
-octet_of other = None
+abbrev pub octet_of_digits : List ℕ → Option ℕ
+octet_of_digits (digit ∷ []) = digit_of digit
+octet_of_digits (high ∷ low ∷ []) = option_and_then (λ h. option_map (λ l. h * 16 + l) (digit_of low)) (digit_of high)
+octet_of_digits other = None
 
 -- Whether a character belongs to words: letters, digits and `_` of ASCII, and the octets of all other letters and
 -- signs, which are 128 or more.

@@ -66,12 +66,12 @@ run_places from [] run = line_place from run ∷ []
 run_places from (row ∷ rows) run = row_places from run.notation (row ∷ rows)
 
 -- the octets of a message
-abbrev pub octets_in : Message → List ℕ
-octets_in message = octets_kept_as message.kept.items
+abbrev pub octets_of_message : Message → List ℕ
+octets_of_message message = octets_kept_as message.kept.items
 
 -- the octets of a run's message
 abbrev pub message_of : MessageRun → List ℕ
-message_of run = octets_in run.message
+message_of run = octets_of_message run.message
 
 -- the message of a run is a part of octets
 abbrev pub IsMessageOf : List ℕ → MessageRun → Type 0
@@ -98,14 +98,14 @@ pub record IsJudgeOf (log : Log) (judge : Judge) : Type 0 where
 
 -- the messages of a verdict, if they are not a chain, are written at its places
 abbrev pub AreFramesOf : Log → Frames → Type 0
-AreFramesOf log frames = AreFramesAt log (map octets_in frames.messages.items) frames.places.items
+AreFramesOf log frames = AreFramesAt log (map octets_of_message frames.messages.items) frames.places.items
 
 -- the frames of a verdict: the messages of the chain of the joined lines, or its own
 abbrev pub frames_told : Joined → Frames → List (List ℕ)
 frames_told joined frames =
     if frames.are_chain
     then map (part_of joined.chain.octets.items) joined.chain.parts.items
-    else map octets_in frames.messages.items
+    else map octets_of_message frames.messages.items
 
 -- the places where they are written
 abbrev pub places_told : Joined → Frames → List Place

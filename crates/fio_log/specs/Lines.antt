@@ -119,8 +119,8 @@ with_octet_after Feed making octet = with_line_octet no_line octet
 with_octet_after Return making octet = if octet == 10 then no_line else with_line_octet no_line octet
 
 -- a line with one octet more
-abbrev pub with_octet : Making → ℕ → Making
-with_octet making octet = with_octet_after making.ending making octet
+abbrev pub with_octet_made : Making → ℕ → Making
+with_octet_made making octet = with_octet_after making.ending making octet
 
 -- whether a line with this ending is whole
 abbrev pub is_whole : LineEnding → Bool
@@ -151,7 +151,7 @@ with_making whole making = record {
 
 -- lines with one octet more
 abbrev pub with_octet_of : Lines → ℕ → Lines
-with_octet_of lines octet = with_making lines.whole (with_octet lines.making octet)
+with_octet_of lines octet = with_making lines.whole (with_octet_made lines.making octet)
 
 -- the lines after some octets
 abbrev pub lines_after : Lines → List ℕ → Lines

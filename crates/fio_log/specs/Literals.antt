@@ -1,6 +1,6 @@
 -- Octets as the characters of a string literal, with the escapes of C, Python and JSON.
 use Rattle.std.specs.Prelude.{◌≡◌, ℕ, ◌+◌, ◌-◌, ◌*◌, ◌<◌, ◌&&◌, ◌||◌, ◌==◌, Bool, true, false, not, nat_le, nat_lt, if◌then◌else◌, List, [], ◌∷◌, ◌⊎◌, Option, Some, None, length, option_and_then, slice_index, slice_range}
-use Rattle.fio_log.specs.Digits.{is_between, is_letter, octet_of}
+use Rattle.fio_log.specs.Digits.{is_between, is_letter, octet_of_digits}
 use Rattle.fio_log.specs.declared.literals.LiteralCharacter.{LiteralCharacter}
 
 -- the value of an octal digit
@@ -34,12 +34,12 @@ character_of (backslash ∷ a ∷ b ∷ []) =
     if backslash == 92 then option_and_then (λ number. with_octal number b) (octal_digit a) else None
 character_of (backslash ∷ a ∷ b ∷ c ∷ []) =
     if backslash == 92
-    then (if a == 120 then octet_of (b ∷ c ∷ [])
+    then (if a == 120 then octet_of_digits (b ∷ c ∷ [])
     else option_and_then (λ number. if nat_le number 255 then Some number else None)
     (option_and_then (λ number. option_and_then (λ eights. with_octal eights c) (with_octal number b)) (octal_digit a)))
     else None
 character_of (backslash ∷ u ∷ a ∷ b ∷ high ∷ low ∷ []) =
-    if backslash == 92 && u == 117 && a == 48 && b == 48 then octet_of (high ∷ low ∷ []) else None
+    if backslash == 92 && u == 117 && a == 48 && b == 48 then octet_of_digits (high ∷ low ∷ []) else None
 character_of other = None
 
 -- whether a character is written as itself
@@ -56,8 +56,8 @@ is_printable octet = is_between 32 126 octet && not (octet == 34 || octet == 39 
 
 -- The octet of a character of a literal. In a plain literal no octet that could be written as itself is a hexadecimal escape;
 -- in others no character is written as itself.
-abbrev pub octet_in : Bool → List ℕ → Option ℕ
-octet_in is_plain text =
+abbrev pub octet_of_character : Bool → List ℕ → Option ℕ
+octet_of_character is_plain text =
     option_and_then
     (λ octet. if (if is_plain then is_hexadecimal text && is_printable octet else is_itself text) then None else Some octet)
     (character_of text)
@@ -77,7 +77,7 @@ is_short_octal other = false
 abbrev pub AreCharacters : Bool → ℕ → List ℕ → ℕ → List ℕ → ℕ → Type 0
 AreCharacters is_plain quote line from [] to = from ≡ to
 AreCharacters is_plain quote line from (octet ∷ octets) to =
-    (end : ℕ) × (octet_in is_plain (slice_range line from end) ≡ Some octet)
+    (end : ℕ) × (octet_of_character is_plain (slice_range line from end) ≡ Some octet)
     × ((is_short_octal (slice_range line from end) && is_octal (slice_index line end)) ≡ false)
     × ((slice_index line from == quote) ≡ false) × AreCharacters is_plain quote line end octets to
 
@@ -86,8 +86,8 @@ abbrev pub is_quote : ℕ → Bool
 is_quote character = character == 34 || character == 39
 
 -- whether a character is at a place of a line that is not a literal's quote
-abbrev pub is_open : List ℕ → ℕ → ℕ → Bool
-is_open line place quote = nat_lt place (length line) && not (slice_index line place == quote)
+abbrev pub is_within_literal : List ℕ → ℕ → ℕ → Bool
+is_within_literal line place quote = nat_lt place (length line) && not (slice_index line place == quote)
 
 -- whether a quote has a `b` before it that is not the end of a word; `b` is 98, `B` is 66
 abbrev pub is_bytes : List ℕ → ℕ → Bool

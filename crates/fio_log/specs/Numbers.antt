@@ -25,8 +25,8 @@ decimal_of (a ∷ b ∷ c ∷ []) =
 decimal_of other = None
 
 -- The octet of a number. Signed numbers are from -128 to 127, others from 0 to 255, and -0 is 0; `-` is 45.
-abbrev pub number_of : Bool → List ℕ → Option ℕ
-number_of is_signed text =
+abbrev pub octet_of_number : Bool → List ℕ → Option ℕ
+octet_of_number is_signed text =
     if slice_index text 0 == 45
     then option_and_then (λ number. if nat_le number (if is_signed then 128 else 0) then Some ((256 - number) % 256) else None)
     (decimal_of (drop 1 text))
@@ -63,8 +63,8 @@ is_comma other = false
 abbrev pub AreNumbers : Bool → List ℕ → ℕ → List ℕ → ℕ → Type 0
 AreNumbers is_signed line from [] to = ⊥
 AreNumbers is_signed line from (octet ∷ octets) to =
-    (end : ℕ) × (number_of is_signed (slice_range line from end) ≡ Some octet)
-    × IsWritten (number_of is_signed) is_comma line end octets to
+    (end : ℕ) × (octet_of_number is_signed (slice_range line from end) ≡ Some octet)
+    × IsWritten (octet_of_number is_signed) is_comma line end octets to
 
 -- the bracket that a character begins
 abbrev pub bracket_of : ℕ → Option Bracket

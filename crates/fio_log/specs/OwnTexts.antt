@@ -13,15 +13,15 @@ use Rattle.fio_log.specs.declared.own_texts.OwnLine.{OwnLine}
 use Rattle.fio_log.specs.declared.own_texts.OwnLine.TheVariants.{Skipped, Bad, Faulty, Frame}
 
 -- whether the CPU sent a word, if the text says that, and the octets of the word
-abbrev pub frame_with : Option Bool → List ℕ → Option (Option Bool × List ℕ)
-frame_with from_cpu word = option_map (λ octets. (from_cpu, octets)) (octets_in word)
+abbrev pub own_frame_with : Option Bool → List ℕ → Option (Option Bool × List ℕ)
+own_frame_with from_cpu word = option_map (λ octets. (from_cpu, octets)) (octets_in word)
 
 -- The frame of a line. In a transcript `> HEX` was sent by the CPU, and `< HEX` was heard; in a text of frames the line is HEX.
 abbrev pub own_frame : OwnForm → List ℕ → Option (Option Bool × List ℕ)
-own_frame Frames line = frame_with None line
+own_frame Frames line = own_frame_with None line
 own_frame Transcript line = option_or
-    (option_and_then (frame_with (Some true)) (after_prefix (codes "> ") line))
-    (option_and_then (frame_with (Some false)) (after_prefix (codes "< ") line))
+    (option_and_then (own_frame_with (Some true)) (after_prefix (codes "> ") line))
+    (option_and_then (own_frame_with (Some false)) (after_prefix (codes "< ") line))
 
 -- whether octets encode a message of the end that sent them; if the text does not say which, of the end that their first octet
 -- names

@@ -1,6 +1,6 @@
 -- The verdict on a line of the texts that the program's own tools read: by what the line is, read by order.
 use Rattle.std.specs.Prelude.{◌≡◌, ℕ, Bool, true, false, List, [], ◌∷◌, Option, Some, None, map, take}
-use Rattle.fio_log.specs.Frames.{octets_in}
+use Rattle.fio_log.specs.Frames.{octets_of_message}
 use Rattle.fio_log.specs.Lines.{Making, Text, is_whole}
 use Rattle.fio_log.specs.OwnTexts.{IsOwnLine}
 use Rattle.fio_log.specs.Verdicts.{AreAgreed}
@@ -48,5 +48,5 @@ pub record IsOwnVerdict (form : OwnForm) (text : Text) (kind : Kind) (reason : R
 pub record IsToldByOrder (form : OwnForm) (line : ℕ) (making : Making) (told : LineVerdict) (frames : Frames) : Type 0 where
   pub whole : is_whole making.ending ≡ true
   pub apart : frames.are_chain ≡ false
-  pub agreed : AreAgreed line told.kind told.reason (map octets_in frames.messages.items) frames.places.items
-  pub verdict : IsOwnVerdict form making.text told.kind told.reason (map octets_in frames.messages.items)
+  pub agreed : AreAgreed line told.kind told.reason (map octets_of_message frames.messages.items) frames.places.items
+  pub verdict : IsOwnVerdict form making.text told.kind told.reason (map octets_of_message frames.messages.items)

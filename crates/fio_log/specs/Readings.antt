@@ -36,9 +36,9 @@ with_reading reading character = record {
 }
 
 -- the reading of a text
-abbrev pub reading_of : List ℕ → DigitReading
-reading_of text = fold with_reading no_reading text
+abbrev pub digits_read : List ℕ → DigitReading
+digits_read text = fold with_reading no_reading text
 
 -- All octets of a text: two digits each, or one alone.
 abbrev pub octets_of : List ℕ → List ℕ
-octets_of text = (reading_of text).octets ++ option_to_list (reading_of text).waiting
+octets_of text = (digits_read text).octets ++ option_to_list (digits_read text).waiting

@@ -49,8 +49,8 @@ pub record LacksLast (octets : List ℕ) : Type 0 where
 
 -- Whether the octets from a place to another are a frame: a header of two octets, a message, and the right check of
 -- both, its low octet first.
-abbrev pub is_checked : List ℕ → ℕ → ℕ → Bool
-is_checked octets start end =
+abbrev pub is_checked_between : List ℕ → ℕ → ℕ → Bool
+is_checked_between octets start end =
     nat_lt (start + 4) end && spells (slice_range octets (start + 2) (end - 2))
     && (slice_index octets (end - 2) + 256 * slice_index octets (end - 1)
     == frame_check_of (slice_range octets start (end - 2)))
@@ -59,7 +59,7 @@ is_checked octets start end =
 abbrev pub frame_end : List ℕ → ℕ → ℕ → Option ℕ
 frame_end octets start zero = None
 frame_end octets start (suc end) =
-    if is_checked octets start (suc end) then Some (suc end)
+    if is_checked_between octets start (suc end) then Some (suc end)
     else (if slice_index octets end == FLAG then frame_end octets start end else None)
 
 -- how many flags octets begin with

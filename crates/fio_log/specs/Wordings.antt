@@ -67,8 +67,8 @@ is_of_rule character =
     character == 45 || character == 61 || character == 42 || character == 35 || character == 126 || character == 95
 
 -- whether a character is a blank or a tab
-abbrev pub is_blank : ℕ → Bool
-is_blank character = character == 32 || character == 9
+abbrev pub is_blank_or_tab : ℕ → Bool
+is_blank_or_tab character = character == 32 || character == 9
 
 -- whether a text begins with three characters of a rule, or with `==>`
 abbrev pub begins_ruled : List ℕ → Bool
@@ -80,7 +80,7 @@ begins_ruled other = false
 -- that it begins; or it welcomes to the program that writes it.
 abbrev pub is_heading : List ℕ → Bool
 is_heading line =
-    begins_ruled (drop (prefix_len is_blank line) line)
+    begins_ruled (drop (prefix_len is_blank_or_tab line) line)
     || has_one_of log_words line && has_one_of start_words line
     || has_one_of capture_words line && has_one_of turn_words line || has_one_of welcome_words line
 

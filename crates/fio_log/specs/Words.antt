@@ -15,8 +15,8 @@ AreDigits line place end = (k : ℕ) → place ≤ k → k < end → is_some (di
 
 -- Whether the characters at a place of a line continue a word that ends there: a letter or digit, or a decimal point and a
 -- digit. After the end of the line there is nothing.
-abbrev pub goes_on : List ℕ → ℕ → Bool
-goes_on line place =
+abbrev pub continues_word : List ℕ → ℕ → Bool
+continues_word line place =
     is_letter (slice_index line place)
     || (slice_index line place == 46 && is_between 48 57 (slice_index line (place + 1)))
 
@@ -28,7 +28,7 @@ pub record IsWord (line opening closing : List ℕ) (place : ℕ) (word : Word) 
   pub digits : AreDigits line word.start word.stop
   pub all : is_some (digit_of (slice_index line word.stop)) ≡ false
   pub closed : StandsAt line closing word.stop word.end
-  pub apart : goes_on line word.end ≡ false
+  pub apart : continues_word line word.end ≡ false
 
 -- Whether a word may begin at a place of a line: not after a letter, a digit or a point, unless its mark begins with a
 -- backslash, 92.

@@ -1,6 +1,6 @@
 //! Characters of words, and the octets of hexadecimal digits.
 ghost use Rattle.std.specs.Prelude.{◌≡◌, ◌<◌, IfSome};
-ghost use Rattle.fio_log.specs.Digits.{digit_of, is_between, is_letter, is_separator, octet_of};
+ghost use Rattle.fio_log.specs.Digits.{digit_of, is_between, is_letter, is_separator, octet_of_digits};
 
 /// Returns the value of a hexadecimal digit of either case; `None` for any other character.
 pub fn digit(character: u8) -> Option<u8>
@@ -17,7 +17,7 @@ pub fn digit(character: u8) -> Option<u8>
 
 /// Returns the octet of two hexadecimal digits, or of one alone; `None` for any other text.
 pub fn octet(text: &[u8]) -> Option<u8>
-    ensures { result ≡ octet_of text.now }
+    ensures { result ≡ octet_of_digits text.now }
 {
     match *text {
         [alone] => digit(alone),

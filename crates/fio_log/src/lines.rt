@@ -1,6 +1,6 @@
 //! Lines of a log, from octets as they come.
 ghost use Rattle.std.specs.Prelude.{◌≡◌, ℕ, ◌+◌, ◌≤◌, ◌<◌, [], true, length, slice_index, take};
-ghost use Rattle.fio_log.specs.Lines.{ended, finished, goes_on_held, held_first, held_next, held_octets, held_text, is_plain, is_whole, lines_after, no_line, no_text, only, open_line, pushed, with_all, with_character, with_line_octet, with_making, with_octet};
+ghost use Rattle.fio_log.specs.Lines.{ended, finished, goes_on_held, held_first, held_next, held_octets, held_text, is_plain, is_whole, lines_after, no_line, no_text, only, open_line, pushed, with_all, with_character, with_line_octet, with_making, with_octet_made};
 
 use arrayvec::ArrayVec;
 use std::marker::Model;
@@ -229,7 +229,7 @@ impl LineMaker {
 
     /// Reads one octet more. After a whole line it begins the next one.
     pub fn add(&mut self, octet: u8)
-        ensures { self.new ≡ with_octet self.old octet }
+        ensures { self.new ≡ with_octet_made self.old octet }
     {
         let ending = self.ending;
         if ending != LineEnding::Open {

@@ -1,6 +1,6 @@
 //! Octets that are written as the characters of a string literal.
 ghost use Rattle.std.specs.Prelude.{◌≡◌, ◌==◌, ◌≤◌, ◌<◌, ◌+◌, ℕ, Bool, List, IfSome, MatchOption, length, option_and_then, slice_index};
-ghost use Rattle.fio_log.specs.Literals.{character_of, escape_of, is_bytes, is_hexadecimal, is_octal, is_open, is_printable, is_quote, kept_in, length_with, octal_digit, octet_in};
+ghost use Rattle.fio_log.specs.Literals.{character_of, escape_of, is_bytes, is_hexadecimal, is_octal, is_within_literal, is_printable, is_quote, kept_in, length_with, octal_digit, octet_of_character};
 ghost use Rattle.fio_log.specs.Runs.{IsLiteral};
 
 use crate::digits::{is_letter, octet};
@@ -77,7 +77,7 @@ fn is_quote(character: u8) -> bool
 
 /// Returns whether a character is at `place` of the line that is not `quote`.
 fn is_open(line: &[u8], place: usize, quote: u8) -> bool
-    ensures { result ≡ is_open line.now place quote }
+    ensures { result ≡ is_within_literal line.now place quote }
 {
     place < line.len() && line[place] != quote
 }
@@ -132,7 +132,7 @@ fn is_octal(character: u8) -> bool
 
 /// Reads a text as one character of a literal.
 fn read_character(text: &[u8]) -> Option<LiteralCharacter>
-    ensures { (is_plain : Bool) → octet_in is_plain text.now ≡ option_and_then (kept_in is_plain) result }
+    ensures { (is_plain : Bool) → octet_of_character is_plain text.now ≡ option_and_then (kept_in is_plain) result }
 {
     let octet = character(text)?;
     Some(LiteralCharacter {

@@ -1,7 +1,7 @@
 //! Words of hexadecimal digits, with the marks that may be around them.
 ghost use Rattle.std.specs.Prelude.{◌≡◌, ℕ, ◌≤◌, false, IfSome, Some, is_some, length, slice_index};
 ghost use Rattle.fio_log.specs.Digits.{digit_of};
-ghost use Rattle.fio_log.specs.Words.{AreDigits, IsWord, StandsAt, goes_on};
+ghost use Rattle.fio_log.specs.Words.{AreDigits, IsWord, StandsAt, continues_word};
 ghost use Rattle.fio_log.specs.declared.marks.Word.{Word};
 
 use crate::digits::{digit, is_decimal, is_letter};
@@ -135,7 +135,7 @@ pub(crate) fn character(line: &[u8], place: usize) -> u8
 /// point and a digit.
 fn goes_on(line: &[u8], place: usize) -> bool
     requires { place ≤ length line.now }
-    ensures { result ≡ goes_on line.now place }
+    ensures { result ≡ continues_word line.now place }
 {
     let next = character(line, place);
     is_letter(next) || next == b'.' && is_decimal(character(line, place + 1))

@@ -1,7 +1,7 @@
 //! Octets that are written as decimal numbers in brackets.
 ghost use Rattle.std.specs.Prelude.{◌≡◌, ◌==◌, ℕ, ◌≤◌, ◌<◌, Bool, false, true, IfSome, List, Some, length, option_and_then, slice_index, slice_range};
 ghost use Rattle.fio_log.specs.Digits.{is_between};
-ghost use Rattle.fio_log.specs.Numbers.{bracket_of, closing_of, decimal_digit, decimal_of, is_comma, least_in, number_of, octet_in, opening_of};
+ghost use Rattle.fio_log.specs.Numbers.{bracket_of, closing_of, decimal_digit, decimal_of, is_comma, least_in, octet_of_number, octet_in, opening_of};
 ghost use Rattle.fio_log.specs.Runs.{IsNumbers};
 ghost use Rattle.fio_log.specs.Words.{StandsAt};
 ghost use Rattle.fio_log.specs.declared.numbers.Bracket.{Bracket};
@@ -177,7 +177,7 @@ fn number_end(line: &[u8], place: usize) -> usize
 
 /// Reads a text as a number from -128 to 255.
 fn read_number(text: &[u8]) -> Option<Number>
-    ensures { (is_signed : Bool) → number_of is_signed text.now ≡ option_and_then (octet_in is_signed) result }
+    ensures { (is_signed : Bool) → octet_of_number is_signed text.now ≡ option_and_then (octet_in is_signed) result }
 {
     if let [b'-', ref digits @ ..] = *text {
         let number = decimal(digits)?;

@@ -2,7 +2,7 @@
 ghost use Rattle.std.specs.Prelude.{◌≡◌, ◌≤◌, ◌<◌, [], ◌∷◌, ◌++◌, true, IfSome, MatchOption, None, length, take};
 ghost use Rattle.std.specs.Option.{ForSome};
 ghost use Rattle.fio_log.specs.Digits.{digit_of};
-ghost use Rattle.fio_log.specs.Readings.{made_whole, octets_of, paired, reading_of, waits_then};
+ghost use Rattle.fio_log.specs.Readings.{made_whole, octets_of, paired, digits_read, waits_then};
 
 use crate::digits::digit;
 use arrayvec::ArrayVec;
@@ -53,9 +53,9 @@ pub(crate) fn read_pairs(text: &[u8], has_blanks: bool, octets: &mut Octets) -> 
 fn blank_end(text: &[u8], place: usize, has_blanks: bool) -> Option<usize>
     requires { place ≤ length text.now }
     ensures order { IfSome result (λ end. (place ≤ end) × (end ≤ length text.now)) }
-    ensures same { IfSome result (λ end. (reading_of (take place text.now)).waiting ≡ None
-        → ((reading_of (take end text.now)).octets ≡ (reading_of (take place text.now)).octets)
-        × ((reading_of (take end text.now)).waiting ≡ None)) }
+    ensures same { IfSome result (λ end. (digits_read (take place text.now)).waiting ≡ None
+        → ((digits_read (take end text.now)).octets ≡ (digits_read (take place text.now)).octets)
+        × ((digits_read (take end text.now)).waiting ≡ None)) }
 {
     if !has_blanks || place == text.len() {
         Some(place)

@@ -1,6 +1,6 @@
 //! Lines of the texts that the program's own tools read, for a caller who says that a log is such a text.
 ghost use Rattle.std.specs.Prelude.{◌≡◌, IfNone, IfSome, None};
-ghost use Rattle.fio_log.specs.OwnTexts.{IsOwnLine, IsFrameInRoom, frame_with, own_frame, spells_from};
+ghost use Rattle.fio_log.specs.OwnTexts.{IsOwnLine, IsFrameInRoom, own_frame_with, own_frame, spells_from};
 
 use crate::sayings::spelled;
 use fio_message::{FRAME_OCTETS, read_answer, read_command};
@@ -72,7 +72,7 @@ fn read_frame(
 /// of a transcript without `> ` or `< ` at its beginning.
 fn frame_word(form: OwnForm, line: &[u8]) -> Option<(Option<bool>, &[u8])>
     ensures none { IfNone result (own_frame form line.now ≡ None) }
-    ensures some { IfSome result (λ found. own_frame form line.now ≡ frame_with found.0 found.1.now) }
+    ensures some { IfSome result (λ found. own_frame form line.now ≡ own_frame_with found.0 found.1.now) }
 {
     if form == OwnForm::Frames {
         return Some((None, line));

@@ -1,6 +1,6 @@
 //! Verdicts on lines of the program's own texts, which are read in the form that the caller gives.
 ghost use Rattle.std.specs.Prelude.{◌≡◌, [], ◌∷◌, false, length, map, true};
-ghost use Rattle.fio_log.specs.Frames.{octets_in};
+ghost use Rattle.fio_log.specs.Frames.{octets_of_message};
 ghost use Rattle.fio_log.specs.OwnVerdicts.{IsOwnVerdict, own_form_of};
 ghost use Rattle.fio_log.specs.Sayings.{spells};
 ghost use Rattle.fio_log.specs.Verdicts.{AreAgreed, AreOfLine};
@@ -42,8 +42,8 @@ impl Frames {
     /// Returns the verdict on a line of an own text, and takes its frame.
     pub(crate) fn tell_own(&mut self, form: OwnForm, line: NumberedLine) -> LineVerdict
         ensures own { IsOwnVerdict form (record { octets = line.entry.text.now; is_long = line.entry.is_long }) result.kind result.reason
-            (map octets_in self.new.messages.items) }
-        ensures agreed { AreAgreed line.entry.number result.kind result.reason (map octets_in self.new.messages.items) self.new.places.items }
+            (map octets_of_message self.new.messages.items) }
+        ensures agreed { AreAgreed line.entry.number result.kind result.reason (map octets_of_message self.new.messages.items) self.new.places.items }
         ensures line { result.line ≡ line.entry.number }
         ensures apart { self.new.are_chain ≡ false }
     {
@@ -74,7 +74,7 @@ impl Frames {
         requires none { self.old.messages.items ≡ [] }
         requires unplaced { self.old.places.items ≡ [] }
         requires spelled { spells octets.now ≡ true }
-        ensures frame { map octets_in self.new.messages.items ≡ octets.now ∷ [] }
+        ensures frame { map octets_of_message self.new.messages.items ≡ octets.now ∷ [] }
         ensures placed { length self.new.places.items ≡ 1 }
         ensures order { AreOfLine line.entry.number self.new.places.items }
         ensures apart { self.new.are_chain ≡ self.old.are_chain }

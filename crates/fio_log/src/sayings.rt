@@ -2,7 +2,7 @@
 ghost use Rattle.std.specs.Prelude.{◌≡◌, ◌≤◌, ◌+◌, ◌<◌, ◌↔◌, length, IfSome, true, Err, is_ok};
 ghost use Rattle.fio_message.specs.declared.faults.DecodeError.{DecodeError};
 ghost use Rattle.fio_message.specs.Refusals.{Refuses};
-ghost use Rattle.fio_log.specs.Sayings.{IsSaying, flags_before, frame_end, is_answer, is_checked, is_counted, length_of, needed_of, spells};
+ghost use Rattle.fio_log.specs.Sayings.{IsSaying, flags_before, frame_end, is_answer, is_checked_between, is_counted, length_of, needed_of, spells};
 
 use fio_message::types::{BLOCK_ANSWER, CONFIGURE_INPUTS};
 use fio_message::{DecodeError, FRAME_OCTETS, read_answer, read_command};
@@ -80,7 +80,7 @@ fn flags_before(octets: &[u8]) -> usize
 fn frame_end(octets: &[u8], start: usize) -> Option<usize>
     requires { start ≤ length octets.now }
     ensures end { result ≡ frame_end octets.now start (length octets.now) }
-    ensures checked { IfSome result (λ end. is_checked octets.now start end ≡ true) }
+    ensures checked { IfSome result (λ end. is_checked_between octets.now start end ≡ true) }
     ensures within { IfSome result (λ end. end ≤ length octets.now) }
 {
     let mut end = octets.len();
@@ -100,7 +100,7 @@ fn frame_end(octets: &[u8], start: usize) -> Option<usize>
 fn is_checked(octets: &[u8], start: usize, end: usize) -> bool
     requires start { start ≤ length octets.now }
     requires end { end ≤ length octets.now }
-    ensures { result ≡ is_checked octets.now start end }
+    ensures { result ≡ is_checked_between octets.now start end }
 {
     if end <= start + 4 || spelled(&octets[start + 2..end - 2]).is_err() {
         return false;

@@ -3,7 +3,7 @@ ghost use Rattle.std.specs.Prelude.{◌≡◌, ◌≤◌, ℕ, List, drop, lengt
 ghost use Rattle.std.specs.List.{before_first, list_any, position_or_len, prefix_len};
 ghost use Rattle.std.specs.Str.{str_eq_ignore_ascii_case};
 ghost use Rattle.std.specs.Char.{is_ascii_alphabetic};
-ghost use Rattle.fio_log.specs.Wordings.{begins_ruled, has_one_of, is_blank, is_heading, is_no_letter, is_of_rule, is_one_of, SaysWords, reason_beside_octets, reason_without_octets, speaks_of_loss};
+ghost use Rattle.fio_log.specs.Wordings.{begins_ruled, has_one_of, is_blank_or_tab, is_heading, is_no_letter, is_of_rule, is_one_of, SaysWords, reason_beside_octets, reason_without_octets, speaks_of_loss};
 
 use crate::verdict::Reason;
 
@@ -181,7 +181,7 @@ fn begins_ruled(text: &[u8]) -> bool
 
 /// Returns how many blanks a line begins with.
 fn blanks_before(line: &[u8]) -> usize
-    ensures count { result ≡ prefix_len is_blank line.now }
+    ensures count { result ≡ prefix_len is_blank_or_tab line.now }
     ensures within { result ≤ length line.now }
 {
     line.iter()

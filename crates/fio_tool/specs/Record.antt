@@ -42,14 +42,14 @@ fault_front line (Some input) =
     codes "line " ++ (decimal line ++ (codes " input " ++ (decimal input ++ codes " breaks ")))
 
 -- the line of a fault
-abbrev pub fault_line : ContentFault → List ℕ
-fault_line fault =
+abbrev pub content_fault_line : ContentFault → List ℕ
+content_fault_line fault =
     (fault_front fault.line fault.input ++ content_rule_name fault.rule) ++ codes "\n"
 
 -- the lines of a record; if a rule on content is broken, the lines of the items before the fault, and the line of the fault
 abbrev pub judged_record : Option ContentFault → List Item → List ℕ
 judged_record None items = record_lines items
-judged_record (Some fault) items = record_lines fault.above ++ fault_line fault
+judged_record (Some fault) items = record_lines fault.above ++ content_fault_line fault
 
 -- the lines for a transcript with this verdict: if no rule is broken, its record, judged; otherwise the line of the verdict
 abbrev pub record_below : Verdict → List TranscriptLine → List ℕ

@@ -5,7 +5,7 @@ use Rattle.std.proofs.lemmas.List.{append-nil, take-append-drop}
 use Rattle.std.proofs.lemmas.List.Sums.{fold-append}
 use Rattle.std.proofs.lemmas.Bool.{false≢true}
 use Rattle.std.proofs.lemmas.Grind.{common_steps}
-use Rattle.fio_wire.specs.Frames.{Said, Frame, Damage, WireSettings, heard_as, is_nothing, is_own, said_by_each}
+use Rattle.fio_wire.specs.Frames.{Said, Frame, Damage, WireSettings, wire_heard, is_nothing, is_own, said_by_each}
 use Rattle.fio_wire.specs.declared.heard.WireHeard.{WireHeard}
 use Rattle.fio_wire.specs.declared.heard.WireHeard.TheVariants.{Message, Other}
 
@@ -14,7 +14,7 @@ loud true h = absurd (false≢true h)
 loud false h = absurd (false≢true h)
 
 -- what is heard as nothing says nothing
-pub silent : (settings : WireSettings) (said : List Said) → is_nothing (heard_as settings said) ≡ true → said ≡ []
+pub silent : (settings : WireSettings) (said : List Said) → is_nothing (wire_heard settings said) ≡ true → said ≡ []
 silent settings [] h = refl
 silent settings (Frame frame ∷ rest) h = loud (is_own settings frame) h
 silent settings (Damage ∷ rest) h = absurd (false≢true h)
@@ -64,6 +64,6 @@ read_more next d r q after line i h at on =
 -- what is heard of a line with one more
 pub heard_more : {R I : Type 0} (says : R → I → List Said) (next : R → I → R) (d : I) (settings now : WireSettings) (r q : R) (line : List I) (i : ℕ) (heard : WireHeard)
     → i < length line → said_by_each says next r (take i line) ≡ [] → q ≡ fold next r (take i line) → now ≡ settings
-    → heard ≡ heard_as now (says q (get_or line i d)) → heard ≡ heard_as settings (said_by_each says next r (take (i + 1) line))
+    → heard ≡ wire_heard now (says q (get_or line i d)) → heard ≡ wire_heard settings (said_by_each says next r (take (i + 1) line))
 heard_more says next d settings now r q line i heard h none at same is =
-    is ∙ ap₂ (λ s x. heard_as s (says x (get_or line i d))) same at ∙ ap (heard_as settings) (sym (one_more says next d r line i h none))
+    is ∙ ap₂ (λ s x. wire_heard s (says x (get_or line i d))) same at ∙ ap (wire_heard settings) (sym (one_more says next d r line i h none))

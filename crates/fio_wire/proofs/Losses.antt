@@ -8,7 +8,7 @@ use Rattle.std.proofs.lemmas.List.{append-nil}
 use Rattle.fio_wire.specs.declared.limits.TheConstants.{FLAG, ESCAPE, STUFFED, HELD_OCTETS}
 use Rattle.fio_wire.specs.Frames.{Said, Frame, Damage}
 use Rattle.fio_wire.specs.Octets.{Reading, Phase, Hunting, Within, Escaped, Lost, Whole, start, fresh, ended_by, ending, begun, kept, taken, next, says, said_of, said_in, HasNoFlag}
-use Rattle.fio_wire.specs.Laws.{Arrival, Octet, Loss, ArrivesNoFlag, after_arrival, arrivals_with_flags, has_loss, octets_in, said_in_arrivals, said_of_arrivals}
+use Rattle.fio_wire.specs.Laws.{Arrival, Octet, Loss, ArrivesNoFlag, after_arrival, arrivals_with_flags, has_loss, octets_arrived, said_in_arrivals, said_of_arrivals}
 use Rattle.fio_wire.proofs.Lines.{no_flag, part_said}
 
 -- after a frame the decoder goes on as after a flag
@@ -95,24 +95,24 @@ lossy reading (Loss ∷ os) rest h loss is =
 
 -- a part without a loss says what its octets say
 as_octets : (reading : Reading) (part rest : List Arrival) → has_loss part ≡ false
-    → said_of_arrivals reading (part ++ Octet FLAG ∷ rest) ≡ said_of reading (octets_in part ++ FLAG ∷ []) ++ said_of_arrivals fresh rest
+    → said_of_arrivals reading (part ++ Octet FLAG ∷ rest) ≡ said_of reading (octets_arrived part ++ FLAG ∷ []) ++ said_of_arrivals fresh rest
 as_octets reading [] rest none = flag_on reading rest ∙ ap (λ x. x ++ said_of_arrivals fresh rest) (sym (append-nil (says reading FLAG)))
 as_octets reading (Octet o ∷ os) rest none =
     ap (λ x. says reading o ++ x) (as_octets (next reading o) os rest none)
-    ∙ sym (append_assoc (says reading o) (said_of (next reading o) (octets_in os ++ FLAG ∷ [])) (said_of_arrivals fresh rest))
+    ∙ sym (append_assoc (says reading o) (said_of (next reading o) (octets_arrived os ++ FLAG ∷ [])) (said_of_arrivals fresh rest))
 as_octets reading (Loss ∷ os) rest none = absurd (false≢true (sym none))
 
-free_octets : (part : List Arrival) → ArrivesNoFlag part → HasNoFlag (octets_in part)
+free_octets : (part : List Arrival) → ArrivesNoFlag part → HasNoFlag (octets_arrived part)
 free_octets [] h = tt
 free_octets (Octet o ∷ os) h = (h.0, free_octets os h.1)
 free_octets (Loss ∷ os) h = free_octets os h
 
 by_loss : (loss : Bool) (part rest : List Arrival) → ArrivesNoFlag part → has_loss part ≡ loss
-    → said_of_arrivals fresh (part ++ Octet FLAG ∷ rest) ≡ (if loss then Damage ∷ [] else said_in (octets_in part)) ++ said_of_arrivals fresh rest
+    → said_of_arrivals fresh (part ++ Octet FLAG ∷ rest) ≡ (if loss then Damage ∷ [] else said_in (octets_arrived part)) ++ said_of_arrivals fresh rest
 by_loss true part rest h is = lossy fresh part rest h is tt
 by_loss false part rest h is =
     as_octets fresh part rest is
-    ∙ ap (λ x. x ++ said_of_arrivals fresh rest) (part_said (octets_in part) [] (free_octets part h) ∙ append-nil (said_in (octets_in part)))
+    ∙ ap (λ x. x ++ said_of_arrivals fresh rest) (part_said (octets_arrived part) [] (free_octets part h) ∙ append-nil (said_in (octets_arrived part)))
 
 -- before the first flag nothing is said
 hunts : (noise rest : List Arrival) → ArrivesNoFlag noise → said_of_arrivals start (noise ++ Octet FLAG ∷ rest) ≡ said_of_arrivals fresh rest

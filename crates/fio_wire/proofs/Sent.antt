@@ -13,10 +13,10 @@ use Rattle.std.proofs.lemmas.Nat.{xor_lt}
 use Rattle.std.proofs.lemmas.List.Sums.{fold-append}
 use Rattle.fio_wire.specs.Checks.{divided, with_octet, frame_check_of}
 use Rattle.fio_wire.specs.Detection.{register_after, low_bits, bits_of, damaged, flips, error_after}
-use Rattle.fio_wire.specs.Laws.{AreOctets, CanSend, IsDetectable, Flips, Fate, Kept, Struck, part_of, IsFate, arrives}
+use Rattle.fio_wire.specs.Laws.{AreOctets, CanSend, IsDetectable, Flips, Fate, Kept, Struck, part_between, IsFate, arrives}
 use Rattle.fio_wire.proofs.Lines.{and_false, exact}
 use Rattle.std.specs.Prelude.{map}
-use Rattle.fio_wire.specs.Frames.{Frame, Damage, with_check, frame_of, is_frame, is_checked, judged, address_in, control_in, message_in}
+use Rattle.fio_wire.specs.Frames.{Frame, Damage, with_check, frame_of, is_frame, is_checked, judged, address_in, control_in, message_of_frame}
 use Rattle.fio_wire.specs.Octets.{start, said_of, with_flags, stuffed, unstuffed, is_open, said_in, HasNoFlag}
 use Rattle.fio_message.specs.declared.limits.TheConstants.{FRAME_OCTETS}
 use Rattle.fio_wire.specs.declared.limits.TheConstants.{FLAG, ESCAPE, STUFFED, HELD_OCTETS, GOOD}
@@ -265,14 +265,14 @@ sent_frame address control message can =
     (free_of_flags (frame_of address control message), sent_is_read (frame_of address control message) (frame_is address control message can))
 
 -- a frame has its message, between header and check
-pub message_again : (address control : ℕ) (message : List ℕ) → message_in (frame_of address control message) ≡ message
+pub message_again : (address control : ℕ) (message : List ℕ) → message_of_frame (frame_of address control message) ≡ message
 message_again address control message =
     let r : ℕ = frame_check_of (address ∷ control ∷ message) in
     let count : length (frame_of address control message) - 4 ≡ length message = omega (arith, length-append message (r % 256 ∷ r / 256 ∷ [])) in
     take_at message (r % 256 ∷ r / 256 ∷ []) (length (frame_of address control message) - 4) (sym count)
 
 pub frame_has : (address control : ℕ) (message : List ℕ)
-    → (address_in (frame_of address control message) ≡ address) × ((control_in (frame_of address control message) ≡ control) × (message_in (frame_of address control message) ≡ message))
+    → (address_in (frame_of address control message) ≡ address) × ((control_in (frame_of address control message) ≡ control) × (message_of_frame (frame_of address control message) ≡ message))
 frame_has address control message = (refl, (refl, message_again address control message))
 
 pub length_bits : (octets : List ℕ) → length (bits_of octets) ≡ 8 * length octets
@@ -301,7 +301,7 @@ pub same_length : (errors : List Bool) (sent got : List ℕ) → Flips errors se
 same_length errors sent got f =
     omega (arith, length_bits sent, length_bits got, ap length f.bits, length_damaged (bits_of sent) errors)
 
-fate_said : (fate : Fate) → IsFate fate → said_in (part_of fate) ≡ arrives fate ∷ []
+fate_said : (fate : Fate) → IsFate fate → said_in (part_between fate) ≡ arrives fate ∷ []
 fate_said (Kept octets) is = sent_is_read octets is
 fate_said (Struck octets errors part) is =
     let f : Flips errors octets (unstuffed false part) = is.1.1.0 in
@@ -309,22 +309,22 @@ fate_said (Struck octets errors part) is =
     let long : 0 < length (unstuffed false part) = omega (arith, some_octets octets is.1.0, same_length errors octets (unstuffed false part) f) in
     judged_damage (is_open false part) (unstuffed false part) long wrong
 
-fate_free : (fate : Fate) → IsFate fate → HasNoFlag (part_of fate)
+fate_free : (fate : Fate) → IsFate fate → HasNoFlag (part_between fate)
 fate_free (Kept octets) is = free_of_flags octets
 fate_free (Struck octets errors part) is = is.0
 
-fates_free : (fates : List Fate) → AllByRecursion IsFate fates → AllByRecursion HasNoFlag (map part_of fates)
+fates_free : (fates : List Fate) → AllByRecursion IsFate fates → AllByRecursion HasNoFlag (map part_between fates)
 fates_free [] all = tt
 fates_free (f ∷ fs) all = (fate_free f all.0, fates_free fs all.1)
 
-fates_said : (fates : List Fate) → AllByRecursion IsFate fates → flat_map said_in (map part_of fates) ≡ map arrives fates
+fates_said : (fates : List Fate) → AllByRecursion IsFate fates → flat_map said_in (map part_between fates) ≡ map arrives fates
 fates_said [] all = refl
 fates_said (f ∷ fs) all = ap₂ ◌++◌ (fate_said f all.0) (fates_said fs all.1)
 
-pub arrive : (fates : List Fate) → AllByRecursion IsFate fates → said_of start (FLAG ∷ with_flags (map part_of fates)) ≡ map arrives fates
+pub arrive : (fates : List Fate) → AllByRecursion IsFate fates → said_of start (FLAG ∷ with_flags (map part_between fates)) ≡ map arrives fates
 arrive fates all =
-    ap (λ x. said_of start (FLAG ∷ x)) (sym (append-nil (with_flags (map part_of fates))))
-    ∙ exact [] (map part_of fates) [] tt (fates_free fates all) tt
+    ap (λ x. said_of start (FLAG ∷ x)) (sym (append-nil (with_flags (map part_between fates))))
+    ∙ exact [] (map part_between fates) [] tt (fates_free fates all) tt
     ∙ fates_said fates all
 
 few_of : (n : ℕ) (errors : List Bool) → flips errors ≡ n → 1 ≤ n → n ≤ 3 → length errors < 32768 → IsDetectable errors

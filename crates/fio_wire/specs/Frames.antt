@@ -46,8 +46,8 @@ abbrev pub control_in : List ℕ → ℕ
 control_in frame = slice_index_or frame 1 0
 
 -- the message of a frame
-abbrev pub message_in : List ℕ → List ℕ
-message_in frame = take (length frame - 4) (drop 2 frame)
+abbrev pub message_of_frame : List ℕ → List ℕ
+message_of_frame frame = take (length frame - 4) (drop 2 frame)
 
 -- All that octets or bits of a line say one by one, from what is read before them: `says` is what one says, and `next` what is
 -- read after it.
@@ -71,10 +71,10 @@ abbrev pub is_own : WireSettings → List ℕ → Bool
 is_own settings frame = admits settings.address (address_in frame) && admits settings.control (control_in frame)
 
 -- what is heard where a line says this
-abbrev pub heard_as : WireSettings → List Said → WireHeard
-heard_as settings [] = Nothing
-heard_as settings (Frame frame ∷ rest) = if is_own settings frame then Message else Other
-heard_as settings (Damage ∷ rest) = Damaged
+abbrev pub wire_heard : WireSettings → List Said → WireHeard
+wire_heard settings [] = Nothing
+wire_heard settings (Frame frame ∷ rest) = if is_own settings frame then Message else Other
+wire_heard settings (Damage ∷ rest) = Damaged
 
 -- whether neither a frame nor damage is heard
 abbrev pub is_nothing : WireHeard → Bool

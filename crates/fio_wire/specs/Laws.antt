@@ -46,9 +46,9 @@ pub data Fate : Type 0 where
   Struck : List ℕ → List Bool → List ℕ → Fate
 
 -- what came between the flags
-abbrev pub part_of : Fate → List ℕ
-part_of (Kept frame) = stuffed frame
-part_of (Struck frame errors part) = part
+abbrev pub part_between : Fate → List ℕ
+part_between (Kept frame) = stuffed frame
+part_between (Struck frame errors part) = part
 
 -- the premise: flags are right, and damage is of a kind that the check finds
 abbrev pub IsFate : Fate → Type 0
@@ -106,14 +106,14 @@ abbrev pub said_of_arrivals : Reading → List Arrival → List Said
 said_of_arrivals reading arrivals = said_by_each arrival_says after_arrival reading arrivals
 
 -- the octets that arrived
-abbrev pub octets_in : List Arrival → List ℕ
-octets_in [] = []
-octets_in (Octet octet ∷ arrivals) = octet ∷ octets_in arrivals
-octets_in (Loss ∷ arrivals) = octets_in arrivals
+abbrev pub octets_arrived : List Arrival → List ℕ
+octets_arrived [] = []
+octets_arrived (Octet octet ∷ arrivals) = octet ∷ octets_arrived arrivals
+octets_arrived (Loss ∷ arrivals) = octets_arrived arrivals
 
 -- no flag is among the octets that arrived
 abbrev pub ArrivesNoFlag : List Arrival → Type 0
-ArrivesNoFlag arrivals = HasNoFlag (octets_in arrivals)
+ArrivesNoFlag arrivals = HasNoFlag (octets_arrived arrivals)
 
 -- whether an octet was lost
 abbrev pub has_loss : List Arrival → Bool
@@ -123,7 +123,7 @@ has_loss (Loss ∷ arrivals) = true
 
 -- what a part says, as it arrived: damage if an octet was lost, whatever else there is
 abbrev pub said_in_arrivals : List Arrival → List Said
-said_in_arrivals part = if has_loss part then Damage ∷ [] else said_in (octets_in part)
+said_in_arrivals part = if has_loss part then Damage ∷ [] else said_in (octets_arrived part)
 
 -- parts, each with a flag after it
 abbrev pub arrivals_with_flags : List (List Arrival) → List Arrival

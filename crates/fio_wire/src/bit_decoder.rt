@@ -2,7 +2,7 @@
 ghost use Rattle.std.specs.Prelude.{◌≡◌, ◌≢◌, ◌≤◌, ◌-◌, ◌^◌, List, [], drop, fold, length, not, take};
 ghost use Rattle.fio_wire.specs.declared.heard.WireHeard.TheVariants.{Nothing};
 ghost use Rattle.fio_message.specs.declared.limits.TheConstants.{FRAME_OCTETS};
-ghost use Rattle.fio_wire.specs.Frames.{WireSettings, address_in, control_in, heard_as, message_in};
+ghost use Rattle.fio_wire.specs.Frames.{WireSettings, address_in, control_in, wire_heard, message_of_frame};
 ghost use Rattle.fio_wire.specs.Bits.{IsWireBits, after_flag, after_one, after_zero, begun, flushed, fresh, held_frame, is_broken, is_none, lowest_bits, next, none_packed, packed, packing_of, phase_of, reading_of, said_of, says, says_flag, settings_of, start, wire_bits_at_start, with_ones, with_value};
 
 use crate::checks::with_octet;
@@ -132,7 +132,7 @@ impl WireBits {
 
     /// Returns what is heard at a flag.
     fn judged(&self) -> WireHeard
-        ensures { IsWireBits self.now → result ≡ heard_as (settings_of self.now) (says_flag (phase_of self.now.phase) (packing_of self.now)) }
+        ensures { IsWireBits self.now → result ≡ wire_heard (settings_of self.now) (says_flag (phase_of self.now.phase) (packing_of self.now)) }
     {
         if self.phase == HUNTING {
             return WireHeard::Nothing;
@@ -150,7 +150,7 @@ impl WireBits {
     /// Reads the 0 at the end of a flag.
     fn flag(&mut self) -> WireHeard
         ensures is { IsWireBits self.old → IsWireBits self.new }
-        ensures heard { IsWireBits self.old → result ≡ heard_as (settings_of self.old) (says_flag (phase_of self.old.phase) (packing_of self.old)) }
+        ensures heard { IsWireBits self.old → result ≡ wire_heard (settings_of self.old) (says_flag (phase_of self.old.phase) (packing_of self.old)) }
         ensures next { IsWireBits self.old → reading_of self.new ≡ after_flag (says_flag (phase_of self.old.phase) (packing_of self.old)) (packing_of self.old) }
         ensures settings { settings_of self.new ≡ settings_of self.old }
     {
@@ -185,7 +185,7 @@ impl WireBits {
     /// Reads the next bit of the line.
     pub fn read(&mut self, bit: bool) -> WireHeard
         ensures is { IsWireBits self.old → IsWireBits self.new }
-        ensures heard { IsWireBits self.old → result ≡ heard_as (settings_of self.old) (says (reading_of self.old) bit) }
+        ensures heard { IsWireBits self.old → result ≡ wire_heard (settings_of self.old) (says (reading_of self.old) bit) }
         ensures next { IsWireBits self.old → reading_of self.new ≡ next (reading_of self.old) bit }
         ensures settings { settings_of self.new ≡ settings_of self.old }
     {
@@ -206,7 +206,7 @@ impl WireBits {
     pub fn read_many(&mut self, line: &[u8]) -> (usize, WireHeard)
         ensures within { result.0 ≤ length line.now }
         ensures is { IsWireBits self.old → IsWireBits self.new }
-        ensures heard { IsWireBits self.old → result.1 ≡ heard_as (settings_of self.old) (said_of (reading_of self.old) (take result.0 (lowest_bits line.now))) }
+        ensures heard { IsWireBits self.old → result.1 ≡ wire_heard (settings_of self.old) (said_of (reading_of self.old) (take result.0 (lowest_bits line.now))) }
         ensures last { IsWireBits self.old → said_of (reading_of self.old) (take (result.0 - 1) (lowest_bits line.now)) ≡ [] }
         ensures all { result.1 ≡ Nothing → result.0 ≡ length line.now }
         ensures next { IsWireBits self.old → reading_of self.new ≡ fold next (reading_of self.old) (take result.0 (lowest_bits line.now)) }
@@ -250,7 +250,7 @@ impl WireBits {
 
     /// Returns the message of the frame that the last bit ended, which is empty if it ended none.
     pub fn message(&self) -> &[u8]
-        ensures message { IsWireBits self.now → result.now ≡ message_in (held_frame (reading_of self.now)) }
+        ensures message { IsWireBits self.now → result.now ≡ message_of_frame (held_frame (reading_of self.now)) }
         ensures at { IsWireBits self.now → take (length result.now) (drop 2 self.now.octets) ≡ result.now }
         ensures most { length result.now ≤ FRAME_OCTETS }
     {

@@ -2,7 +2,7 @@
 ghost use Rattle.std.specs.Prelude.{◌≡◌, ◌≤◌, ◌-◌, List, [], drop, fold, length, take};
 ghost use Rattle.fio_wire.specs.declared.heard.WireHeard.TheVariants.{Nothing};
 ghost use Rattle.fio_message.specs.declared.limits.TheConstants.{FRAME_OCTETS};
-ghost use Rattle.fio_wire.specs.Frames.{WireSettings, address_in, control_in, heard_as, message_in};
+ghost use Rattle.fio_wire.specs.Frames.{WireSettings, address_in, control_in, wire_heard, message_of_frame};
 ghost use Rattle.fio_wire.specs.Octets.{IsWire, ended_by, ending, fresh, held_frame, kept, lost, next, phase_of, reading_of, said_of, says, settings_of, start, taken, wire_at_start};
 
 use crate::checks::with_octet;
@@ -128,7 +128,7 @@ impl Wire {
 
     /// Returns what is heard at a flag.
     fn judged(&self) -> WireHeard
-        ensures { IsWire self.now → result ≡ heard_as (settings_of self.now) (ending (phase_of self.now.phase) (reading_of self.now).octets) }
+        ensures { IsWire self.now → result ≡ wire_heard (settings_of self.now) (ending (phase_of self.now.phase) (reading_of self.now).octets) }
     {
         if self.phase == HUNTING {
             return WireHeard::Nothing;
@@ -145,7 +145,7 @@ impl Wire {
     /// Reads a flag.
     fn end(&mut self) -> WireHeard
         ensures is { IsWire self.old → IsWire self.new }
-        ensures heard { IsWire self.old → result ≡ heard_as (settings_of self.old) (ending (phase_of self.old.phase) (reading_of self.old).octets) }
+        ensures heard { IsWire self.old → result ≡ wire_heard (settings_of self.old) (ending (phase_of self.old.phase) (reading_of self.old).octets) }
         ensures next { IsWire self.old → reading_of self.new ≡ ended_by (ending (phase_of self.old.phase) (reading_of self.old).octets) }
         ensures settings { settings_of self.new ≡ settings_of self.old }
     {
@@ -161,7 +161,7 @@ impl Wire {
     /// Reads the next octet of the line.
     pub fn read(&mut self, octet: u8) -> WireHeard
         ensures is { IsWire self.old → IsWire self.new }
-        ensures heard { IsWire self.old → result ≡ heard_as (settings_of self.old) (says (reading_of self.old) octet) }
+        ensures heard { IsWire self.old → result ≡ wire_heard (settings_of self.old) (says (reading_of self.old) octet) }
         ensures next { IsWire self.old → reading_of self.new ≡ next (reading_of self.old) octet }
         ensures settings { settings_of self.new ≡ settings_of self.old }
     {
@@ -181,7 +181,7 @@ impl Wire {
     pub fn read_many(&mut self, octets: &[u8]) -> (usize, WireHeard)
         ensures within { result.0 ≤ length octets.now }
         ensures is { IsWire self.old → IsWire self.new }
-        ensures heard { IsWire self.old → result.1 ≡ heard_as (settings_of self.old) (said_of (reading_of self.old) (take result.0 octets.now)) }
+        ensures heard { IsWire self.old → result.1 ≡ wire_heard (settings_of self.old) (said_of (reading_of self.old) (take result.0 octets.now)) }
         ensures last { IsWire self.old → said_of (reading_of self.old) (take (result.0 - 1) octets.now) ≡ [] }
         ensures all { result.1 ≡ Nothing → result.0 ≡ length octets.now }
         ensures next { IsWire self.old → reading_of self.new ≡ fold next (reading_of self.old) (take result.0 octets.now) }
@@ -239,7 +239,7 @@ impl Wire {
 
     /// Returns the message of the frame that the last octet ended, which is empty if it ended none.
     pub fn message(&self) -> &[u8]
-        ensures message { IsWire self.now → result.now ≡ message_in (held_frame (reading_of self.now)) }
+        ensures message { IsWire self.now → result.now ≡ message_of_frame (held_frame (reading_of self.now)) }
         ensures at { IsWire self.now → take (length result.now) (drop 2 self.now.octets) ≡ result.now }
         ensures most { length result.now ≤ FRAME_OCTETS }
     {

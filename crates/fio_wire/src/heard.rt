@@ -1,7 +1,7 @@
 //! What is heard of a line.
 ghost use Rattle.std.specs.Prelude.{◌≡◌, ◌≤◌, ◌-◌, ◌^◌, ◌&&◌, fold, length};
 ghost use Rattle.fio_wire.specs.Checks.{with_octet};
-ghost use Rattle.fio_wire.specs.Frames.{WireSettings, admits, heard_as, is_nothing, is_own, judged, message_in};
+ghost use Rattle.fio_wire.specs.Frames.{WireSettings, admits, wire_heard, is_nothing, is_own, judged, message_of_frame};
 
 use crate::limits::{GOOD, HELD_OCTETS};
 
@@ -43,7 +43,7 @@ pub(crate) fn judge(
     control: u16,
 ) -> WireHeard
     ensures { check ≡ fold with_octet (2 ^ 16 - 1) octets.now → length octets.now ≤ HELD_OCTETS
-        → result ≡ heard_as (record { address = address; control = control }) (judged is_broken octets.now) }
+        → result ≡ wire_heard (record { address = address; control = control }) (judged is_broken octets.now) }
 {
     if is_broken {
         WireHeard::Damaged
@@ -60,7 +60,7 @@ pub(crate) fn judge(
 
 /// Returns the message of a frame.
 pub(crate) fn message_of(frame: &[u8]) -> &[u8]
-    ensures message { result.now ≡ message_in frame.now }
+    ensures message { result.now ≡ message_of_frame frame.now }
     ensures most { length result.now ≤ length frame.now - 4 }
 {
     if frame.len() < 4 {

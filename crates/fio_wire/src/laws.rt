@@ -2,10 +2,10 @@
 ghost use Rattle.std.specs.Prelude.{◌≡◌, ◌≤◌, ◌<◌, ◌++◌, ◌∷◌, [], ℕ, Bool, List, true, false, length, map, flat_map};
 ghost use Rattle.std.specs.List.{AllByRecursion};
 ghost use Rattle.fio_wire.specs.Detection.{flips};
-ghost use Rattle.fio_wire.specs.Frames.{Frame, Damage, address_in, control_in, frame_of, is_checked, is_frame, message_in, with_check};
+ghost use Rattle.fio_wire.specs.Frames.{Frame, Damage, address_in, control_in, frame_of, is_checked, is_frame, message_of_frame, with_check};
 ghost use Rattle.fio_wire.specs.Octets.{HasNoFlag, Reading, said_in, said_of, start, stuffed, with_flags};
 ghost use Rattle.fio_wire.specs.Bits as bits;
-ghost use Rattle.fio_wire.specs.Laws.{Arrival, ArrivesNoFlag, AreOctets, BitFate, CanSend, Fate, Flips, IsBitFate, IsDetectable, IsFate, Octet, OneFlip, arrivals_with_flags, arrives, arrives_by_bits, bits_between, part_of, said_in_arrivals, said_of_arrivals};
+ghost use Rattle.fio_wire.specs.Laws.{Arrival, ArrivesNoFlag, AreOctets, BitFate, CanSend, Fate, Flips, IsBitFate, IsDetectable, IsFate, Octet, OneFlip, arrivals_with_flags, arrives, arrives_by_bits, bits_between, part_between, said_in_arrivals, said_of_arrivals};
 ghost use Rattle.fio_wire.specs.declared.limits.TheConstants.{FLAG};
 
 /// A decoder says of a line of octets exactly what its parts say; what comes before the first flag and after the last says
@@ -45,7 +45,7 @@ pub fn sent_frames_are_read()
 pub fn frames_have_their_messages()
     ensures { (address control : ℕ) (message : List ℕ)
         → (address_in (frame_of address control message) ≡ address)
-        × ((control_in (frame_of address control message) ≡ control) × (message_in (frame_of address control message) ≡ message)) }
+        × ((control_in (frame_of address control message) ≡ control) × (message_of_frame (frame_of address control message) ≡ message)) }
 {}
 
 /// Octets with the right check end with the check of those before.
@@ -72,7 +72,7 @@ pub fn few_flips_are_detectable()
 #[tactic(auto, using(crate::proofs::Sent::arrive))]
 pub fn frames_arrive_whole_or_not_at_all()
     ensures { (fates : List Fate) → AllByRecursion IsFate fates
-        → said_of start (FLAG ∷ with_flags (map part_of fates)) ≡ map arrives fates }
+        → said_of start (FLAG ∷ with_flags (map part_between fates)) ≡ map arrives fates }
 {}
 
 /// A decoder says of a line of bits, after any noise that ends with a flag, exactly what its parts say.

@@ -17,7 +17,7 @@ use Rattle.fio_cpu.specs.Record.{items_of_block}
 use Rattle.fio_cpu.specs.Hearing.{heard_as, after_hearing, AddsItems}
 use Rattle.fio_world.specs.declared.outcome.Outcome.{Outcome}
 use Rattle.fio_world.specs.declared.world.effect.Effect.{Effect}
-use Rattle.fio_world.specs.Effects.{octets_numbered, outcome_in, result_in}
+use Rattle.fio_world.specs.Effects.{octets_numbered, outcome_of_effect, result_in}
 use Rattle.fio_link.proofs.Places.{get_push}
 use Rattle.fio_module.specs.Module as modules
 use Rattle.fio_link.specs.declared.event.Event.TheVariants as events
@@ -119,7 +119,7 @@ module _ (settings : Settings) (first : ℕ) (machine : Machine) (world : Ends) 
   -- the CPU sent the octets of a command that is no poll, or there was no memory for them
   pub sent_octets : (command : Command) (octets : List ℕ) (result : Result Effect WorldError) (new : Ends)
       → sending_refusal command ≡ None → octets ≡ command_octets command
-      → IfOk result (λ effect. outcome_in new effect ≡ outcomes.Sent (length world.to_module + 1) (record { items = octets }))
+      → IfOk result (λ effect. outcome_of_effect new effect ≡ outcomes.Sent (length world.to_module + 1) (record { items = octets }))
       → OnOk result (new ≡ record world { to_module = world.to_module ++ octets ∷ [] })
       → IfErr result (λ fault. fault ≡ errors.Memory)
       → Happens settings first machine (events.Send command) (result_in new result) new

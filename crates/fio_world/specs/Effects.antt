@@ -17,17 +17,17 @@ abbrev pub octets_numbered : List (List ℕ) → ℕ → List ℕ
 octets_numbered frames index = unwrap_or (item_numbered frames index) []
 
 -- the outcome that an effect is, in a world that holds the frame
-abbrev pub outcome_in : Ends → Effect → Outcome
-outcome_in world (ToModule index) =
+abbrev pub outcome_of_effect : Ends → Effect → Outcome
+outcome_of_effect world (ToModule index) =
     outcomes.Sent index (record { items = octets_numbered world.to_module index })
-outcome_in world (ToCpu index) =
+outcome_of_effect world (ToCpu index) =
     outcomes.Sent index (record { items = octets_numbered world.to_cpu index })
-outcome_in world (Heard heard) = outcomes.Heard heard
-outcome_in world Quiet = outcomes.Quiet
+outcome_of_effect world (Heard heard) = outcomes.Heard heard
+outcome_of_effect world Quiet = outcomes.Quiet
 
 -- the outcome or the fault that a result is, in such a world
 abbrev pub result_in : Ends → Result Effect WorldError → Result Outcome WorldError
-result_in world (Ok effect) = Ok (outcome_in world effect)
+result_in world (Ok effect) = Ok (outcome_of_effect world effect)
 result_in world (Err fault) = Err fault
 
 -- An event happens to a world as it happens to each machine that the world shows.

@@ -10,8 +10,8 @@ use Rattle.fio_world.specs.declared.script.steps.ScriptStep.{ScriptStep}
 use Rattle.fio_world.specs.declared.script.steps.ScriptStep.TheVariants as steps
 
 -- the command that a word denotes
-abbrev pub command_of : CommandWord → Command
-command_of word = command_found (command_named word.word.now) word.is_command
+abbrev pub command_in_word : CommandWord → Command
+command_in_word word = command_found (command_named word.word.now) word.is_command
 
 -- the event that a step represents
 abbrev pub event_of : ScriptStep → Event
@@ -19,7 +19,7 @@ event_of (steps.Scan raw) = events.Scan raw
 event_of steps.LineSync = events.LineSync
 event_of (steps.Raise mask) = events.Raise mask
 event_of steps.Poll = events.Poll
-event_of (steps.Send word) = events.Send (command_of word)
+event_of (steps.Send word) = events.Send (command_in_word word)
 event_of (steps.ToModule index) = events.ToModule index
 event_of (steps.ToCpu index) = events.ToCpu index
 event_of steps.Restart = events.Restart

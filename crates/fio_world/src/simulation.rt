@@ -1,7 +1,7 @@
 //! Runs of scripts, and the reports on them.
 ghost use Rattle.std.specs.Prelude.{◌≡◌, ◌≢◌, ◌⊎◌, ◌++◌, ℕ, Err, map, IfOk, IfErr, OnOk, IsOkAnd};
 ghost use Rattle.fio_module.specs.Settings.{Settings};
-ghost use Rattle.fio_world.specs.Effects.{outcome_in};
+ghost use Rattle.fio_world.specs.Effects.{outcome_of_effect};
 ghost use Rattle.fio_text.specs.Lines.{lines_of};
 ghost use Rattle.fio_link.specs.Link.{Machine};
 ghost use Rattle.fio_world.specs.ReportLines.{outcome_line};
@@ -142,7 +142,7 @@ fn push_effect(
     effect: Effect,
 ) -> Result<(), AllocError>
     ensures { OnOk result (text.new.items
-        ≡ text.old.items ++ outcome_line number (outcome_in world.now effect)) }
+        ≡ text.old.items ++ outcome_line number (outcome_of_effect world.now effect)) }
 {
     match effect {
         Effect::Quiet => push_quiet(text, number),

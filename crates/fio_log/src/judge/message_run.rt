@@ -1,6 +1,6 @@
 //! Runs of octets that say a message, as the judge keeps them.
 ghost use Rattle.std.specs.Prelude.{◌≡◌, ◌≤◌, ◌↔◌, ℕ, [], IfSome, IsTrue, length, option_map, slice_range, true};
-ghost use Rattle.fio_log.specs.Frames.{IsMessageOf, IsRunOf, Log, message_of, octets_in};
+ghost use Rattle.fio_log.specs.Frames.{IsMessageOf, IsRunOf, Log, message_of, octets_of_message};
 ghost use Rattle.fio_log.specs.Keeping.{IsSame, says_sure};
 ghost use Rattle.fio_log.specs.LineRuns.{IsLineRun};
 ghost use Rattle.fio_log.specs.Sayings.{SaysPart, message_said, spells};
@@ -122,7 +122,7 @@ fn part_of(octets: &[u8], from: usize, to: usize) -> Message
     requires spelled { spells (slice_range octets.now from to) ≡ true }
     requires order { from ≤ to }
     requires within { to ≤ length octets.now }
-    ensures { octets_in result ≡ slice_range octets.now from to }
+    ensures { octets_of_message result ≡ slice_range octets.now from to }
 {
     Message::of(&octets[from..to])
 }

@@ -1,6 +1,6 @@
 //! The verdict of a line, with its frames and their places.
 ghost use Rattle.std.specs.Prelude.{◌≡◌, ◌≤◌, ℕ, List, [], ◌∷◌, ◌++◌, ◌↔◌, false, length, map, true};
-ghost use Rattle.fio_log.specs.Frames.{AreFramesOf, IsEntryOf, IsJudgeOf, Log, frames_told, octets_in, places_told, run_places};
+ghost use Rattle.fio_log.specs.Frames.{AreFramesOf, IsEntryOf, IsJudgeOf, Log, frames_told, octets_of_message, places_told, run_places};
 ghost use Rattle.std.specs.List.{concat};
 ghost use Rattle.fio_log.specs.Verdicts.{AreAgreed, AreOfLine, HasFrames, HasReason};
 ghost use Rattle.fio_log.specs.Wordings.{SaysWords};
@@ -154,8 +154,8 @@ impl Frames {
     /// Appends a message, and returns whether there was room.
     fn add_message(&mut self, message: &Message) -> bool
         ensures places { self.new.places ≡ self.old.places }
-        ensures more { result ≡ true → map octets_in self.new.messages.items
-            ≡ map octets_in self.old.messages.items ++ octets_in message.now ∷ [] }
+        ensures more { result ≡ true → map octets_of_message self.new.messages.items
+            ≡ map octets_of_message self.old.messages.items ++ octets_of_message message.now ∷ [] }
     {
         self.messages.try_push(message.copy()).is_ok()
     }

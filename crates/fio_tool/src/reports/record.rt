@@ -1,7 +1,7 @@
 //! The text with the record of a transcript's CPU, judged by the rules on content.
 ghost use Rattle.std.specs.Prelude.{◌≡◌, ◌++◌, List, IfOk, OnOk, Some, is_some, not, take};
 ghost use Rattle.fio_cpu.specs.declared.record.Item.{Item as ItemOf};
-ghost use Rattle.fio_tool.specs.Record.{fault_front, fault_line, is_record_good, items_of_cpu, judged_record, record_lines, record_text};
+ghost use Rattle.fio_tool.specs.Record.{fault_front, content_fault_line, is_record_good, items_of_cpu, judged_record, record_lines, record_text};
 ghost use Rattle.fio_tool.specs.Recordings.{fault_of_recording, fault_of_item};
 
 use super::check::{report_of_bad_line, report_of_verdict};
@@ -89,7 +89,7 @@ fn first_items(items: &[Item], count: usize) -> &[Item]
 /// Appends the line of a fault.
 fn push_broken_line(text: &mut Vec<u8>, broken: BrokenItem) -> Result<(), AllocError>
     ensures { (items : List ItemOf) → OnOk result (text.new.items
-        ≡ text.old.items ++ fault_line (fault_of_item items broken)) }
+        ≡ text.old.items ++ content_fault_line (fault_of_item items broken)) }
 {
     push_broken_front(text, broken.line, broken.input)?;
     text.extend_from_slice(broken.rule.name().as_bytes())?;

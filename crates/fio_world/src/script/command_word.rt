@@ -18,7 +18,7 @@ pub(crate) struct CommandWord<'a> {
 }
 
 impl<'a> CommandWord<'a> {
-    ghost use Rattle.fio_world.specs.Steps.{command_of};
+    ghost use Rattle.fio_world.specs.Steps.{command_in_word};
 
     /// Reads the word after `send` in the line with this number. Its octets are read in place.
     ///
@@ -28,7 +28,7 @@ impl<'a> CommandWord<'a> {
     #[inline(never)]
     pub(crate) fn read(number: usize, word: &'a [u8]) -> Result<CommandWord<'a>, ScriptError>
         ensures { MatchResult result
-            (λ read. frame_at number (octets_in word.now) ≡ Ok (events.Send (command_of read)))
+            (λ read. frame_at number (octets_in word.now) ≡ Ok (events.Send (command_in_word read)))
             (λ fault. frame_at number (octets_in word.now) ≡ Err fault) }
     {
         let mut room = [0; FRAME_OCTETS];
@@ -53,14 +53,14 @@ impl<'a> CommandWord<'a> {
     /// Writes the octets that the word denotes to the front of the room, and returns how many there are.
     pub(crate) fn octets_to(&self, room: &mut [u8; FRAME_OCTETS]) -> usize
         ensures within { result ≤ FRAME_OCTETS }
-        ensures spelled { command_in (take result room.new) ≡ Some (command_of self.now) }
+        ensures spelled { command_in (take result room.new) ≡ Some (command_in_word self.now) }
     {
         read_octets_to(self.word, room).unwrap()
     }
 
     /// Returns the command as a value of about a kilobyte.
     pub(crate) fn command(&self) -> Command
-        ensures { result ≡ command_of self.now }
+        ensures { result ≡ command_in_word self.now }
     {
         let mut room = [0; FRAME_OCTETS];
         let count = self.octets_to(&mut room);

@@ -6,8 +6,8 @@ ghost use Rattle.fio_message.specs.declared.limits.TheConstants.{FRAME_OCTETS};
 ghost use Rattle.fio_link.specs.declared.event.Event.{Event};
 ghost use Rattle.fio_link.specs.declared.event.Event.TheVariants as events;
 ghost use Rattle.fio_link.specs.Link.{delivery_refusal, item_numbered};
-ghost use Rattle.fio_world.specs.Effects.{HappensTo, octets_numbered, outcome_in};
-ghost use Rattle.fio_world.specs.Steps.{command_of, event_of};
+ghost use Rattle.fio_world.specs.Effects.{HappensTo, octets_numbered, outcome_of_effect};
+ghost use Rattle.fio_world.specs.Steps.{command_in_word, event_of};
 ghost use Rattle.fio_world.specs.Worlds.{IsFault};
 
 use super::World;
@@ -117,7 +117,7 @@ impl World {
     /// Sends the command that the word denotes, unless it is a poll.
     #[inline(never)]
     fn send_word(&mut self, word: &CommandWord<'_>) -> Result<Effect, WorldError>
-        ensures row { HappensTo (events.Send (command_of word.now)) self.old result self.new }
+        ensures row { HappensTo (events.Send (command_in_word word.now)) self.old result self.new }
         ensures err { OnErr result (self.new ≡ self.old) }
     {
         let mut room = [0; FRAME_OCTETS];
@@ -151,7 +151,7 @@ impl World {
     // Inlined, so that a caller who reads no frame copies none.
     #[inline(always)]
     pub(crate) fn outcome(&self, effect: Effect) -> Outcome
-        ensures { result ≡ outcome_in self.now effect }
+        ensures { result ≡ outcome_of_effect self.now effect }
     {
         match effect {
             Effect::ToModule(index) => Outcome::Sent {
@@ -186,7 +186,7 @@ impl World {
     /// Sends a frame of the CPU: it joins the frames to the module.
     pub(crate) fn send(&mut self, frame: &[u8]) -> Result<Effect, WorldError>
         requires { length frame.now ≤ FRAME_OCTETS }
-        ensures outcome { IfOk result (λ effect. outcome_in self.new effect
+        ensures outcome { IfOk result (λ effect. outcome_of_effect self.new effect
             ≡ Outcome.Sent (length self.old.to_module + 1) (record { items = frame.now })) }
         ensures ok { OnOk result (self.new
             ≡ record self.old { to_module = self.old.to_module ++ frame.now ∷ [] }) }

@@ -1,5 +1,5 @@
 use Rattle.std.proofs.Common.{ℕ, ◌==◌, ◌∙◌, ◌++◌, List, drop, not, ap, ap₂, sym, arith}
-use Rattle.fio_c.specs.BatchItems.{frame_count, items_of}
+use Rattle.fio_c.specs.BatchItems.{frame_count, items_of_content}
 use Rattle.fio_c.specs.LogJudges.{log_judge_in, outcomes_of_items}
 use Rattle.fio_c.specs.Logs.{content_of}
 use Rattle.fio_c.specs.declared.judge.JudgeOutcome.{JudgeOutcome}
@@ -11,7 +11,7 @@ pub returns-clause-count : goal.returns-clause-count
 returns-clause-count c = λ content holds.
     c.judge_items-count.ensures.count
     ∙ ap frame_count (c.items_of.ensures.items content holds)
-    ∙ sym (length_outcomes (not (c.args.as_said == 0)) (log_judge_in c.args.judge.now) (items_of content))
+    ∙ sym (length_outcomes (not (c.args.as_said == 0)) (log_judge_in c.args.judge.now) (items_of_content content))
 
 pub returns-clause-outcomes : goal.returns-clause-outcomes
 returns-clause-outcomes c = λ content holds.
@@ -23,7 +23,7 @@ returns-clause-outcomes c = λ content holds.
 pub returns-clause-each : goal.returns-clause-each
 returns-clause-each c = λ content holds.
     returns-clause-count c content holds
-    ∙ length_outcomes (not (c.args.as_said == 0)) (log_judge_in c.args.judge.now) (items_of content)
+    ∙ length_outcomes (not (c.args.as_said == 0)) (log_judge_in c.args.judge.now) (items_of_content content)
     ∙ count-items content.verdicts content.frames
 
 pub returns-clause-all : goal.returns-clause-all

@@ -2,7 +2,7 @@ use Rattle.std.proofs.Common.{◌≡◌, ◌≤◌, ◌<◌, ◌++◌, Bool, tru
 use Rattle.std.specs.Prelude.{◌==◌, ◌+◌, ◌-◌, ◌||◌, ◌&&◌, not, nat_lt, slice_index, slice_range}
 use Rattle.std.proofs.lemmas.Bool.{false≢true}
 use Rattle.std.proofs.lemmas.Bool.Decides.{leb_tells, nat_tests}
-use Rattle.fio_log.specs.Literals.{is_open, is_quote, octet_in}
+use Rattle.fio_log.specs.Literals.{is_within_literal, is_quote, octet_of_character}
 use Rattle.fio_log.specs.declared.octets.TheConstants.{RUN_OCTETS}
 use Rattle.fio_log.proofs.LiteralLemmas.{character-apart, length_at}
 use Rattle.fio_log.proofs.LiteralListLemmas.{character-more, characters-order, closed-at, kept-within, long-slash, marked-on, more-at, next-character, open-is, read-here, slash-long}
@@ -47,7 +47,7 @@ long-test from count long =
     rw same (grind (arith, nat_tests, long))
 
 -- where a literal ends its quote is
-shut-is : (line : List ℕ) (place quote : ℕ) → nat_lt place (length line) ≡ true → is_open line place quote ≡ false
+shut-is : (line : List ℕ) (place quote : ℕ) → nat_lt place (length line) ≡ true → is_within_literal line place quote ≡ false
     → slice_index line place ≡ quote
 shut-is line place quote inside shut = grind (arith, nat_tests, inside, shut)
 
@@ -88,7 +88,7 @@ characters-preserved c =
     let count = c.character_length.result in
     let quote = c.in_ok-quote.field-0.now in
     let part = c.in_ok-get.ensures.lookup.0 in
-    let unquoted : is_open line c.characters.end c.in_ok-quote.field-0.now ≡ true =
+    let unquoted : is_within_literal line c.characters.end c.in_ok-quote.field-0.now ≡ true =
     sym c.is_open.ensures ∙ c.characters-test.true in
     let ends : c.characters.end + c.character_length.result ≡ c.characters.end + length_at line c.characters.end =
     ap (λ n. c.characters.end + n) c.character_length.ensures.value in
@@ -105,8 +105,8 @@ characters-preserved c =
       before = λ is_plain outside.
           let both = outside-more is_plain c.characters.is_plain c.characters.is_escaped
           c.in_ok-character.character.is_itself c.in_ok-character.character.is_escaped outside in
-          let value : octet_in is_plain (slice_range line from (from + count)) ≡ Some c.in_ok-character.character.octet =
-          ap (octet_in is_plain) (sym part.2) ∙ c.in_ok-character.ensures is_plain
+          let value : octet_of_character is_plain (slice_range line from (from + count)) ≡ Some c.in_ok-character.character.octet =
+          ap (octet_of_character is_plain) (sym part.2) ∙ c.in_ok-character.ensures is_plain
           ∙ kept-within is_plain c.in_ok-character.character both.1 in
           rw c.push.ensures.items (character-more is_plain quote line (c.args.place + 1) c.characters.octets.items from
           c.in_ok-character.character.octet (from + count) (c.characters.invariant.before is_plain both.0) value
@@ -142,7 +142,7 @@ characters-preserved c =
       behind = λ is_plain all last characters within closed. rw c.push.ensures.items (read-here is_plain quote line
           c.characters.octets.items from (from + count) c.characters.is_plain c.characters.is_escaped all last
           c.in_ok-character.character (c.characters.invariant.behind is_plain all last characters within closed) within closed
-          unquoted ends (ap (octet_in is_plain) (sym part.2) ∙ c.in_ok-character.ensures is_plain));
+          unquoted ends (ap (octet_of_character is_plain) (sym part.2) ∙ c.in_ok-character.ensures is_plain));
     }
 
 pub returns-in_err-quote-clause-only : goal.returns-in_err-quote-clause-only
@@ -167,7 +167,7 @@ returns-in_err-get-clause-only c = λ characters end is.
     let within : is.last < length line = omega (arith, is.within, is.behind) in
     let closed : slice_index line is.last ≡ c.in_ok-quote.field-0.now = is.closed ∙ sym quote in
     let read = c.characters.invariant.behind is.is_plain characters is.last (rw (← quote) at is.characters) within closed in
-    let unquoted : is_open line c.characters.end c.in_ok-quote.field-0.now ≡ true =
+    let unquoted : is_within_literal line c.characters.end c.in_ok-quote.field-0.now ≡ true =
     sym c.is_open.ensures ∙ c.characters-test.true in
     let ends : c.characters.end + c.character_length.result ≡ c.characters.end + length_at line c.characters.end =
     ap (λ n. c.characters.end + n) c.character_length.ensures.value in
@@ -185,13 +185,13 @@ returns-in_err-character-clause-only c = λ characters end is.
     let within : is.last < length line = omega (arith, is.within, is.behind) in
     let closed : slice_index line is.last ≡ c.in_ok-quote.field-0.now = is.closed ∙ sym quote in
     let read = c.characters.invariant.behind is.is_plain characters is.last (rw (← quote) at is.characters) within closed in
-    let unquoted : is_open line c.characters.end c.in_ok-quote.field-0.now ≡ true =
+    let unquoted : is_within_literal line c.characters.end c.in_ok-quote.field-0.now ≡ true =
     sym c.is_open.ensures ∙ c.characters-test.true in
     let ends : c.characters.end + c.character_length.result ≡ c.characters.end + length_at line c.characters.end =
     ap (λ n. c.characters.end + n) c.character_length.ensures.value in
     let next = next-character is.is_plain c.in_ok-quote.field-0.now line c.characters.end
     (c.characters.end + c.character_length.result) read.more is.last read.rest within closed unquoted ends in
-    let none = ap (octet_in is.is_plain) (sym c.in_ok-get.ensures.lookup.0.2) ∙ c.in_err-character.ensures is.is_plain in
+    let none = ap (octet_of_character is.is_plain) (sym c.in_ok-get.ensures.lookup.0.2) ∙ c.in_err-character.ensures is.is_plain in
     absurd (cc (next.value, none))
 
 pub returns-then-is_full-clause-only : goal.returns-then-is_full-clause-only
@@ -201,7 +201,7 @@ returns-then-is_full-clause-only c = λ characters end is.
     let within : is.last < length line = omega (arith, is.within, is.behind) in
     let closed : slice_index line is.last ≡ c.in_ok-quote.field-0.now = is.closed ∙ sym quote in
     let read = c.characters.invariant.behind is.is_plain characters is.last (rw (← quote) at is.characters) within closed in
-    let unquoted : is_open line c.characters.end c.in_ok-quote.field-0.now ≡ true =
+    let unquoted : is_within_literal line c.characters.end c.in_ok-quote.field-0.now ≡ true =
     sym c.is_open.ensures ∙ c.characters-test.true in
     let some = more-at is.is_plain c.in_ok-quote.field-0.now line c.characters.end read.more is.last read.rest closed unquoted in
     let long : length characters ≡ length c.characters.octets.items + length read.more =
@@ -221,7 +221,7 @@ returns-then-is_literal-clause-literal c =
     let within = and-first inside c.characters.has_escape front in
     let one = outside-one c.characters.is_plain c.characters.is_escaped
     (and-second (inside && c.characters.has_escape) (not both) test) in
-    let shut : is_open line c.characters.end c.in_ok-quote.field-0.now ≡ false =
+    let shut : is_within_literal line c.characters.end c.in_ok-quote.field-0.now ≡ false =
     sym c.is_open.ensures ∙ c.characters-test.false in
     record {
       is_plain = one.0;
@@ -242,7 +242,7 @@ returns-then-is_literal-clause-only c = λ characters end is.
     let within : is.last < length line = omega (arith, is.within, is.behind) in
     let closed : slice_index line is.last ≡ c.in_ok-quote.field-0.now = is.closed ∙ sym quote in
     let read = c.characters.invariant.behind is.is_plain characters is.last (rw (← quote) at is.characters) within closed in
-    let shut : is_open line c.characters.end c.in_ok-quote.field-0.now ≡ false =
+    let shut : is_within_literal line c.characters.end c.in_ok-quote.field-0.now ≡ false =
     sym c.is_open.ensures ∙ c.characters-test.false in
     let ended = closed-at is.is_plain c.in_ok-quote.field-0.now line c.characters.end read.more is.last read.rest shut in (
       ap (λ n. n + 1) ended.1 ∙ sym is.behind,
@@ -256,7 +256,7 @@ returns-else-is_literal-clause-only c = λ characters end is.
     let within : is.last < length line = omega (arith, is.within, is.behind) in
     let closed : slice_index line is.last ≡ c.in_ok-quote.field-0.now = is.closed ∙ sym quote in
     let read = c.characters.invariant.behind is.is_plain characters is.last (rw (← quote) at is.characters) within closed in
-    let shut : is_open line c.characters.end c.in_ok-quote.field-0.now ≡ false =
+    let shut : is_within_literal line c.characters.end c.in_ok-quote.field-0.now ≡ false =
     sym c.is_open.ensures ∙ c.characters-test.false in
     let ended = closed-at is.is_plain c.in_ok-quote.field-0.now line c.characters.end read.more is.last read.rest shut in
     let escape : c.characters.has_escape ≡ true = elim is.marked [

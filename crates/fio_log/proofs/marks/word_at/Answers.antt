@@ -1,6 +1,6 @@
 use Rattle.std.proofs.Common.{◌≡◌, Some, refl, ap, sym, ◌∙◌, arith}
 use Rattle.std.proofs.lemmas.Bool.{false≢true}
-use Rattle.fio_log.specs.Words.{IsWord, goes_on}
+use Rattle.fio_log.specs.Words.{IsWord, continues_word}
 use Rattle.fio_log.proofs.Standing.{stands-once}
 use Rattle.fio_log.proofs.WordLemmas.{digits-once, words-once}
 use Rattle.fio_log.proofs.marks.word_at.Goals as goal
@@ -34,4 +34,4 @@ returns-then-goes_on-clause-only c = λ word there.
     (omega (arith, start, there.some)) digits.digits digits.all (rw (sym start) at there.digits) there.all in
     let end : c.in_ok-end.end ≡ word.end = stands-once line c.args.mark.after.now c.digits_end-stop.result _ _
     c.in_ok-end.ensures.text (rw (sym stop) at there.closed) in
-    absurd (false≢true (sym there.apart ∙ ap (goes_on line) (sym end) ∙ sym c.if-goes_on.ensures))
+    absurd (false≢true (sym there.apart ∙ ap (continues_word line) (sym end) ∙ sym c.if-goes_on.ensures))

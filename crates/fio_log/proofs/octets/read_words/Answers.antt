@@ -1,7 +1,7 @@
 use Rattle.std.proofs.Common.{get_or, take}
 use Rattle.std.proofs.lemmas.List.{take_all}
 use Rattle.std.proofs.lemmas.List.Sums.{fold_more}
-use Rattle.fio_log.specs.Readings.{no_reading, reading_of, with_reading}
+use Rattle.fio_log.specs.Readings.{no_reading, digits_read, with_reading}
 use Rattle.fio_log.proofs.ReadingLemmas.{next-octets, all-octets}
 use Rattle.fio_log.proofs.octets.read_words.Goals as goal
 
@@ -10,7 +10,7 @@ characters-preserved g c =
     let index = c.characters.character-index in
     let more = fold_more with_reading no_reading c.args.text.now index 0 c.characters-test.true in
     record {
-      octets = rw more (next-octets g.row.MOST c.characters.octets.items (reading_of (take index c.args.text.now))
+      octets = rw more (next-octets g.row.MOST c.characters.octets.items (digits_read (take index c.args.text.now))
           (get_or c.args.text.now index 0) c.characters.waiting c.digit-digit.result c.made_whole.result
           c.add_some.new.octets.items c.characters.invariant.octets c.characters.invariant.waiting
           c.digit-digit.ensures.value c.made_whole.ensures c.add_some.ensures);

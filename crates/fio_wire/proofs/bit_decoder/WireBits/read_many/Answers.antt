@@ -1,5 +1,5 @@
 use Rattle.std.proofs.Common.{◌≡◌, ◌<◌, ◌+◌, ◌∙◌, length, take, arith, sym, ap, Bool, true, false, List}
-use Rattle.fio_wire.specs.Frames.{heard_as, is_nothing}
+use Rattle.fio_wire.specs.Frames.{wire_heard, is_nothing}
 use Rattle.fio_wire.specs.Bits.{Reading, lowest_bits, next, reading_of, said_of, says, settings_of}
 use Rattle.fio_wire.proofs.Batch.{heard_more, one_less, read_more, silent}
 use Rattle.fio_wire.proofs.LowestBits.{bit_at, length_bits}
@@ -11,7 +11,7 @@ returns-then-not-is_nothing-clause-heard c =
     let more : c.bits.count < length line = omega (arith, c.bits-test.true, length_bits c.args.line.now) in
     λ is. heard_more says next false (settings_of c.args.self.now) (settings_of c.bits.self) (reading_of c.args.self.now) (reading_of c.bits.self) line c.bits.count c.read-heard.result more
     (c.bits.invariant.said is) (c.bits.invariant.next is) c.bits.invariant.settings
-    (c.read-heard.ensures.heard (c.bits.invariant.is is) ∙ ap (λ b. heard_as (settings_of c.bits.self) (says (reading_of c.bits.self) b)) (sym (bit_at c.args.line.now c.bits.count)))
+    (c.read-heard.ensures.heard (c.bits.invariant.is is) ∙ ap (λ b. wire_heard (settings_of c.bits.self) (says (reading_of c.bits.self) b)) (sym (bit_at c.args.line.now c.bits.count)))
 
 pub returns-then-not-is_nothing-clause-next : goal.returns-then-not-is_nothing-clause-next
 returns-then-not-is_nothing-clause-next c =
@@ -35,7 +35,7 @@ bits-preserved c =
       said = λ is. silent (settings_of c.args.self.now) (said_of begun (take (c.bits.count + 1) line))
           (ap is_nothing (sym (heard_more says next false (settings_of c.args.self.now) (settings_of c.bits.self) begun (reading_of c.bits.self) line c.bits.count c.read-heard.result more
           (c.bits.invariant.said is) (c.bits.invariant.next is) c.bits.invariant.settings
-          (c.read-heard.ensures.heard (c.bits.invariant.is is) ∙ ap (λ b. heard_as (settings_of c.bits.self) (says (reading_of c.bits.self) b)) (sym (bit_at c.args.line.now c.bits.count))))) ∙ nothing);
+          (c.read-heard.ensures.heard (c.bits.invariant.is is) ∙ ap (λ b. wire_heard (settings_of c.bits.self) (says (reading_of c.bits.self) b)) (sym (bit_at c.args.line.now c.bits.count))))) ∙ nothing);
     }
 
 pub returns-clause-last : goal.returns-clause-last

@@ -1,6 +1,6 @@
 use Rattle.fio_world.proofs.Names.{◌≡◌, ◌∷◌, ◌++◌, [], ◌∙◌, ap, sym, refl, subst, None, length, append-nil, err_from_is_err_and, Ends, IsDone, replied_after}
 use Rattle.fio_module.specs.Replies.{reply_to}
-use Rattle.fio_world.specs.Effects.{outcome_in}
+use Rattle.fio_world.specs.Effects.{outcome_of_effect}
 use Rattle.fio_world.specs.declared.world.effect.Effect.TheVariants.{ToCpu}
 use Rattle.fio_world.proofs.Shown.{reply_octets, silent, encoded, encoded_outcome, newest, done_received, fault_to_module}
 use Rattle.fio_link.specs.declared.event.Event.TheVariants as events
@@ -40,7 +40,7 @@ returns-in-Some-clause-row c settings first machine s =
     c.add.ensures ∙ ap (λ fs. fs ++ c.deref.result.now ∷ []) c.reserve.ensures.same ∙ ap (λ os. before ++ os ∷ []) c.deref.ensures.0 in
     let lists : c.add.new.self.frames ≡ before ++ reply_octets reply = added ∙ ap (λ os. before ++ os) (sym says) in
     let new : Ends = record { module_end = c.receive-answer.new.self; poller_end = c.self.inside.poller; to_module = c.self.inside.to_module.frames; to_cpu = c.add.new.self.frames; last_to_module = c.args.index; last_to_cpu = c.self.inside.last_to_cpu } in
-    let outcome : replied_after (length before) reply ≡ outcome_in new (ToCpu c.len.result) =
+    let outcome : replied_after (length before) reply ≡ outcome_of_effect new (ToCpu c.len.result) =
     encoded_outcome (length before) reply answer says
     ∙ sym (newest c.add.new.self.frames before answer.items c.len.result added c.len.ensures) in
     subst (λ o. IsDone settings first machine (events.ToModule c.args.index) o new) outcome

@@ -1,5 +1,5 @@
 use Rattle.std.proofs.Common.{◌≡◌, ◌<◌, [], ◌∷◌, get_or, length, map, sym}
-use Rattle.fio_log.specs.Frames.{message_of, octets_in, run_places}
+use Rattle.fio_log.specs.Frames.{message_of, octets_of_message, run_places}
 use Rattle.fio_log.proofs.FrameLemmas.{AreFramesAt-append}
 use Rattle.fio_log.proofs.judge.tell.Frames.add.Goals as goal
 
@@ -18,5 +18,5 @@ returns-else-not-add_message c = λ log frames entry.
       c.add_places.ensures.more c.if-not-add_places.false,
       c.add_places.ensures.messages,
     )
-    (AreFramesAt-append log (map octets_in c.args.self.now.messages.items) (message_of run ∷ [])
+    (AreFramesAt-append log (map octets_of_message c.args.self.now.messages.items) (message_of run ∷ [])
     c.args.self.now.places.items (run_places from rows run) frames (rw (sym is) at (entry.written c.args.index run inside)))
