@@ -11,7 +11,7 @@ use Rattle.fio_log.specs.declared.judge.Judge.{Judge}
 use Rattle.fio_log.specs.declared.places.Place.{Place}
 use Rattle.fio_log.specs.declared.line_run.LineRun.{LineRun}
 use Rattle.fio_log.specs.declared.judge.tell.Frames.{Frames}
-use Rattle.fio_log.specs.declared.reader.TheConstants.{WAITING_LINES}
+use Rattle.fio_log.specs.declared.reader.reading.TheConstants.{WAITING_LINES}
 use Rattle.fio_log.specs.declared.verdict.Form.{Form}
 use Rattle.fio_log.specs.declared.verdict.Form.TheVariants.{Auto}
 use Rattle.fio_log.specs.declared.verdict.LineVerdict.{LineVerdict}

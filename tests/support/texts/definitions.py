@@ -1,5 +1,5 @@
 """Definitions: the glossary that tools/generate-glossary writes has each definition of specs/ with what its comment says, each
-name in `code` of docs/DEFINITIONS.md is in the sources, and each type has a name of its own."""
+name in `code` of docs/DEFINITIONS.md is in the sources, and each type and each definition has a name of its own."""
 
 import os
 import re
@@ -7,8 +7,9 @@ import re
 from support.pages import files, text_of, tool
 from support.tables import TOP
 
-# What the decoder of octets and that of bits define alike.
-TWO_DECODERS = ['Reading']
+# What the decoder of octets and that of bits define alike, each for its own line, has the same names in both. One of these,
+# `start`, is the name of a link's start too.
+TWO_DECODERS = {'crates/fio_wire/specs/Octets.antt', 'crates/fio_wire/specs/Bits.antt'}
 
 
 def is_whole(check):
@@ -24,16 +25,17 @@ def is_whole(check):
 
 
 def have_own_names(check):
-    """Looks for types and records that have the name of another one."""
+    """Looks for types and definitions that have the name of another one."""
     types = r'^(?:pub(?:\(\w+\))? )?(?:struct|enum|trait|union) (\w+)'
-    records = r'^(?:abbrev )?pub (?:record |data )?([A-Z]\w*)'
-    for what, paths, pattern in (('types', 'crates/*/src/**/*.rt', types), ('records', 'crates/*/specs/**/*.antt', records)):
+    definitions = r'^(?:abbrev |unfoldable )*pub (?:record |data )?(\S+)'
+    for what, paths, pattern in (('types', 'crates/*/src/**/*.rt', types), ('definitions', 'crates/*/specs/*.antt', definitions)):
         owners = {}
         for path in files(paths):
-            if not path.startswith('crates/fio_tests/'):
+            if not path.startswith('crates/fio_tests/') and os.path.basename(path) != 'Lib.antt':
                 for name in re.findall(pattern, text_of(path), re.M):
                     owners.setdefault(name, set()).add(path)
-        shared = {name: sorted(paths) for name, paths in owners.items() if len(paths) > 1 and name not in TWO_DECODERS}
+        shared = {name: sorted(paths) for name, paths in owners.items()
+                  if len(paths) > 1 and not TWO_DECODERS <= paths}
         check.equal('%s with the name of another one' % what, {}, shared)
 
 
