@@ -13,8 +13,8 @@ ghost use Rattle.fio_log.specs.declared.verdict.Kind.TheVariants.{Blank};
 ghost use Rattle.fio_log.specs.declared.blanks.TheConstants.{BLANKS};
 
 use crate::blanks::Blanks;
-use crate::judge::tell::Frames;
 use crate::judge::Judge;
+use crate::judge::tell::Frames;
 use crate::line_run::LineRuns;
 use crate::lines::LineMaker;
 use crate::patterns::Patterns;
