@@ -285,20 +285,23 @@ fn month_end(line: &[u8], place: usize, parts: &mut TimeParts) -> Option<usize>
     Some(place + 3)
 }
 
-/// Sets the microseconds of the fraction of a second that begins at `place`, and returns where it ends.
+/// Sets the microseconds of the fraction of a second that begins at `place`, and returns where it ends. It has up to eighteen
+/// digits after a point or a comma, or three after a colon.
 fn fraction_end(line: &[u8], place: usize, parts: &mut TimeParts) -> usize
     requires { place ≤ length line.now }
     ensures order { place ≤ result }
     ensures within { result ≤ length line.now }
 {
-    if place == line.len() || !matches!(line[place], b'.' | b',') {
+    if place == line.len() || !matches!(line[place], b'.' | b',' | b':') {
         return place;
     }
     let (number, end) = number_at(line, place + 1, 9);
-    if end == place + 1 {
+    let digits = end - place - 1;
+    if digits == 0 || line[place] == b':' && digits != 3 {
         return place;
     }
-    parts.microseconds = microseconds_of(number, end - place - 1);
+    parts.microseconds = microseconds_of(number, digits);
+    let (_more, end) = number_at(line, end, 9);
     end
 }
 

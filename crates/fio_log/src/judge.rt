@@ -203,6 +203,7 @@ impl Judge {
         }
         let heading = self.heading;
         self.heading = if runs.has_octets() { None } else { runs.time };
+        self.decider.has_headings |= runs.has_octets() && runs.time.is_none() && heading.is_some();
         self.put(slot, line, runs.time.or(heading), runs);
         self.keep_runs(slot, line.number, runs);
         if line.is_long {

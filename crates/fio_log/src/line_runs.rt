@@ -12,12 +12,13 @@ use crate::found::{Found, bracketed_at, next_words};
 use crate::glance::Glance;
 use crate::line_run::{LINE_SINGLES, LineRun, LineRuns};
 use crate::marks::{MARKS, digits_end};
+use crate::messages::has_open_length;
 use crate::octets::Octets;
 use crate::patterns::Patterns;
 use crate::places::Notation;
 use crate::sayings::{Saying, read_saying};
 use crate::sides::said_at;
-use crate::sources::numbers_in;
+use crate::sources::{is_count, numbers_in};
 use crate::surroundings::{Before, Gap, has_tail, read_after};
 use std::mem;
 
@@ -110,35 +111,61 @@ fn find_marked(
 {
     let mut place = 0;
     'runs: while let Some(found) = next_words(line, place, finder.gap, mark, is_short, octets) {
-        let may_begin_with_number = may_begin_with_number(line, found, octets.as_slice());
-        keep(line, found, octets, finder, runs);
-        if may_begin_with_number {
+        let number = number_before(line, found, octets.as_slice());
+        if number != NumberBefore::Count {
+            keep(line, found, octets, finder, runs);
+        }
+        if number != NumberBefore::None {
             keep_behind_number(line, found, octets, finder, runs);
         }
         place = found.next;
     }
 }
 
-/// Returns whether a run may be a number and then octets: it comes after other words and ends its line, has several words
-/// without marks, the first of them decimal, and says no message.
-fn may_begin_with_number(line: &[u8], run: Found, octets: &[u8]) -> bool {
+/// What the first word of a run may be.
+#[derive(Clone, Copy, PartialEq, Eq)]
+enum NumberBefore {
+    /// An octet.
+    None,
+    /// A number, and not an octet of a message.
+    Number,
+    /// The count of the octets after it.
+    Count,
+}
+
+/// Returns what the first word of a run may be. A number comes after other words, in a run that ends its line and has several
+/// words without marks. If it is the count of the others, which say a message, it is no octet of a message of any length; any
+/// other number is decimal, and its run says no message.
+fn number_before(line: &[u8], run: Found, octets: &[u8]) -> NumberBefore {
     let (Some(before), Some(text), Some(after)) = (
         line.get(..run.start),
         line.get(run.start..run.end),
         line.get(run.end..),
     ) else {
-        return false;
+        return NumberBefore::None;
     };
     let end = digits_end(text, 0);
-    run.mark == 0
+    let may_be = run.mark == 0
         && !run.is_short
         && end < text.len()
         && before.iter().any(|character| is_letter(*character))
-        && !has_tail(after)
-        && text
-            .get(..end)
-            .is_some_and(|word| word.iter().all(|digit| is_decimal(*digit)))
-        && !says(octets)
+        && !has_tail(after);
+    let Some(word) = text.get(..end) else {
+        return NumberBefore::None;
+    };
+    let is_octet = matches!(octets, [code, ..] if says(octets) && !has_open_length(*code));
+    if !may_be || is_octet {
+        NumberBefore::None
+    } else if let [_, rest @ ..] = octets
+        && is_count(word, rest.len())
+        && says(rest)
+    {
+        NumberBefore::Count
+    } else if word.iter().all(|digit| is_decimal(*digit)) && !says(octets) {
+        NumberBefore::Number
+    } else {
+        NumberBefore::None
+    }
 }
 
 /// Keeps a run without its first word too, if the other words say a message of two octets or more.

@@ -44,7 +44,8 @@ pub(crate) fn numbers_in(text: &[u8], gap: Gap, octets: usize) -> Numbers {
     numbers
 }
 
-/// Returns the sum of a word that has a digit.
+/// Returns the sum of a word that has a digit. A number before one octet is not taken for its count, since many a line has a 1
+/// that is none.
 fn number_of(word: &[u8], octets: usize) -> Option<u64> {
     let (mut sum, mut has_digit) = (NO_SUM, false);
     for character in word {
@@ -53,11 +54,20 @@ fn number_of(word: &[u8], octets: usize) -> Option<u64> {
     }
     if !has_digit {
         None
-    } else if value_of(word, 10) == Some(octets as u64) {
+    } else if octets > 1 && is_count(word, octets) {
         Some(COUNT)
     } else {
         Some(sum)
     }
+}
+
+/// Returns whether a word is a count of octets, perhaps with `B` for bytes.
+pub(crate) fn is_count(word: &[u8], octets: usize) -> bool {
+    let digits = match word {
+        [digits @ .., b'B' | b'b'] => digits,
+        _ => word,
+    };
+    value_of(digits, 10) == Some(octets as u64)
 }
 
 /// A value of a number, in the lines of a front.

@@ -12,6 +12,7 @@ use crate::judge::join::{Join, Joining};
 use crate::judge::message_run::MessageRun;
 use crate::judge::remarks::remark_of;
 use crate::judge::slots::Slot;
+use crate::messages::has_open_length;
 use crate::sayings::{Saying, read_saying};
 use crate::verdict::{Kind, Reason};
 
@@ -49,9 +50,14 @@ impl Judge {
     fn decide_joined(&mut self, slot: Slot)
         ensures { (log : Log) → IsJudgeOf log self.old → IsJudgeOf log self.new }
     {
-        if self.join.is_bad {
+        if self.join.is_bad || self.join.may_be_several() {
+            let kind = if self.join.is_bad {
+                Kind::PassedOver
+            } else {
+                Kind::Damaged
+            };
             self.decider
-                .settle(slot, State::Passed(Kind::PassedOver, Reason::MayBeLonger));
+                .settle(slot, State::Passed(kind, Reason::MayBeLonger));
             return;
         }
         let around = self.join.surroundings();
@@ -86,6 +92,15 @@ impl Judge {
 }
 
 impl Join {
+    /// Returns whether rows of one octet may be several messages: they are one of any length, and the last of its octets are a
+    /// message too.
+    fn may_be_several(&self) -> bool {
+        let octets = self.lines.chain.octets();
+        self.joining == Joining::Octets
+            && matches!(octets, [code, ..] if has_open_length(*code))
+            && (1..octets.len()).any(|start| octets.get(start..).is_some_and(is_closed))
+    }
+
     /// Returns whether the lines have nothing but messages, judged by the first line.
     fn is_bare(&self, around: &Around) -> bool {
         match self.lines.chain.message(0) {
@@ -156,4 +171,10 @@ impl Decider {
         self.judge(entries, slot);
         self.give_up_all(entries);
     }
+}
+
+/// Returns whether octets say a message of known length.
+fn is_closed(octets: &[u8]) -> bool {
+    matches!(octets, [code, ..] if !has_open_length(*code))
+        && matches!(read_saying(octets), Saying::Says { .. })
 }

@@ -1,4 +1,5 @@
 //! Lines that may have held a frame and gave none.
+use crate::clock::time_in;
 use crate::judge::decide::Decider;
 use crate::judge::decision::State;
 use crate::judge::entries::{Entries, LogEntry};
@@ -25,13 +26,20 @@ impl Decider {
             (_, None) => false,
         };
         let is_damaged = self.says_in_style(entries.get(slot))
-            || !is_of_others && self.vocabulary.may_be_left(self.queue.text(slot));
+            || !is_of_others && self.may_be_left(self.queue.text(slot));
         let kind = if is_damaged {
             Kind::Damaged
         } else {
             Kind::PassedOver
         };
         self.settle(slot, State::Passed(kind, reason));
+    }
+
+    /// Returns whether a text may be what is left of the line of a frame. The time above octets is not, unless the lines of
+    /// frames begin as it does.
+    fn may_be_left(&self, text: &[u8]) -> bool {
+        let is_above = self.has_headings && !self.vocabulary.has_beginning(text);
+        self.vocabulary.may_be_left(text) && !(is_above && time_in(text).is_some())
     }
 
     /// Returns whether an entry says a message that is written as the frames of the log are, and is not strange.

@@ -61,6 +61,8 @@ pub(crate) struct Decider {
     pub has_others: bool,
     /// Whether a shape became known after the waiting entries were judged.
     pub is_news: bool,
+    /// Whether octets without a time stood below a time without octets.
+    pub has_headings: bool,
 }
 
 impl Decider {
@@ -78,6 +80,7 @@ impl Decider {
             count: 0,
             has_others: false,
             is_news: false,
+            has_headings: false,
         }
     }
 
@@ -94,6 +97,7 @@ impl Decider {
         self.count = 0;
         self.has_others = false;
         self.is_news = false;
+        self.has_headings = false;
     }
 
     /// Forgets the frames of the chain, whose octets are no longer kept: its verdict was fetched, or is lost.

@@ -94,6 +94,15 @@ impl Vocabulary {
         has_words
     }
 
+    /// Returns whether the text before the octets of a frame began with the first character of a text.
+    pub(crate) fn has_beginning(&self, text: &[u8]) -> bool {
+        let mut mask = Mask::new();
+        if let [first, ..] = text {
+            mask.add(*first);
+        }
+        self.has(mask.sum())
+    }
+
     /// Returns whether the sum of a beginning is kept.
     fn has(&self, sum: u64) -> bool {
         let start = (sum % BEGINNINGS as u64) as usize;
