@@ -1,14 +1,17 @@
 """Wrong bodies (functions with a planted bug) and wrong statements, as they are written: in `wrong-bodies/CRATE.edits`, in
 stanzas with a blank line between them, and in `crates/CRATE/must-fail/*.edit`, one in each file.
 
-    # plain name
     file: src/poller.rt
+
+    # plain name
     old: a text that occurs once in that file
     new: the text that replaces it
     refused-by: Poller::hear_block, taken
 
-Successive lines `old:` or `new:` are one text of several lines. Lines `control:` have the new text of what goes with a wrong
-statement or body and must be proved: the right statement, or the same edit of the body without the bug."""
+A line `file:` between blank lines holds for the stanzas below it, up to the next one. One in a stanza, as in each of
+`must-fail/`, holds for the texts below it there. Successive lines `old:` or `new:` are one text of several lines. Lines
+`control:` have the new text of what goes with a wrong statement or body and must be proved: the right statement, or the same
+edit of the body without the bug."""
 
 import glob
 import os
@@ -19,10 +22,10 @@ from support.functions import TOP
 class Stanza:
     """A wrong body or a wrong statement: its crate, its name, what it changes, and what refuses it."""
 
-    def __init__(self, crate, path, name, lines, is_control=False):
-        self.crate, self.path, self.name, self.lines, self.is_control = crate, path, name, lines, is_control
-        self.changes, self.refused_by = [], None
-        file, word = None, None
+    def __init__(self, crate, path, name, lines, file=None, is_control=False):
+        self.crate, self.path, self.name, self.lines, self.file = crate, path, name, lines, file
+        self.changes, self.refused_by, self.is_control = [], None, is_control
+        word = None
         for line in lines:
             before, (word, _, rest) = word, line.partition(':')
             rest = rest[1:]
@@ -52,7 +55,7 @@ class Stanza:
     def control(self):
         """The right statement or body that goes with a wrong one, as a stanza of its own, or None if there is none."""
         has_one = any(control is not None for _, _, _, control in self.changes)
-        return Stanza(self.crate, self.path, self.name, self.lines, True) if has_one else None
+        return Stanza(self.crate, self.path, self.name, self.lines, self.file, True) if has_one else None
 
     def apply(self, texts):
         """The texts of files with each change made, by their paths below the crate, or None if one does not fit."""
@@ -84,9 +87,13 @@ def stanzas_of(crate):
     path = os.path.join(TOP, 'wrong-bodies', crate + '.edits')
     if os.path.exists(path):
         with open(path, encoding='utf-8') as file:
+            changed = None
             for block in file.read().strip('\n').split('\n\n'):
                 head, *lines = block.split('\n')
-                yield Stanza(crate, path, head[len('# '):], lines)
+                if lines:
+                    yield Stanza(crate, path, head.removeprefix('# '), [head, *lines], changed)
+                else:
+                    changed = head.removeprefix('file: ')
 
 
 def crates_with_stanzas():
