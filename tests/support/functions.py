@@ -1,4 +1,4 @@
-"""The functions of a crate, and those that a wrong body changes."""
+"""The functions and laws of a crate, and those that a wrong body changes."""
 
 import difflib
 import glob
@@ -9,15 +9,26 @@ import re
 TOP = os.path.dirname(os.path.dirname(os.path.dirname(os.path.realpath(__file__))))
 
 
-class Function:
-    """A function of a crate: its file, the type whose method it is, the trait if any, its name, and its position. Its home
-    is the file whose modules its whole name has: that of the type, for a method of no trait."""
+def read(path):
+    with open(path, encoding='utf-8') as file:
+        return file.read()
 
-    def __init__(self, path, owner, trait, name, words, start, body, end):
-        self.path, self.owner, self.trait, self.name = path, owner, trait, name
+
+def crate_names():
+    """Returns the crates of the repository, in the order of `crates.txt`."""
+    return [line.partition(':')[0].split()[0] for line in read(os.path.join(TOP, 'crates.txt')).splitlines()]
+
+
+class Function:
+    """A function or a law of a crate: its file, what comes before its name, its name, its head, which is what comes before
+    its body, its position, the type whose method it is, and the trait if any. Its home is the file whose modules its whole
+    name has: that of the type, for a method of no trait."""
+
+    def __init__(self, path, words, name, head, start, end, owner='', trait=''):
+        self.path, self.name, self.head, self.owner, self.trait = path, name, head, owner, trait
         self.is_public, self.is_const = words.startswith('pub '), 'const ' in words
-        self.start, self.body, self.end = start, body, end
-        self.home, self.short = path, ''
+        self.start, self.body, self.end = start, start + len(head), end
+        self.home, self.short = path, 'law ' + name
 
     def label(self):
         """Its name as the prover writes it, without the modules."""
@@ -25,14 +36,17 @@ class Function:
 
     def place(self):
         """Its whole name, as the prover writes it."""
-        return place_of(self.home, self.label())
+        crate, _, inner = os.path.relpath(self.home, os.path.join(TOP, 'crates')).partition(os.sep + 'src' + os.sep)
+        modules = [] if inner == 'lib.rt' else inner[:-len('.rt')].split(os.sep)
+        return '::'.join([crate, *modules, self.label()])
 
+    def is_export(self):
+        """Whether it is a call for C."""
+        return self.head.startswith('pub extern ')
 
-def place_of(path, name):
-    """Returns the whole name, as the prover writes it, of an item in a file of a crate."""
-    crate, _, inner = os.path.relpath(path, os.path.join(TOP, 'crates')).partition(os.sep + 'src' + os.sep)
-    modules = [] if inner == 'lib.rt' else inner[:-len('.rt')].split(os.sep)
-    return '::'.join([crate, *modules, name])
+    def clauses(self):
+        """The names of the clauses of its contract, in order: '' if one has none."""
+        return re.findall(r'\bensures\s*(\w*)\s*\{', self.head)
 
 
 def without_words(text):
@@ -51,8 +65,8 @@ def end_of_braces(text, start):
     return len(text)
 
 
-# A law: a public function that does nothing. Its name, and its position.
-LAW = re.compile(r'^pub fn (\w+)[^\n]*\n(?:    [^\n]*\n)*\{\}$', re.M)
+# A law: a public function that does nothing. Its head, and its name.
+LAW = re.compile(r'^(pub fn (\w+)[^\n]*\n(?:    [^\n]*\n)*)\{\}$', re.M)
 HEADER = re.compile(r'^impl(<[^{]*?>)?\s+(?:(?:\w+::)*(\w+)(<[^{]*?>)?\s+for\s+)?(&?\[?)(\w+)\]?(<[^{>]*>)?[^{]*\{', re.M)
 
 
@@ -67,9 +81,9 @@ def owner_of(header):
     return marks + name + words[1] * bool(trait), trait + words[0]
 
 
-def functions_of(path, text):
-    """Returns the functions of a file, without those that a trait requires. The last pair of braces of an item, after its
-    clauses, is the body."""
+def functions_of(path, text, homes):
+    """Returns the functions of a file that are no laws, without those that a trait requires, by the files of the types of the
+    crate. The last pair of braces of an item, after its clauses, is the body."""
     text = without_words(text)
     owners = [(found.start(), end_of_braces(text, found.end() - 1), *owner_of(found)) for found in HEADER.finditer(text)]
     traits = [(found.start(), end_of_braces(text, found.end() - 1))
@@ -82,7 +96,10 @@ def functions_of(path, text):
                   if text[place:place + 2] == '{\n' and end_of_braces(text, place) == closing.end()]
         if bodies:
             owner = next(((name, trait) for start, end, name, trait in owners if start < found.start() < end), ('', ''))
-            yield Function(path, *owner, found[3], found[2], found.start(), bodies[-1], closing.end())
+            head = text[found.start():bodies[-1]]
+            one = Function(path, found[2], found[3], head, found.start(), closing.end(), *owner)
+            one.home = path if one.trait else homes.get(one.owner, path)
+            yield one
 
 
 def homes_of(sources):
@@ -91,27 +108,30 @@ def homes_of(sources):
             for found in re.finditer(r'^ *(?:pub(?:\(crate\)|\(super\))? )?(?:struct|enum) (\w+)', text, re.M)}
 
 
-def settle(functions, homes):
-    """Gives functions their homes, by those of the types of the crate."""
-    for one in functions:
-        one.home = one.path if one.trait else homes.get(one.owner, one.path)
-    return functions
-
-
-def name_functions(functions):
-    """Gives each function the shortest name that no other has: its type and its own name, and modules before them if
-    needed."""
+def functions_in(sources):
+    """Returns the functions of a crate, less its laws. Each has the shortest name that no other has: its type and its own
+    name, and modules before them if needed."""
+    homes = homes_of(sources)
+    functions = [one for path, text in sources.items() for one in functions_of(path, text, homes)]
     places = {one: '::' + one.place() for one in functions}
     for one in functions:
         parts, count = places[one].split('::'), len(one.label().split('::'))
         while any(place != places[one] and place.endswith('::' + '::'.join(parts[-count:])) for place in places.values()):
             count += 1
         one.short = '::'.join(parts[-count:])
+    return functions
+
+
+def laws_in(sources):
+    """Returns the laws of a crate."""
+    return [Function(path, 'pub ', found[2], found[1], found.start(), found.end())
+            for path, text in sources.items() for found in LAW.finditer(without_words(text))]
 
 
 def sources_of(crate):
+    """Returns the files of code of a crate, as texts by their paths."""
     paths = glob.glob(os.path.join(TOP, 'crates', crate, 'src', '**', '*.rt'), recursive=True)
-    return {path: open(path, encoding='utf-8').read() for path in paths}
+    return {path: read(path) for path in paths}
 
 
 def changed_places(sources, stanza):

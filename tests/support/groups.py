@@ -4,8 +4,7 @@ import functools
 import os
 import re
 
-from support.functions import (LAW, TOP, changed_places, functions_of, homes_of, name_functions, place_of, settle, sources_of,
-                               without_bodies)
+from support.functions import TOP, changed_places, functions_in, functions_of, homes_of, laws_in, read, sources_of, without_bodies
 from support.lanes import BUILT, PROOF_FILES, Done, crates_below
 from support.stanzas import stanzas_of, texts_of
 from support.uses import Uses
@@ -23,14 +22,10 @@ class Crate:
         self.sources = sources_of(name)
         self.files = {os.path.relpath(path, os.path.join(TOP, 'crates', name)): text for path, text in self.sources.items()}
         self.homes = homes_of(self.sources)
-        self.functions = [one for path, text in self.sources.items() for one in self.functions_in(path, text)]
-        name_functions(self.functions)
-        self.laws = [('law ' + found[1], path, found.start(), found.end()) for path, text in self.sources.items()
-                     if os.path.basename(path) == 'laws.rt' for found in LAW.finditer(text)]
+        self.functions, self.laws = functions_in(self.sources), laws_in(self.sources)
         self.uses = Uses(name)
-        # The whole names of functions and laws, and the texts of their files, by their short names.
-        self.places = {one.short: one.place() for one in self.functions}
-        self.places.update((law, place_of(path, law.removeprefix('law '))) for law, path, _, _ in self.laws)
+        # The whole names of functions and laws, and the texts of the files of functions, by their short names.
+        self.places = {one.short: one.place() for one in self.functions + self.laws}
         self.shorts = {place: short for short, place in self.places.items()}
         self.texts = {one.short: self.sources[one.path] for one in self.functions}
         self.reading, self.seconds, self.checks = 0, 0, 0
@@ -60,13 +55,12 @@ class Crate:
         return set().union(*(one.named() for one in self.stanzas)) if are_told else set(self.places)
 
     @functools.cache
-    def functions_in(self, path, text):
-        return settle(list(functions_of(path, text)), self.homes)
+    def functions_of(self, file, text):
+        return list(functions_of(os.path.join(TOP, 'crates', self.name, file), text, self.homes))
 
     def with_bodies(self, file, text, named):
         """The text of a file with the bodies of these functions alone, given by their short names."""
-        found = self.functions_in(os.path.join(TOP, 'crates', self.name, file), text)
-        return without_bodies(text, [one for one in found if self.short(one.place()) not in named])
+        return without_bodies(text, [one for one in self.functions_of(file, text) if self.short(one.place()) not in named])
 
     def proofs_of(self, short):
         """The files of the proof of a function or a law that exist: their names, and their texts."""
@@ -74,8 +68,7 @@ class Crate:
         for name in PROOF_FILES:
             path = os.path.join(folder, name)
             if os.path.exists(path):
-                with open(path, encoding='utf-8') as file:
-                    yield name, file.read()
+                yield name, read(path)
 
     def lemmas_of(self, short):
         """The files of lemmas that the proof of a function or a law names, in itself or in attributes of its file."""
@@ -98,7 +91,7 @@ class Crate:
         for path, first, last in changed_places(self.sources, stanza):
             within = {one.short for one in self.functions
                       if one.path == path and one.body <= first and last <= one.end}
-            within |= {law for law, file, start, end in self.laws if file == path and start <= first and last <= end + 1}
+            within |= {one.short for one in self.laws if one.path == path and one.start <= first and last <= one.end + 1}
             if not within:
                 return None
             found |= within

@@ -13,18 +13,19 @@ A line `file:` between blank lines holds for the stanzas below it, up to the nex
 `control:` have the new text of what goes with a wrong statement or body and must be proved: the right statement, or the same
 edit of the body without the bug."""
 
+import copy
 import glob
 import os
 
-from support.functions import TOP
+from support.functions import TOP, crate_names, read
 
 
 class Stanza:
     """A wrong body or a wrong statement: its crate, its name, what it changes, and what refuses it."""
 
-    def __init__(self, crate, path, name, lines, file=None, is_control=False):
-        self.crate, self.path, self.name, self.lines, self.file = crate, path, name, lines, file
-        self.changes, self.refused_by, self.is_control = [], None, is_control
+    def __init__(self, crate, path, name, lines, file=None):
+        self.crate, self.path, self.name, self.lines = crate, path, name, lines
+        self.changes, self.refused_by, self.is_control = [], None, False
         word = None
         for line in lines:
             before, (word, _, rest) = word, line.partition(':')
@@ -54,8 +55,9 @@ class Stanza:
 
     def control(self):
         """The right statement or body that goes with a wrong one, as a stanza of its own, or None if there is none."""
-        has_one = any(control is not None for _, _, _, control in self.changes)
-        return Stanza(self.crate, self.path, self.name, self.lines, self.file, True) if has_one else None
+        other = copy.copy(self)
+        other.is_control = True
+        return other if any(control is not None for _, _, _, control in self.changes) else None
 
     def apply(self, texts):
         """The texts of files with each change made, by their paths below the crate, or None if one does not fit."""
@@ -69,36 +71,32 @@ class Stanza:
 
 def texts_of(crate, files):
     """The contents of the files of a crate, by their paths below it."""
-    texts = {}
-    for name in files:
-        path = os.path.join(TOP, 'crates', crate, name)
-        if os.path.exists(path):
-            with open(path, encoding='utf-8') as file:
-                texts[name] = file.read()
-    return texts
+    paths = {name: os.path.join(TOP, 'crates', crate, name) for name in files}
+    return {name: read(path) for name, path in paths.items() if os.path.exists(path)}
+
+
+def edits_of(crate):
+    """The files that have the stanzas of a crate: those of `must-fail/`, and the one of `wrong-bodies/` if there is one."""
+    return [*sorted(glob.glob(os.path.join(TOP, 'crates', crate, 'must-fail', '*.edit'))),
+            *glob.glob(os.path.join(TOP, 'wrong-bodies', crate + '.edits'))]
 
 
 def stanzas_of(crate):
     """The stanzas of a crate, those of `must-fail/` first."""
-    for path in sorted(glob.glob(os.path.join(TOP, 'crates', crate, 'must-fail', '*.edit'))):
-        with open(path, encoding='utf-8') as file:
-            name = os.path.basename(path)[:-len('.edit')].replace('-', ' ')
-            yield Stanza(crate, path, name, file.read().splitlines())
-    path = os.path.join(TOP, 'wrong-bodies', crate + '.edits')
-    if os.path.exists(path):
-        with open(path, encoding='utf-8') as file:
-            changed = None
-            for block in file.read().strip('\n').split('\n\n'):
-                head, *lines = block.split('\n')
-                if lines:
-                    yield Stanza(crate, path, head.removeprefix('# '), [head, *lines], changed)
-                else:
-                    changed = head.removeprefix('file: ')
+    for path in edits_of(crate):
+        name, ending = os.path.splitext(os.path.basename(path))
+        if ending == '.edit':
+            yield Stanza(crate, path, name.replace('-', ' '), read(path).splitlines())
+            continue
+        changed = None
+        for block in read(path).strip('\n').split('\n\n'):
+            head, *lines = block.split('\n')
+            if lines:
+                yield Stanza(crate, path, head.removeprefix('# '), [head, *lines], changed)
+            else:
+                changed = head.removeprefix('file: ')
 
 
 def crates_with_stanzas():
     """The crates that have stanzas, in the order of `crates.txt`."""
-    with open(os.path.join(TOP, 'crates.txt'), encoding='utf-8') as file:
-        names = [line.split(':')[0].split()[0] for line in file if line.strip() and not line.startswith('#')]
-    return [name for name in names if os.path.exists(os.path.join(TOP, 'wrong-bodies', name + '.edits'))
-            or glob.glob(os.path.join(TOP, 'crates', name, 'must-fail', '*.edit'))]
+    return [name for name in crate_names() if edits_of(name)]

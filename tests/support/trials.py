@@ -8,6 +8,7 @@ import subprocess
 
 from support.functions import TOP
 from support.lanes import crates_below
+from support.stanzas import edits_of
 
 # The file of the checksums: lines `CRATE CHECKSUM`. git ignores it.
 KNOWN = os.path.join(TOP, 'wrong-bodies', 'out', 'known')
@@ -18,9 +19,7 @@ def files_of(crate):
     folders = [os.path.join(TOP, 'crates', name, part) for name in [*crates_below(crate), crate]
                for part in ('src', 'specs', 'proofs')]
     paths = [path for folder in folders for path in glob.glob(os.path.join(folder, '**', '*.*'), recursive=True)]
-    paths += glob.glob(os.path.join(TOP, 'crates', crate, 'must-fail', '*.edit'))
-    paths += glob.glob(os.path.join(TOP, 'wrong-bodies', crate + '.edits'))
-    return sorted(path for path in paths if os.path.isfile(path))
+    return sorted(path for path in [*paths, *edits_of(crate)] if os.path.isfile(path))
 
 
 def checksum(crate):

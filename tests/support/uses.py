@@ -6,7 +6,7 @@ import glob
 import os
 import re
 
-from support.functions import TOP, sources_of
+from support.functions import TOP, read, sources_of
 
 WORDS = re.compile(r'[^\s()\[\]{},;.]+')
 KINDS = {'abbrev', 'unfoldable', 'pub', 'record', 'data', 'eta'}
@@ -27,11 +27,6 @@ def items_of(text):
         place += len(line)
     if name is not None:
         yield name, start, place
-
-
-def read(path):
-    with open(path, encoding='utf-8') as file:
-        return file.read()
 
 
 class Uses:

@@ -13,14 +13,12 @@ the brackets have one of the forms
 and so do the columns of clauses in docs/ARCHITECTURE.md and docs/PLANNING.md. In docs/PROMISES.md the columns *Law*
 and *Field*, and the brackets of "Every call, crate by crate", name laws, fields and clauses that exist."""
 
-import os
 import re
 
-from support.functions import TOP, functions_of, sources_of, without_words
+from support.functions import crate_names, functions_in, laws_in, sources_of
 from support.pages import files, text_of
 
 LIST = r'`[^`]+`(?:, `[^`]+`)*(?: and `[^`]+`)?'
-CRATES = [os.path.basename(path) for path in files('crates/fio*')]
 
 # Sentences of a section, each with the words with which the check has to find it at fault.
 SENTENCES = [
@@ -47,36 +45,10 @@ SENTENCES = [
 ]
 
 
-class Contract:
-    """The clauses of a function: their names, and whether it has a `requires`."""
-
-    def __init__(self, path, label, head):
-        self.crate = os.path.relpath(path, os.path.join(TOP, 'crates')).split(os.sep)[0]
-        self.module, self.label = os.path.basename(path)[:-len('.rt')], label
-        self.is_public = re.match(r'\s*pub (?:const |extern +)?fn ', head) is not None
-        self.is_export = re.match(r'\s*pub extern ', head) is not None
-        self.clauses = re.findall(r'\bensures +(\w*) *\{', head)
-        self.requires = re.search(r'\brequires\b', head) is not None
-
-    def is_named(self, name):
-        """Whether this is the function `label`, `module::label` or `crate::module::label`."""
-        path = [self.crate, self.module] + self.label.split('::')
-        words = name.split('::')
-        return words == path[-len(words):] and len(words) >= len(path) - 2
-
-    def is_law(self):
-        return self.module.endswith('laws')
-
-
 def contracts():
-    """The contracts of all functions, and of the laws, whose body is `{}`."""
-    found = []
-    for path, text in (source for crate in CRATES for source in sources_of(crate).items()):
-        plain = without_words(text)
-        found += [Contract(path, one.label(), plain[one.start:one.body]) for one in functions_of(path, text)]
-        found += [Contract(path, law[2], law[1])
-                  for law in re.finditer(r'^(pub fn (\w+)(?:(?!^[{}]).)*)^\{\}', plain, re.M | re.S)]
-    return found
+    """The functions and laws of all crates, by their crates."""
+    found = {crate: sources_of(crate) for crate in crate_names()}
+    return {crate: functions_in(sources) + laws_in(sources) for crate, sources in found.items()}
 
 
 def records():
@@ -100,26 +72,26 @@ class Judge:
         self.check, self.contracts, self.records = check, contracts(), records()
 
     def public(self, name, crate=None):
-        """The public functions of this name, in one crate or in all."""
-        return [one for one in self.contracts
-                if one.is_public and one.is_named(name) and crate in (None, one.crate)]
+        """The public functions and laws of this name, which may have modules before it, in one crate or in all."""
+        return [one for its, found in self.contracts.items() if crate in (None, its) for one in found
+                if one.is_public and name.endswith(one.label()) and ('::' + one.place()).endswith('::' + name)]
 
     def fault_at(self, target, clause, crate=None):
         """Why a function or a definition does not have this clause or field; '' is the clause without a name."""
         found = self.public(target, crate)
         if not found and target not in self.records:
             return 'there is no public `%s`' % target + (' in `%s`' % crate if crate else '')
-        names = [name for one in found for name in one.clauses] + sorted(self.records.get(target, []))
+        names = [name for one in found for name in one.clauses()] + sorted(self.records.get(target, []))
         if clause in names:
             return None
         return '`%s` has no clause %s' % (target, '`%s`' % clause if clause else 'without a name')
 
     def fault_of_exports(self, crate):
-        exports = [one for one in self.contracts if one.is_export and one.crate == crate]
-        bad = [one for one in exports if one.requires or not one.clauses]
+        exports = [one for one in self.contracts.get(crate, ()) if one.is_export()]
+        bad = [one for one in exports if re.search(r'\brequires\b', one.head) or not one.clauses()]
         if exports and not bad:
             return None
-        return 'an export of `%s` has no clause, or a `requires`: %s' % (crate, [one.label for one in bad])
+        return 'an export of `%s` has no clause, or a `requires`: %s' % (crate, [one.label() for one in bad])
 
     def fault_of_claim(self, claim, crate=None):
         """Why a claim between semicolons is not carried, or None."""
@@ -209,7 +181,7 @@ def check_promises(judge):
         judge.holds('docs/PROMISES.md', field, judge.fault_at('IsSound', field.strip('`')))
     for column in cells(text, 'Law'):
         for law in column.split('; '):
-            is_law = any(one.is_law() for one in judge.public(law.strip('`')))
+            is_law = any(one.short.startswith('law ') for one in judge.public(law.strip('`')))
             judge.holds('docs/PROMISES.md', law, None if is_law else judge.fault_of_claim(law))
 
 
@@ -219,8 +191,8 @@ def check_calls(judge):
     for line in section(text_of('docs/PROMISES.md'), 'Every call, crate by crate').split('\n'):
         heading = re.match(r'\*\*`(\w+)`\*\*', line)
         crate = heading[1] if heading else crate
-        of_crate = [one for one in judge.contracts if one.is_public and one.crate == crate]
-        known = {name for one in of_crate for name in one.clauses + [one.label]}
+        public = [one for one in judge.contracts.get(crate, ()) if one.is_public]
+        known = {name for one in public for name in one.clauses() + [one.label()]}
         for names in re.findall(r'\((?:clauses? )?(%s(?:: %s)?)[,)]' % (LIST, LIST), line):
             for name in re.findall(r'`([^`]+)`', names):
                 fault = None if name in known else '`%s` has no clause `%s`' % (crate, name)

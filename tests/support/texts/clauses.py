@@ -5,8 +5,7 @@ stanza names it; `wrong-bodies/try` tries whether it is refused by that clause."
 import os
 import re
 
-from support.functions import LAW, TOP, functions_of, homes_of, name_functions, settle, sources_of, without_words
-from support.pages import text_of
+from support.functions import TOP, crate_names, functions_in, laws_in, sources_of, without_words
 from support.stanzas import stanzas_of
 
 # No body breaks these: what the call returns is the only value of its type, or the ring that it is given the only one.
@@ -16,8 +15,7 @@ ALONE = ['fio_world: World::module, its clause', 'fio_world: World::poller, its 
 
 def libraries():
     """Returns the libraries that `crates.txt` lists."""
-    names = [line.partition(':')[0].split()[0] for line in text_of('crates.txt').splitlines()]
-    return [name for name in names if os.path.exists(os.path.join(TOP, 'crates', name, 'src', 'lib.rt'))]
+    return [name for name in crate_names() if os.path.exists(os.path.join(TOP, 'crates', name, 'src', 'lib.rt'))]
 
 
 def exported(sources, path):
@@ -25,35 +23,22 @@ def exported(sources, path):
     names, folder = set(), os.path.dirname(path)
     if os.path.basename(path) != 'lib.rt':
         folder = path[:-len('.rt')]
-    text = without_words(sources[path])
-    for found in re.finditer(r'^pub use ([^;]*);', text, re.M | re.S):
+    for found in re.finditer(r'^pub use ([^;]*);', sources[path], re.M | re.S):
         names.update(re.findall(r'\w+', found[1]))
-    for found in re.finditer(r'^pub mod (\w+);', text, re.M):
+    for found in re.finditer(r'^pub mod (\w+);', sources[path], re.M):
         inner = os.path.join(folder, found[1] + '.rt')
         names.update(re.findall(r'^pub (?:const )?(?:fn|struct|enum) (\w+)', sources[inner], re.M))
         names |= exported(sources, inner)
     return names
 
 
-def public_heads(crate):
-    """Returns each public call and law of a crate, as lines `refused-by:` name it, and what comes before its body."""
-    sources = {path: without_words(text) for path, text in sources_of(crate).items()}
-    functions = [one for path, text in sources.items() for one in functions_of(path, text)]
-    name_functions(settle(functions, homes_of(sources)))
-    names = exported(sources, os.path.join(TOP, 'crates', crate, 'src', 'lib.rt'))
-    for path, text in sources.items():
-        # Those for C are public in any module.
-        names.update(re.findall(r'^pub extern +fn (\w+)', text, re.M))
-        yield from (('law ' + found[1], found[0]) for found in LAW.finditer(text) if found[1] in names)
-    for one in functions:
-        if one.is_public and (one.owner or one.name) in names:
-            yield one.short, sources[one.path][one.start:one.body]
-
-
 def public_clauses(crate):
-    """Returns the clauses of each public call and law of a crate, by its name."""
-    return {short: [name or 'its clause' for name in re.findall(r'\bensures\s*(\w*)\s*\{', head)]
-            for short, head in public_heads(crate)}
+    """Returns the clauses of each public call and law of a crate, by its name in lines `refused-by:`."""
+    sources = {path: without_words(text) for path, text in sources_of(crate).items()}
+    names = exported(sources, os.path.join(TOP, 'crates', crate, 'src', 'lib.rt'))
+    # Those for C are public in any module.
+    return {one.short: [name or 'its clause' for name in one.clauses()] for one in laws_in(sources) + functions_in(sources)
+            if one.is_public and ((one.owner or one.name) in names or one.is_export())}
 
 
 def named_clauses(crate):
