@@ -11,7 +11,7 @@ stanzas with a blank line between them, and in `crates/CRATE/must-fail/*.edit`, 
 A line `file:` between blank lines holds for the stanzas below it, up to the next one. One in a stanza, as in each of
 `must-fail/`, holds for the texts below it there. Successive lines `old:` or `new:` are one text of several lines. Lines
 `control:` have the new text of what goes with a wrong statement or body and must be proved: the right statement, or the same
-edit of the body without the bug."""
+edit of the body without the bug; a text without them is the same in both."""
 
 import copy
 import glob
