@@ -2,10 +2,9 @@
 it, as the table of docs/PROMISES.md does. Each function of that table has its wrong body in a folder `must-fail`, for `rt
 ci`, and no other has. `wrong-bodies/try` tries whether the prover refuses them."""
 
-import re
-
 from support.pages import text_of
 from support.stanzas import crates_with_stanzas, stanzas_of, texts_of
+from support.texts.claims import cells
 
 
 def fault_of(stanza, names):
@@ -20,8 +19,8 @@ def fault_of(stanza, names):
 
 def shown():
     """Returns the rows of the page's table of wrong bodies: name, and what refuses it."""
-    table = text_of('docs/PROMISES.md').split('| Promise | Wrong body | Refused by |\n|---|---|---|\n')[1]
-    return re.findall(r'^\| .* \| (.*) \| `(.*)` \|$', table.split('\n\n')[0], re.M)
+    text = text_of('docs/PROMISES.md')
+    return list(zip(cells(text, 'Wrong body'), (cell.strip('`') for cell in cells(text, 'Refused by'))))
 
 
 def rows(check):
