@@ -7,23 +7,25 @@ further, restarts, and configurations that open other inputs; and by `libfio2070
 page asks for, and one slot less. Last line: `N passed, M failed`."""
 
 import itertools
-import os
 import random
 import re
 import sys
+from typing import NamedTuple
 
 sys.dont_write_bytecode = True
 
 from support.check import Check
 from support.fiolog import use_library
-from support.rings import is_lossy, room
-from support.tables import MOST_WAITING, TOP, output_of
+from support.pages import text_of
+from support.tables import MOST_WAITING, output_of
 
 FILTERS = (1, 2, 5, 10, 20, 50)
 INPUTS = (8, 16, 32, 64)
 PER_BLOCK = 255
 WAITING = (1024, MOST_WAITING)
 ALL_ONES = 2 ** 64 - 1
+# What becomes of a round: its answer is taken, or lost.
+CLEAN, LOST = 'clean', 'lost'
 # Inputs, filters, blocks and paces; whether an answer is lost; and whether one slot less than the room is too few.
 SMALL_RINGS = ((8, 5, 64, 40, False, False), (8, 5, 64, 36, False, True), (8, 5, 64, 38, True, True), (64, 5, 255, 16, False, True),
                (64, 5, 255, 18, True, True), (64, 1, 64, 1, False, True), (64, 1, 128, 2, True, True), (40, 10, 100, 21, False, True),
@@ -39,24 +41,38 @@ def most_exact(inputs, filter_length, per_block, every, lost_answer):
     return waiting, (1 + lost_answer) * every - 1 + late
 
 
+class Row(NamedTuple):
+    """A row of the table: for open inputs with filters of this number of samples how far apart clean rounds may be, what waits at
+    most and how late it is, if no answer is lost and if some are, and the longest outages."""
+    inputs: int
+    filter: int
+    every: int
+    kept: tuple[int, int]
+    lost: tuple[int, int]
+    outages: list[int]
+
+    @property
+    def name(self):
+        return '%d inputs with filters of %d' % self[:2]
+
+
 def planned(inputs, filter_length):
     """The row of the table for this number of open inputs with filters of this number of samples."""
     every = PER_BLOCK * filter_length // inputs
-    kept = list(most_exact(inputs, filter_length, PER_BLOCK, every, False))
-    lost = list(most_exact(inputs, filter_length, PER_BLOCK, every, True))
-    outages = [waiting // inputs * filter_length for waiting in WAITING]
-    return [inputs, filter_length, every] + kept + lost + outages
+    most = (most_exact(inputs, filter_length, PER_BLOCK, every, lost_answer) for lost_answer in (False, True))
+    return Row(inputs, filter_length, every, *most, [waiting // inputs * filter_length for waiting in WAITING])
+
+
+ROWS = [planned(inputs, filter_length) for inputs in INPUTS for filter_length in FILTERS]
 
 
 def check_table(check):
     """The rows of the table in the document are the computed ones."""
-    with open(os.path.join(TOP, 'docs', 'PLANNING.md'), encoding='utf-8') as page:
-        rows = [[int(cell.replace(',', '')) for cell in re.findall(r'[\d,]+', line)]
-                for line in page if re.match(r'\| \d', line)]
-    expected = [planned(inputs, filter_length) for inputs in INPUTS for filter_length in FILTERS]
-    check.equal('the number of rows of docs/PLANNING.md', len(expected), len(rows))
-    for found, row in zip(rows, expected):
-        check.equal('the row of docs/PLANNING.md for %d inputs with filters of %d' % tuple(row[:2]), row, found)
+    found = [[int(cell.replace(',', '')) for cell in re.findall(r'[\d,]+', line)]
+             for line in text_of('docs/PLANNING.md').splitlines() if re.match(r'\| \d', line)]
+    check.equal('the number of rows of docs/PLANNING.md', len(ROWS), len(found))
+    for row, cells in zip(ROWS, found):
+        check.equal('the row of docs/PLANNING.md for ' + row.name, [*row[:3], *row.kept, *row.lost, *row.outages], cells)
 
 
 def logged_in(inputs, filter_length, scans):
@@ -65,28 +81,51 @@ def logged_in(inputs, filter_length, scans):
     return inputs * -(-scans // filter_length)
 
 
-def most_reached(inputs, filter_length, lost_answer):
-    """The most entries that wait and the most scans that one is late, in the densest traffic with clean rounds as far apart
-    as the table says. If an answer was lost when it began, the first of them repeats its block."""
-    every = planned(inputs, filter_length)[2]
-    taken = waiting = late = 0
-    for round_number in range(2 if lost_answer else 1, 3 * filter_length + 9):
-        scans = every * round_number
-        left = logged_in(inputs, filter_length, scans) - taken
-        waiting = max(waiting, left)
-        late = max(late, scans - 1 - taken // inputs * filter_length)
-        taken += min(PER_BLOCK, left)
-    return waiting, late
+def clean_rounds(row, every, first=1):
+    """Yields for each clean round in the densest traffic, this far apart, how many entries wait and how late the oldest is."""
+    taken = 0
+    for number in itertools.count(first):
+        waiting = logged_in(row.inputs, row.filter, every * number) - taken
+        yield waiting, every * number - 1 - taken // row.inputs * row.filter
+        taken += min(PER_BLOCK, waiting)
+
+
+def most_reached(row, lost_answer):
+    """The most entries that wait and the most scans that one is late, with clean rounds as far apart as the table says. If an
+    answer was lost when it began, the first of them repeats its block."""
+    rounds = itertools.islice(clean_rounds(row, row.every, 1 + lost_answer), 3 * row.filter + 8 - lost_answer)
+    return tuple(map(max, zip(*rounds)))
+
+
+def room(inputs, filter_length, every, lost_answer):
+    """The slots for which docs/PLANNING.md asks, with clean rounds this far apart."""
+    return -(-inputs * ((1 + lost_answer) * every + filter_length - 1) // filter_length)
 
 
 def check_room(check):
     """The room that docs/PLANNING.md asks for is at least what waits at most, and in each row of its table the limits have it."""
-    for inputs in INPUTS:
-        for filter_length in FILTERS:
-            row = planned(inputs, filter_length)
-            for lost_answer, waiting in ((False, row[3]), (True, row[5])):
-                check.holds('room for %d inputs with filters of %d%s' % (inputs, filter_length, ', answers lost' * lost_answer),
-                            waiting <= room(inputs, filter_length, row[2], lost_answer) <= 2 * PER_BLOCK + 64 <= WAITING[0])
+    for row in ROWS:
+        for lost_answer, (waiting, _) in enumerate((row.kept, row.lost)):
+            check.holds('room for %s%s' % (row.name, ', answers lost' * lost_answer),
+                        waiting <= room(*row[:3], lost_answer) <= 2 * PER_BLOCK + 64 <= WAITING[0])
+
+
+def is_lossy(fio2070, inputs, filter_length, per_block, slots, every, lost_answer):
+    """Whether the record of the real ends has a gap mark after some clean rounds this far apart. The open inputs change as often as
+    their filters let them, first with the first scan; the answer to a poll just before that may be lost."""
+    module, poller = fio2070.Module(per_block=per_block, waiting=slots), fio2070.Poller(0)
+    module.receive(fio2070.encode.configure_inputs(
+        [fio2070.ConfigurationItem(number, False, filter_length, filter_length) for number in range(inputs)]))
+    levels = [scan // filter_length % 2 * (2 ** 64 - 1) for scan in range(filter_length - 1 + 8 * every)]
+    for raw in levels[:filter_length - 1]:
+        module.scan(raw)
+    if lost_answer:
+        module.receive(poller.poll())
+    for scan, raw in enumerate(levels[filter_length - 1:], 1):
+        module.scan(raw)
+        if scan % every == 0:
+            poller.hear(module.receive(poller.poll()))
+    return any(item.gap for item in poller.record)
 
 
 def check_small_rings(check):
@@ -106,36 +145,20 @@ def check_small_rings(check):
                         is_lossy(fio2070, *traffic, slots - 1, every, lost_answer))
 
 
-def overflows(inputs, filter_length, every, waiting, rounds):
+def overflows(row, every, limit, rounds):
     """Whether the densest traffic overflows the buffer, with this number of clean rounds this far apart."""
-    taken = scans = 0
-    for _ in range(rounds):
-        scans += every
-        left = logged_in(inputs, filter_length, scans) - taken
-        if left > waiting:
-            return True
-        taken += min(PER_BLOCK, left)
-    return False
+    return any(waiting > limit for waiting, _ in itertools.islice(clean_rounds(row, every), rounds))
 
 
 def check_bounds(check):
     """That the densest traffic reaches each bound, as docs/PLANNING.md says, and loses a transition with one scan more."""
-    below = [[], [], [], []]
-    for inputs in INPUTS:
-        for filter_length in FILTERS:
-            row = planned(inputs, filter_length)
-            found = most_reached(inputs, filter_length, False) + most_reached(inputs, filter_length, True)
-            for differences, bound, most in zip(below, row[3:7], found):
-                differences.append(bound - most)
-            name = '%d inputs with filters of %d' % (inputs, filter_length)
-            for waiting, outage in zip(WAITING, row[7:]):
-                check.holds('an outage of %d is the longest, %s' % (outage, name),
-                            logged_in(inputs, filter_length, outage) <= waiting
-                            < logged_in(inputs, filter_length, outage + 1))
-                check.holds('a scan more loses some of %d that wait, %s' % (waiting, name),
-                            overflows(inputs, filter_length, row[2] + 1, waiting, 400_000))
-            check.holds('the pace loses none, ' + name, not overflows(inputs, filter_length, row[2], WAITING[0], 4_000))
-    check.equal('how far below the bounds of *Waiting* and *Late* it stays', [[0] * 24] * 4, below)
+    for row in ROWS:
+        check.equal('the bounds of *Waiting* and *Late*, ' + row.name, (row.kept, row.lost), (most_reached(row, False), most_reached(row, True)))
+        for waiting, outage in zip(WAITING, row.outages):
+            logged = [logged_in(row.inputs, row.filter, scans) for scans in (outage, outage + 1)]
+            check.holds('an outage of %d is the longest, %s' % (outage, row.name), logged[0] <= waiting < logged[1])
+            check.holds('a scan more loses some of %d that wait, %s' % (waiting, row.name), overflows(row, row.every + 1, waiting, 400_000))
+        check.holds('the pace loses none, ' + row.name, not overflows(row, row.every, WAITING[0], 4_000))
 
 
 def next_states(inputs, filter_length, per_block, every, state):
@@ -177,45 +200,6 @@ def check_search(check):
                         most_exact(inputs, filter_length, per_block, every, lost_answer), (waiting, late))
 
 
-def most_reported(inputs, filter_length, opened, scans):
-    """The most that a number of scans can report, by a search of all that inputs and configurations can do, if at most a
-    number of inputs are open at each scan. An input can change at the sample that completes the filter since its latest
-    change or configuration, or at a later one."""
-    reached = {tuple(sorted((is_open, filter_length - 1) for is_open in flags)): 0
-               for flags in itertools.product((0, 1), repeat=inputs)}
-    for _ in range(scans):
-        configured = {}
-        for state, count in reached.items():
-            choices = [(one, (0, 0), (1, 0)) for one in state]
-            for after in itertools.product(*choices):
-                if sum(is_open for is_open, _ in after) <= opened:
-                    after = tuple(sorted(after))
-                    configured[after] = max(count, configured.get(after, 0))
-        reached = {}
-        for state, count in configured.items():
-            choices = [((is_open, min(age + 1, filter_length - 1), 0),)
-                       + ((is_open, 0, is_open),) * (age == filter_length - 1) for is_open, age in state]
-            for after in itertools.product(*choices):
-                found = tuple(sorted(one[:2] for one in after))
-                reached[found] = max(count + sum(one[2] for one in after), reached.get(found, 0))
-    return max(reached.values())
-
-
-def check_configured_search(check):
-    """Configurations that leave no more inputs open make no more transitions: the scans report at most one of each such
-    input for each filter that begins in them."""
-    for inputs, filter_length, opened in ((3, 1, 1), (3, 2, 1), (3, 3, 1), (3, 2, 2), (4, 2, 2), (4, 3, 2)):
-        for scans in range(8):
-            check.equal('the most that %d scans report of %d inputs with filters of %d, %d of them open'
-                        % (scans, inputs, filter_length, opened),
-                        logged_in(opened, filter_length, scans), most_reported(inputs, filter_length, opened, scans))
-
-
-def logged_in_groups(groups, scans):
-    """How many transitions the densest traffic of inputs in groups, each with its filter, has in a number of scans."""
-    return sum(logged_in(count, length, scans) for count, length in groups)
-
-
 def most_planned(inputs, groups, scans):
     """The most that a number of scans can report, by a search of all that inputs and configurations can do, if at each scan
     each open input is in one of the groups, no more of each than planned, with the filter of its group. A configuration
@@ -249,27 +233,36 @@ def most_planned(inputs, groups, scans):
 def check_planned_search(check):
     """Configurations that keep to a plan make no more transitions than its inputs would without them: the scans report at
     most one of each input that may be open, for each filter of its group that begins in them."""
-    for inputs, groups in ((3, ((1, 1), (1, 3))), (3, ((1, 2), (1, 3))), (4, ((2, 2), (1, 3))), (4, ((1, 1), (2, 4)))):
-        for scans in range(7):
+    # First those in which the filters are alike.
+    alike = [(3, ((1, 1),)), (3, ((1, 2),)), (3, ((1, 3),)), (3, ((2, 2),)), (4, ((2, 2),)), (4, ((2, 3),))]
+    for inputs, groups in (*alike, (3, ((1, 1), (1, 3))), (3, ((1, 2), (1, 3))), (4, ((2, 2), (1, 3))), (4, ((1, 1), (2, 4)))):
+        for scans in range(8):
             check.equal('the most that %d scans report of %d inputs in groups of %s' % (scans, inputs, groups),
-                        logged_in_groups(groups, scans), most_planned(inputs, groups, scans))
+                        sum(logged_in(count, length, scans) for count, length in groups), most_planned(inputs, groups, scans))
+
+
+def most_of_run(made, fates, per_block):
+    """The most that wait and the longest that the record lacks one, if each scan makes this number of transitions; after it
+    comes no round, a clean one or one whose answer is lost."""
+    waiting, kept, most, late = [], None, 0, 0
+    for scan, (count, fate) in enumerate(zip(made, fates)):
+        waiting += [scan] * count
+        oldest = (kept or waiting)[:1]
+        most, late = max(most, len(waiting)), max([late] + [scan - one for one in oldest])
+        if fate and kept is None:
+            kept, waiting = waiting[:per_block], waiting[per_block:]
+        if fate == CLEAN:
+            kept = None
+    return most, late
 
 
 def lossy_run(inputs, filter_length, every, is_lost, seed):
-    """The most that wait and the longest that the record lacks one, in the densest traffic with rounds begun this often, of
-    which these are lost: the poll or, depending on the seed, the answer."""
-    choose, waiting, kept, most, late = random.Random(seed), [], None, 0, 0
-    for number, lost in enumerate(is_lost):
-        for scan in range(number * every, (number + 1) * every):
-            waiting += [scan] * (inputs if scan % filter_length == 0 else 0)
-            oldest = (kept or waiting)[:1]
-            most, late = max(most, len(waiting)), max([late] + [scan - one for one in oldest])
-        if lost and choose.random() < 0.5:
-            continue
-        if kept is None:
-            kept, waiting = waiting[:PER_BLOCK], waiting[PER_BLOCK:]
-        kept = kept if lost else None
-    return most, late
+    """The most of a run of the densest traffic with rounds begun this often, of which these are lost: the poll or, depending on
+    the seed, the answer."""
+    choose = random.Random(seed)
+    made = [inputs * (scan % filter_length == 0) for scan in range(every * len(is_lost))]
+    fates = [choose.choice((None, LOST)) if lost else CLEAN for lost in is_lost]
+    return most_of_run(made, [fate for one in fates for fate in [None] * (every - 1) + [one]], PER_BLOCK)
 
 
 def losses(seed):
@@ -289,21 +282,13 @@ def check_lossy(check):
 
 
 def differing_run(filters, per_block, every, lost_answer, seed):
-    """The most that wait and the longest that the record lacks one, if each input changes as often as its own filter lets
-    it, with clean rounds this far apart; if an answer may be lost, one is, at a time between them."""
-    choose, waiting, kept, most, late = random.Random(seed), [], None, 0, 0
+    """The most of a run in which each input changes as often as its own filter lets it, with clean rounds this far apart; if an
+    answer may be lost, one is, at a time between them."""
+    choose = random.Random(seed)
     phases = [choose.randrange(length) for length in filters]
-    for scan in range(40 * every):
-        waiting += [scan for length, phase in zip(filters, phases) if scan % length == phase]
-        oldest = (kept or waiting)[:1]
-        most, late = max(most, len(waiting)), max([late] + [scan - one for one in oldest])
-        if (scan + 1) % every == 0:
-            if kept is None:
-                waiting = waiting[per_block:]
-            kept = None
-        elif lost_answer and kept is None and choose.random() < 0.2:
-            kept, waiting = waiting[:per_block], waiting[per_block:]
-    return most, late
+    made = [sum(scan % length == phase for length, phase in zip(filters, phases)) for scan in range(40 * every)]
+    fates = [CLEAN if scan % every == 0 else LOST if lost_answer and choose.random() < 0.2 else None for scan in range(1, 40 * every + 1)]
+    return most_of_run(made, fates, per_block)
 
 
 def check_filters_that_differ(check):
@@ -387,18 +372,16 @@ class Configured(Densest):
                 self.configure()
 
 
-def check_rounds(check, inputs, filter_length, lost_answer, traffic=Densest):
+def check_rounds(check, row, lost_answer, traffic=Densest):
     """Clean rounds as far apart as the table says: nothing is lost, and how late the latest is."""
-    row = planned(inputs, filter_length)
-    every, latest = row[2], row[6 if lost_answer else 4]
-    name = '%s: clean rounds of %d inputs with filters of %d%s' % (
-        traffic.__name__, inputs, filter_length, ', one lost' * lost_answer)
-    script = traffic(inputs, filter_length, WAITING[0])
+    latest = (row.lost if lost_answer else row.kept)[1]
+    name = '%s: clean rounds of %s%s' % (traffic.__name__, row.name, ', one lost' * lost_answer)
+    script = traffic(row.inputs, row.filter, WAITING[0])
     if lost_answer:
         script.lost_round()
     logged, made = [], []
     for _ in range(6):
-        script.scan(every)
+        script.scan(row.every)
         logged.append(len(script.logged))
         made.append(script.scans)
         script.clean_round()
@@ -410,20 +393,20 @@ def check_rounds(check, inputs, filter_length, lost_answer, traffic=Densest):
                 all(ends[place] >= logged[place - rounds] for place in range(rounds, 6)))
     late = [made[place] - script.logged[end - count] for place, (end, count) in enumerate(zip(ends, entries)) if count]
     check.holds(name + ': no transition is more than %d scans late' % latest, max(late) <= latest, max(late))
-    if (inputs, filter_length) == (64, 5) or traffic is Configured:
+    if row[:2] == (64, 5) or traffic is Configured:
         check.equal(name + ': the latest', latest, max(late))
 
 
-def check_outage(check, inputs, filter_length, waiting, traffic=Densest):
+def check_outage(check, row, waiting=WAITING[0], traffic=Densest):
     """An outage as long as the table says is ridden out and caught up with; one of a scan more is not."""
-    length = planned(inputs, filter_length)[7 + WAITING.index(waiting)]
-    name = '%s: outage of %d inputs with filters of %d, %d waiting' % (traffic.__name__, inputs, filter_length, waiting)
-    script = traffic(inputs, filter_length, waiting)
+    length = row.outages[WAITING.index(waiting)]
+    name = '%s: outage of %s, %d waiting' % (traffic.__name__, row.name, waiting)
+    script = traffic(row.inputs, row.filter, waiting)
     script.scan(length)
     for _ in range(1 + -(-waiting // PER_BLOCK)):
         script.clean_round()
     check.equal(name + ': %d scans are ridden out' % length, script.logged, script.run()[1])
-    script = traffic(inputs, filter_length, waiting)
+    script = traffic(row.inputs, row.filter, waiting)
     script.scan(length + 1)
     script.clean_round()
     check.holds(name + ': %d scans lose something' % (length + 1), None in script.run()[1])
@@ -432,7 +415,7 @@ def check_outage(check, inputs, filter_length, waiting, traffic=Densest):
 def check_polling(check):
     """64 inputs with filters of 1, and a clean round as often as the table says: nothing is ever lost. With one scan more
     between the rounds, each leaves one more transition waiting, until there is no room for it."""
-    every = planned(64, 1)[2]
+    every = planned(64, 1).every
     for scans in (every, every + 1):
         script = Densest(64, 1, WAITING[0])
         for _ in range(800):
@@ -472,28 +455,20 @@ def check_restart(check):
 
 def main():
     check = Check()
-    check_table(check)
-    check_bounds(check)
-    check_search(check)
-    check_configured_search(check)
-    check_planned_search(check)
-    check_room(check)
-    check_polling(check)
-    check_most_waiting(check)
-    check_restart(check)
-    check_lossy(check)
-    check_filters_that_differ(check)
-    for inputs in INPUTS:
-        for filter_length in FILTERS:
-            check_rounds(check, inputs, filter_length, False)
-            check_rounds(check, inputs, filter_length, True)
-            check_outage(check, inputs, filter_length, WAITING[0])
+    for part in (check_table, check_bounds, check_search, check_planned_search, check_room, check_polling, check_most_waiting,
+                 check_restart, check_lossy, check_filters_that_differ):
+        part(check)
+    for row in ROWS:
+        check_rounds(check, row, False)
+        check_rounds(check, row, True)
+        check_outage(check, row)
     for inputs, filter_length in ((64, 1), (64, 5), (32, 10), (8, 5)):
-        check_outage(check, inputs, filter_length, WAITING[1])
+        check_outage(check, planned(inputs, filter_length), WAITING[1])
     for inputs, filter_length in ((8, 2), (16, 5), (32, 5)):
-        check_rounds(check, inputs, filter_length, False, Configured)
-        check_rounds(check, inputs, filter_length, True, Configured)
-        check_outage(check, inputs, filter_length, WAITING[0], Configured)
+        row = planned(inputs, filter_length)
+        check_rounds(check, row, False, Configured)
+        check_rounds(check, row, True, Configured)
+        check_outage(check, row, traffic=Configured)
     check_small_rings(check)
     check.end()
 
