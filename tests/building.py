@@ -1,8 +1,8 @@
 #!/usr/bin/env python3
 """What `./fio2070` says while it builds the program, and if it cannot: what it will prove, a line for each crate, and one clear
-line and status 125 for each thing that is missing. Crates that do not wait for each other are proved side by side. A short script takes the place of `rt`, in a
-repository of four crates. And which program `./fio2070` runs: the one that was built here, that of dist/, or one that is compiled
-of dist/fio2070.c; scripts take the place of these too. Last line: `N passed, M failed`."""
+line and status 125 for each thing that is missing. Crates that do not wait for each other are proved side by side. A short script
+takes the place of `rt`, in a repository of five crates. And which program `./fio2070` runs: the one that was built here, that of
+dist/, or one that is compiled of dist/fio2070.c; scripts take the place of these too. Last line: `N passed, M failed`."""
 
 import os
 import re
@@ -21,7 +21,7 @@ from support.tables import TOP
 CRATES = 'low:\nhigh: low hex\nbeside: low\nfio2070: high beside\nother: low\n'
 
 # Proves nothing. Writes what rt writes, fails in the crate that FAILS names, takes long in the one that LINGERS names, waits
-# for the one that MEETS names, and writes nothing for a library that was proved before.
+# in those that MEETS names until all of these have begun, and writes nothing for a library that was proved before.
 RT = r"""#!/bin/sh
 crate=$(basename "$PWD")
 echo "$*" >>../../words
@@ -31,13 +31,10 @@ mktemp >/dev/null
 if [ "$crate" = "$LINGERS" ]; then sleep 2; fi
 mkdir -p out
 touch out/begun
-if [ -n "$MEETS" ] && [ "$crate" = beside ]; then
-    for _ in 1 2 3 4 5 6 7 8 9 10; do [ -e "../$MEETS/out/begun" ] || sleep 0.5; done
-    [ ! -e "../$MEETS/out/rlib" ] || exit 1
-fi
-if [ -n "$MEETS" ] && [ "$crate" = "$MEETS" ]; then
-    for _ in 1 2 3 4 5 6 7 8 9 10; do [ -e ../beside/out/rlib ] || sleep 0.5; done
-fi
+case " $MEETS " in *" $crate "*) for other in $MEETS; do
+    for _ in 1 2 3 4 5 6 7 8 9 10; do [ -e "../$other/out/begun" ] || sleep 0.5; done
+    [ -e "../$other/out/begun" ] || exit 1
+done ;; esac
 if [ "$crate" = "$FAILS" ]; then echo 'logic=not-proved'; exit 1; fi
 echo 'logic=proved functions=10'
 if [ "$crate" != fio2070 ]; then
@@ -54,37 +51,41 @@ class Clone:
 
     def __init__(self, room, name):
         self.top = os.path.join(room, name)
-        self.bin = os.path.join(self.top, 'bin')
         self.temporary = os.path.join(self.top, 'temporary')
-        self.out = os.path.join(self.top, 'crates', 'fio2070', 'out')
-        for crate in ('low', 'high', 'beside', 'other', 'fio2070'):
-            os.makedirs(os.path.join(self.top, 'crates', crate, 'src'))
-        os.mkdir(self.bin)
-        os.mkdir(self.temporary)
-        os.mkdir(os.path.join(self.top, 'packaging'))
+        for folder in ('bin', 'temporary', 'packaging', *('crates/%s/src' % crate for crate in ('low', 'high', 'beside', 'other', 'fio2070'))):
+            os.makedirs(os.path.join(self.top, folder))
         for file in ('fio2070', 'build', 'packaging/program', 'packaging/hardening'):
             shutil.copy(os.path.join(TOP, file), os.path.join(self.top, file))
-        with open(os.path.join(self.top, 'crates.txt'), 'w', encoding='ascii') as listed:
-            listed.write(CRATES)
-        rt = os.path.join(self.bin, 'rt')
-        with open(rt, 'w', encoding='ascii') as script:
-            script.write(RT)
-        os.chmod(rt, 0o755)
+        self.write('crates.txt', CRATES)
+        self.write('bin/rt', RT, 0o755)
 
-    def log(self, crate):
-        """The file for what rt writes about a crate."""
-        return os.path.join(self.top, 'crates', crate, 'out', 'build.log')
+    def write(self, name, text, mode=0o644):
+        path = os.path.join(self.top, name)
+        os.makedirs(os.path.dirname(path), exist_ok=True)
+        with open(path, 'w', encoding='ascii') as file:
+            file.write(text)
+        os.chmod(path, mode)
+
+    def read(self, name):
+        with open(os.path.join(self.top, name), encoding='utf-8') as file:
+            return file.read()
 
     def environment(self, **settings):
-        path = self.bin + os.pathsep + os.environ.get('PATH', os.defpath)
-        return dict(os.environ, PATH=path, TMPDIR=self.temporary, **settings)
+        path = os.path.join(self.top, 'bin') + os.pathsep + os.environ.get('PATH', os.defpath)
+        return {**os.environ, 'PATH': path, 'TMPDIR': self.temporary, **settings}
 
-    def run(self, *words, before=(), **settings):
-        """What `./fio2070` writes and how it ends."""
-        done = subprocess.run([*before, os.path.join(self.top, 'fio2070'), *words],
-                              env=dict(self.environment(), **settings), stdin=subprocess.DEVNULL,
-                              stdout=subprocess.PIPE, stderr=subprocess.PIPE, timeout=60)
-        return done.stdout.decode(), done.stderr.decode(), done.returncode
+    def call(self, command, *words, before=(), **settings):
+        """What a command of the repository writes, on standard error too, and how it ends."""
+        done = subprocess.run([*before, os.path.join(self.top, command), *words], env=self.environment(**settings),
+                              stdin=subprocess.DEVNULL, capture_output=True, text=True, timeout=60)
+        return done.stdout, done.stderr, done.returncode
+
+    def run(self, *words, **settings):
+        """The same of `./fio2070`."""
+        return self.call('fio2070', *words, **settings)
+
+    def has_program(self):
+        return os.path.exists(os.path.join(self.top, 'crates/fio2070/out/fio2070'))
 
     def is_tidy(self):
         """Whether no temporary file is left."""
@@ -109,13 +110,11 @@ def try_build(check, room):
     check.holds('what will be done', re.match(r'fio2070: proving 4 crates, up to \d+ side by side; ', said) is not None, said)
     check.equal('a line a crate', [1, 2, 3, 4], proved_in(said))
     for crate in ('low', 'high', 'beside', 'fio2070'):
-        with open(clone.log(crate), encoding='utf-8') as log:
-            check.equal('the log of %s has what rt wrote' % crate, 1, log.read().count('logic=proved'))
+        check.equal('the log of %s has what rt wrote' % crate, 1, clone.read('crates/%s/out/build.log' % crate).count('logic=proved'))
     check.holds('no temporary file', clone.is_tidy())
     check.holds('nothing is said of a built program', clone.run('show') == ('run show\n', '', 0))
     time.sleep(0.1)
-    with open(os.path.join(clone.top, 'crates', 'low', 'src', 'lib.rt'), 'w', encoding='ascii') as source:
-        source.write('\n')
+    clone.write('crates/low/src/lib.rt', '\n')
     said = clone.run('show')[1]
     check.holds('after an edit what changed is built again', proved_in(said) == [1, 4], said)
 
@@ -126,30 +125,25 @@ def try_side_by_side(check, room):
         check.skip('crates side by side', 'there is one processor')
         return
     clone = Clone(room, 'beside')
-    _, said, status = clone.run('show', MEETS='high')
+    _, said, status = clone.run('show', MEETS='high beside')
     check.holds('crates are proved side by side', status == 0, said)
 
 
 def try_library(check, room):
     """A library and those below it, instead of the program."""
     clone = Clone(room, 'library')
-    done = subprocess.run([os.path.join(clone.top, 'build'), '--library', 'high', '--jobs', '1'], env=clone.environment(),
-                          stdin=subprocess.DEVNULL, stdout=subprocess.PIPE, stderr=subprocess.PIPE, timeout=60)
-    said = done.stderr.decode()
-    check.holds('a line for each crate of a library', (done.returncode, done.stdout) == (0, b'')
-                and 'proving 2 crates' in said and proved_in(said) == [1, 2], said)
-    with open(os.path.join(clone.top, 'words'), encoding='utf-8') as words:
-        check.equal('further words go to rt lib', 'lib --jobs 1\nlib --jobs 1\n', words.read())
-    check.holds('no program', not os.path.exists(os.path.join(clone.out, 'fio2070')))
+    text, said, status = clone.call('build', '--library', 'high', '--jobs', '1')
+    check.holds('a line for each crate of a library', (text, status) == ('', 0) and 'proving 2 crates' in said and proved_in(said) == [1, 2], said)
+    check.equal('further words go to rt lib', 'lib --jobs 1\nlib --jobs 1\n', clone.read('words'))
+    check.holds('no program', not clone.has_program())
 
 
 def try_faults(check, room):
     """What is missing or fails is said in one line, with status 125 and nothing on standard output."""
     clone = Clone(room, 'faults')
     text, said, status = clone.run('show', FAILS='high')
-    check.holds('a crate that is not proved', (text, status) == ('', 125)
-          and one_line(said.splitlines(True)[-1], 'high', os.path.join('high', 'out', 'build.log')), said)
-    check.holds('no program', not os.path.exists(os.path.join(clone.out, 'fio2070')))
+    check.holds('a crate that is not proved', (text, status) == ('', 125) and one_line(said.splitlines(True)[-1], 'high', 'high/out/build.log'), said)
+    check.holds('no program', not clone.has_program())
     check.holds('no temporary file after a failure', clone.is_tidy())
     text, said, status = clone.run('show', TMPDIR=os.path.join(room, 'nowhere'))
     check.holds('a bad TMPDIR', (text, status) == ('', 125) and one_line(said, 'TMPDIR', 'nowhere'), said)
@@ -157,7 +151,7 @@ def try_faults(check, room):
     os.mkdir(tools)
     for name in ('sh', 'env', 'readlink', 'dirname', 'find', 'head'):
         os.symlink(os.path.realpath(shutil.which(name)), os.path.join(tools, name))
-    os.symlink(os.path.join(clone.bin, 'rt'), os.path.join(tools, 'rt'))
+    os.symlink(os.path.join(clone.top, 'bin/rt'), os.path.join(tools, 'rt'))
     text, said, status = clone.run('show', PATH=tools)
     check.holds('no python3', (text, status) == ('', 125) and one_line(said, 'no command python3'), said)
     os.remove(os.path.join(tools, 'rt'))
@@ -189,27 +183,25 @@ def try_reading_only(check, room):
     text, said, status = clone.run('show', before=before)
     for folder, _, _ in os.walk(clone.top):
         os.chmod(folder, 0o755)
-    check.holds('a clone that can only be read', (text, status) == ('', 125)
-          and one_line(said, 'cannot be written to'), said)
+    check.holds('a clone that can only be read', (text, status) == ('', 125) and one_line(said, 'cannot be written to'), said)
 
 
 def try_interrupt(check, room):
     """Ctrl-C, and a signal to end: after both, the build leaves no temporary file and nothing that still runs."""
     for number in (signal.SIGINT, signal.SIGTERM):
         clone = Clone(room, 'interrupt%d' % number)
-        with subprocess.Popen([os.path.join(clone.top, 'fio2070'), 'show'], env=clone.environment(LINGERS='low'),
-                              stdin=subprocess.DEVNULL, stdout=subprocess.PIPE, stderr=subprocess.PIPE,
-                              start_new_session=True) as done:
-            log = clone.log('low')
+        log = os.path.join(clone.top, 'crates/low/out/build.log')
+        with subprocess.Popen([os.path.join(clone.top, 'fio2070'), 'show'], env=clone.environment(LINGERS='low'), text=True,
+                              stdin=subprocess.DEVNULL, stdout=subprocess.PIPE, stderr=subprocess.PIPE, start_new_session=True) as done:
             end = time.monotonic() + 20
             while time.monotonic() < end and not (os.path.exists(log) and os.path.getsize(log)):
                 time.sleep(0.05)
             os.killpg(done.pid, number)
             text, said = done.communicate(timeout=20)
-        check.holds('an interrupt', done.returncode != 0 and text == b'' and 'Traceback' not in said.decode(), said.decode())
+        check.holds('an interrupt', done.returncode != 0 and text == '' and 'Traceback' not in said, said)
         time.sleep(0.2)
         check.holds('no temporary file after an interrupt', clone.is_tidy(), str(os.listdir(clone.temporary)))
-        check.holds('no program after an interrupt', not os.path.exists(os.path.join(clone.out, 'fio2070')))
+        check.holds('no program after an interrupt', not clone.has_program())
 
 
 # In the place of the program of dist/, and of one that a compiler makes.
@@ -229,20 +221,10 @@ class Choice(Clone):
     def __init__(self, room, name):
         super().__init__(room, name)
         self.write('crates/low/specs/Low.antt', 'one\n')
-        self.write('crates/high/src/lib.rt', '')
+        for file in ('crates/high/src/lib.rt', 'dist/fio2070.c', 'dist/fio2070.h', 'tools/without-kit/main.c'):
+            self.write(file, '')
         self.write('dist/fio2070-x86_64-linux-gnu', KEPT, 0o755)
-        self.write('dist/fio2070.c', '')
-        self.write('dist/fio2070.h', '')
-        self.write('tools/without-kit/main.c', '')
-        listed = subprocess.run([os.path.join(self.top, 'packaging/program'), '--sources'], stdout=subprocess.PIPE, check=True)
-        self.write('dist/fio2070-x86_64-linux-gnu.sources', listed.stdout.decode())
-
-    def write(self, name, text, mode=0o644):
-        path = os.path.join(self.top, name)
-        os.makedirs(os.path.dirname(path), exist_ok=True)
-        with open(path, 'w', encoding='ascii') as file:
-            file.write(text)
-        os.chmod(path, mode)
+        self.write('dist/fio2070-x86_64-linux-gnu.sources', self.call('packaging/program', '--sources')[0])
 
     def path(self, **commands):
         """A PATH with the commands of coreutils, findutils, sed and diffutils that the choice needs, and with these."""
@@ -268,9 +250,8 @@ def try_choice(check, room):
     clone = Choice(room, 'choice')
     alone, kit = {'PATH': clone.path()}, {'PATH': clone.path(rt=RT) + os.pathsep + os.environ.get('PATH', os.defpath)}
     for words in (alone, kit):
-        text, said, status = clone.run('show', **words)
-        check.equal('the program of dist/ runs at once', ('kept show\n', '', 0), (text, said, status))
-        text, said, status = clone.run('--version', **words)
+        check.equal('the program of dist/ runs at once', ('kept show\n', '', 0), clone.run('show', **words))
+        text, said, _ = clone.run('--version', **words)
         check.equal('--version says which program it is', ('fio2070 9.0.0\n', True, 1), (text, OF_THESE in said, said.count('\n')))
     clone.write('crates/other/src/other.rt', 'a crate that the program does not use\n')
     clone.write('crates/low/proofs/Low.antt', 'a proof\n')
@@ -286,7 +267,7 @@ def try_choice(check, room):
     check.equal('changed sources and the kit', ('run show\n', 0, True), (text, status, 'proving 4 crates' in said))
     check.holds('--version says that it was built', BUILT in clone.run('--version', **alone)[1])
     os.remove(os.path.join(clone.top, 'crates/high/src/added.rt'))
-    subprocess.run([os.path.join(clone.top, 'build')], env=clone.environment(), stderr=subprocess.DEVNULL, check=True)
+    clone.call('build')
     check.equal('what was built goes before dist/', ('run show\n', '', 0), clone.run('show', **alone))
 
 
@@ -297,11 +278,11 @@ def try_elsewhere(check, room):
         clone = Choice(room, name)
         clone.write('dist/fio2070-x86_64-linux-gnu', kept, 0o755)
         path = clone.path(cc=COMPILER, **commands)
-        choice_of = clone.run('show', PATH=path)
-        check.equal(name, ('compiled show\n', 0, 1), (choice_of[0], choice_of[2], choice_of[1].count(NOT_HERE)))
+        text, said, status = clone.run('show', PATH=path)
+        check.equal(name, ('compiled show\n', 0, 1), (text, status, said.count(NOT_HERE)))
         check.equal(name + ', a second time', ('compiled show\n', '', 0), clone.run('show', PATH=path))
-        done = subprocess.run([os.path.join(clone.top, 'packaging/program'), '--proved'], env=dict(clone.environment(), PATH=path), capture_output=True, text=True, check=False)
-        check.equal(name + ', asked for a proved one', ('', 2, True), (done.stdout, done.returncode, NOT_HERE in done.stderr))
+        text, said, status = clone.call('packaging/program', '--proved', PATH=path)
+        check.equal(name + ', asked for a proved one', ('', 2, True), (text, status, NOT_HERE in said))
 
 
 def main():
@@ -309,14 +290,8 @@ def main():
     # A shell that runs this in the background has it ignore Ctrl-C, and the builds would too.
     signal.signal(signal.SIGINT, signal.default_int_handler)
     with tempfile.TemporaryDirectory() as room:
-        try_build(check, room)
-        try_side_by_side(check, room)
-        try_library(check, room)
-        try_faults(check, room)
-        try_reading_only(check, room)
-        try_interrupt(check, room)
-        try_choice(check, room)
-        try_elsewhere(check, room)
+        for part in (try_build, try_side_by_side, try_library, try_faults, try_reading_only, try_interrupt, try_choice, try_elsewhere):
+            part(check, room)
     check.end()
 
 
