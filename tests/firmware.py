@@ -8,6 +8,7 @@ polled; and planted faults, each of which is found. Last line: `N passed, M fail
 import contextlib
 import fcntl
 import functools
+import glob
 import itertools
 import os
 import pty
@@ -29,9 +30,10 @@ sys.dont_write_bytecode = True
 
 from support import cortex, fiolog, line_model
 from support.check import Check
+from support.pages import text_of
 from support.tables import TOP
 
-EXAMPLES = os.path.join(TOP, 'examples')
+EXAMPLES, LIBRARY = os.path.join(TOP, 'examples'), os.path.join(TOP, 'dist')
 sys.path[:0] = [os.path.join(EXAMPLES, 'line')]
 
 import board
@@ -84,17 +86,9 @@ def fault_of(*words, **settings):
     return (done.stdout + done.stderr)[-600:] or 'status %d' % done.returncode if done.returncode else None
 
 
-@functools.cache
-def library():
-    """The folder of the portable library."""
-    folder = os.path.join(TOP, 'dist')
-    if os.path.exists(os.path.join(folder, 'fio2070.c')):
-        return folder
-    folder = os.path.join(room, 'portable')
-    failed = fault_of('make', '-s', '-C', TOP, 'portable', 'portable=' + folder)
-    if failed:
-        raise cortex.Failed(failed)
-    return folder
+def finds_nothing(find, *given):
+    """A planted fault: why a function of these arguments should find one, if it does not."""
+    return None if find(*given) else 'it finds nothing'
 
 
 def change(path, old, new):
@@ -118,34 +112,33 @@ def built(*changes):
             shutil.copy2(os.path.join(built(), name), made)
     for name, old, new in changes:
         change(next(os.path.join(at, name) for at, _, names in os.walk(examples) if name in names), old, new)
-    failed = fault_of('make', '-s', '-C', examples, 'all', 'OUT=' + made, 'LIBRARY=' + library(), 'CFLAGS=-O1 ' + (SANITIZED if check.given.all else ''))
-    if failed:
-        raise cortex.Failed(failed)
+    cortex.run('make', '-s', '-C', examples, 'all', 'OUT=' + made, 'LIBRARY=' + LIBRARY, 'CFLAGS=-O1 ' + (SANITIZED if check.given.all else ''))
     return made
 
 
 # ---- Building ----
 
-def sources(*folders):
-    return [os.path.join(EXAMPLES, folder, name) for folder in folders
-            for name in sorted(os.listdir(os.path.join(EXAMPLES, folder))) if name.endswith('.c')]
+def sources(folder):
+    return sorted(glob.glob(os.path.join(EXAMPLES, folder, '*.c')))
 
 
 def takes():
     """The flash and the RAM of the firmware are those of the page; another compiler may take a tenth more or less."""
-    with open(os.path.join(TOP, 'docs', 'FIRMWARE.md'), encoding='utf-8') as file:
-        shown = re.search(r'([\d,]+) octets of flash and ([\d,]+) of RAM', file.read())
+    shown = re.search(r'([\d,]+) octets of flash and ([\d,]+) of RAM', text_of('docs/FIRMWARE.md'))
     code, data, empty = map(int, run('arm-none-eabi-size', os.path.join(built(), 'firmware.elf')).stdout.splitlines()[1].split()[:3])
     pairs = [(int(shown[1].replace(',', '')), code + data), (int(shown[2].replace(',', '')), data + empty)]
     return None if all(abs(one - other) <= other // 10 for one, other in pairs) else pairs
 
 
-def warns(compiler, options, *folders):
-    """Compiles each file by itself. Returns what the compiler warns about."""
-    include = ['-I', library()]
+def warns(compiler, options, folder):
+    """Compiles each file of a folder by itself. Returns what the compiler warns about."""
     made = os.path.join(room, 'warns.o')
-    return next(filter(None, (fault_of(compiler, *STRICT, *options, *include, '-c', path, '-o', made)
-                              for path in sources(*folders))), None)
+    return next(filter(None, (fault_of(compiler, *STRICT, *options, '-I', LIBRARY, '-c', path, '-o', made) for path in sources(folder))), None)
+
+
+def compile_here(program, *words):
+    """Compiles a program of this machine."""
+    cortex.run('cc', *STRICT, '-g', '-O1', '-fsanitize=address,undefined', *words, '-o', program)
 
 
 # ---- A device ----
@@ -153,11 +146,8 @@ def warns(compiler, options, *folders):
 def marked_line():
     """A controller loses the octets that a serial device marks: FF 00 and an octet; FF FF is an FF."""
     program, dice = os.path.join(room, 'marked'), random.Random(1)
-    failed = fault_of('cc', *STRICT, '-g', '-fsanitize=address,undefined', '-I', library(), '-I', os.path.join(EXAMPLES, 'controller'), '-DFIO2070_NO_LOG',
-                      *(os.path.join(TOP, name) for name in ('examples/controller/line.c', 'tests/support/c/marked_line.c')),
-                      os.path.join(library(), 'fio2070.c'), '-o', program)
-    if failed:
-        return failed
+    compile_here(program, '-I', LIBRARY, '-I', os.path.join(EXAMPLES, 'controller'), '-DFIO2070_NO_LOG',
+                 *(os.path.join(TOP, name) for name in ('examples/controller/line.c', 'tests/support/c/marked_line.c', 'dist/fio2070.c')))
     line = [octet for _ in range(3000) for octet in line_model.line_of(bytes(dice.choices((0, 0x36, 0x7d, 0x7e, 0xff), k=8)))]
     line = [line_model.LOST if dice.random() < 0.02 else octet for octet in line]
     marks = {line_model.LOST: b'\xff\x00\x55', 0xff: b'\xff\xff'}
@@ -196,6 +186,34 @@ def is_missed(seconds, words, *changes):
     """A planted fault: the run says that it is wrong."""
     last, text = run_of(built(*changes), seconds, words)
     return None if 'WRONG: ' in last else text
+
+
+@contextlib.contextmanager
+def on_board(folder, image='firmware.elf'):
+    """The running firmware of a folder: the ports of its link and of its lines."""
+    ports = board.free_port(), board.free_port()
+    with board.running(board.board_words(os.path.join(folder, image), *ports), signal.SIGTERM, stderr=subprocess.DEVNULL):
+        yield ports
+
+
+@contextlib.contextmanager
+def toggled(lines):
+    """Moves all inputs meanwhile, again and again."""
+    ended = threading.Event()
+
+    def toggle():
+        levels = 0
+        while not ended.is_set():
+            lines.inputs(levels)
+            levels ^= 2 ** 64 - 1
+
+    mover = threading.Thread(target=toggle)
+    mover.start()
+    try:
+        yield
+    finally:
+        ended.set()
+        mover.join()
 
 
 # ---- What the firmware receives ----
@@ -292,9 +310,7 @@ def ring_loses(*changes):
     for name, old, new in (('uart.h', 'UART_RING = %d' % RING, 'UART_RING = %d' % SMALL_RING), *changes):
         change(os.path.join(folder, name), old, new)
     program = os.path.join(folder, 'ring')
-    failed = fault_of('cc', *STRICT, '-g', '-O1', '-fsanitize=address,undefined', *(os.path.join(folder, name) for name in ('uart.c', 'ring.c')), '-o', program)
-    if failed:
-        return failed
+    compile_here(program, *(os.path.join(folder, name) for name in ('uart.c', 'ring.c')))
     done = list(events())
     words = run(program, input=''.join('%s %s\n' % (kind, '' if octet is None else '%x' % octet) for kind, octet in done)).stdout.split()
     held, lost, has_loss, due = 0, 0, False, []
@@ -419,18 +435,14 @@ def held_rows():
 def late_object():
     """The portable library for this processor."""
     made = os.path.join(room, 'late.o')
-    failed = fault_of(LATE[0], '-std=c99', '-O1', '-DFIO2070_NO_LOG', '-c', os.path.join(library(), 'fio2070.c'), '-o', made)
-    if failed:
-        raise cortex.Failed(failed)
+    cortex.run(LATE[0], '-std=c99', '-O1', '-DFIO2070_NO_LOG', '-c', os.path.join(LIBRARY, 'fio2070.c'), '-o', made)
     return made
 
 
 def late(name, *paths):
     """Builds a program whose clock soon needs more than 31 bits; undefined behaviour ends it."""
     made = os.path.join(room, name)
-    failed = fault_of(*LATE, '-I', library(), *paths, late_object(), '-o', made)
-    if failed:
-        raise cortex.Failed(failed)
+    cortex.run(*LATE, '-I', LIBRARY, *paths, late_object(), '-o', made)
     return made
 
 
@@ -503,14 +515,6 @@ def late_rows():
 
 # ---- Polls that race scans ----
 
-def toggle(lines, ended):
-    """Moves all inputs, again and again."""
-    levels = 0
-    while not ended.is_set():
-        lines.inputs(levels)
-        levels ^= 2 ** 64 - 1
-
-
 def wrong_entry(link, seconds):
     """Polls without a pause for at most this time. Returns the first wrong entry: it has the same state as the entry before
     of its input. If there is none, returns nothing, or why there is nothing to see."""
@@ -529,39 +533,31 @@ def wrong_entry(link, seconds):
 
 def races(seconds, *changes):
     """The first wrong entry if all inputs move in each scan and the link is polled without a pause."""
-    ports, folder = (board.free_port(), board.free_port()), built(*changes)
-    with board.running(board.board_words(os.path.join(folder, 'firmware.elf'), *ports), signal.SIGTERM, stderr=subprocess.DEVNULL):
+    with on_board(built(*changes)) as ports, socket.create_connection(('127.0.0.1', ports[0]), 20) as link:
         lines = board.Lines(ports[1])
-        with socket.create_connection(('127.0.0.1', ports[0]), 20) as link:
-            link.setsockopt(socket.IPPROTO_TCP, socket.TCP_NODELAY, 1)
-            asked(link, bytes([51, 64]) + b''.join(bytes([one, 1, 1]) for one in range(64)))
-            ended = threading.Event()
-            mover = threading.Thread(target=toggle, args=(lines, ended))
-            mover.start()
-            wrong = wrong_entry(link, seconds)
-            ended.set()
-            mover.join()
-    return wrong
+        link.setsockopt(socket.IPPROTO_TCP, socket.TCP_NODELAY, 1)
+        asked(link, bytes([51, 64]) + b''.join(bytes([one, 1, 1]) for one in range(64)))
+        with toggled(lines):
+            return wrong_entry(link, seconds)
 
 
 # ---- The tester ----
 
-def tested(folder, image, events, options, *words):
+def tested(folder, image, events, *words):
     """What the tester says about the running firmware."""
-    link, lines = board.free_port(), board.free_port()
-    with board.running(board.board_words(os.path.join(folder, image), link, lines), signal.SIGTERM, stderr=subprocess.DEVNULL):
+    with on_board(folder, image) as (_, lines):
         board.Lines(lines).close()
-        return run(TESTER, *options, '--socket', '127.0.0.1:%d' % lines, *words, str(events), timeout=280)
+        return run(TESTER, '--socket', '127.0.0.1:%d' % lines, *words, str(events), timeout=280)
 
 
 def differs(image, events, *options):
-    done = tested(built(), image, events, options)
+    done = tested(built(), image, events, *options)
     return None if done.returncode == 0 else done.stdout[-600:] + done.stderr[-300:]
 
 
 def is_not_found(events, *changes):
     """A planted fault: the tester finds a difference."""
-    done = tested(built(*changes), 'firmware.elf', events, ['--own-clock'], '--first')
+    done = tested(built(*changes), 'firmware.elf', events, '--own-clock', '--first')
     return None if done.returncode == 1 and '# the first rule that this breaks: ' in done.stdout else (done.returncode, done.stdout[-300:], done.stderr[-300:])
 
 
@@ -578,24 +574,16 @@ def tester_rows():
 
 def recipe(folder, port, seconds):
     """The command of tools/conformance/README.md, for the controller of a folder and a module at this port."""
-    with open(os.path.join(TOP, 'tools/conformance/README.md'), encoding='utf-8') as page:
-        command = re.search("(?m)^    fiolog live (.*) --exec '(.*)'$", page.read())
+    command = re.search("(?m)^    fiolog live (.*) --exec '(.*)'$", text_of('tools/conformance/README.md'))
     controller = re.sub('examples/out', folder, re.sub('--seconds [0-9]+', '--seconds %d' % seconds, command[2]))
     return ['live', *command[1].split(), '--exec', re.sub('[0-9.]+:2070', '127.0.0.1:%d' % port, controller)]
 
 
 def judged(seconds, *changes):
     """What `fiolog live` says of a running firmware whose inputs move, by the recipe."""
-    link, lines, folder, ended = board.free_port(), board.free_port(), built(*changes), threading.Event()
-    with board.running(board.board_words(os.path.join(folder, 'firmware.elf'), link, lines), signal.SIGTERM, stderr=subprocess.DEVNULL):
-        mover = threading.Thread(target=toggle, args=(board.Lines(lines), ended))
-        mover.start()
-        try:
-            return subprocess.run([os.path.join(TOP, 'tools/fiolog'), *recipe(folder, link, seconds)], capture_output=True, text=True,
-                                  timeout=120, cwd=folder, env=fiolog.ENVIRONMENT)
-        finally:
-            ended.set()
-            mover.join()
+    folder = built(*changes)
+    with on_board(folder) as (link, lines), toggled(board.Lines(lines)):
+        return run(os.path.join(TOP, 'tools/fiolog'), *recipe(folder, link, seconds), timeout=120, cwd=folder, env=fiolog.ENVIRONMENT)
 
 
 def recipe_rows():
@@ -614,25 +602,23 @@ def recipe_rows():
 def main():
     check.fault('a serial device that marks errors', marked_line)
     check.fault('a ring keeps the place of what it loses', ring_loses)
-    check.fault('found: a ring without a mark after an overrun', lambda: None if ring_loses(NOT_MARKED) else 'it is right')
-    check.fault('found: an overrun that is not cleared', lambda: None if ring_loses(NOT_CLEARED) else 'it is right')
+    check.fault('found: a ring without a mark after an overrun', finds_nothing, ring_loses, NOT_MARKED)
+    check.fault('found: an overrun that is not cleared', finds_nothing, ring_loses, NOT_CLEARED)
     if cortex.missing():
         check.skip('firmware and controller', cortex.missing())
         check.end()
-    for compiler, options in (('gcc', []), ('clang', [])):
+    for compiler, options, folder in (('gcc', [], 'controller'), ('clang', [], 'controller'), ('arm-none-eabi-gcc', CORTEX, 'firmware'),
+                                      ('clang', [*NEWLIB, *CORTEX], 'firmware')):
         if shutil.which(compiler):
-            check.fault('no warning by %s: controller' % compiler, warns, compiler, options, 'controller')
-    check.fault('no warning by arm-none-eabi-gcc: firmware', warns, 'arm-none-eabi-gcc', CORTEX, 'firmware')
-    if shutil.which('clang'):
-        check.fault('no warning by clang: firmware', warns, 'clang', [*NEWLIB, *CORTEX], 'firmware')
+            check.fault('no warning by %s: %s' % (compiler, folder), warns, compiler, options, folder)
     check.fault('what the firmware takes, as the page says', takes)
     check.fault('a short run', is_wrong, 2, [])
     check.fault('frames of other stations, and a flood', stations_are_mixed)
     check.fault('a ring that is full within a frame', ring_is_wrong)
     check.fault('an item is read before its place is free', frees_early)
     if check.whole('found: a loss that is not reported, a place that is freed first'):
-        check.fault('found: a loss that is not reported', lambda: None if ring_is_wrong(NOT_REPORTED) else 'it is right')
-        check.fault('found: a place that is freed first', lambda: None if frees_early(FREED_FIRST) else 'it is right')
+        check.fault('found: a loss that is not reported', finds_nothing, ring_is_wrong, NOT_REPORTED)
+        check.fault('found: a place that is freed first', finds_nothing, frees_early, FREED_FIRST)
     held_rows()
     late_rows()
     if check.wants('the recipe for a module that is only polled') or check.wants('found: a state that is always 1'):
@@ -647,7 +633,7 @@ def main():
         check.fault('found: a block that is written twice', is_missed, 6, alone, ENDS_BETWEEN, NEVER_CUT)
         check.fault('found: a number that begins anew', is_missed, 6, restart, NUMBER_ANEW)
         check.fault('polls that race scans', races, 10)
-        check.fault('found: scans that are not held off', lambda: None if races(120, NO_HOLD) else 'no entry is wrong')
+        check.fault('found: scans that are not held off', finds_nothing, races, 120, NO_HOLD)
         check.fault('found: a restart that is not seen', is_missed, 6, ['--restart', 'module'], UNSEEN_RESTART)
         tester_rows()
     check.end()
