@@ -14,7 +14,8 @@ import sys
 sys.dont_write_bytecode = True
 
 from support.check import Check
-from support.messages import LENGTHS
+from support.frames import random_frame
+from support.pages import text_of
 from support.tables import MOST_WAITING, TOP, can_simulate, program, program_of
 
 TOOLS = ('show', 'simulate', 'check', 'record') if can_simulate() else ('show', 'check', 'record')
@@ -23,8 +24,7 @@ SECONDS = 10
 
 def rules(head, words=''):
     """The rules in a table of docs/FORMATS.md with this head, whose rows have these words."""
-    with open(os.path.join(TOP, 'docs', 'FORMATS.md'), encoding='utf-8') as file:
-        table = file.read().partition('| RULE | %s |\n' % head)[2].partition('\n\n')[0]
+    table = text_of('docs/FORMATS.md').partition('| RULE | %s |\n' % head)[2].partition('\n\n')[0]
     return re.findall(r'^\| `(\w+)` \|.*%s' % words, table, re.M)
 
 
@@ -142,29 +142,9 @@ class Inputs:
                 with open(os.path.join(folder, name), 'rb') as file:
                     self.examples[tool].append(file.read())
 
-    def octets(self, count):
-        return bytes(self.random.randrange(256) for _ in range(count))
-
-    def frame(self):
-        """Octets of a message, right or nearly right: its length or its count may be wrong."""
-        code = self.random.choice(list(range(47, 62)) + list(range(175, 190)) + [51, 54, 182, 182])
-        if code in (51, 182):
-            count = self.random.choice([0, 1, 2, 3, self.random.randrange(256)])
-            parts = count if count < 4 or self.random.random() < 0.1 else self.random.randrange(4)
-            body = bytes([count]) + self.octets(3 * parts)
-            if code == 182:
-                body = self.octets(1) + body + bytes([self.random.choice([0, 1, 2, 4, 8, 12, 255])]) + self.octets(4)
-        else:
-            body = self.octets(LENGTHS.get(code, self.random.randrange(4)))
-        frame = bytes([code]) + body
-        change = self.random.random()
-        if change < 0.1:
-            return frame[:self.random.randrange(len(frame) + 1)]
-        return frame + self.octets(1) if change < 0.2 else frame
-
     def digits(self):
-        """A frame in hexadecimal digits, of either case."""
-        digits = self.frame().hex().encode()
+        """A message, right or nearly right, in hexadecimal digits of either case."""
+        digits = random_frame(self.random).hex().encode()
         return digits.upper() if self.random.random() < 0.1 else digits
 
     def event(self, sent):
@@ -173,7 +153,7 @@ class Inputs:
         if kind < 0.01:
             return self.random.choice([b'scan 00', b'to-cpu 0000000000', b'poll ', b'sync\r', b'to-module 0'])
         if kind < 0.25:
-            levels = [bytes([254]) + bytes([255]) * 7, bytes([255]) * 8, bytes(8), self.octets(8)]
+            levels = [bytes([254]) + bytes([255]) * 7, bytes([255]) * 8, bytes(8), self.random.randbytes(8)]
             return b'scan ' + self.random.choice(levels).hex().encode()
         if kind < 0.45:
             sent[0] += 1
@@ -230,7 +210,7 @@ class Inputs:
             other = self.random.randrange(len(text) + 1)
             mark = self.random.choice([b' ', b'\n', b'#', b'0', b'f', b'\r', b'\0', b'> ', b'< '])
             text = self.random.choice([
-                text[:place] + self.octets(1) + text[end:],
+                text[:place] + self.random.randbytes(1) + text[end:],
                 text[:place] + mark + text[place:],
                 text[:place] + text[end:],
                 text[:place] + text[place:end] + text[place:],
@@ -243,7 +223,7 @@ class Inputs:
         """An input of one of four kinds."""
         kind = self.random.randrange(8)
         if kind == 0:
-            return self.octets(self.random.randrange(300))
+            return self.random.randbytes(self.random.randrange(300))
         if kind == 1:
             letters = b'0123456789abcdefABCDEF><# \n\n\r-polsendcamturi'
             return bytes(self.random.choice(letters) for _ in range(self.random.randrange(300)))
