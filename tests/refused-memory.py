@@ -106,16 +106,11 @@ class Failed(Exception):
     """The library or a program could not be made."""
 
 
-def made(words, folder, what):
-    """Runs a command that makes something, and returns what it writes."""
-    try:
-        done = subprocess.run(words, cwd=folder, stdin=subprocess.DEVNULL, stdout=subprocess.PIPE,
-                              stderr=subprocess.PIPE)
-    except OSError as fault:
-        raise Failed('%s: %s' % (what, fault))
+def make(folder, *words):
+    """Runs a command that makes something."""
+    done = subprocess.run(words, cwd=folder, stdin=subprocess.DEVNULL, stdout=subprocess.PIPE, stderr=subprocess.STDOUT)
     if done.returncode != 0:
-        raise Failed('%s: %s' % (what, (done.stdout + done.stderr).decode('latin-1')))
-    return done.stdout.decode('latin-1')
+        raise Failed('%s: %s' % (words[0], done.stdout.decode('latin-1')))
 
 
 def is_stale(path):
@@ -180,7 +175,7 @@ def sweep_calls(sweep):
     """Refuses each growth of `fio_allocations`. The row that follows the refusal is that of the call which met it."""
     calls = os.path.join(ALLOCATIONS, 'out', 'fio_allocations')
     if is_stale(calls):
-        made(['rt', 'run'], ALLOCATIONS, 'fio_allocations')
+        make(ALLOCATIONS, 'rt', 'run')
     with open(os.path.join(ALLOCATIONS, 'stdout'), encoding='utf-8') as file:
         ample = file.read().splitlines()
     names = [row.partition(': ')[0] for row in ample]
@@ -269,14 +264,14 @@ def main():
         library = os.path.join(folder, 'refuse.so')
         compiler = shlex.split(os.environ.get('CC') or 'cc')
         try:
-            made(compiler + ['-shared', '-fPIC', '-O1', '-o', library, LIBRARY], folder, 'a C compiler')
+            make(folder, *compiler, '-shared', '-fPIC', '-O1', '-o', library, LIBRARY)
             sweep = Sweep(check, library)
             if CAN_PROVE:
                 sweep_calls(sweep)
             else:
                 check.skip('fio_allocations', 'no rt here (the Rattle kit)')
             sweep_program(sweep)
-        except (Failed, subprocess.TimeoutExpired) as fault:
+        except (Failed, OSError, subprocess.TimeoutExpired) as fault:
             check.equal('the library and the programs are made', None, str(fault))
             check.end()
     if check.given.counts:

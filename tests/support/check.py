@@ -4,15 +4,11 @@ only has the rows whose name has the word in it. A check has a quick form, which
 form, which `./test --all` runs: it calls `Check.whole` for the rows that only the whole form has."""
 
 import argparse
+import os
 import sys
 
 # The most characters of a text that a failing row prints.
 SHOWN = 600
-
-
-def first_difference(one, other):
-    """The index of the first character at which two texts differ."""
-    return next((place for place, (a, b) in enumerate(zip(one, other)) if a != b), min(len(one), len(other)))
 
 
 def shown(value, place=0):
@@ -65,7 +61,7 @@ class Check:
             return
         self.failed += 1
         both = isinstance(got, str) and isinstance(expected, str)
-        place = first_difference(expected, got) if both else 0
+        place = len(os.path.commonprefix([expected, got])) if both else 0
         print('FAILED %s\n  expected: %s\n  got: %s' % (name, shown(expected, place), shown(got, place)))
 
     def holds(self, name, condition, got=''):
