@@ -5,6 +5,8 @@ import glob
 import importlib.machinery
 import importlib.util
 import os
+import re
+import sys
 
 from support.tables import TOP
 
@@ -26,8 +28,15 @@ def documents():
     return files('*.md', 'docs/*.md', 'tools/*.md', 'tools/*/*.md', 'man/*.1')
 
 
+def section(page, heading):
+    """Returns the text of a page after a heading, up to the next one of its rank or of a higher one."""
+    rank, text = heading.split(' ')[0], text_of(page).partition('\n%s\n' % heading)[2]
+    return re.split(r'^#{1,%d} ' % len(rank), text, maxsplit=1, flags=re.M)[0]
+
+
 def tool(name):
     """Returns a script of tools/ as a module."""
+    sys.path.insert(0, os.path.join(TOP, 'tools'))
     loader = importlib.machinery.SourceFileLoader(name.replace('-', '_'), os.path.join(TOP, 'tools', name))
     module = importlib.util.module_from_spec(importlib.util.spec_from_loader(loader.name, loader))
     loader.exec_module(module)

@@ -16,7 +16,7 @@ and *Field*, and the brackets of "Every call, crate by crate", name laws, fields
 import re
 
 from support.functions import crate_names, functions_in, laws_in, sources_of
-from support.pages import files, text_of
+from support.pages import files, section, text_of
 
 LIST = r'`[^`]+`(?:, `[^`]+`)*(?: and `[^`]+`)?'
 
@@ -120,11 +120,6 @@ class Judge:
         self.check.equal('%s: %s' % (where, what), None, fault)
 
 
-def section(text, heading):
-    """The text after a heading, up to the next one of its rank."""
-    return re.search(r'^## %s\n(.*?)(?=^## |\Z)' % re.escape(heading), text, re.M | re.S)[1]
-
-
 def claiming_sentences(text):
     """The sentences of a section that have to name a clause: the numbered ones, and those that say *proved*."""
     for paragraph in re.split(r'\n(?=\d+\. )|\n{2,}', text):
@@ -160,7 +155,7 @@ def check_itself(judge):
 def check_sentences(judge):
     """The sentences of README, and of "The ten promises" of docs/PROMISES.md, which has the same form: at least this many."""
     for name, heading, least in (('README.md', 'What is proved', 4), ('docs/PROMISES.md', 'The ten promises', 11)):
-        found = list(claiming_sentences(section(text_of(name), heading)))
+        found = list(claiming_sentences(section(name, '## ' + heading)))
         judge.holds(name, heading, None if len(found) >= least else 'has %d sentences' % len(found))
         for sentence in found:
             judge.holds(name, sentence, judge.fault_of_sentence(sentence))
@@ -170,7 +165,7 @@ def check_tables(judge):
     """The columns of clauses."""
     for name, heading in (('docs/ARCHITECTURE.md', 'What each layer promises to the one above'),
                           ('docs/PLANNING.md', 'The formulas and their clauses')):
-        for claims in cells(section(text_of(name), heading), 'Clause'):
+        for claims in cells(section(name, '## ' + heading), 'Clause'):
             judge.holds(name, claims, judge.fault_of(claims))
 
 
@@ -188,7 +183,7 @@ def check_promises(judge):
 def check_calls(judge):
     """The brackets of "Every call, crate by crate" name clauses, or calls, of the crate that the paragraph is about."""
     crate = None
-    for line in section(text_of('docs/PROMISES.md'), 'Every call, crate by crate').split('\n'):
+    for line in section('docs/PROMISES.md', '## Every call, crate by crate').split('\n'):
         heading = re.match(r'\*\*`(\w+)`\*\*', line)
         crate = heading[1] if heading else crate
         public = [one for one in judge.contracts.get(crate, ()) if one.is_public]

@@ -5,7 +5,7 @@ import re
 import subprocess
 
 from support import tables
-from support.pages import text_of
+from support.pages import section, text_of
 
 TOOLS = ('show', 'simulate', 'check', 'record')
 
@@ -13,12 +13,6 @@ TOOLS = ('show', 'simulate', 'check', 'record')
 def help_of(*words):
     """Returns what the program writes with these words and `--help`."""
     return subprocess.run([tables.program(), *words, '--help'], stdout=subprocess.PIPE).stdout.decode()
-
-
-def section(page, heading):
-    """Returns the text after a heading, up to the next one of its rank or of a higher one."""
-    rank, text = heading.split(' ')[0], text_of(page).partition('\n%s\n' % heading)[2]
-    return re.split(r'^#{1,%d} ' % len(rank), text, maxsplit=1, flags=re.M)[0]
 
 
 def table(text, heading):
