@@ -1,4 +1,4 @@
-#!/usr/bin/env python3
+#!/usr/bin/env -S python3 -B
 """What `./fio2070` says while it builds the program, and if it cannot: what it will prove, a line for each crate, and one clear
 line and status 125 for each thing that is missing. Crates that do not wait for each other are proved side by side. A short script
 takes the place of `rt`, in a repository of five crates. And which program `./fio2070` runs: the one that was built here, that of
@@ -9,11 +9,8 @@ import re
 import shutil
 import signal
 import subprocess
-import sys
 import tempfile
 import time
-
-sys.dont_write_bytecode = True
 
 from support.check import Check
 from support.tables import TOP

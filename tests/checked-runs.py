@@ -1,4 +1,4 @@
-#!/usr/bin/env python3
+#!/usr/bin/env -S python3 -B
 """`check` on transcripts of `simulate`: runs the two ends by scripts, writes down what the CPU's end sent and heard, and checks
 that transcript. It is good, since the bus repeats no frame and delivers an answer before the next command or never, the module
 is not restarted, and the CPU's end never runs out of memory. Last line: `N passed, M failed`."""
@@ -6,10 +6,7 @@ is not restarted, and the CPU's end never runs out of memory. Last line: `N pass
 import os
 import random
 import subprocess
-import sys
 import tempfile
-
-sys.dont_write_bytecode = True
 
 from support.check import Check
 from support.tables import TOP, output_of

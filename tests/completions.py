@@ -1,4 +1,4 @@
-#!/usr/bin/env python3
+#!/usr/bin/env -S python3 -B
 """Types lines with a tab in them into bash, zsh and fish, each on a terminal of its own, and compares what the completed
 command prints. The completions are those that `make install` puts into a new folder. A shell that is not installed is
 skipped, as a line says. Last line: `N passed, M failed`."""
@@ -10,11 +10,8 @@ import select
 import shutil
 import signal
 import subprocess
-import sys
 import tempfile
 import time
-
-sys.dont_write_bytecode = True
 
 from support.check import Check
 from support.tables import TOP, can_simulate

@@ -1,12 +1,9 @@
-#!/usr/bin/env python3
+#!/usr/bin/env -S python3 -B
 """`simulate` on runs of both ends: losses, repeats, overflows, many rounds, loads of the counter, restarts, limits, and
 random filters and samples of all inputs. Each whole report is computed here, from the levels of the scans alone, and the
 record is compared with the transitions that the scans make. Last line: `N passed, M failed`."""
 
 import random
-import sys
-
-sys.dont_write_bytecode = True
 
 from support.check import Check
 from support.tables import MOST_WAITING, row

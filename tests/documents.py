@@ -1,4 +1,4 @@
-#!/usr/bin/env python3
+#!/usr/bin/env -S python3 -B
 """Runs each command of the blocks marked `console` in the documents, of the examples of the manual page and of those of
 `--help`, and compares what it prints.
 
@@ -10,10 +10,7 @@ skipped. Last line: `N passed, M failed`."""
 import os
 import shutil
 import subprocess
-import sys
 import tempfile
-
-sys.dont_write_bytecode = True
 
 from support.check import Check
 from support.console import row

@@ -1,4 +1,4 @@
-#!/usr/bin/env python3
+#!/usr/bin/env -S python3 -B
 """The two whole ends of examples/: builds the firmware and the controller, and runs them against each other with
 examples/line/run.py, on the loopback alone; a controller whose line takes no more, and one for 32 bits, after 24 days and with
 a table of 3 GB. With `--all` on a line that loses, damages, repeats and delays frames, on one that is so bad that the module's
@@ -25,8 +25,6 @@ import termios
 import threading
 import time
 import tty
-
-sys.dont_write_bytecode = True
 
 from support import cortex, fiolog, line_model
 from support.check import Check

@@ -1,4 +1,4 @@
-#!/usr/bin/env python3
+#!/usr/bin/env -S python3 -B
 """Computes the table of docs/PLANNING.md again from its formulas. Computes for the densest traffic of each row, by counts
 alone, that it reaches each bound, and that one scan more loses a transition; and for small settings, by a search of all
 states, that the bounds are exact. Runs the densest traffic by `simulate`: what arrives at the end of each clean round, how
@@ -9,10 +9,7 @@ page asks for, and one slot less. Last line: `N passed, M failed`."""
 import itertools
 import random
 import re
-import sys
 from typing import NamedTuple
-
-sys.dont_write_bytecode = True
 
 from support.check import Check
 from support.fiolog import use_library

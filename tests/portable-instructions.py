@@ -1,4 +1,4 @@
-#!/usr/bin/env python3
+#!/usr/bin/env -S python3 -B
 """Compares the translator of the portable library (tools/portable) with an interpreter: each instruction that it takes is
 run on numbers at the edges of its range, by `wasm-interp` of the Debian package wabt and as translated C, and each other
 instruction is refused. With `--all` also with sanitizers; and translators with a wrong rule that no frame reveals are found.
@@ -10,8 +10,6 @@ import shutil
 import subprocess
 import sys
 import tempfile
-
-sys.dont_write_bytecode = True
 
 from support import instructions as cases
 from support.check import Check

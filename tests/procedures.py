@@ -1,4 +1,4 @@
-#!/usr/bin/env python3
+#!/usr/bin/env -S python3 -B
 """Follows the lists of docs/ARCHITECTURE.md, *Where to make which change*. The files that it names exist. A rule of
 transcripts, a rule on content, a subcommand of `fiolog` and a message are added on a copy as far as the generators read
 them: these write the files that the list says, and no others. Each file that the list has by hand names the neighbour of
@@ -10,11 +10,8 @@ import os
 import re
 import shutil
 import subprocess
-import sys
 import tempfile
 from typing import Callable, NamedTuple
-
-sys.dont_write_bytecode = True
 
 from support.check import Check
 from support.pages import text_of

@@ -1,4 +1,4 @@
-#!/usr/bin/env python3
+#!/usr/bin/env -S python3 -B
 """Runs the built program on random octets, random lines and mutated texts, 500 inputs for each tool and with `--all` 6,000,
 from a fixed seed: each run ends within ten seconds with status 0 or 1, writes only lines of the known forms, and its status
 says whether they report a fault. `tests/random-inputs.py SEED COUNT` takes another seed and another number of inputs for
@@ -9,9 +9,6 @@ import os
 import random
 import re
 import subprocess
-import sys
-
-sys.dont_write_bytecode = True
 
 from support.check import Check
 from support.frames import random_frame

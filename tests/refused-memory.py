@@ -1,4 +1,4 @@
-#!/usr/bin/env python3
+#!/usr/bin/env -S python3 -B
 """Refuses each growth of memory in turn: to `fio_allocations`, which makes calls that can run out of memory once each and
 reports their answers, and to the program, which makes the others, at some inputs. Growth 1 is refused to a first run,
 growth 2 to a second one, until a run meets no refusal. The number of growths of each call and of each input, and how many
@@ -12,10 +12,7 @@ import os
 import re
 import shlex
 import subprocess
-import sys
 import tempfile
-
-sys.dont_write_bytecode = True
 
 from support.check import Check
 from support.tables import CAN_PROVE, TOP, program

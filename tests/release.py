@@ -1,14 +1,11 @@
-#!/usr/bin/env python3
+#!/usr/bin/env -S python3 -B
 """Makes the packages of `make release`, compares their checksums, and with `--all` installs and uses each in a new Debian
 system without the kit, the repository and a network. Last line: `N passed, M failed`."""
 
 import os
 import shutil
 import subprocess
-import sys
 import tempfile
-
-sys.dont_write_bytecode = True
 
 from support import roots
 from support.check import Check

@@ -1,4 +1,4 @@
-#!/usr/bin/env python3
+#!/usr/bin/env -S python3 -B
 """Runs the examples with which the crates' `src/lib.rt` begin, the blocks marked `rust`, each as the body of a test of its
 own with a runtime `rt`. It builds the crates anew in a folder of its own and proves nothing. Last line: `N passed, M
 failed`."""
@@ -8,10 +8,7 @@ import os
 import re
 import shutil
 import subprocess
-import sys
 import tempfile
-
-sys.dont_write_bytecode = True
 
 from support.check import Check
 from support.tables import TOP

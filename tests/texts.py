@@ -1,12 +1,8 @@
-#!/usr/bin/env python3
+#!/usr/bin/env -S python3 -B
 """Compares the texts of the repository with each other, with the sources and with the program: the files that documents
 name, the clauses that they claim, the glossary, the names of DEFINITIONS, the table of messages, the help texts, the
-pictures, the version, the wrong bodies, as texts, and the clauses that have none; also what `-k` does. Each module of tests/support/texts says
-what it looks for. Last line: `N passed, M failed`."""
-
-import sys
-
-sys.dont_write_bytecode = True
+pictures, the version, the wrong bodies, as texts, and the clauses that have none; also what `-k` does. Each module of
+tests/support/texts says what it looks for. Last line: `N passed, M failed`."""
 
 from support.check import Check
 from support.texts import chosen, claims, clauses, definitions, help, links, messages, pictures, versions, wrong_bodies

@@ -4,7 +4,6 @@ FIO2070_ROOT names a folder with one that was made before, with only gcc, git, m
 import os
 import shutil
 import subprocess
-import tempfile
 import time
 
 MIRROR = 'http://deb.debian.org/debian'
