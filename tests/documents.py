@@ -13,7 +13,7 @@ import subprocess
 import tempfile
 
 from support.check import Check
-from support.console import row
+from support.console import commands, row
 from support.pages import documents, text_of
 from support.tables import CAN_PROVE, TOP
 
@@ -27,32 +27,21 @@ def is_runnable(check, path, number, line):
     return False
 
 
-def commands(check, path):
-    """Each command of a document, with its line and the lines that it should print."""
-    is_page = path.endswith('.1')
-    inside, found = False, []
+def block_lines(check, path):
+    """The lines in the blocks of a document that show commands, with their numbers."""
+    is_page, inside = path.endswith('.1'), False
     for number, line in enumerate(text_of(path).split('\n'), 1):
         if is_page:
             line = line.replace('\\e', '\\').replace('\\-', '-')
         if line == '.EX' or line == '.EE' if is_page else line.startswith('```'):
             inside = not inside and (line in ('.EX', '```console') or is_runnable(check, path, number, line))
-        elif inside and line.startswith('$ '):
-            found.append((number, line[2:], []))
-        elif inside and found:
-            found[-1][2].append(line)
-    return found
+        elif inside:
+            yield number, line
 
 
-def shown_commands(text):
-    """Each command after a line `Example:` of a help text, like `commands`."""
-    found = []
-    lines = text.partition('\nExample:\n')[2].splitlines()
-    for number, line in enumerate(line[2:] for line in lines):
-        if line.startswith('$ '):
-            found.append((number, line[2:], []))
-        elif found:
-            found[-1][2].append(line)
-    return found
+def example_lines(text):
+    """The lines after the line `Example:` of a help text, numbered."""
+    return enumerate(line[2:] for line in text.partition('\nExample:\n')[2].splitlines())
 
 
 def printed(command, folder):
@@ -67,9 +56,9 @@ def main():
     check = Check()
     with tempfile.TemporaryDirectory() as folder:
         os.symlink(os.path.join(TOP, 'fio2070'), os.path.join(folder, 'fio2070'))
-        found = [(path, commands(check, path)) for path in documents()]
+        found = [(path, commands(block_lines(check, path))) for path in documents()]
         for words in ('fio2070', 'fio2070 show', 'fio2070 simulate', 'fio2070 check', 'fio2070 record'):
-            found.append((words + ' --help', shown_commands(printed(words + ' --help', folder))))
+            found.append((words + ' --help', commands(example_lines(printed(words + ' --help', folder)))))
         for place, examples in found:
             for number, command, expected in examples:
                 name = '%s:%d: %s' % (place, number, command)
