@@ -201,26 +201,14 @@ end
 else
     holds 'no program' [ ! -e "$prefix/bin/fio2070" ]
 fi
-if has_command groff; then
-    holds 'the manual page is set' formats "$page" LINESYNC
-else
-    skip 'the manual page is set' 'no groff here (Debian package groff)'
-fi
-if has_command man; then
-    holds 'man shows the page' sh -c 'man -l "$1" | grep -q simulate' sh "$page"
-else
-    skip 'man shows the page' 'no man here (Debian package man-db)'
-fi
+needing groff groff 'the manual page is set' formats "$page" LINESYNC
+needing man man-db 'man shows the page' sh -c 'man -l "$1" | grep -q simulate' sh "$page"
 for name in show simulate check record; do
     holds "the page says what $name does" grep -q "^\.SS $name\$" "$page"
 done
 
 holds 'a page for each command, and a command for each page' has_pages "$prefix"
-if has_command groff; then
-    holds 'a page for each call of the library' has_calls "$prefix"
-else
-    skip 'a page for each call of the library' 'no groff here (Debian package groff)'
-fi
+needing groff groff 'a page for each call of the library' has_calls "$prefix"
 holds 'no link hangs' is_whole "$prefix"
 holds 'no generator of the repository' is_empty_of "$prefix" 'generate-*' translate join sources.py draw-pictures stack-use
 for file in lossy-script transcript waveform/vcd wireshark/fio2070.lua conformance/conformance.h; do
@@ -262,11 +250,7 @@ else
     holds 'fiolog of that tree' runs_alone "$room/others/installed" "$room/others/installed/bin/fiolog"
     [ ! -e "$room/others/installed/bin/fio2070" ] || holds 'the program of that tree' shows "$room/others/installed"
     holds 'two makes at once' at_once
-    if has_command readelf; then
-        for file in libfio2070.so.1 fio2070-test; do holds "$file is hardened" is_hardened "$room/others/out/$file"; done
-    else
-        skip 'what is compiled is hardened' 'no readelf here (Debian package binutils)'
-    fi
+    for file in libfio2070.so.1 fio2070-test; do needing readelf binutils "$file is hardened" is_hardened "$room/others/out/$file"; done
 fi
 
 end

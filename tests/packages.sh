@@ -114,20 +114,22 @@ dpkg -r fio2070-tools python3-fio2070 fio2070 libfio2070-dev libfio2070-1 >log 2
 [ ! -e /usr/bin/fiolog ]
 end
 
-# links LIBRARY OPTION..: a program in C is built with the headers and a library of a package, and runs. For a shared library
+# A program in C with the library.
+cat >user.c <<'end'
+#include <fio2070.h>
+int main(void) {
+    uint8_t poll[2] = {0, 0};
+    return fio2070_version() != FIO2070_VERSION || fio2070_encode_poll(5, poll, sizeof poll) != 2 || poll[1] != 5;
+}
+end
+
+# links LIBRARY OPTION..: the program is built with the headers and a library of a package, and runs. For a shared library
 # LIBRARY is the folder from which it is loaded; for the archive it is empty, and the program needs no shared library.
 links() {
     folder=$1
     shift
-    cat >linked.c <<'end'
-#include <fio2070.h>
-int main(void) {
-    uint8_t poll[2] = {0, 0};
-    return fio2070_encode_poll(5, poll, sizeof poll) != 2 || poll[1] != 5;
-}
-end
     # shellcheck disable=SC2068
-    cc linked.c $@ -o linked && env LD_LIBRARY_PATH="$folder" ./linked || return 1
+    cc user.c $@ -o linked && env LD_LIBRARY_PATH="$folder" ./linked || return 1
     if [ -z "$folder" ]; then ! needs_library; else needs_library; fi
 }
 
@@ -139,7 +141,7 @@ needs_library() { readelf -d linked | grep -q 'NEEDED.*\[libfio2070\.so\.1\]'; }
 finds() {
     rm -rf found
     mkdir found
-    printf '%s\n' '#include <fio2070.h>' 'int main(void) { return fio2070_version() != FIO2070_VERSION; }' >found/main.c
+    cp user.c found/main.c
     cat >found/CMakeLists.txt <<'end'
 cmake_minimum_required(VERSION 3.13)
 project(found C)
@@ -157,12 +159,8 @@ end
         && found/build/static && found/build/loaded && cp found/build/loaded linked && needs_library
 }
 
-# runs_there FOLDER LIBRARY: a program that was built with this archive, and the headers below the folder, runs.
-runs_there() {
-    echo '#include <fio2070.h>
-int main(void) { return fio2070_version() != FIO2070_VERSION; }' >there.c
-    aarch64-linux-gnu-gcc -static -I "$1/include" there.c "$2" -o there && qemu-aarch64 ./there
-}
+# runs_there FOLDER LIBRARY: the program runs if it is built with this archive, and the headers below the folder.
+runs_there() { aarch64-linux-gnu-gcc -static -I "$1/include" user.c "$2" -o there && qemu-aarch64 ./there; }
 
 # for_aarch64: the archive and the package for AArch64, each made twice, are one, and their libraries run.
 for_aarch64() {
@@ -191,24 +189,35 @@ shows_alone() {
     shows unshare --map-root-user chroot "$1" /usr/bin/fio2070
 }
 
+# used WHAT PREFIX DOCUMENTS LIBRARY: rows for the archive or the packages: what is below the prefix, with the library in this folder.
+used() {
+    holds "the program of the $1" shows "$2/bin/fio2070"
+    holds "an example of the $1" runs_example "$2/bin/fio2070" "$3"
+    holds "the tester of the $1" "$2/bin/fio2070-test" --self module 2000
+    holds "the links of the $1" is_linked "$3"
+    if has_command cmake && has_command cc; then
+        holds "CMake finds the library of the $1" finds "$2" "$4"
+    else
+        skip "CMake finds the library of the $1" 'no cmake or no cc here'
+    fi
+}
+
 first 'make dist' twice dist
 holds 'two archives are one' same dist
 mkdir unpacked
 first 'the archive is unpacked' tar -C unpacked -xf "$(echo dist.1/fio2070-*-x86_64.tar.gz)"
 place=$(echo "$room"/unpacked/fio2070-*)
 documents=$place/share/doc/fio2070
-holds 'the program of the archive' shows "$place/bin/fio2070"
+used archive "$place" "$documents" "$place/lib"
 if "$top/packaging/program" --sources | cmp -s - "$top/dist/fio2070-x86_64-linux-gnu.sources"; then
     holds 'the program of the archive is that of dist/' is_of_dist "$place/bin/fio2070"
 else
     skip 'the program of the archive is that of dist/' 'dist/ is of other sources now'
 fi
 holds 'INSTALL says which library it is' says_which "$(cat "$place/INSTALL")"
-holds 'an example of the archive' runs_example "$place/bin/fio2070" "$documents"
 holds 'the files of the archive' has "$place" share/man/man1/fio2070.1 share/bash-completion/completions/fio2070 \
     share/zsh/site-functions/_fio2070 share/fish/vendor_completions.d/fio2070.fish bin/fio2070-test \
     share/man/man1/fio2070-test.1 share/man/man1/fiolog.1 INSTALL share/fio2070/rust/fio2070/src/lib.rs share/fio2070/python/fio2070/py.typed
-holds 'the tester of the archive' "$place/bin/fio2070-test" --self module 2000
 holds 'fiolog of the archive' reads "$place/bin/fiolog"
 holds 'what INSTALL says' follows_note
 holds 'the library of the archive' has "$place" lib/libfio2070.a include/fio2070.h include/fio2070.hpp \
@@ -221,13 +230,7 @@ if has_command pkg-config && has_command cc; then
 else
     skip 'a program with the library of the archive' 'no pkg-config or no cc here'
 fi
-if has_command cmake && has_command cc; then
-    holds 'CMake finds the library of the archive' finds "$place" "$place/lib"
-else
-    skip 'CMake finds the library of the archive' 'no cmake or no cc here'
-fi
 holds 'the documents of the archive' has "$documents" README.md CHANGELOG.md LICENSE docs/FORMATS.md
-holds 'the links of the archive' is_linked "$documents"
 
 if python3 -m venv env >log 2>&1; then
     holds 'the wheel, without a network' wheel
@@ -256,17 +259,14 @@ else
     done
     first 'the packages are unpacked' unpacks deb.1/*.deb
     documents=$room/root/usr/share/doc/fio2070
-    holds 'the program of the package' shows "$room/root/usr/bin/fio2070"
-    holds 'an example of the package' runs_example "$room/root/usr/bin/fio2070" "$documents"
+    library=$room/root/usr/lib/x86_64-linux-gnu
+    used package "$room/root/usr" "$documents" "$library"
     holds 'the files of the package' has "$room/root/usr/share" man/man1/fio2070.1.gz doc/fio2070/copyright \
         bash-completion/completions/fio2070 zsh/vendor-completions/_fio2070 fish/vendor_completions.d/fio2070.fish \
         man/man1/fio2070-test.1.gz
-    holds 'the tester of the package' "$room/root/usr/bin/fio2070-test" --self module 2000
     holds 'the library of the package' has "$room/root/usr" lib/x86_64-linux-gnu/libfio2070.a include/fio2070.h \
         share/man/man3/fio2070_poller_hear.3.gz include/fio2070.hpp lib/x86_64-linux-gnu/pkgconfig/fio2070.pc
-    holds 'the prefix of the package' grep -qx 'prefix=/usr' \
-        "$room/root/usr/lib/x86_64-linux-gnu/pkgconfig/fio2070.pc"
-    library=$room/root/usr/lib/x86_64-linux-gnu
+    holds 'the prefix of the package' grep -qx 'prefix=/usr' "$library/pkgconfig/fio2070.pc"
     if has_command cc; then
         holds 'a program with the archive of the package' links '' -I "$room/root/usr/include" "$library/libfio2070.a"
         holds 'a program with the library of the package' links "$library" -I "$room/root/usr/include" \
@@ -274,14 +274,8 @@ else
     else
         skip 'a program with the library of the package' 'no cc here'
     fi
-    if has_command cmake && has_command cc; then
-        holds 'CMake finds the library of the package' finds "$room/root/usr" "$library"
-    else
-        skip 'CMake finds the library of the package' 'no cmake or no cc here'
-    fi
-    holds 'the links of the package' is_linked "$documents"
     holds 'fiolog of the packages' reads env PYTHONPATH="$room/root/usr/lib/python3/dist-packages" \
-        LD_LIBRARY_PATH="$room/root/usr/lib/x86_64-linux-gnu" "$room/root/usr/bin/fiolog"
+        LD_LIBRARY_PATH="$library" "$room/root/usr/bin/fiolog"
     holds 'the manual pages of the tools' sh -c 'for command in "$1"/bin/*; do
         [ -e "$1/share/man/man1/$(basename "$command").1.gz" ] || exit 1; done' sh "$room/root/usr"
     if in_copy true 2>"$room/log"; then
@@ -295,11 +289,7 @@ else
     else
         skip 'the program with the C library alone' 'this machine allows no new root'
     fi
-    if has_command lintian; then
-        holds 'lintian is content' is_clean "$room"/deb.1/*.deb
-    else
-        skip 'lintian is content' 'no lintian here (Debian package lintian)'
-    fi
+    needing lintian lintian 'lintian is content' is_clean "$room"/deb.1/*.deb
 fi
 
 end

@@ -106,6 +106,9 @@ skip() {
 # has_command NAME: the command is installed.
 has_command() { [ -n "$(command -v "$1")" ]; }
 
+# needing COMMAND PACKAGE NAME WORD..: a row that needs a command, which a Debian package has.
+needing() { if has_command "$1"; then shift 2; holds "$@"; else skip "$3" "no $1 here (Debian package $2)"; fi; }
+
 # Runs make at the top with these targets and settings, without those of a make that runs the check.
 run_make() { env -u MAKEFLAGS -u MAKELEVEL -u PREFIX -u DESTDIR make -s -C "$top" "$@"; }
 
