@@ -7,6 +7,7 @@ found too; `tests/refused-memory.py --counts` writes the table anew. A C compile
 that refuses; `fio_allocations` is proved and built first if it is not yet, and left out without the kit. Last line: `N passed, M failed`, where each run
 that met a refusal and each row of the table counts."""
 
+import collections
 import glob
 import os
 import re
@@ -35,33 +36,14 @@ TEXTS = {
 }
 ALIKE = [('simulate', 'send zz', 'scan zz'), ('check', '> zz', '? zz')]
 
-# The words of a command line, and the input: one of these texts, or a file of examples/.
+# The word of a command line, and its inputs: each one of these texts, or a file of examples/.
 COMMANDS = [
-    ('show', 'capture.frames'),
-    ('simulate', 'lost-answer.script'),
-    ('simulate', 'restart.script'),
-    ('simulate', 'limits.script'),
-    ('simulate', 'overflow.script'),
-    ('simulate', 'capture.frames'),
-    ('check', 'good.transcript'),
-    ('check', 'breaks-advance.transcript'),
-    ('check', 'capture.frames'),
-    ('record', 'good.transcript'),
-    ('record', 'breaks-advance.transcript'),
-    ('record', '20,000 commands and zz'),
-    ('show', '20,000 frames and zz'),
-    ('simulate', '10,000 polls'),
-    ('simulate', '9,999 polls and zz'),
-    ('check', '20,000 commands and zz'),
-    ('simulate', 'send zz'),
-    ('simulate', 'scan zz'),
-    ('check', '> zz'),
-    ('check', '? zz'),
-    ('--help', None),
-    ('--version', None),
-    ('other', None),
-    ('chek', None),
-    ('', None),
+    ('show', 'capture.frames', '20,000 frames and zz'),
+    ('simulate', 'lost-answer.script', 'restart.script', 'limits.script', 'overflow.script', 'capture.frames', '10,000 polls',
+     '9,999 polls and zz', 'send zz', 'scan zz'),
+    ('check', 'good.transcript', 'breaks-advance.transcript', 'capture.frames', '20,000 commands and zz', '> zz', '? zz'),
+    ('record', 'good.transcript', 'breaks-advance.transcript', '20,000 commands and zz'),
+    *((word, None) for word in ('--help', '--version', 'other', 'chek', '')),
 ]
 
 # A run of events, the same events one by one, and what the run begins with, if anything: it stops at those events at which
@@ -123,10 +105,8 @@ class Sweep:
     def __init__(self, check, library):
         self.check = check
         self.library = library
-        # How many growths each row requested: reported, before the call, ignored.
+        # How many growths each row requested, by their outcome, and the octets that were requested in all by those reported.
         self.growths = {}
-        # How many octets were requested in all by those that it reported.
-        self.octets = {}
 
     def run(self, words, text, growth):
         """What a program writes, on standard error too, and its status. Growth 0 is none. The input is a file: from a pipe
@@ -151,14 +131,9 @@ class Sweep:
             before, octets, after = parts
             yield growth, int(octets), before, after, status
 
-    def begin(self, name):
-        self.growths[name] = dict.fromkeys(KINDS, 0)
-        self.octets[name] = 0
-
     def count(self, name, kind, octets):
         if name in self.growths:
-            self.growths[name][kind] += 1
-            self.octets[name] += octets if kind == 'reported' else 0
+            self.growths[name].update({kind: 1, 'octets': octets * (kind == 'reported')})
 
 
 def kind_of(answer):
@@ -177,8 +152,7 @@ def sweep_calls(sweep):
         ample = file.read().splitlines()
     names = [row.partition(': ')[0] for row in ample]
     places = {name: [] for name in names}
-    for name in names:
-        sweep.begin(name)
+    sweep.growths.update((name, collections.Counter()) for name in names)
     for growth, octets, before, after, status in sweep.refused([calls], b''):
         above, below = before.splitlines(), after.splitlines()
         name, _, answer = (below or [''])[0].partition(': ')
@@ -191,7 +165,7 @@ def sweep_calls(sweep):
         if kind == 'reported' and name in places:
             places[name].append(int(answer.rpartition(' ')[2]))
     for name in names:
-        met = {kind: count for kind, count in sweep.growths[name].items() if kind != 'before'}
+        met = {kind: sweep.growths[name][kind] for kind in ('reported', 'passed over')}
         is_right = not any(met.values()) if name in WITHOUT_MEMORY else met['reported'] > 0
         sweep.check.holds('growths that %s asked for' % name, is_right, met)
     for run, steps, start in RUNS:
@@ -217,25 +191,21 @@ def input_of(given):
 def sweep_program(sweep):
     """Refuses each growth of the built program: it writes that it is out of memory and nothing else, or the text that it
     writes with ample memory. The library's `collect` requests room ahead, and does without if that is refused."""
-    for word, given in COMMANDS:
-        name = name_of(word, given)
-        text = input_of(given)
-        words = [program()] + ([word] if word else [])
-        sweep.begin(name)
+    for word, given in ((word, given) for word, *inputs in COMMANDS for given in inputs):
+        name, text, words = name_of(word, given), input_of(given), [program(), *filter(None, [word])]
+        sweep.growths[name] = collections.Counter()
         ample = sweep.run(words, text, 0)
         for growth, octets, before, after, status in sweep.refused(words, text):
             answer = before + after, status
             sweep.check.holds('%s, growth %d' % (name, growth), answer in (OUT_OF_MEMORY, ample), answer)
             sweep.count(name, 'reported' if answer == OUT_OF_MEMORY else 'passed over', octets)
     for word, one, other in ALIKE:
-        growths = sweep.growths[name_of(word, one)], sweep.growths[name_of(word, other)]
-        sweep.check.equal('growths of %s at %r and at %r' % (word, one, other), *growths)
+        sweep.check.equal('growths of %s at %r and at %r' % (word, one, other), *(sweep.growths[name_of(word, it)] for it in (one, other)))
 
 
 def table_of(sweep):
     """The table of the growths and of their octets, as its file has it."""
-    rows = ['%8d %6d %11d %9d  %s' % (*(counts[kind] for kind in KINDS), sweep.octets[name], name)
-            for name, counts in sweep.growths.items()]
+    rows = ['%8d %6d %11d %9d  %s' % (*(counts[kind] for kind in (*KINDS, 'octets')), name) for name, counts in sweep.growths.items()]
     return '\n'.join([HEADING] + rows) + '\n'
 
 
