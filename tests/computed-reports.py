@@ -310,17 +310,11 @@ for limit in range(1024, MOST_WAITING + 1, 256):
     FULL_SCANS.append(([(limit // 64 + 1, 64, 319, 0x0c, limit - 255)], ' 255 %d' % limit))
 
 check = Check()
-lost_poll(check)
-two_polls_of_one_number_under_way(check)
 for polls, limits in FULL_SCANS:
     full_scans_and_polls(check, polls, limits)
-as_many_as_a_block_takes(check)
-loss_in_the_next_new_block(check)
-long_records(check)
-many_rounds(check)
-load_before_the_block(check)
-answer_from_before_a_restart(check)
-one_entry_a_block(check)
+for part in (lost_poll, two_polls_of_one_number_under_way, as_many_as_a_block_takes, loss_in_the_next_new_block, long_records,
+             many_rounds, load_before_the_block, answer_from_before_a_restart, one_entry_a_block):
+    part(check)
 for rarity in range(10):
     filtered_alone(check, rarity)
 check.end()
