@@ -49,7 +49,8 @@ class Clone:
     def __init__(self, room, name):
         self.top = os.path.join(room, name)
         self.temporary = os.path.join(self.top, 'temporary')
-        for folder in ('bin', 'temporary', 'packaging', *('crates/%s/src' % crate for crate in ('low', 'high', 'beside', 'other', 'fio2070'))):
+        crates = ('crates/%s/src' % crate for crate in ('low', 'high', 'beside', 'other', 'fio2070'))
+        for folder in ('bin', 'temporary', 'packaging', *crates):
             os.makedirs(os.path.join(self.top, folder))
         for file in ('fio2070', 'build', 'packaging/program', 'packaging/hardening'):
             shutil.copy(os.path.join(TOP, file), os.path.join(self.top, file))
@@ -130,7 +131,8 @@ def try_library(check, room):
     """A library and those below it, instead of the program."""
     clone = Clone(room, 'library')
     text, said, status = clone.call('build', '--library', 'high', '--jobs', '1')
-    check.holds('a line for each crate of a library', (text, status) == ('', 0) and 'proving 2 crates' in said and proved_in(said) == [1, 2], said)
+    check.holds('a line for each crate of a library', (text, status) == ('', 0) and 'proving 2 crates' in said
+                and proved_in(said) == [1, 2], said)
     check.equal('further words go to rt lib', 'lib --jobs 1\nlib --jobs 1\n', clone.read('words'))
     check.holds('no program', not clone.has_program())
 
@@ -139,7 +141,8 @@ def try_faults(check, room):
     """What is missing or fails is said in one line, with status 125 and nothing on standard output."""
     clone = Clone(room, 'faults')
     text, said, status = clone.run('show', FAILS='high')
-    check.holds('a crate that is not proved', (text, status) == ('', 125) and one_line(said.splitlines(True)[-1], 'high', 'high/out/build.log'), said)
+    check.holds('a crate that is not proved', (text, status) == ('', 125)
+                and one_line(said.splitlines(True)[-1], 'high', 'high/out/build.log'), said)
     check.holds('no program', not clone.has_program())
     check.holds('no temporary file after a failure', clone.is_tidy())
     text, said, status = clone.run('show', TMPDIR=os.path.join(room, 'nowhere'))

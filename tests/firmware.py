@@ -110,7 +110,8 @@ def built(*changes):
             shutil.copy2(os.path.join(built(), name), made)
     for name, old, new in changes:
         change(next(os.path.join(at, name) for at, _, names in os.walk(examples) if name in names), old, new)
-    cortex.run('make', '-s', '-C', examples, 'all', 'OUT=' + made, 'LIBRARY=' + LIBRARY, 'CFLAGS=-O1 ' + (SANITIZED if check.given.all else ''))
+    cortex.run('make', '-s', '-C', examples, 'all', 'OUT=' + made, 'LIBRARY=' + LIBRARY,
+               'CFLAGS=-O1 ' + (SANITIZED if check.given.all else ''))
     return made
 
 
@@ -131,7 +132,8 @@ def takes():
 def warns(compiler, options, folder):
     """Compiles each file of a folder by itself. Returns what the compiler warns about."""
     made = os.path.join(room, 'warns.o')
-    return next(filter(None, (fault_of(compiler, *STRICT, *options, '-I', LIBRARY, '-c', path, '-o', made) for path in sources(folder))), None)
+    return next(filter(None, (fault_of(compiler, *STRICT, *options, '-I', LIBRARY, '-c', path, '-o', made)
+                              for path in sources(folder))), None)
 
 
 def compile_here(program, *words):

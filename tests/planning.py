@@ -150,7 +150,8 @@ def overflows(row, every, limit, rounds):
 def check_bounds(check):
     """That the densest traffic reaches each bound, as docs/PLANNING.md says, and loses a transition with one scan more."""
     for row in ROWS:
-        check.equal('the bounds of *Waiting* and *Late*, ' + row.name, (row.kept, row.lost), (most_reached(row, False), most_reached(row, True)))
+        reached = most_reached(row, False), most_reached(row, True)
+        check.equal('the bounds of *Waiting* and *Late*, ' + row.name, (row.kept, row.lost), reached)
         for waiting, outage in zip(WAITING, row.outages):
             logged = [logged_in(row.inputs, row.filter, scans) for scans in (outage, outage + 1)]
             check.holds('an outage of %d is the longest, %s' % (outage, row.name), logged[0] <= waiting < logged[1])
