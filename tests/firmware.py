@@ -533,31 +533,33 @@ def wrong_entry(link, seconds):
 
 def races(seconds, *changes):
     """The first wrong entry if all inputs move in each scan and the link is polled without a pause."""
-    with on_board(built(*changes)) as ports, socket.create_connection(('127.0.0.1', ports[0]), 20) as link:
+    with on_board(built(*changes)) as ports:
+        # Once the board answers by lines, its link can be reached too.
         lines = board.Lines(ports[1])
-        link.setsockopt(socket.IPPROTO_TCP, socket.TCP_NODELAY, 1)
-        asked(link, bytes([51, 64]) + b''.join(bytes([one, 1, 1]) for one in range(64)))
-        with toggled(lines):
-            return wrong_entry(link, seconds)
+        with socket.create_connection(('127.0.0.1', ports[0]), 20) as link:
+            link.setsockopt(socket.IPPROTO_TCP, socket.TCP_NODELAY, 1)
+            asked(link, bytes([51, 64]) + b''.join(bytes([one, 1, 1]) for one in range(64)))
+            with toggled(lines):
+                return wrong_entry(link, seconds)
 
 
 # ---- The tester ----
 
-def tested(folder, image, events, *words):
+def tested(folder, image, events, options, *words):
     """What the tester says about the running firmware."""
     with on_board(folder, image) as (_, lines):
         board.Lines(lines).close()
-        return run(TESTER, '--socket', '127.0.0.1:%d' % lines, *words, str(events), timeout=280)
+        return run(TESTER, *options, '--socket', '127.0.0.1:%d' % lines, *words, str(events), timeout=280)
 
 
 def differs(image, events, *options):
-    done = tested(built(), image, events, *options)
+    done = tested(built(), image, events, options)
     return None if done.returncode == 0 else done.stdout[-600:] + done.stderr[-300:]
 
 
 def is_not_found(events, *changes):
     """A planted fault: the tester finds a difference."""
-    done = tested(built(*changes), 'firmware.elf', events, '--own-clock', '--first')
+    done = tested(built(*changes), 'firmware.elf', events, ['--own-clock'], '--first')
     return None if done.returncode == 1 and '# the first rule that this breaks: ' in done.stdout else (done.returncode, done.stdout[-300:], done.stderr[-300:])
 
 
