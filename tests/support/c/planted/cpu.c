@@ -1,12 +1,17 @@
 /* A CPU's end written from docs/PROTOCOL.md, with its quirks. */
-#include "quirks.h"
+#include "cpu_quirks.h"
 
 #include <string.h>
 
-#define QUIRK_VALUE(name, right) right,
-static const int RIGHT[CPU_QUIRK_COUNT] = {CPU_QUIRKS(QUIRK_VALUE)};
-static int quirks[CPU_QUIRK_COUNT];
-#define Q(name) quirks[CPU_##name]
+static const struct quirk RIGHT[] = {
+    {POLL_TYPE, 54}, {POLL_LENGTH, 2}, {NUMBER_AT_START, 256}, {NUMBER_PLUS, 1}, {NUMBER_MODULO, 256},
+    {EMPTY_RAISES, 1}, {EMPTY_TAKEN, 1}, {LOST_RAISES, 1}, {CRASH_FROM_LENGTH, 100000}, {REFUSED_COUNT, -1},
+    {STAMP_REFUSED, 0x7fedcba9}, {NUMBER_PASSED, 256}, {REFUSED_ALL_BITS, 256}, {LONGEST_FRAME, 773},
+    {LENGTH_BITS, 16}, {MOST_ENTRIES, 255}, {INPUT_MASK, 127}, {HIGHEST_INPUT, 127}, {STATE_MASK, 128},
+    {STAMP_BITS, 16}, {BLOCK_STAMP_BITS, 32}, {WIDE_BORROWS, 1}, {WIDE_BELOW_ZERO, 1}, {GAP_BIT, 4}, {GAP_MARKS, 1},
+    {WIDE_MOST_BITS, 32}};
+static int quirks[CPU_QUIRKS];
+#define Q(name) quirks[name]
 
 static struct {
     uint8_t first, number;
@@ -58,8 +63,6 @@ static size_t poll(void *context, uint8_t frame[FIO2070_LONGEST_FRAME]) {
 }
 
 /* ---- Reading ---- */
-
-static uint32_t low_bits(uint32_t number, int bits) { return bits >= 32 ? number : number & ((UINT32_C(1) << bits) - 1); }
 
 static int reads_block(const uint8_t *octets, size_t length, struct block *block) {
     size_t needed, place;
@@ -276,7 +279,6 @@ static uint8_t number(void *context) {
 
 const struct cpu_maker *cpu_with(const struct fault *const *faults, size_t count) {
     static const struct cpu_maker maker = {NULL, reset, poll, hear, number};
-    memcpy(quirks, RIGHT, sizeof quirks);
-    while (count-- > 0) quirks[faults[count]->quirk] = faults[count]->value;
+    set_quirks(quirks, CPU_QUIRKS, RIGHT, sizeof RIGHT / sizeof RIGHT[0], faults, count);
     return &maker;
 }

@@ -3,14 +3,26 @@
 
 #include <string.h>
 
-#define QUIRK_VALUE(name, right) right,
-static const int RIGHT[MODULE_QUIRK_COUNT] = {MODULE_QUIRKS(QUIRK_VALUE)};
-int module_quirks[MODULE_QUIRK_COUNT];
+static const struct quirk RIGHT[] = {
+    {COUNTER_STEP, 1}, {COUNTER_BITS, 32}, {LOAD_IS_DONE, 1}, {LOAD_BITS, 32}, {LOAD_ANSWERED, 1}, {ZERO_ACTS_AS, 1},
+    {MOST_FILTER, 255}, {FILTER_BITS, 8}, {FILTER_NEVER, 256}, {FILTER_AT_ONCE, 256}, {FILTER_AT_START, 5},
+    {IGNORED_AT_START, 1}, {STATES_AT_START, 1}, {RAW_AT_START, 1}, {CONFIGURED_STATE, 2}, {IGNORED_MOVES, 1},
+    {INPUTS, 64}, {MOST_INPUT, 63}, {ABSENT_STATUS, 1}, {ABSENT_LOOKED_AT, 255}, {MOST_ITEMS, 255}, {ITEMS_READ, 255},
+    {ENTRIES_OF_A_SCAN, 64}, {MOST_WAITING, 1024}, {REPEATS, 1}, {AGAIN_SET, 1}, {REPEAT_MASK, 255},
+    {FIRST_NUMBER, 256}, {SEQUENCE_SET, 1}, {SEQUENCE_MODULO, 256}, {STRAY_IS_CURRENT, 1}, {BLOCK_SIZE, 255},
+    {MORE_FROM, 256}, {LOST_SET, 1}, {LOST_BIT, 4}, {MORE_BIT, 8}, {BLOCK_STAMP_BITS, 32}, {EMPTY_ANSWERED, 1},
+    {FLAGS_AT_START, 128}, {OUTPUTS_LENGTH, 5}, {OUTPUTS_STAMPED, 1}, {OUTPUTS_KEPT, 16}, {TIMEOUT_LEAST, 10},
+    {TIMEOUT_MOST, 100}, {TIMEOUT_NEGATIVE, 256}, {BEFORE_SET, 1}, {IDENTIFICATION, 2}, {IDENTIFICATION_LENGTH, 1},
+    {TYPE_PLUS, 128}, {CRASH_ON_ENTRIES, 100000}, {CRASH_FROM_LENGTH, 100000}, {CRASH_AT_TYPE, 256},
+    {CRASH_AT_ITEMS, 256}, {CRASH_AT_REPEAT, 100000}, {HANG_AT_TYPE, 256}, {HANG_AT_ITEMS, 256}, {STAMP_LEFT, -1},
+    {FILTER_LEFT, 256}, {LOAD_LEFT, 0x7fedcba9}, {ITEM_COUNT_BITS, 8}, {OUTPUTS_LEFT, -1}, {AGAIN_MOST, 100000},
+    {MOST_REPEATS, 100000}, {REPEAT_UNANSWERED, -1}, {NUMBER_LEFT, 256}, {SEQUENCE_HOLE, 256}, {LONGEST_FRAME, 773},
+    {LENGTH_BITS, 16}, {RESTART_COUNTER, 1}, {RESTART_FLAGS, 1}, {RESTART_WAITING, 1}, {RESTART_NUMBER, 1},
+    {RESTART_LOAD, 1}, {RESTART_FILTERS, 1}, {RESTART_IGNORED, 1}, {RESTART_STATES, 1}, {RESTART_RAW, 1},
+    {RESTART_SAMPLES, 1}, {RESTART_WATCHDOG, 1}, {RESTART_OUTPUTS, 1}, {RESTART_LOST, 1}, {REFUSED_MOST, 100000},
+    {LOADS_MOST, 100000}, {SCAN_MASK_BITS, 64}, {SYNCS_MOST, 100000}, {BLOCK_SHORTENED, 256}, {ITEMS_REFUSED, 256}};
+int module_quirks[MODULE_QUIRKS];
 struct module_state module;
-
-uint32_t module_low_bits(uint32_t number, int bits) {
-    return bits >= 32 ? number : number & ((UINT32_C(1) << bits) - 1);
-}
 
 /* ---- Start and restart ---- */
 
@@ -92,7 +104,7 @@ static unsigned samples_of(unsigned filter, int plus) {
     if (filter >= (unsigned)Q(FILTER_NEVER)) return 100000;
     if (filter >= (unsigned)Q(FILTER_AT_ONCE)) return 1;
     if (filter > (unsigned)Q(MOST_FILTER)) filter = (unsigned)Q(MOST_FILTER);
-    filter = module_low_bits(filter, Q(FILTER_BITS));
+    filter = low_bits(filter, Q(FILTER_BITS));
     if (filter == (unsigned)Q(FILTER_LEFT)) filter--;
     return filter + (unsigned)plus > 0 ? filter + (unsigned)plus : 1;
 }
@@ -127,14 +139,14 @@ static void scan_inputs(uint64_t levels) {
 }
 
 static void count_up(void) {
-    uint32_t last = module_low_bits(0xffffffff, Q(COUNTER_BITS));
+    uint32_t last = low_bits(0xffffffff, Q(COUNTER_BITS));
     if (++module.scans == (unsigned long)Q(SCAN_WITHOUT_STEP)) return;
     if (Q(POWER_FLAG_SCANS) && module.scans >= (unsigned long)Q(POWER_FLAG_SCANS)) module.flags &= 127;
     if (Q(STEP_LOST_EACH) && module.scans % (unsigned long)Q(STEP_LOST_EACH) == 0) return;
     if (module.counter == last) {
         module.counter = (uint32_t)Q(COUNTER_AFTER_LAST);
     } else {
-        module.counter = module_low_bits(module.counter + (uint32_t)Q(COUNTER_STEP), Q(COUNTER_BITS));
+        module.counter = low_bits(module.counter + (uint32_t)Q(COUNTER_STEP), Q(COUNTER_BITS));
     }
 }
 
@@ -170,7 +182,7 @@ void module_drop_samples(void) { memset(module.run, 0, sizeof module.run); }
 void module_line_sync(void) {
     if (++module.syncs > (unsigned long)Q(SYNCS_MOST)) return;
     if (module.is_asked && ++module.loads > (unsigned long)Q(LOADS_MOST)) module.is_asked = 0;
-    if (module.is_asked && Q(LOAD_IS_DONE)) module.counter = module_low_bits(module.load, Q(LOAD_BITS)) + (uint32_t)Q(LOAD_PLUS);
+    if (module.is_asked && Q(LOAD_IS_DONE)) module.counter = low_bits(module.load, Q(LOAD_BITS)) + (uint32_t)Q(LOAD_PLUS);
     if (!module.is_asked && Q(SYNC_CLEARS_COUNTER)) module.counter = 0;
     if (Q(SYNC_STEPS)) module.counter++;
     if (!Q(LOAD_STAYS)) module.is_asked = 0;
@@ -223,7 +235,7 @@ static size_t exchange(void *context, const uint8_t *octets, size_t length, uint
     memset(frame, 0, sizeof frame);
     fail_at(octets, length);
     module.silent = 0;
-    length = module_low_bits((uint32_t)length, Q(LENGTH_BITS));
+    length = low_bits((uint32_t)length, Q(LENGTH_BITS));
     if (length > 0) memcpy(frame, octets, length);
     given = (int)length;
     needed = length == 0 ? -1 : length_of(frame, length);
@@ -248,8 +260,7 @@ static uint8_t watchdog_ms(void *context) {
 
 const struct maker *module_with(const struct fault *const *faults, size_t count) {
     static const struct maker maker = {NULL, 2, 255, reset, step, line_sync, exchange, outputs, watchdog_ms};
-    memcpy(module_quirks, RIGHT, sizeof module_quirks);
-    while (count-- > 0) module_quirks[faults[count]->quirk] = faults[count]->value;
+    set_quirks(module_quirks, MODULE_QUIRKS, RIGHT, sizeof RIGHT / sizeof RIGHT[0], faults, count);
     has_started = 0;
     return &maker;
 }

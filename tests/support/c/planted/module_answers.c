@@ -77,7 +77,7 @@ static void apply_items(const uint8_t *octets, unsigned count) {
 }
 
 static size_t answer_configuration(const uint8_t *octets, uint8_t *out) {
-    unsigned count = module_low_bits(octets[1], Q(ITEM_COUNT_BITS)), absent = first_absent(octets);
+    unsigned count = low_bits(octets[1], Q(ITEM_COUNT_BITS)), absent = first_absent(octets);
     int is_count_refused = (int)count > Q(MOST_ITEMS) || (int)count == Q(ITEMS_REFUSED);
     int is_refused = absent < count || is_count_refused;
     out[1] = (uint8_t)(absent < count ? Q(ABSENT_STATUS) : count == 0 ? Q(NO_ITEMS_STATUS) : Q(ITEMS_STATUS));

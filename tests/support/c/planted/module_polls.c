@@ -35,7 +35,7 @@ static uint8_t status_of(uint8_t number, size_t waited) {
 }
 
 static size_t write_block(uint8_t number, uint8_t status, uint8_t *out) {
-    uint32_t stamp = module_low_bits(module.counter + (uint32_t)Q(BLOCK_STAMP_PLUS), Q(BLOCK_STAMP_BITS));
+    uint32_t stamp = low_bits(module.counter + (uint32_t)Q(BLOCK_STAMP_PLUS), Q(BLOCK_STAMP_BITS));
     size_t place, length = 3;
     if (Q(BLOCK_STAMP_OF_ENTRY) && module.in_block > 0) {
         stamp = (stamp & 0xffff0000) | module.block[module.in_block - 1].stamp;

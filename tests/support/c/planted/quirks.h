@@ -4,13 +4,11 @@
 #define QUIRKS_H
 
 #include "conformance.h"
-#include "cpu_quirks.h"
-#include "module_quirks.h"
 
-#define MODULE_QUIRK_NAME(name, right) MODULE_##name,
-#define CPU_QUIRK_NAME(name, right) CPU_##name,
-enum module_quirk { MODULE_QUIRKS(MODULE_QUIRK_NAME) MODULE_QUIRK_COUNT };
-enum cpu_quirk { CPU_QUIRKS(CPU_QUIRK_NAME) CPU_QUIRK_COUNT };
+/* A quirk of an end with a value. */
+struct quirk {
+    int place, value;
+};
 
 /* A fault: one quirk has another value than the right one. */
 struct fault {
@@ -22,12 +20,19 @@ struct fault {
 struct fault_list {
     const struct fault *faults;
     size_t count;
-    int is_late; /* only a run with room for the long scripts finds them */
+    int is_late; /* they come late, or at one size alone: only a run with room for the long scripts finds them */
 };
 extern const struct fault_list MODULE_FAULTS, MODULE_LINK_FAULTS, MODULE_LATE_FAULTS, CPU_FAULTS, CPU_LATE_FAULTS;
 
 /* The ends with these faults. */
 const struct maker *module_with(const struct fault *const *faults, size_t count);
+const struct cpu_maker *cpu_with(const struct fault *const *faults, size_t count);
+
+/* Sets the quirks of an end to what is right, 0 for those that are not listed, and then those of faults. */
+void set_quirks(int *quirks, size_t size, const struct quirk *right, size_t rights, const struct fault *const *faults,
+                size_t count);
+
+uint32_t low_bits(uint32_t number, int bits);
 
 /* The process ends as after a fault of memory, or goes on for ever. */
 void crash(void);
@@ -36,6 +41,5 @@ void hang(void);
 /* Answers the lines of fio2070-test. */
 void serve(const struct maker *maker, int has_clock);
 void serve_cpu(const struct cpu_maker *maker);
-const struct cpu_maker *cpu_with(const struct fault *const *faults, size_t count);
 
 #endif
