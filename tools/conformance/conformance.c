@@ -21,24 +21,19 @@ static unsigned edge_of(unsigned turn, unsigned count, unsigned longs, int is_us
 
 void conformance_make_script(const struct run *run, struct script *filled, const struct origin *origin, uint64_t *state) {
     const struct options *options = run->options;
+    const struct maker *module = run->ends.module;
     size_t most = origin->turn < EARLY && origin->most > SHORT ? (size_t)SHORT : origin->most;
     int has_long = options->events >= CONFORMANCE_LONG_EVENTS;
-    unsigned edge;
+    unsigned edge, longs = !has_long ? 0 : module != NULL ? CONFORMANCE_LONG : CONFORMANCE_CPU_LONG;
     *state = origin->state;
     filled->length = 0;
-    if (run->ends.module != NULL) {
-        edge = edge_of(origin->turn, CONFORMANCE_EDGES, has_long ? CONFORMANCE_LONG : 0,
-                       options->mix == &CONFORMANCE_MIX, state);
-        if (edge != NO_EDGE) {
-            conformance_edge(filled, run->ends.module, edge, origin->most, state);
-        } else {
-            conformance_random(filled, run->ends.module, options->mix, most, state);
-        }
-        return;
-    }
-    edge = edge_of(origin->turn, CONFORMANCE_CPU_EDGES, has_long ? CONFORMANCE_CPU_LONG : 0,
-                   options->cpu_mix == &CONFORMANCE_CPU_MIX, state);
-    if (edge != NO_EDGE) {
+    edge = module != NULL ? edge_of(origin->turn, CONFORMANCE_EDGES, longs, options->mix == &CONFORMANCE_MIX, state)
+                          : edge_of(origin->turn, CONFORMANCE_CPU_EDGES, longs, options->cpu_mix == &CONFORMANCE_CPU_MIX, state);
+    if (module != NULL && edge != NO_EDGE) {
+        conformance_edge(filled, module, edge, origin->most, state);
+    } else if (module != NULL) {
+        conformance_random(filled, module, options->mix, most, state);
+    } else if (edge != NO_EDGE) {
         conformance_cpu_edge(filled, edge, origin->most, state);
     } else {
         conformance_cpu_random(filled, options->cpu_mix, most, state);
@@ -134,14 +129,22 @@ void conformance_test(const struct ends *ends, const struct options *given, stru
 }
 
 /* Up to the first difference. */
-static size_t run_once(const struct ends *ends, struct options *options, uint64_t seed, unsigned long events,
-                       FILE *out) {
+static size_t run_once(const struct maker *module, const struct mix *mix, const struct cpu_maker *cpu,
+                       const struct cpu_mix *cpu_mix, uint64_t seed, unsigned long events, FILE *out) {
     static struct result result;
+    struct ends ends;
+    struct options options;
     int rule;
-    options->seed = seed;
-    options->events = events;
-    options->stops = 1;
-    conformance_test(ends, options, &result, out);
+    memset(&ends, 0, sizeof ends);
+    memset(&options, 0, sizeof options);
+    ends.module = module;
+    ends.cpu = cpu;
+    options.mix = mix;
+    options.cpu_mix = cpu_mix;
+    options.seed = seed;
+    options.events = events;
+    options.stops = 1;
+    conformance_test(&ends, &options, &result, out);
     if (result.has_failed) return CONFORMANCE_FAILED;
     for (rule = 0; rule < RULES; rule++) {
         if (result.shortest[rule] > 0) return result.shortest[rule];
@@ -151,22 +154,10 @@ static size_t run_once(const struct ends *ends, struct options *options, uint64_
 
 size_t conformance_run(const struct maker *maker, const struct mix *mix, uint64_t seed, unsigned long events,
                        FILE *out) {
-    struct ends ends;
-    struct options options;
-    memset(&ends, 0, sizeof ends);
-    memset(&options, 0, sizeof options);
-    ends.module = maker;
-    options.mix = mix;
-    return run_once(&ends, &options, seed, events, out);
+    return run_once(maker, mix, NULL, NULL, seed, events, out);
 }
 
 size_t conformance_cpu_run(const struct cpu_maker *maker, const struct cpu_mix *mix, uint64_t seed,
                            unsigned long events, FILE *out) {
-    struct ends ends;
-    struct options options;
-    memset(&ends, 0, sizeof ends);
-    memset(&options, 0, sizeof options);
-    ends.cpu = maker;
-    options.cpu_mix = mix;
-    return run_once(&ends, &options, seed, events, out);
+    return run_once(NULL, NULL, maker, mix, seed, events, out);
 }

@@ -3,29 +3,26 @@
 
 #include <string.h>
 
-#define ALL (~(uint64_t)0)
-#define COUNT(list) (sizeof list / sizeof list[0])
-
 /* ---- Frames that come to the CPU's end ---- */
 
-/* A block, as an answer carries it; its entries are in `entries`. */
-struct made {
-    uint8_t number, status;
-    unsigned count;
-    uint32_t stamp;
-    const uint8_t *entries;
-};
-
-static size_t write_block(uint8_t *octets, const struct made *block) {
-    size_t length = 3 + 3 * (size_t)block->count;
+/* Writes a block, as an answer carries it. Returns how many octets it has. */
+static size_t write_block(uint8_t *octets, uint8_t number, uint8_t status, uint32_t stamp, unsigned count,
+                          const uint8_t *entries) {
+    size_t length = 3 + 3 * (size_t)count;
     int octet;
     octets[0] = FIO2070_TYPE_POLL + FIO2070_TYPE_ANSWER;
-    octets[1] = block->number;
-    octets[2] = (uint8_t)block->count;
-    memcpy(octets + 3, block->entries, 3 * (size_t)block->count);
-    octets[length++] = block->status;
-    for (octet = 3; octet >= 0; octet--) octets[length++] = (uint8_t)(block->stamp >> 8 * octet);
+    octets[1] = number;
+    octets[2] = (uint8_t)count;
+    memcpy(octets + 3, entries, 3 * (size_t)count);
+    octets[length++] = status;
+    for (octet = 3; octet >= 0; octet--) octets[length++] = (uint8_t)(stamp >> 8 * octet);
     return length;
+}
+
+static void hear_block(struct edge *edge, uint8_t number, uint8_t status, uint32_t stamp, unsigned count,
+                       const uint8_t *entries) {
+    uint8_t octets[FIO2070_LONGEST_FRAME];
+    conformance_edge_octets(edge, EVENT_HEAR, octets, write_block(octets, number, status, stamp, count, entries));
 }
 
 /* Entries of any inputs, in both states. */
@@ -36,15 +33,9 @@ static void random_entries(uint8_t *entries, unsigned count, uint64_t *state) {
 
 /* The CPU's end hears a block. If its number is the one that is due, the next one is due afterwards. */
 static void hear(struct edge *edge, uint8_t number, uint8_t status, unsigned count, uint32_t stamp) {
-    uint8_t octets[FIO2070_LONGEST_FRAME], entries[3 * 255];
-    struct made block;
+    uint8_t entries[3 * 255];
     random_entries(entries, count, edge->state);
-    block.number = number;
-    block.status = status;
-    block.count = count;
-    block.stamp = stamp;
-    block.entries = entries;
-    conformance_edge_octets(edge, EVENT_HEAR, octets, write_block(octets, &block));
+    hear_block(edge, number, status, stamp, count, entries);
     if (number == edge->number) edge->number++;
 }
 
@@ -139,18 +130,13 @@ static void hear_statuses(struct edge *edge, unsigned given) {
 
 /* Blocks as they were before, with the next number, and with entries that are all the same. */
 static void hear_same(struct edge *edge, unsigned given) {
-    uint8_t octets[FIO2070_LONGEST_FRAME], entries[3 * 4];
-    struct made block;
+    uint8_t entries[3 * 4];
     for (given = 0; given < 24; given++) {
+        uint8_t status = given % 6 == 2 ? FIO2070_BIT_AGAIN : given % 12 == 5 ? FIO2070_BIT_LOST : 0;
         if (given % 6 == 0) random_entries(entries, 4, edge->state);
         if (given % 6 == 3) memset(entries, (int)given, sizeof entries);
-        block.number = edge->number++;
-        block.status = given % 6 == 2 ? FIO2070_BIT_AGAIN : given % 12 == 5 ? FIO2070_BIT_LOST : 0;
-        block.count = given < 12 ? 4 : 1;
-        block.stamp = 70000 + given / 6;
-        block.entries = entries;
         conformance_edge_event(edge, EVENT_POLL);
-        conformance_edge_octets(edge, EVENT_HEAR, octets, write_block(octets, &block));
+        hear_block(edge, edge->number++, status, 70000 + given / 6, given < 12 ? 4 : 1, entries);
     }
 }
 
@@ -177,8 +163,7 @@ static void hear_stamps(struct edge *edge, unsigned given) {
     static const uint32_t stamps[] = {0,          1,           65535,       65536,   65537, 131071,     131072,
                                       2147483647, 2147483648u, 4294967295u, 4294901760u, 5, 4294901759u};
     static const uint16_t after[] = {0, 1, 2, 0xffff, 0xfffe, 0x8000, 0x7fff, 0x8001};
-    uint8_t octets[FIO2070_LONGEST_FRAME], entries[3 * 12];
-    struct made block;
+    uint8_t entries[3 * 12];
     for (given = 0; given < COUNT(stamps); given++) {
         unsigned entry;
         random_entries(entries, 12, edge->state);
@@ -187,13 +172,8 @@ static void hear_stamps(struct edge *edge, unsigned given) {
             entries[3 * entry + 1] = (uint8_t)(low >> 8);
             entries[3 * entry + 2] = (uint8_t)low;
         }
-        block.number = edge->number++;
-        block.status = 0;
-        block.count = 12;
-        block.stamp = stamps[given];
-        block.entries = entries;
         conformance_edge_event(edge, EVENT_POLL);
-        conformance_edge_octets(edge, EVENT_HEAR, octets, write_block(octets, &block));
+        hear_block(edge, edge->number++, 0, stamps[given], 12, entries);
     }
 }
 
@@ -203,17 +183,11 @@ static void hear_stamps(struct edge *edge, unsigned given) {
 static void hear_lengths(struct edge *edge, unsigned given) {
     static const uint8_t counts[] = {0, 1, 2, 85, 128, 254, 255};
     uint8_t octets[CONFORMANCE_LONGEST_FRAME], entries[3 * 255];
-    struct made block;
     for (given = 0; given < COUNT(counts); given++) {
         size_t length, cut;
         memset(octets, 0, sizeof octets);
         random_entries(entries, 255, edge->state);
-        block.number = edge->number;
-        block.status = 0;
-        block.count = counts[given];
-        block.stamp = 1000;
-        block.entries = entries;
-        length = write_block(octets, &block);
+        length = write_block(octets, edge->number, 0, 1000, counts[given], entries);
         conformance_edge_event(edge, EVENT_POLL);
         for (cut = 1; cut < 8; cut++) conformance_edge_octets(edge, EVENT_HEAR, octets, length - cut);
         for (cut = 1; cut < 5; cut++) conformance_edge_octets(edge, EVENT_HEAR, octets, length + cut);
@@ -289,17 +263,10 @@ static const struct edge_row ROWS[] = {
 const unsigned CONFORMANCE_CPU_EDGES = COUNT(ROWS);
 
 void conformance_cpu_edge(struct script *script, unsigned number, size_t most, uint64_t *state) {
-    struct edge edge;
-    const struct edge_row *row;
-    memset(&edge, 0, sizeof edge);
-    edge.script = script;
-    edge.most = most < CONFORMANCE_LONGEST ? most : (size_t)CONFORMANCE_LONGEST;
-    edge.state = state;
-    edge.levels = ALL;
-    edge.number = conformance_block_number(state);
+    const struct edge_row *row =
+        number < CONFORMANCE_CPU_EDGES ? &ROWS[number] : &CONFORMANCE_CPU_LONG_ROWS[number - CONFORMANCE_CPU_EDGES];
     script->id = 2;
     script->per_block = FIO2070_MOST_ENTRIES;
-    script->number = edge.number;
-    row = number < CONFORMANCE_CPU_EDGES ? &ROWS[number] : &CONFORMANCE_CPU_LONG_ROWS[number - CONFORMANCE_CPU_EDGES];
-    row->fill(&edge, row->given);
+    script->number = conformance_block_number(state);
+    conformance_fill(row, script, script->number, most, state);
 }

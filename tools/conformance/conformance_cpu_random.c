@@ -24,31 +24,23 @@ static size_t random_length(enum theme theme, uint64_t *state) {
 
 /* An event happens, if the script has room for it. */
 static void happen(struct growth *growth, const struct event *event) {
-    static struct difference ignored;
     if (growth->script->length >= growth->most || conformance_add(growth->script, event) == NULL) return;
-    conformance_link_step(&growth->link, event, &ignored);
+    conformance_link_go(&growth->link, event);
 }
 
 static void add(struct growth *growth, enum event_kind kind, unsigned back) {
-    struct event event;
-    memset(&event, 0, sizeof event);
-    event.kind = kind;
+    struct event event = conformance_event(kind, NULL, 0);
     event.back = back;
     happen(growth, &event);
 }
 
 static void add_frame(struct growth *growth, enum event_kind kind, const uint8_t *octets, size_t length) {
-    struct event event;
-    memset(&event, 0, sizeof event);
-    event.kind = kind;
-    event.octets = octets;
-    event.length = length;
+    struct event event = conformance_event(kind, octets, length);
     happen(growth, &event);
 }
 
 static void add_scans(struct growth *growth, unsigned count, enum theme theme) {
-    struct event event;
-    memset(&event, 0, sizeof event);
+    struct event event = conformance_event(EVENT_SCAN, NULL, 0);
     growth->course.theme = theme;
     while (count-- > 0) {
         event.inputs = conformance_levels(&growth->course, growth->state);
@@ -189,9 +181,7 @@ static void stay_out(struct growth *growth) {
 }
 
 static void begin(struct growth *growth, struct script *script, const struct cpu_mix *mix, uint64_t *state) {
-    struct ends none;
     uint8_t octets[CONFORMANCE_LONGEST_FRAME];
-    memset(&none, 0, sizeof none);
     script->id = 2;
     script->per_block = FIO2070_MOST_ENTRIES;
     script->number = conformance_block_number(state);
@@ -199,7 +189,7 @@ static void begin(struct growth *growth, struct script *script, const struct cpu
     growth->course.levels = growth->course.moving = ~(uint64_t)0;
     growth->is_orderly = conformance_below(state, 1000) < mix->orderly;
     growth->state = state;
-    conformance_link_start(&growth->link, &none, script);
+    conformance_link_start(&growth->link, NULL, script);
     add_frame(growth, EVENT_COMMAND, octets, conformance_open(octets, OVERFLOWING, state));
     add(growth, EVENT_DELIVER, 0);
 }

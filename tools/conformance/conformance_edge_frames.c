@@ -3,9 +3,6 @@
 
 #include <string.h>
 
-#define ALL (~(uint64_t)0)
-#define COUNT(list) (sizeof list / sizeof list[0])
-
 static void add(struct edge *edge, const uint8_t *octets, size_t length) {
     conformance_edge_octets(edge, EVENT_FRAME, octets, length);
 }
@@ -60,7 +57,7 @@ static void dirty(struct edge *edge) {
     conformance_edge_open(edge, 3, 3);
     conformance_edge_change(edge, ALL);
     conformance_edge_scans(edge, 1);
-    add(edge, octets, conformance_write_load(octets, 1000));
+    conformance_edge_load(edge, 1000);
 }
 
 static void restart(struct edge *edge, unsigned given) {
@@ -105,10 +102,9 @@ static void clear_flags(struct edge *edge, unsigned given) {
 static void load(struct edge *edge, unsigned given) {
     static const uint32_t numbers[] = {0,          1,          65534,      65535,       65536,      16777215,
                                        16777216,   2147483647, 2147483648, 4294967294u, 4294967295u, 0};
-    uint8_t octets[5];
     conformance_edge_open(edge, 1, 1);
     for (given = 0; given < COUNT(numbers); given++) {
-        add(edge, octets, conformance_write_load(octets, numbers[given]));
+        conformance_edge_load(edge, numbers[given]);
         conformance_edge_event(edge, EVENT_SYNC);
         conformance_edge_pair(edge, FIO2070_TYPE_STATUS, 0);
         use(edge);
@@ -273,7 +269,7 @@ static void interrupt(struct edge *edge, unsigned which) {
     case 6: conformance_edge_event(edge, EVENT_SYNC); break;
     case 7: add(edge, octets, 0); break;
     case 8: add(edge, octets, sizeof octets); break;
-    case 9: add(edge, octets, conformance_write_load(octets, 70000)); break;
+    case 9: conformance_edge_load(edge, 70000); break;
     case 10: conformance_edge_open(edge, 3, 3); break;
     default: add(edge, others[which - 11], lengths[which - 11]); break;
     }

@@ -1,19 +1,11 @@
 /* Scripts of edges of a module: its filters, its waiting entries, and long runs. */
 #include "conformance_edges.h"
 
-#include <string.h>
-
-#define ALL (~(uint64_t)0)
-
 /* ---- Events ---- */
 
 void conformance_edge_octets(struct edge *edge, enum event_kind kind, const uint8_t *octets, size_t length) {
-    struct event event;
+    struct event event = conformance_event(kind, octets, length);
     if (edge->script->length >= edge->most) return;
-    memset(&event, 0, sizeof event);
-    event.kind = kind;
-    event.octets = octets;
-    event.length = length;
     event.inputs = kind == EVENT_SCAN ? edge->levels : 0;
     conformance_add(edge->script, &event);
 }
@@ -43,24 +35,25 @@ void conformance_edge_poll(struct edge *edge, unsigned plus) {
     conformance_edge_pair(edge, FIO2070_TYPE_POLL, edge->number);
 }
 
-void conformance_edge_open(struct edge *edge, uint8_t leading, uint8_t trailing) {
+/* All inputs are reported, with filters that go up and down by this step from one input to the next. */
+static void open_all(struct edge *edge, unsigned leading, unsigned trailing, unsigned step) {
     uint8_t octets[2 + 3 * 64];
     unsigned input;
     octets[0] = FIO2070_TYPE_CONFIGURE_INPUTS;
     octets[1] = 64;
     for (input = 0; input < 64; input++) {
         octets[2 + 3 * input] = (uint8_t)input;
-        octets[3 + 3 * input] = leading;
-        octets[4 + 3 * input] = trailing;
+        octets[3 + 3 * input] = (uint8_t)(leading + step * input);
+        octets[4 + 3 * input] = (uint8_t)(trailing - step * input);
     }
     conformance_edge_octets(edge, EVENT_FRAME, octets, sizeof octets);
 }
 
-size_t conformance_write_load(uint8_t *octets, uint32_t number) {
-    int octet;
-    octets[0] = FIO2070_TYPE_LOAD_COUNTER;
-    for (octet = 4; octet > 0; octet--, number >>= 8) octets[octet] = (uint8_t)number;
-    return 5;
+void conformance_edge_open(struct edge *edge, uint8_t leading, uint8_t trailing) { open_all(edge, leading, trailing, 0); }
+
+void conformance_edge_load(struct edge *edge, uint32_t number) {
+    uint8_t octets[5];
+    conformance_edge_octets(edge, EVENT_FRAME, octets, fio2070_encode_load_counter(number, octets, sizeof octets));
 }
 
 uint8_t conformance_block_number(uint64_t *state) {
@@ -78,16 +71,7 @@ unsigned conformance_run_length(uint64_t *state) {
 
 /* Each input has filters of its own, 64 values from `first` on, and each state changes both ways. */
 static void sweep_filters(struct edge *edge, unsigned first) {
-    uint8_t octets[2 + 3 * 64];
-    unsigned input;
-    octets[0] = FIO2070_TYPE_CONFIGURE_INPUTS;
-    octets[1] = 64;
-    for (input = 0; input < 64; input++) {
-        octets[2 + 3 * input] = (uint8_t)input;
-        octets[3 + 3 * input] = (uint8_t)(first + input);
-        octets[4 + 3 * input] = (uint8_t)(first + 63 - input);
-    }
-    conformance_edge_octets(edge, EVENT_FRAME, octets, sizeof octets);
+    open_all(edge, first, first + 63, 1);
     for (edge->levels = 0; ; edge->levels = ALL) {
         conformance_edge_scans(edge, first + 65);
         conformance_edge_poll(edge, 1);
@@ -154,7 +138,7 @@ static void stay_silent(struct edge *edge, unsigned scans) {
     conformance_edge_change(edge, ALL);
     conformance_edge_octets(edge, EVENT_FRAME, octets, sizeof octets);
     conformance_edge_pair(edge, FIO2070_TYPE_WATCHDOG, 10);
-    conformance_edge_octets(edge, EVENT_FRAME, octets, conformance_write_load(octets, 100000));
+    conformance_edge_load(edge, 100000);
     conformance_edge_scans(edge, scans);
     conformance_edge_poll(edge, 0);
     conformance_edge_poll(edge, 1);
@@ -180,6 +164,16 @@ static void go_on(struct edge *edge, unsigned rounds) {
 
 /* ---- All ---- */
 
+void conformance_fill(const struct edge_row *row, struct script *script, uint8_t number, size_t most, uint64_t *state) {
+    struct edge edge;
+    edge.script = script;
+    edge.most = most < CONFORMANCE_LONGEST ? most : (size_t)CONFORMANCE_LONGEST;
+    edge.state = state;
+    edge.levels = ALL;
+    edge.number = number;
+    row->fill(&edge, row->given);
+}
+
 static const struct edge_row ROWS[] = {
     {repeat_block, 1}, {fill_buffer, 0},     {fill_buffer, 1},      {poll_all_numbers, 0}, {sweep_filters, 0},
     {repeat_block, 0}, {sweep_filters, 192}, {sweep_filters, 64},   {sweep_filters, 128},  {stay_silent, 2100},
@@ -190,18 +184,10 @@ enum { OF_RUNS = sizeof ROWS / sizeof ROWS[0] };
 const unsigned CONFORMANCE_EDGES = OF_RUNS + CONFORMANCE_EDGE_FRAMES;
 
 void conformance_edge(struct script *script, const struct maker *maker, unsigned number, size_t most, uint64_t *state) {
-    struct edge edge;
-    const struct edge_row *row;
-    memset(&edge, 0, sizeof edge);
-    edge.script = script;
-    edge.most = most < CONFORMANCE_LONGEST ? most : (size_t)CONFORMANCE_LONGEST;
-    edge.state = state;
-    edge.levels = ALL;
-    edge.number = conformance_block_number(state);
+    const struct edge_row *row = number < CONFORMANCE_EDGE_FRAMES ? &CONFORMANCE_EDGE_FRAME_ROWS[number]
+                                 : number < CONFORMANCE_EDGES     ? &ROWS[number - CONFORMANCE_EDGE_FRAMES]
+                                                                  : &CONFORMANCE_LONG_ROWS[number - CONFORMANCE_EDGES];
     script->id = maker->id;
     script->per_block = maker->per_block;
-    row = number < CONFORMANCE_EDGE_FRAMES ? &CONFORMANCE_EDGE_FRAME_ROWS[number]
-          : number < CONFORMANCE_EDGES     ? &ROWS[number - CONFORMANCE_EDGE_FRAMES]
-                                           : &CONFORMANCE_LONG_ROWS[number - CONFORMANCE_EDGES];
-    row->fill(&edge, row->given);
+    conformance_fill(row, script, conformance_block_number(state), most, state);
 }

@@ -22,6 +22,8 @@ unsigned conformance_run_length(uint64_t *state);
 
 /* ---- For the files of edges ---- */
 
+#define ALL (~(uint64_t)0) /* inputs */
+
 /* A script that grows. */
 struct edge {
     struct script *script;
@@ -58,6 +60,9 @@ void conformance_edge_poll(struct edge *edge, unsigned plus);
 void conformance_edge_open(struct edge *edge, uint8_t leading, uint8_t trailing);
 
 /* Command 50. */
-size_t conformance_write_load(uint8_t *octets, uint32_t number);
+void conformance_edge_load(struct edge *edge, uint32_t number);
+
+/* Fills an empty script with the edge of a row, from this block number on. */
+void conformance_fill(const struct edge_row *row, struct script *script, uint8_t number, size_t most, uint64_t *state);
 
 #endif

@@ -1,5 +1,5 @@
 /* The memory of scripts: their events, and the octets of their frames, which last until a script is emptied. */
-#include "conformance.h"
+#include "conformance_octets.h"
 
 #include <stdlib.h>
 #include <string.h>
@@ -54,6 +54,15 @@ void conformance_clear(struct script *script) {
     script->length = 0;
     last = first;
     if (first != NULL) first->used = 0;
+}
+
+struct event conformance_event(enum event_kind kind, const uint8_t *octets, size_t length) {
+    struct event event;
+    memset(&event, 0, sizeof event);
+    event.kind = kind;
+    event.octets = octets;
+    event.length = length;
+    return event;
 }
 
 const struct event *conformance_add(struct script *script, const struct event *event) {

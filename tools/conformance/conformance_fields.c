@@ -1,5 +1,6 @@
 /* The fields in which two answers differ, or the responses of two CPU's ends to a frame, and their names. */
 #include "conformance_link.h"
+#include "conformance_octets.h"
 
 #include <string.h>
 
@@ -114,12 +115,11 @@ static const struct place PLACES[] = {{FIELD_TYPE, "the type", 0, 1, 0},
 
 static void write_value(const uint8_t *octets, size_t length, const struct place *place, FILE *out) {
     const uint8_t *first = octets + (place->first < 0 ? (int)length + place->first : place->first);
-    int count;
     if (place->bit != 0) {
         fputs(*first & place->bit ? "1" : "0", out);
-        return;
+    } else {
+        conformance_write_octets(first, (size_t)place->count, out);
     }
-    for (count = 0; count < place->count; count++) fprintf(out, "%02x", first[count]);
 }
 
 static void write_place(const struct difference *both, const struct place *place, FILE *out) {

@@ -13,27 +13,10 @@ struct request {
     int guard_ms;
 };
 
-/* Whether all octets were written, or read. A pipe may take, or give, a part. */
-static int writes(int file, const void *octets, size_t length) {
-    const char *from = (const char *)octets;
-    while (length > 0) {
-        ssize_t count = write(file, from, length);
-        if (count <= 0) return 0;
-        from += count;
-        length -= (size_t)count;
-    }
-    return 1;
-}
-
-static int reads(int file, void *octets, size_t length) {
-    char *to = (char *)octets;
-    while (length > 0) {
-        ssize_t count = read(file, to, length);
-        if (count <= 0) return 0;
-        to += count;
-        length -= (size_t)count;
-    }
-    return 1;
+/* Writes what a script came to. Returns 0 if it can't. */
+static int tell(const struct fresh *fresh, size_t event, const struct difference *difference) {
+    return fwrite(&event, sizeof event, 1, fresh->from) == 1 && fwrite(difference, sizeof *difference, 1, fresh->from) == 1 &&
+           fflush(fresh->from) == 0;
 }
 
 /* In the last process: reads the script, and writes the event's number and the difference. */
@@ -49,24 +32,21 @@ static void answer(const struct fresh *fresh, const struct ends *given, const st
     ends.guard_ms = request->guard_ms;
     rewind(fresh->text);
     if (conformance_read(&script, &text)) event = conformance_compare(&ends, &script, &difference);
-    if (!writes(fresh->from, &event, sizeof event) || !writes(fresh->from, &difference, sizeof difference)) _exit(1);
-    _exit(0);
+    _exit(!tell(fresh, event, &difference));
 }
 
 /* In the process that waits. */
 static void wait_for_scripts(const struct fresh *fresh, const struct ends *ends) {
     static struct difference nothing; /* all 0 */
-    static const size_t no_event = 0;
     struct request request;
-    while (reads(fresh->to, &request, sizeof request)) {
+    while (fread(&request, sizeof request, 1, fresh->to) == 1) {
         pid_t process = fork();
         int status = 0;
         if (process == 0) answer(fresh, ends, &request);
         if (process < 0) _exit(1);
         waitpid(process, &status, 0);
         /* It ended without an answer. */
-        if (status != 0 && (!writes(fresh->from, &no_event, sizeof no_event) || !writes(fresh->from, &nothing, sizeof nothing)))
-            _exit(1);
+        if (status != 0 && !tell(fresh, 0, &nothing)) _exit(1);
     }
     _exit(0);
 }
@@ -80,22 +60,22 @@ void conformance_fresh_begin(struct fresh *fresh, const struct ends *ends) {
     if (fresh->process == 0) {
         close(to[1]);
         close(from[0]);
-        fresh->to = to[0];
-        fresh->from = from[1];
+        fresh->to = fdopen(to[0], "r");
+        fresh->from = fdopen(from[1], "w");
         wait_for_scripts(fresh, ends);
     }
     close(to[0]);
     close(from[1]);
-    fresh->to = to[1];
-    fresh->from = from[0];
+    fresh->to = fdopen(to[1], "w");
+    fresh->from = fdopen(from[0], "r");
     fresh->is_there = fresh->process > 0;
 }
 
 void conformance_fresh_end(struct fresh *fresh) {
     if (fresh->text != NULL) fclose(fresh->text);
     if (!fresh->is_there) return;
-    close(fresh->to);
-    close(fresh->from);
+    fclose(fresh->to);
+    fclose(fresh->from);
     waitpid((pid_t)fresh->process, NULL, 0);
     fresh->is_there = 0;
 }
@@ -104,6 +84,7 @@ size_t conformance_fresh_compare(struct fresh *fresh, const struct ends *ends, c
                                  struct difference *difference) {
     struct request request;
     size_t event = 0;
+    if (fresh == NULL) return conformance_compare(ends, script, difference);
     memset(difference, 0, sizeof *difference);
     if (!fresh->is_there) return 0;
     rewind(fresh->text);
@@ -114,8 +95,8 @@ size_t conformance_fresh_compare(struct fresh *fresh, const struct ends *ends, c
     request.masked = ends->masked;
     request.left_out = ends->left_out;
     request.guard_ms = ends->guard_ms;
-    if (!writes(fresh->to, &request, sizeof request) || !reads(fresh->from, &event, sizeof event) ||
-        !reads(fresh->from, difference, sizeof *difference)) {
+    if (fwrite(&request, sizeof request, 1, fresh->to) != 1 || fflush(fresh->to) != 0 ||
+        fread(&event, sizeof event, 1, fresh->from) != 1 || fread(difference, sizeof *difference, 1, fresh->from) != 1) {
         fresh->is_there = 0;
         return 0;
     }

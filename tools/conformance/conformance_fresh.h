@@ -5,7 +5,8 @@
 #include "conformance.h"
 
 struct fresh {
-    int is_there, to, from; /* pipes of the process that forks the others */
+    int is_there;
+    FILE *to, *from; /* pipes of the process that forks the others */
     long process;
     FILE *text; /* the script that runs next */
 };
@@ -14,7 +15,7 @@ struct fresh {
 void conformance_fresh_begin(struct fresh *fresh, const struct ends *ends);
 void conformance_fresh_end(struct fresh *fresh);
 
-/* Like conformance_compare, in a new process. If that is not possible, there is no difference. */
+/* Like conformance_compare; if `fresh` is not NULL, in a new process. If that is not possible, there is no difference. */
 size_t conformance_fresh_compare(struct fresh *fresh, const struct ends *ends, const struct script *script,
                                  struct difference *difference);
 

@@ -1,5 +1,6 @@
 /* The rule of docs/PROTOCOL.md that a difference is about. A script that was shrunk has nothing that its difference
  * does not need, so the rules that it exercises say what that is. */
+#include "conformance_octets.h"
 #include "conformance_suspect.h"
 
 #include <string.h>
@@ -77,7 +78,7 @@ static enum rule first_step(const struct ends *ends, const struct script *script
     struct rule_set needed = *exercised;
     enum rule rule;
     for (;;) {
-        rule = first_suspect(STEPS, sizeof STEPS / sizeof STEPS[0], both->fields, &needed);
+        rule = first_suspect(STEPS, COUNT(STEPS), both->fields, &needed);
         if (both->is_whole) return rule;
         if ((rule != RULE_FILTERS_AT_START || conformance_comes_from_start(ends, script)) &&
             (rule != RULE_IGNORED_INPUT || conformance_comes_from_ignored(ends, script))) {
@@ -101,6 +102,12 @@ static enum rule rule_of_lack(const struct ends *ends, const struct script *scri
     case LACKS_STATE: return RULES;
     }
     return RULES;
+}
+
+/* The first of these rules that an event exercised; the last of them if it exercised none. */
+static enum rule first_of(const enum rule *rules, size_t count, const struct rule_set *event) {
+    while (count-- > 1 && !conformance_has(event, *rules)) rules++;
+    return *rules;
 }
 
 /* The rule of an answer to a command, if nothing before it is suspect. */
@@ -156,20 +163,17 @@ static int is_of_frame(const struct rule_set *event) {
 static enum rule rule_of_step(const struct rule_set *event) {
     static const enum rule rules[] = {RULE_RESTART,     RULE_COUNTER_AROUND, RULE_LOAD_AT_SYNC, RULE_SYNC_ALONE,
                                       RULE_PUSHED_OUT,  RULE_MOST_WAITING,   RULE_FILTER_OF_ZERO, RULE_ENTRY_ORDER,
-                                      RULE_ENTRY};
-    size_t row;
-    for (row = 0; row < sizeof rules / sizeof rules[0]; row++) {
-        if (conformance_has(event, rules[row])) return rules[row];
-    }
-    return RULE_COUNTER_STEP;
+                                      RULE_ENTRY,       RULE_COUNTER_STEP};
+    return first_of(rules, COUNT(rules), event);
 }
+
+static const enum rule REFUSALS[] = {RULE_EMPTY_FRAME, RULE_FRAME_TOO_LONG, RULE_UNKNOWN_TYPE, RULE_WRONG_LENGTH, RULES};
 
 /* A difference at a module. */
 static enum rule judge_module(const struct ends *ends, const struct script *script, const struct difference *both) {
     uint8_t code = both->frame_length > 0 ? both->frame[0] : 0;
     struct rule_set exercised;
     enum rule rule;
-    int refusal;
     if ((both->fields & FIELD_BIT(FAILURE)) && !is_of_frame(&both->exercised)) return rule_of_step(&both->exercised);
     if (both->is_whole) {
         memset(&exercised, 0, sizeof exercised);
@@ -181,16 +185,15 @@ static enum rule judge_module(const struct ends *ends, const struct script *scri
     if ((both->fields & ~HIDDEN) == 0 && code != FIO2070_TYPE_SET_OUTPUTS && code != FIO2070_TYPE_WATCHDOG) {
         return both->fields & FIELD_BIT(OUTPUTS) ? RULE_OUTPUTS_KEPT : RULE_WATCHDOG_TIMEOUT;
     }
-    for (refusal = RULE_EMPTY_FRAME; refusal <= RULE_WRONG_LENGTH; refusal++) {
-        if (conformance_has(&both->exercised, (enum rule)refusal)) return (enum rule)refusal;
-    }
+    rule = first_of(REFUSALS, COUNT(REFUSALS), &both->exercised);
+    if (rule != RULES) return rule;
     if (both->fields & FIELD_BIT(TYPE)) return RULE_ANSWER_TYPE;
     if (both->got_length == 0 && conformance_has(&both->exercised, RULE_FRAME_LENGTH)) return RULE_FRAME_LENGTH;
     if ((both->fields & FIELD_BIT(FAILURE)) && conformance_has(&both->exercised, RULE_SENT_AGAIN)) return RULE_SENT_AGAIN;
     if (both->fields & (FIELD_BIT(PRESENCE) | FIELD_BIT(LENGTH) | FIELD_BIT(FAILURE))) {
         return rule_of_command(code, both->fields, &both->exercised);
     }
-    rule = first_suspect(STRANGERS, sizeof STRANGERS / sizeof STRANGERS[0], both->fields, &exercised);
+    rule = first_suspect(STRANGERS, COUNT(STRANGERS), both->fields, &exercised);
     if (rule == RULES && code == FIO2070_TYPE_POLL) rule = rule_of_block(both->fields, &both->exercised);
     conformance_join(&exercised, &both->exercised);
     if (rule == RULES) rule = rule_of_lack(ends, script, both, &exercised);
@@ -216,12 +219,9 @@ static int is_left_with_status_0(const struct ends *ends, const struct script *s
     static struct difference difference;
     uint8_t octets[CONFORMANCE_LONGEST_FRAME];
     struct event event;
-    memset(&event, 0, sizeof event);
     memcpy(octets, both->frame, both->frame_length);
     octets[both->frame_length - 5] = 0;
-    event.kind = EVENT_HEAR;
-    event.octets = octets;
-    event.length = both->frame_length;
+    event = conformance_event(EVENT_HEAR, octets, both->frame_length);
     conformance_copy(&plain, script);
     plain.length--;
     conformance_add(&plain, &event);
@@ -247,24 +247,18 @@ static enum rule rule_of_items(const struct difference *both) {
 static enum rule rule_of_failure(const struct rule_set *event) {
     static const enum rule rules[] = {RULE_UNREADABLE,  RULE_OTHER_ANSWER, RULE_TAKEN_ONCE,      RULE_STALE,
                                       RULE_EMPTY_BLOCK, RULE_GAP_MARK,     RULE_BLOCK_LENGTH,    RULE_UNNAMED_BITS,
-                                      RULE_HIGH_INPUT,  RULE_TAKEN_WHOLE,  RULE_SAME_UNTIL_TAKEN};
-    size_t row;
-    for (row = 0; row < sizeof rules / sizeof rules[0]; row++) {
-        if (conformance_has(event, rules[row])) return rules[row];
-    }
-    return RULE_POLL_NUMBER;
+                                      RULE_HIGH_INPUT,  RULE_TAKEN_WHOLE,  RULE_SAME_UNTIL_TAKEN, RULE_POLL_NUMBER};
+    return first_of(rules, COUNT(rules), event);
 }
 
 static enum rule judge_cpu(const struct ends *ends, const struct script *script, const struct difference *both) {
-    static const enum rule heard[] = {RULE_UNREADABLE, RULE_OTHER_ANSWER, RULE_TAKEN_ONCE, RULE_STALE};
-    size_t row;
+    static const enum rule heard[] = {RULE_UNREADABLE, RULE_OTHER_ANSWER, RULE_TAKEN_ONCE, RULE_STALE, RULES};
+    enum rule rule = first_of(heard, COUNT(heard), &both->exercised);
     if (both->fields & FIELD_BIT(FAILURE)) return rule_of_failure(&both->exercised);
     if (both->fields & FIELD_BIT(POLL)) {
         return conformance_has(&both->exercised, RULE_SAME_UNTIL_TAKEN) ? RULE_SAME_UNTIL_TAKEN : RULE_POLL_NUMBER;
     }
-    for (row = 0; row < sizeof heard / sizeof heard[0]; row++) {
-        if (conformance_has(&both->exercised, heard[row])) return heard[row];
-    }
+    if (rule != RULES) return rule;
     if (is_left(both) && conformance_has(&both->exercised, RULE_UNNAMED_BITS)) return RULE_UNNAMED_BITS;
     if (is_left(both) && !is_left_with_status_0(ends, script, both)) return RULE_TAKEN_WHOLE;
     if (is_left(both) && conformance_has(&both->exercised, RULE_BLOCK_LENGTH)) return RULE_BLOCK_LENGTH;

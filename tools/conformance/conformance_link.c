@@ -1,5 +1,6 @@
 /* The proved ends of the link, and the end under test next to one of them. */
 #include "conformance_link.h"
+#include "conformance_octets.h"
 
 #include <string.h>
 
@@ -10,10 +11,9 @@ static void set_frame(struct frame *frame, const uint8_t *octets, size_t length)
 
 /* A line of the transcript. */
 static void log_frame(const struct link *link, char direction, const uint8_t *octets, size_t length) {
-    size_t place;
     if (link->transcript == NULL) return;
     fprintf(link->transcript, "%s%c ", link->head, direction);
-    for (place = 0; place < length; place++) fprintf(link->transcript, "%02x", octets[place]);
+    conformance_write_octets(octets, length, link->transcript);
     fputs("\n", link->transcript);
 }
 
@@ -219,7 +219,8 @@ static int hear(struct link *link, const uint8_t *octets, size_t length, struct 
     return differs(link, difference, conformance_heard_fields(difference));
 }
 
-int conformance_link_poll(struct link *link, struct difference *difference) {
+/* The CPU's end polls. */
+static int poll(struct link *link, struct difference *difference) {
     const struct cpu_maker *maker = link->ends.cpu;
     struct cpu_history history = link->cpu_history;
     size_t length = fio2070_poller_poll(&link->cpu, difference->expected, FIO2070_LONGEST_FRAME);
@@ -270,7 +271,7 @@ int conformance_link_step(struct link *link, const struct event *event, struct d
     case EVENT_SYNC: sync_line(link); return 0;
     case EVENT_RESTART: restart(link); return 0;
     case EVENT_FRAME: return exchange(link, event->octets, event->length, difference);
-    case EVENT_POLL: return conformance_link_poll(link, difference);
+    case EVENT_POLL: return poll(link, difference);
     case EVENT_COMMAND:
         set_frame(&link->command, event->octets, event->length);
         link->sent++;
@@ -284,14 +285,19 @@ int conformance_link_step(struct link *link, const struct event *event, struct d
     return 0;
 }
 
+void conformance_link_go(struct link *link, const struct event *event) {
+    static struct difference ignored;
+    conformance_link_step(link, event, &ignored);
+}
+
 void conformance_link_start(struct link *link, const struct ends *ends, const struct script *script) {
     struct fio2070_limits limits = FIO2070_STANDARD_LIMITS;
     memset(link, 0, sizeof *link);
-    link->ends = *ends;
+    if (ends != NULL) link->ends = *ends;
     limits.per_block = script->per_block;
     (void)!fio2070_module_start(&link->module, script->id, limits); /* a script has limits in range */
     conformance_begin(&link->history);
     link->cpu.number = script->number;
-    if (ends->module != NULL) reset_maker(link);
-    if (ends->cpu != NULL) ends->cpu->reset(ends->cpu->context, script->number);
+    if (link->ends.module != NULL) reset_maker(link);
+    if (link->ends.cpu != NULL) link->ends.cpu->reset(link->ends.cpu->context, script->number);
 }

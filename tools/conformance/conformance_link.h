@@ -28,18 +28,18 @@ struct link {
     FILE *transcript;
 };
 
-/* Starts both ends as a script has them. Without ends under test the proved ones are alone. */
+/* Starts both ends as a script has them. If `ends` is NULL, the proved ones are alone. */
 void conformance_link_start(struct link *link, const struct ends *ends, const struct script *script);
 
 /* Does an event. Returns 1 if the end under test differs from the proved one. */
 int conformance_link_step(struct link *link, const struct event *event, struct difference *difference);
 
+/* Does an event, whatever the end under test does. */
+void conformance_link_go(struct link *link, const struct event *event);
+
 /* The number of the answer that an event delivers, 0 if there is none: it is no longer kept, or a
  * later one was delivered. */
 unsigned long conformance_link_answer(const struct link *link, const struct event *event);
-
-/* The CPU's end polls, and the transcript has it. */
-int conformance_link_poll(struct link *link, struct difference *difference);
 
 /* Runs a script as conformance_compare does, and counts the events that exercise each rule. */
 size_t conformance_count(const struct ends *ends, const struct script *script, struct difference *difference,
@@ -47,6 +47,11 @@ size_t conformance_count(const struct ends *ends, const struct script *script, s
 
 /* The rules that a script exercises. */
 void conformance_exercised(const struct ends *ends, const struct script *script, struct rule_set *rules);
+
+/* Whether an event is a poll that comes to the module, and the number of the first one from an event on; `other` if there is
+ * none. */
+int conformance_is_poll(const struct event *event);
+uint8_t conformance_next_poll(const struct script *script, size_t place, uint8_t other);
 
 /* The fields in which both ends differ, a FIELD_BIT for each: of an answer, of what is heard, and the first item of
  * the record that is not the same. */

@@ -4,8 +4,6 @@
 
 #include <string.h>
 
-#define ALL (~(uint64_t)0)
-
 /* More than 4,096: how many polls there are for a block, and how many blocks before it. */
 enum { MANY = 4200 };
 
@@ -27,7 +25,7 @@ static void scan_on(struct edge *edge, unsigned given) {
     uint8_t octets[17] = {FIO2070_TYPE_SET_OUTPUTS, 255, 1};
     conformance_edge_open(edge, 1, 1);
     conformance_edge_octets(edge, EVENT_FRAME, octets, sizeof octets);
-    conformance_edge_octets(edge, EVENT_FRAME, octets, conformance_write_load(octets, 100000));
+    conformance_edge_load(edge, 100000);
     conformance_edge_pair(edge, FIO2070_TYPE_WATCHDOG, 10);
     conformance_edge_poll(edge, 1);
     for (given = 0; given < sizeof silences / sizeof silences[0]; given++) {

@@ -171,6 +171,14 @@ static int write_junit(const char *name, const struct result *result, enum rule_
     return 0;
 }
 
+/* A line for each rule of a set. */
+static void write_each(const char *head, const struct rule_set *rules) {
+    int rule;
+    for (rule = 0; rule < RULES; rule++) {
+        if (conformance_has(rules, (enum rule)rule)) printf("%s%s\n", head, CONFORMANCE_RULE_ROWS[rule].name);
+    }
+}
+
 /* Writes what was seen now and then, and what was not asked to the end. */
 static void write_left_out(const struct result *result) {
     int rule;
@@ -178,14 +186,8 @@ static void write_left_out(const struct result *result) {
         if (result->once[rule] == 0) continue;
         printf(RESULT_ONCE "%s, in %lu scripts\n", CONFORMANCE_RULE_ROWS[rule].name, result->once[rule]);
     }
-    for (rule = 0; rule < RULES; rule++) {
-        if (!conformance_has(&result->also_left_out, (enum rule)rule)) continue;
-        printf(RESULT_LEFT_OUT "%s\n", CONFORMANCE_RULE_ROWS[rule].name);
-    }
-    for (rule = 0; rule < RULES; rule++) {
-        if (!conformance_has(&result->untold, (enum rule)rule)) continue;
-        printf(RESULT_UNTOLD "%s\n", CONFORMANCE_RULE_ROWS[rule].name);
-    }
+    write_each(RESULT_LEFT_OUT, &result->also_left_out);
+    write_each(RESULT_UNTOLD, &result->untold);
     if (result->untold_count > 0) printf(RESULT_UNTOLD_COUNT "%lu\n", result->untold_count);
 }
 
@@ -221,18 +223,15 @@ int conformance_words(const struct ends *ends, int is_outside, int count, char *
     return words.is_replay ? replay(ends) : run(ends, &words);
 }
 
-int conformance_main(const struct maker *maker, int count, char **words) {
+static int guarded(const struct maker *module, const struct cpu_maker *cpu, int count, char **words) {
     struct ends ends;
     memset(&ends, 0, sizeof ends);
-    ends.module = maker;
+    ends.module = module;
+    ends.cpu = cpu;
     ends.guard_ms = GUARD_MS;
     return conformance_words(&ends, 0, count, words);
 }
 
-int conformance_cpu_main(const struct cpu_maker *maker, int count, char **words) {
-    struct ends ends;
-    memset(&ends, 0, sizeof ends);
-    ends.cpu = maker;
-    ends.guard_ms = GUARD_MS;
-    return conformance_words(&ends, 0, count, words);
-}
+int conformance_main(const struct maker *maker, int count, char **words) { return guarded(maker, NULL, count, words); }
+
+int conformance_cpu_main(const struct cpu_maker *maker, int count, char **words) { return guarded(NULL, maker, count, words); }

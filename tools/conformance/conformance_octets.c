@@ -1,6 +1,7 @@
-/* Random numbers, and the octets of random commands. */
+/* Random numbers, the octets of random commands, and octets as digits. */
 #include "conformance_octets.h"
 
+#include <ctype.h>
 #include <string.h>
 
 /* xorshift64* */
@@ -210,4 +211,27 @@ size_t conformance_hostile(uint8_t *octets, uint64_t *state) {
     case 3: return random_long_body(octets, state);
     default: return random_octets(octets, state);
     }
+}
+
+/* ---- Digits ---- */
+
+void conformance_write_octets(const uint8_t *octets, size_t length, FILE *out) {
+    while (length-- > 0) fprintf(out, "%02x", *octets++);
+}
+
+/* The value of a hexadecimal digit, -1 for any other character. */
+static int digit_of(char digit) {
+    static const char digits[] = "0123456789abcdef";
+    const char *found = (const char *)memchr(digits, tolower((unsigned char)digit), 16);
+    return found == NULL ? -1 : (int)(found - digits);
+}
+
+size_t conformance_read_octets(const char *words, uint8_t *octets, size_t most) {
+    size_t length = 0;
+    for (; *words != '\0' && length < most; words += 2) {
+        int high = digit_of(words[0]), low = digit_of(words[1]);
+        if (high < 0 || low < 0) return CONFORMANCE_FAILED;
+        octets[length++] = (uint8_t)(16 * high + low);
+    }
+    return *words == '\0' ? length : CONFORMANCE_FAILED;
 }

@@ -1,8 +1,10 @@
-/* Random numbers, and the octets of random commands. */
+/* Random numbers, the octets of random commands, octets as digits, and events. */
 #ifndef CONFORMANCE_OCTETS_H
 #define CONFORMANCE_OCTETS_H
 
 #include "conformance.h"
+
+#define COUNT(list) (sizeof list / sizeof list[0])
 
 /* The next number of a sequence whose state is not 0. */
 uint64_t conformance_next(uint64_t *state);
@@ -38,5 +40,13 @@ size_t conformance_hostile(uint8_t *octets, uint64_t *state);
 
 /* A configuration of all inputs, all reported, with filters as the theme has them. */
 size_t conformance_open(uint8_t *octets, enum theme theme, uint64_t *state);
+
+/* Octets as pairs of hexadecimal digits. Reading returns how many there are; FAILED if there are more than `most`, or if the
+ * words are anything else. */
+void conformance_write_octets(const uint8_t *octets, size_t length, FILE *out);
+size_t conformance_read_octets(const char *words, uint8_t *octets, size_t most);
+
+/* An event, with the octets of its frame, if there is one. */
+struct event conformance_event(enum event_kind kind, const uint8_t *octets, size_t length);
 
 #endif

@@ -41,7 +41,7 @@ static struct mix mix_of(const struct mix *mix, enum theme theme) {
     return themed;
 }
 
-static size_t write_poll(uint8_t *octets, unsigned number) {
+static size_t write_poll(uint8_t octets[2], unsigned number) {
     octets[0] = FIO2070_TYPE_POLL;
     octets[1] = (uint8_t)number;
     return 2;
@@ -56,11 +56,11 @@ static unsigned stray_number(unsigned number, uint64_t *state) {
     }
 }
 
-/* A frame that comes to the module, or LINESYNC, a restart or a scan. */
+/* Makes of a frame that comes to the module a random one, or LINESYNC, a restart or a scan. */
 static void random_event(struct event *event, uint8_t *octets, const struct mix *mix, struct course *course,
                          uint64_t *state) {
     unsigned rest = conformance_below(state, 1000);
-    event->kind = EVENT_FRAME;
+    event->octets = octets;
     if (rest < mix->polls) {
         event->length = write_poll(octets, ++course->number);
     } else if ((rest -= mix->polls) < mix->repeats) {
@@ -85,11 +85,7 @@ static void random_event(struct event *event, uint8_t *octets, const struct mix 
 }
 
 static void add_frame(struct script *script, const uint8_t *octets, size_t length) {
-    struct event event;
-    memset(&event, 0, sizeof event);
-    event.kind = EVENT_FRAME;
-    event.octets = octets;
-    event.length = length;
+    struct event event = conformance_event(EVENT_FRAME, octets, length);
     conformance_add(script, &event);
 }
 
@@ -117,9 +113,7 @@ static void repeat_poll(struct script *script, const struct course *course, uint
 }
 
 static void add_scan(struct script *script, struct course *course, uint64_t *state) {
-    struct event event;
-    memset(&event, 0, sizeof event);
-    event.kind = EVENT_SCAN;
+    struct event event = conformance_event(EVENT_SCAN, NULL, 0);
     event.inputs = conformance_levels(course, state);
     conformance_add(script, &event);
 }
@@ -153,14 +147,12 @@ void conformance_random(struct script *script, const struct maker *maker, const 
     begin(script, course.theme, state);
     if (course.theme == OVERFLOWING && conformance_below(state, 2) == 0) fill_block(script, &course, state);
     while (script->length < length + silence && script->length < most) {
-        struct event event;
+        struct event event = conformance_event(EVENT_FRAME, NULL, 0);
         if (script->length >= first && script->length < first + silence) {
             add_scan(script, &course, state);
             continue;
         }
         if (conformance_below(state, 2000) == 0) repeat_poll(script, &course, state);
-        memset(&event, 0, sizeof event);
-        event.octets = octets;
         random_event(&event, octets, &themed, &course, state);
         conformance_add(script, &event);
     }

@@ -1,5 +1,6 @@
 /* Field by field what both ends did, the first rule that this breaks, and the script that shows it. */
 #include "conformance_link.h"
+#include "conformance_octets.h"
 
 #include <string.h>
 
@@ -8,12 +9,12 @@ enum { SHOWN = 48 /* octets of an answer */, SIMULATED = 1048576 /* octets of a 
 /* Octets, all of them if they are few, otherwise from shortly before the first that differs; then what is said about them. */
 static void write_octets(const char *who, const uint8_t *octets, size_t length, size_t other, const char *said,
                          FILE *out) {
-    size_t first = length > SHOWN && other > 8 ? other - 8 : 0, place;
+    size_t first = length > SHOWN && other > 8 ? other - 8 : 0;
     if (length > SHOWN && first > length - SHOWN) first = length - SHOWN;
     fprintf(out, "# %s: ", who);
     if (length == 0) fputs("none", out);
     if (length > SHOWN) fprintf(out, "%lu octets, from octet %lu on ", (unsigned long)length, (unsigned long)first);
-    for (place = first; place < length && place < first + SHOWN; place++) fprintf(out, "%02x", octets[place]);
+    conformance_write_octets(octets + first, length < SHOWN ? length : (size_t)SHOWN, out);
     fprintf(out, "%s\n", said);
 }
 

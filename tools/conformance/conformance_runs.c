@@ -102,63 +102,20 @@ size_t conformance_compare(const struct ends *ends, const struct script *script,
     return conformance_count(ends, script, difference, NULL);
 }
 
-/* ---- Without the end under test ---- */
-
-static void do_nothing(void *context) { (void)context; }
-
-static void step_nothing(void *context, uint64_t inputs) {
-    (void)context;
-    (void)inputs;
-}
-
-static size_t answer_nothing(void *context, const uint8_t *octets, size_t length, uint8_t answer[FIO2070_LONGEST_FRAME]) {
-    (void)context;
-    (void)octets;
-    (void)length;
-    (void)answer;
-    return 0;
-}
-
-static void reset_nothing(void *context, uint8_t number) {
-    (void)context;
-    (void)number;
-}
-
-static size_t poll_nothing(void *context, uint8_t frame[FIO2070_LONGEST_FRAME]) {
-    (void)context;
-    (void)frame;
-    return 0;
-}
-
-static size_t hear_nothing(void *context, const uint8_t *octets, size_t length,
-                           struct fio2070_record_item items[FIO2070_MOST_RECORD_ITEMS]) {
-    (void)context;
-    (void)octets;
-    (void)length;
-    (void)items;
-    return 0;
-}
-
-static uint8_t no_number(void *context) {
-    (void)context;
-    return 0;
-}
+/* ---- With a proved end in place of the one under test ---- */
 
 void conformance_exercised(const struct ends *ends, const struct script *script, struct rule_set *rules) {
-    static const struct maker nobody = {NULL, 0, 0, do_nothing, step_nothing, do_nothing, answer_nothing, NULL, NULL};
-    static const struct cpu_maker no_cpu = {NULL, reset_nothing, poll_nothing, hear_nothing, no_number};
     static struct link link;
-    static struct difference ignored;
     struct ends alone;
     size_t place;
     memset(rules, 0, sizeof *rules);
     memset(&alone, 0, sizeof alone);
     alone.left_out = ends->left_out;
-    if (ends->module != NULL) alone.module = &nobody;
-    if (ends->cpu != NULL) alone.cpu = &no_cpu;
+    if (ends->module != NULL) alone.module = &CONFORMANCE_PROVED_MODULE;
+    if (ends->cpu != NULL) alone.cpu = &CONFORMANCE_PROVED_CPU;
     conformance_link_start(&link, &alone, script);
     for (place = 0; place < script->length; place++) {
-        conformance_link_step(&link, &script->events[place], &ignored);
+        conformance_link_go(&link, &script->events[place]);
         conformance_join(rules, &link.exercised);
     }
 }
@@ -174,7 +131,7 @@ struct transcript {
 };
 
 static void write_lines(void *given) {
-    static struct difference ignored;
+    static const struct event poll = {EVENT_POLL, 0, 0, NULL, 0};
     struct transcript *transcript = (struct transcript *)given;
     size_t place;
     conformance_link_start(&transcript->link, transcript->ends, transcript->script);
@@ -182,9 +139,9 @@ static void write_lines(void *given) {
     transcript->link.transcript = transcript->out;
     for (place = 0; place < transcript->script->length; place++) {
         conformance_guard_goes_on();
-        conformance_link_step(&transcript->link, &transcript->script->events[place], &ignored);
+        conformance_link_go(&transcript->link, &transcript->script->events[place]);
     }
-    conformance_link_poll(&transcript->link, &ignored);
+    conformance_link_go(&transcript->link, &poll);
 }
 
 void conformance_transcript(const struct ends *ends, const struct script *script, const char *head, FILE *out) {

@@ -2,6 +2,7 @@
  * has a line that simulate refuses, with the word of the wire: `frame HEX` for a poll with another number than the
  * CPU's, or octets that spell no command, `answer HEX` for octets that no module sent. */
 #include "conformance_link.h"
+#include "conformance_octets.h"
 #include "conformance_results.h"
 
 #include <string.h>
@@ -21,9 +22,8 @@ struct text {
 };
 
 static void write_octets(const struct text *text, const char *word, const uint8_t *octets, size_t length) {
-    size_t place;
     fputs(word, text->out);
-    for (place = 0; place < length; place++) fprintf(text->out, "%02x", octets[place]);
+    conformance_write_octets(octets, length, text->out);
     fputs("\n", text->out);
 }
 
@@ -40,7 +40,6 @@ static void write_levels(const struct text *text, uint64_t inputs) {
 
 /* The line of an event that has one, and the ends after it. */
 static void write_event(struct text *text, const struct event *event) {
-    static struct difference ignored;
     switch (event->kind) {
     case EVENT_SCAN: write_levels(text, event->inputs); break;
     case EVENT_SYNC: fputs("sync\n", text->out); break;
@@ -52,16 +51,7 @@ static void write_event(struct text *text, const struct event *event) {
     case EVENT_FRAME: write_octets(text, TO_MODULE, event->octets, event->length); break;
     case EVENT_HEAR: write_octets(text, TO_CPU, event->octets, event->length); break;
     }
-    conformance_link_step(&text->link, event, &ignored);
-}
-
-static void write_events(struct text *text, const struct script *script, FILE *out) {
-    struct ends none;
-    size_t place;
-    memset(&none, 0, sizeof none);
-    text->out = out;
-    conformance_link_start(&text->link, &none, script);
-    for (place = 0; place < script->length; place++) write_event(text, &script->events[place]);
+    conformance_link_go(&text->link, event);
 }
 
 static void write_header(const struct script *script, FILE *out) {
@@ -78,32 +68,21 @@ static void write_header(const struct script *script, FILE *out) {
 
 void conformance_write(const struct script *script, FILE *out) {
     static struct text text;
+    size_t place;
+    text.out = out;
     write_header(script, out);
-    write_events(&text, script, out);
+    conformance_link_start(&text.link, NULL, script);
+    for (place = 0; place < script->length; place++) write_event(&text, &script->events[place]);
 }
 
 /* ---- Reading ---- */
 
-static int digit_of(char digit) {
-    if ('0' <= digit && digit <= '9') return digit - '0';
-    if ('a' <= digit && digit <= 'f') return digit - 'a' + 10;
-    if ('A' <= digit && digit <= 'F') return digit - 'A' + 10;
-    return -1;
-}
-
 /* Reads pairs of hexadecimal digits as the event's octets. Returns 0 if the words are anything else. */
 static int read_octets(const char *words, struct event *event) {
     static uint8_t octets[CONFORMANCE_LONGEST_FRAME];
-    size_t length = strlen(words), place;
-    if (length % 2 != 0 || length / 2 > sizeof octets) return 0;
-    for (place = 0; place < length; place += 2) {
-        int high = digit_of(words[place]), low = digit_of(words[place + 1]);
-        if (high < 0 || low < 0) return 0;
-        octets[place / 2] = (uint8_t)(16 * high + low);
-    }
     event->octets = octets;
-    event->length = length / 2;
-    return 1;
+    event->length = conformance_read_octets(words, octets, sizeof octets);
+    return event->length != CONFORMANCE_FAILED;
 }
 
 /* Reads 16 digits, input 0 in the lowest bit of the first octet. */
@@ -198,9 +177,6 @@ static int next_line(struct script_text *text) {
 
 int conformance_read(struct script *script, struct script_text *text) {
     static struct link link;
-    static struct difference ignored;
-    struct ends none;
-    memset(&none, 0, sizeof none);
     conformance_clear(script);
     if (text->line[0] == '\0' && !next_line(text)) {
         text->lines++;
@@ -209,10 +185,10 @@ int conformance_read(struct script *script, struct script_text *text) {
     }
     text->is_faulty = !read_header(text->line, script);
     text->is_report = 1;
-    conformance_link_start(&link, &none, script);
+    conformance_link_start(&link, NULL, script);
     while (!text->is_faulty && next_line(text) && after(text->line, HEADER) == NULL) {
         text->is_faulty = !add_line(script, text->line, &link);
-        if (!text->is_faulty) conformance_link_step(&link, &script->events[script->length - 1], &ignored);
+        if (!text->is_faulty) conformance_link_go(&link, &script->events[script->length - 1]);
     }
     return !text->is_faulty;
 }

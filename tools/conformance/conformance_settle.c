@@ -11,9 +11,11 @@ enum {
 
 /* ---- Once more ---- */
 
+/* Where scripts run: NULL for this process. */
+static struct fresh *fresh_of(struct run *run) { return run->is_anew ? &run->fresh : NULL; }
+
 size_t conformance_run_again(struct run *run) {
-    if (run->is_anew) return conformance_fresh_compare(&run->fresh, &run->ends, &run->script, &run->difference);
-    return conformance_compare(&run->ends, &run->script, &run->difference);
+    return conformance_fresh_compare(fresh_of(run), &run->ends, &run->script, &run->difference);
 }
 
 void conformance_join_scripts(struct run *run, const struct origin *first) {
@@ -49,9 +51,8 @@ static int has_restart(const struct script *script) {
 }
 
 static void make_short(struct run *run) {
-    struct fresh *fresh = run->is_anew ? &run->fresh : NULL;
-    run->is_cut = !conformance_shrink(&run->ends, fresh, &run->script, &run->difference);
-    conformance_simulate(&run->ends, fresh, &run->script);
+    run->is_cut = !conformance_shrink(&run->ends, fresh_of(run), &run->script, &run->difference);
+    conformance_simulate(&run->ends, fresh_of(run), &run->script);
 }
 
 /* A difference as it was seen, with its script. */
@@ -192,11 +193,8 @@ int conformance_pass_over(struct ends *ends, enum rule rule) {
 static int is_told_by(struct run *run, enum rule rule) {
     static struct difference ignored;
     struct ends ends = run->ends;
-    size_t length;
     conformance_put(&ends.left_out, rule);
-    length = run->is_anew ? conformance_fresh_compare(&run->fresh, &ends, &run->script, &ignored)
-                          : conformance_compare(&ends, &run->script, &ignored);
-    return length == 0 && !ignored.has_failed;
+    return conformance_fresh_compare(fresh_of(run), &ends, &run->script, &ignored) == 0 && !ignored.has_failed;
 }
 
 /* Rules without whose events there is hardly anything left to compare. */

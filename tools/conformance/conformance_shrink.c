@@ -15,19 +15,22 @@ static int goes_on(const struct shrinking *shrinking, size_t place) {
 
 /* ---- Events ---- */
 
+/* The trial lacks a run of events. */
+static void leave_out(size_t first, size_t run) {
+    struct event *events = conformance_trial.events + first;
+    conformance_trial.length -= run;
+    memmove(events, events + run, (conformance_trial.length - first) * sizeof *events);
+}
+
 /* Keeps only the last events, with the CPU's number as it is before them. Returns 1 if they are enough. */
 static int begin_at(struct shrinking *shrinking, size_t first) {
     static struct link link;
-    static struct difference ignored;
-    struct ends none;
     size_t place;
-    memset(&none, 0, sizeof none);
+    conformance_link_start(&link, NULL, shrinking->script);
+    for (place = 0; place < first; place++) conformance_link_go(&link, &shrinking->script->events[place]);
     conformance_begin_trial(shrinking);
-    conformance_link_start(&link, &none, &conformance_trial);
-    for (place = 0; place < first; place++) conformance_link_step(&link, &conformance_trial.events[place], &ignored);
     conformance_trial.number = link.cpu.number;
-    conformance_trial.length -= first;
-    memmove(conformance_trial.events, conformance_trial.events + first, conformance_trial.length * sizeof conformance_trial.events[0]);
+    leave_out(0, first);
     return conformance_take_trial(shrinking);
 }
 
@@ -48,9 +51,7 @@ static int is_slight(const struct script *script, size_t first, size_t run) {
 /* Leaves out a run of events. Returns 1 if it could. */
 static int drop_run_of_events(struct shrinking *shrinking, size_t first, size_t run) {
     conformance_begin_trial(shrinking);
-    memmove(&conformance_trial.events[first], &conformance_trial.events[first + run],
-            (conformance_trial.length - first - run) * sizeof conformance_trial.events[0]);
-    conformance_trial.length -= run;
+    leave_out(first, run);
     return conformance_take_trial(shrinking);
 }
 
@@ -128,6 +129,13 @@ static void set_octets(size_t place, const uint8_t *octets, size_t length) {
     conformance_trial.events[place] = conformance_trial.events[--conformance_trial.length];
 }
 
+/* Tries an event with other octets. Returns 1 if they are enough. */
+static int try_octets(struct shrinking *shrinking, size_t place, const uint8_t *octets, size_t length) {
+    conformance_begin_trial(shrinking);
+    set_octets(place, octets, length);
+    return conformance_take_trial(shrinking);
+}
+
 /* Where the count is in the octets of an event: the items of a configuration, or the entries of a block, follow it.
  * 0 if there is none. */
 static size_t count_place(const struct event *event) {
@@ -138,16 +146,14 @@ static size_t count_place(const struct event *event) {
 
 /* Leaves out some items or entries of an event. Returns 1 if it could. */
 static int drop_run(struct shrinking *shrinking, size_t place, size_t at, size_t first, size_t run) {
+    const struct event *event = &shrinking->script->events[place];
     uint8_t octets[CONFORMANCE_LONGEST_FRAME];
     uint8_t *item = octets + at + 1 + 3 * first;
-    size_t length;
-    conformance_begin_trial(shrinking);
-    length = conformance_trial.events[place].length - 3 * run;
-    memcpy(octets, conformance_trial.events[place].octets, conformance_trial.events[place].length);
+    size_t length = event->length - 3 * run;
+    memcpy(octets, event->octets, event->length);
     octets[at] = (uint8_t)(octets[at] - run);
     memmove(item, item + 3 * run, length - at - 1 - 3 * first);
-    set_octets(place, octets, length);
-    return conformance_take_trial(shrinking);
+    return try_octets(shrinking, place, octets, length);
 }
 
 /* Leaves out items or entries, in runs of half of them down to one. */
@@ -167,12 +173,11 @@ static void drop_items(struct shrinking *shrinking, size_t place) {
 
 /* Tries an octet of a frame with another value. Returns 1 if it could be. */
 static int try_octet(struct shrinking *shrinking, size_t place, size_t octet, uint8_t value) {
+    const struct event *event = &shrinking->script->events[place];
     uint8_t octets[CONFORMANCE_LONGEST_FRAME];
-    conformance_begin_trial(shrinking);
-    memcpy(octets, conformance_trial.events[place].octets, conformance_trial.events[place].length);
+    memcpy(octets, event->octets, event->length);
     octets[octet] = value;
-    set_octets(place, octets, conformance_trial.events[place].length);
-    return conformance_take_trial(shrinking);
+    return try_octets(shrinking, place, octets, event->length);
 }
 
 /* Makes an octet of a frame as small as it may be, but no smaller than this. */
@@ -213,10 +218,7 @@ static void lower_items(struct shrinking *shrinking, size_t place) {
 static void raise_load(struct shrinking *shrinking, size_t place) {
     static const uint8_t last[] = {FIO2070_TYPE_LOAD_COUNTER, 255, 255, 255, 255};
     const struct event *event = &shrinking->script->events[place];
-    if (event->length != sizeof last || event->octets[0] != FIO2070_TYPE_LOAD_COUNTER) return;
-    conformance_begin_trial(shrinking);
-    set_octets(place, last, sizeof last);
-    conformance_take_trial(shrinking);
+    if (event->length == sizeof last && event->octets[0] == last[0]) try_octets(shrinking, place, last, sizeof last);
 }
 
 /* Cuts a body, and lowers the numbers of a frame. */
@@ -245,29 +247,15 @@ static void shift_numbers(struct shrinking *shrinking, uint8_t shift) {
     conformance_begin_trial(shrinking);
     for (place = 0; place < conformance_trial.length; place++) {
         const struct event *event = &conformance_trial.events[place];
-        int is_poll = event->kind == EVENT_FRAME && event->length == 2 && event->octets[0] == FIO2070_TYPE_POLL;
         int is_block =
             event->kind == EVENT_HEAR && event->length > 1 && event->octets[0] == FIO2070_TYPE_POLL + FIO2070_TYPE_ANSWER;
-        if (!is_poll && !is_block) continue;
+        if (!conformance_is_poll(event) && !is_block) continue;
         memcpy(octets, event->octets, event->length);
         octets[1] = (uint8_t)(octets[1] - shift);
         set_octets(place, octets, event->length);
     }
     conformance_trial.number = (uint8_t)(conformance_trial.number - shift);
     conformance_take_trial(shrinking);
-}
-
-static uint8_t first_number(const struct shrinking *shrinking) {
-    const struct script *script = shrinking->script;
-    size_t place;
-    if (shrinking->ends.cpu != NULL) return script->number;
-    for (place = 0; place < script->length; place++) {
-        const struct event *event = &script->events[place];
-        if (event->kind == EVENT_FRAME && event->length == 2 && event->octets[0] == FIO2070_TYPE_POLL) {
-            return event->octets[1];
-        }
-    }
-    return 0;
 }
 
 static int has_octets(const struct event *event) {
@@ -287,7 +275,7 @@ static void shrink(struct shrinking *shrinking) {
     drop_events(shrinking);
     for (place = 0; goes_on(shrinking, place); place++) drop_items(shrinking, place);
     calm_scans(shrinking);
-    shift_numbers(shrinking, first_number(shrinking));
+    shift_numbers(shrinking, shrinking->ends.cpu != NULL ? script->number : conformance_next_poll(script, 0, 0));
     for (place = 0; goes_on(shrinking, place); place++) {
         if (has_octets(&script->events[place])) lower_frame(shrinking, place);
     }

@@ -12,21 +12,19 @@ struct growth {
 };
 
 static void add(struct growth *growth, enum event_kind kind, const struct event *frame) {
-    static struct difference ignored;
     struct event event = *frame;
     event.kind = kind;
     if (conformance_add(&growth->script, &event) == NULL) growth->is_full = 1;
-    conformance_link_step(&growth->link, &event, &ignored);
+    conformance_link_go(&growth->link, &event);
 }
 
-static int is_poll(const struct event *event) {
+int conformance_is_poll(const struct event *event) {
     return event->kind == EVENT_FRAME && event->length == 2 && event->octets[0] == FIO2070_TYPE_POLL;
 }
 
-/* The number of the first poll that comes to the module from this event on; `other` if there is none. */
-static uint8_t next_poll(const struct script *script, size_t place, uint8_t other) {
+uint8_t conformance_next_poll(const struct script *script, size_t place, uint8_t other) {
     for (; place < script->length; place++) {
-        if (is_poll(&script->events[place])) return script->events[place].octets[1];
+        if (conformance_is_poll(&script->events[place])) return script->events[place].octets[1];
     }
     return other;
 }
@@ -38,11 +36,11 @@ static void add_frame(struct growth *growth, const struct script *script, size_t
     struct fio2070_command command;
     uint8_t number = growth->link.cpu.number;
     memset(&command, 0, sizeof command);
-    if (is_poll(event) && event->octets[1] == number) {
+    if (conformance_is_poll(event) && event->octets[1] == number) {
         add(growth, EVENT_POLL, event);
         add(growth, EVENT_DELIVER, event);
-        if (next_poll(script, place + 1, number) == (uint8_t)(number + 1)) add(growth, EVENT_ANSWER, event);
-    } else if (!is_poll(event) &&
+        if (conformance_next_poll(script, place + 1, number) == (uint8_t)(number + 1)) add(growth, EVENT_ANSWER, event);
+    } else if (!conformance_is_poll(event) &&
                fio2070_decode_command(event->octets, event->length, &command).kind == FIO2070_FAULT_NONE) {
         add(growth, EVENT_COMMAND, event);
         add(growth, EVENT_DELIVER, event);
@@ -54,15 +52,13 @@ static void add_frame(struct growth *growth, const struct script *script, size_t
 void conformance_simulate(const struct ends *ends, struct fresh *fresh, struct script *script) {
     static struct growth growth;
     static struct difference ignored;
-    struct ends none;
     size_t place, length;
-    memset(&none, 0, sizeof none);
     growth.is_full = 0;
     growth.script.length = 0;
     growth.script.id = script->id;
     growth.script.per_block = script->per_block;
-    growth.script.number = next_poll(script, 0, script->number);
-    conformance_link_start(&growth.link, &none, &growth.script);
+    growth.script.number = conformance_next_poll(script, 0, script->number);
+    conformance_link_start(&growth.link, NULL, &growth.script);
     for (place = 0; place < script->length; place++) {
         if (script->events[place].kind == EVENT_FRAME) {
             add_frame(&growth, script, place);
@@ -70,8 +66,7 @@ void conformance_simulate(const struct ends *ends, struct fresh *fresh, struct s
             add(&growth, script->events[place].kind, &script->events[place]);
         }
     }
-    length = fresh == NULL ? conformance_compare(ends, &growth.script, &ignored)
-                           : conformance_fresh_compare(fresh, ends, &growth.script, &ignored);
+    length = conformance_fresh_compare(fresh, ends, &growth.script, &ignored);
     if (growth.is_full || length != growth.script.length) return;
     conformance_copy(script, &growth.script);
 }

@@ -55,12 +55,7 @@ static void say_progress(struct shrinking *shrinking) {
 
 /* Runs a script. Returns its event with a difference of the same kind, 0 if there is none. */
 static size_t try_script(struct shrinking *shrinking, const struct script *script, struct difference *difference) {
-    size_t length;
-    if (shrinking->fresh != NULL) {
-        length = conformance_fresh_compare(shrinking->fresh, &shrinking->ends, script, difference);
-    } else {
-        length = conformance_compare(&shrinking->ends, script, difference);
-    }
+    size_t length = conformance_fresh_compare(shrinking->fresh, &shrinking->ends, script, difference);
     shrinking->tried += length > 0 ? length : script->length;
     if (difference->has_failed) shrinking->tried += shrinking->most;
     if (difference->has_failed || (difference->failure[0] != '\0') != shrinking->fails) return 0;

@@ -1,5 +1,6 @@
 /* A module that is not in this process, as a maker: its lines, and its answers. */
 #define _POSIX_C_SOURCE 200809L
+#include "conformance_octets.h"
 #include "conformance_wire.h"
 
 #include <string.h>
@@ -38,30 +39,18 @@ static void step(void *context, uint64_t inputs) {
     if (wire->has_own_clock && !wire->has_failed) nanosleep(&millisecond, NULL);
 }
 
-size_t conformance_wire_octets(const char *words, uint8_t *octets, size_t most) {
-    size_t length = 0;
-    int taken = 0;
-    for (; *words != '\0' && length < most; words += 2) {
-        unsigned octet;
-        if (strspn(words, "0123456789abcdefABCDEF") < 2 || sscanf(words, "%2x%n", &octet, &taken) != 1) {
-            return CONFORMANCE_FAILED;
-        }
-        octets[length++] = (uint8_t)octet;
-    }
-    return *words == '\0' && length > 0 ? length : CONFORMANCE_FAILED;
-}
-
 size_t conformance_wire_ask_octets(struct wire *wire, const char *line, const char *word,
                                    uint8_t octets[FIO2070_LONGEST_FRAME]) {
     char said[WIRE_LONGEST_LINE];
-    size_t count = CONFORMANCE_FAILED;
+    size_t count = 0;
     if (!conformance_wire_ask(wire, line, said)) return CONFORMANCE_FAILED;
     if (strcmp(said, "none") == 0) return 0;
     if (strncmp(said, word, strlen(word)) == 0) {
-        count = conformance_wire_octets(said + strlen(word), octets, FIO2070_LONGEST_FRAME);
+        count = conformance_read_octets(said + strlen(word), octets, FIO2070_LONGEST_FRAME);
     }
-    if (count == CONFORMANCE_FAILED) conformance_wire_fail(wire, "neither octets nor `none`: ", said);
-    return count;
+    if (count > 0 && count != CONFORMANCE_FAILED) return count;
+    conformance_wire_fail(wire, "neither octets nor `none`: ", said);
+    return CONFORMANCE_FAILED;
 }
 
 static size_t exchange(void *context, const uint8_t *octets, size_t length, uint8_t answer[FIO2070_LONGEST_FRAME]) {

@@ -57,10 +57,8 @@ void conformance_wire_ask_done(void *context, const char *line);
 size_t conformance_wire_ask_octets(struct wire *wire, const char *line, const char *word,
                                    uint8_t octets[FIO2070_LONGEST_FRAME]);
 
-/* Pairs of hexadecimal digits, and a line end. Reading returns how many there are, at most `most`, FAILED if the words are
- * anything else. */
+/* Pairs of hexadecimal digits, and a line end. */
 void conformance_wire_put_octets(char *line, const uint8_t *octets, size_t length);
-size_t conformance_wire_octets(const char *words, uint8_t *octets, size_t most);
 
 /* Notes why the module's side failed, first alone. Returns 0. */
 int conformance_wire_fail(struct wire *wire, const char *fault, const char *line);

@@ -1,4 +1,5 @@
 /* A CPU's end that is not in this process, as a maker: its lines, and its answers. The tester plays the module and the bus. */
+#include "conformance_octets.h"
 #include "conformance_wire.h"
 
 #include <string.h>
@@ -33,7 +34,7 @@ static size_t read_record(struct wire *wire, const char *said, struct fio2070_re
     size_t count = 0;
     strcpy(words, said);
     word = strtok(words, " ");
-    if (word == NULL || conformance_wire_octets(word, &wire->number, 1) != 1) return CONFORMANCE_FAILED;
+    if (word == NULL || conformance_read_octets(word, &wire->number, 1) != 1) return CONFORMANCE_FAILED;
     while ((word = strtok(NULL, " ")) != NULL) {
         if (count == FIO2070_MOST_RECORD_ITEMS || !read_item(word, &items[count])) return CONFORMANCE_FAILED;
         count++;

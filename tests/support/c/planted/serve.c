@@ -1,6 +1,7 @@
 /* The module, or the CPU's end, with its faults answers the lines of fio2070-test, as an adapter does. */
 #define _POSIX_C_SOURCE 200809L
 #include "conformance_clock.h"
+#include "conformance_octets.h"
 #include "quirks.h"
 
 #include <signal.h>
@@ -19,19 +20,22 @@ void hang(void) {
     while (is_held) continue;
 }
 
+/* Reads the next line, without its end. Returns NULL if there is none. */
+static char *next_line(void) {
+    static char line[2 * CONFORMANCE_LONGEST_FRAME + 32];
+    fflush(stdout);
+    if (fgets(line, sizeof line, stdin) == NULL) return NULL;
+    line[strcspn(line, "\n")] = '\0';
+    return line;
+}
+
 static size_t read_octets(const char *words, uint8_t *octets) {
-    size_t length = 0;
-    unsigned octet;
-    while (length < CONFORMANCE_LONGEST_FRAME && sscanf(words + 2 * length, "%2x", &octet) == 1) {
-        octets[length++] = (uint8_t)octet;
-    }
-    return length;
+    return conformance_read_octets(words, octets, CONFORMANCE_LONGEST_FRAME);
 }
 
 static void write_octets(const char *word, const uint8_t *octets, size_t length) {
-    size_t place;
     fputs(length > 0 ? word : "none", stdout);
-    for (place = 0; place < length; place++) printf("%02x", octets[place]);
+    conformance_write_octets(octets, length, stdout);
     puts("");
 }
 
@@ -42,7 +46,7 @@ static void exchange(const struct maker *maker, const char *words) {
 }
 
 static uint64_t read_levels(const char *words) {
-    uint8_t octets[CONFORMANCE_LONGEST_FRAME] = {0};
+    uint8_t octets[CONFORMANCE_LONGEST_FRAME];
     uint64_t levels = 0;
     int octet;
     read_octets(words, octets);
@@ -52,12 +56,12 @@ static uint64_t read_levels(const char *words) {
 
 /* Answers the lines of standard input; with a clock it samples each millisecond. */
 void serve(const struct maker *maker, int has_clock) {
-    static char line[2 * CONFORMANCE_LONGEST_FRAME + 32];
+    const char *line;
     uint64_t levels = ~UINT64_C(0);
     long scanned = conformance_now_ms(), now;
     speaks = 1;
     maker->reset(NULL);
-    while (fgets(line, sizeof line, stdin) != NULL) {
+    while ((line = next_line()) != NULL) {
         for (now = conformance_now_ms(); has_clock && scanned < now; scanned++) maker->step(NULL, levels);
         if (strncmp(line, "frame ", 6) == 0) {
             exchange(maker, line + 6);
@@ -68,7 +72,6 @@ void serve(const struct maker *maker, int has_clock) {
             if (strncmp(line, "sync", 4) == 0) maker->line_sync(NULL);
             puts("done");
         }
-        fflush(stdout);
     }
 }
 
@@ -87,11 +90,11 @@ static void hear(const struct cpu_maker *maker, const char *words) {
 }
 
 void serve_cpu(const struct cpu_maker *maker) {
-    static char line[2 * CONFORMANCE_LONGEST_FRAME + 32];
+    const char *line;
     uint8_t frame[FIO2070_LONGEST_FRAME], number = 0;
     speaks = 1;
     maker->reset(NULL, number);
-    while (fgets(line, sizeof line, stdin) != NULL) {
+    while ((line = next_line()) != NULL) {
         if (strncmp(line, "hear ", 5) == 0) {
             hear(maker, line + 5);
         } else if (strncmp(line, "poll", 4) == 0) {
@@ -101,6 +104,5 @@ void serve_cpu(const struct cpu_maker *maker) {
             maker->reset(NULL, number);
             puts("done");
         }
-        fflush(stdout);
     }
 }
