@@ -65,6 +65,12 @@ struct event conformance_event(enum event_kind kind, const uint8_t *octets, size
     return event;
 }
 
+int conformance_has_event(const struct script *script, enum event_kind kind) {
+    size_t place = 0;
+    while (place < script->length && script->events[place].kind != kind) place++;
+    return place < script->length;
+}
+
 const struct event *conformance_add(struct script *script, const struct event *event) {
     struct event *added;
     if (script->length == CONFORMANCE_LONGEST) return NULL;

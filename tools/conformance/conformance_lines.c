@@ -84,24 +84,19 @@ static int open_socket(struct wire *wire) {
     return wire->file >= 0;
 }
 
-static int begin(struct wire *wire, const char *target, int (*open)(struct wire *wire)) {
+int conformance_wire_open(struct wire *wire, const char *target, enum wire_kind kind) {
+    static int (*const opens[])(struct wire *wire) = {open_command, open_serial, open_socket};
     int deadline_ms = wire->deadline_ms, has_own_clock = wire->has_own_clock;
     memset(wire, 0, sizeof *wire);
     wire->has_own_clock = has_own_clock;
     wire->deadline_ms = deadline_ms;
     wire->target = target;
-    wire->open = open;
+    wire->open = opens[kind];
     wire->file = wire->errors = -1;
     wire->is_new = 1;
     signal(SIGPIPE, SIG_IGN);
-    return open(wire);
+    return wire->open(wire);
 }
-
-int conformance_wire_command(struct wire *wire, const char *command) { return begin(wire, command, open_command); }
-
-int conformance_wire_serial(struct wire *wire, const char *device) { return begin(wire, device, open_serial); }
-
-int conformance_wire_socket(struct wire *wire, const char *address) { return begin(wire, address, open_socket); }
 
 /* ---- Standard error ---- */
 

@@ -45,32 +45,27 @@ static int differs(const struct link *link, struct difference *difference, uint3
     return difference->fields != 0;
 }
 
-/* ---- At the module ---- */
-
-/* What an event that is left out is undone to. */
-struct memory {
-    struct fio2070_module module;
-    struct history history;
-};
-
-static int leaves_out(const struct link *link) {
-    return (link->ends.left_out.words[0] | link->ends.left_out.words[1]) != 0;
-}
-
-static void remember(const struct link *link, struct memory *memory) {
-    if (!leaves_out(link)) return;
-    memory->module = link->module;
-    memory->history = link->history;
+static void remember(struct link *link) {
+    conformance_look(&link->module, &link->before);
+    if ((link->ends.left_out.words[0] | link->ends.left_out.words[1]) == 0) return;
+    link->memory.module = link->module;
+    link->memory.history = link->history;
+    link->memory.cpu = link->cpu;
+    link->memory.cpu_history = link->cpu_history;
 }
 
 /* Undoes an event that exercised a rule that is left out. Returns 1 if it did. */
-static int is_undone(struct link *link, const struct memory *memory) {
-    if (!leaves_out(link) || !conformance_meets(&link->exercised, &link->ends.left_out)) return 0;
-    link->module = memory->module;
-    link->history = memory->history;
-    memset(&link->exercised, 0, sizeof link->exercised);
+static int is_undone(struct link *link) {
+    if (!conformance_meets(&link->exercised, &link->ends.left_out)) return 0;
+    link->module = link->memory.module;
+    link->history = link->memory.history;
+    link->cpu = link->memory.cpu;
+    link->cpu_history = link->memory.cpu_history;
+    if (link->ends.module != NULL) memset(&link->exercised, 0, sizeof link->exercised);
     return 1;
 }
+
+/* ---- At the module ---- */
 
 static void ask_module(const struct maker *maker, struct difference *difference) {
     if (maker->outputs != NULL) maker->outputs(maker->context, difference->got_outputs, difference->got_outputs + 8);
@@ -115,16 +110,12 @@ static int compare_answers(struct link *link, const uint8_t *octets, size_t leng
 
 /* A frame comes to the module. */
 static int exchange(struct link *link, const uint8_t *octets, size_t length, struct difference *difference) {
-    struct memory memory;
-    struct view before;
-    conformance_look(&link->module, &before);
-    remember(link, &memory);
     difference->expected_length =
         fio2070_module_receive(&link->module, octets, length, difference->expected, FIO2070_LONGEST_FRAME);
     if (difference->expected_length > FIO2070_LONGEST_FRAME) difference->expected_length = 0; /* no command */
-    conformance_saw_frame(&link->history, &before, octets, length, difference->expected, difference->expected_length,
-                          &link->exercised);
-    if (link->ends.cpu == NULL && is_undone(link, &memory)) return 0;
+    conformance_saw_frame(&link->history, &link->before, octets, length, difference->expected,
+                          difference->expected_length, &link->exercised);
+    if (link->ends.cpu == NULL && is_undone(link)) return 0;
     if (difference->expected_length > 0) {
         link->answered++;
         set_frame(&link->answers[link->answered % KEPT_ANSWERS], difference->expected, difference->expected_length);
@@ -134,27 +125,20 @@ static int exchange(struct link *link, const uint8_t *octets, size_t length, str
 
 static void scan(struct link *link, uint64_t inputs) {
     const struct maker *maker = link->ends.module;
-    struct memory memory;
-    struct view before;
-    conformance_look(&link->module, &before);
-    remember(link, &memory);
     fio2070_module_scan(&link->module, inputs);
-    conformance_saw_scan(&link->history, &before, &link->module, inputs, &link->exercised);
-    if (maker == NULL || is_undone(link, &memory)) return;
+    conformance_saw_scan(&link->history, &link->before, &link->module, inputs, &link->exercised);
+    if (maker == NULL || is_undone(link)) return;
     maker->step(maker->context, inputs);
     if (link->ends.has_own_clock) conformance_clock_levels(&link->observer, inputs);
 }
 
 static void sync_line(struct link *link) {
     const struct maker *maker = link->ends.module;
-    struct memory memory;
     struct span span = {0, 0};
-    int is_load;
-    remember(link, &memory);
+    int is_load = link->history.is_asked;
     fio2070_module_line_sync(&link->module);
-    is_load = link->history.is_asked;
     conformance_saw_sync(&link->history, &link->exercised);
-    if (maker == NULL || is_undone(link, &memory)) return;
+    if (maker == NULL || is_undone(link)) return;
     if (link->ends.has_own_clock) span.first = conformance_now_ms();
     maker->line_sync(maker->context);
     if (!link->ends.has_own_clock || !is_load) return;
@@ -178,14 +162,9 @@ static void reset_maker(struct link *link) {
 }
 
 static void restart(struct link *link) {
-    const struct maker *maker = link->ends.module;
-    struct memory memory;
-    struct view before;
-    conformance_look(&link->module, &before);
-    remember(link, &memory);
     fio2070_module_restart(&link->module);
-    conformance_saw_restart(&link->history, &before, &link->exercised);
-    if (maker != NULL && !is_undone(link, &memory)) reset_maker(link);
+    conformance_saw_restart(&link->history, &link->before, &link->exercised);
+    if (link->ends.module != NULL && !is_undone(link)) reset_maker(link);
 }
 
 /* ---- At the CPU's end ---- */
@@ -193,18 +172,12 @@ static void restart(struct link *link) {
 /* A frame comes to the CPU's end. */
 static int hear(struct link *link, const uint8_t *octets, size_t length, struct difference *difference) {
     const struct cpu_maker *maker = link->ends.cpu;
-    struct fio2070_poller before = link->cpu;
-    struct cpu_history history = link->cpu_history;
     struct fio2070_heard heard;
     heard = fio2070_poller_hear(&link->cpu, octets, length, difference->expected_record, FIO2070_MOST_RECORD_ITEMS);
     if (maker == NULL) return 0;
     memset(&link->exercised, 0, sizeof link->exercised);
     conformance_saw_heard(&link->cpu_history, octets, length, &heard, difference->expected_record, &link->exercised);
-    if (conformance_meets(&link->exercised, &link->ends.left_out)) {
-        link->cpu = before;
-        link->cpu_history = history;
-        return 0;
-    }
+    if (is_undone(link)) return 0;
     log_frame(link, '<', octets, length);
     keep_frame(difference, octets, length);
     difference->expected_length = difference->got_length = 0;
@@ -222,15 +195,9 @@ static int hear(struct link *link, const uint8_t *octets, size_t length, struct 
 /* The CPU's end polls. */
 static int poll(struct link *link, struct difference *difference) {
     const struct cpu_maker *maker = link->ends.cpu;
-    struct cpu_history history = link->cpu_history;
     size_t length = fio2070_poller_poll(&link->cpu, difference->expected, FIO2070_LONGEST_FRAME);
-    if (maker != NULL) {
-        conformance_saw_poll(&link->cpu_history, &link->exercised);
-        if (conformance_meets(&link->exercised, &link->ends.left_out)) {
-            link->cpu_history = history;
-            return 0;
-        }
-    }
+    if (maker != NULL) conformance_saw_poll(&link->cpu_history, &link->exercised);
+    if (maker != NULL && is_undone(link)) return 0;
     set_frame(&link->command, difference->expected, length);
     link->sent++;
     if (maker == NULL) return 0;
@@ -266,6 +233,7 @@ static int deliver_answer(struct link *link, const struct event *event, struct d
 
 int conformance_link_step(struct link *link, const struct event *event, struct difference *difference) {
     memset(&link->exercised, 0, sizeof link->exercised);
+    remember(link);
     switch (event->kind) {
     case EVENT_SCAN: scan(link, event->inputs); return 0;
     case EVENT_SYNC: sync_line(link); return 0;

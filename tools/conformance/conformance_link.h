@@ -24,6 +24,13 @@ struct link {
     struct frame command;         /* that was sent last */
     struct frame answers[KEPT_ANSWERS];
     struct rule_set exercised; /* by the last event */
+    struct view before;        /* it */
+    struct memory {
+        struct fio2070_module module;
+        struct history history;
+        struct fio2070_poller cpu;
+        struct cpu_history cpu_history;
+    } memory; /* of before it, if events are left out */
     const char *head;          /* of the lines of the transcript, NULL if there is none */
     FILE *transcript;
 };

@@ -49,4 +49,6 @@ size_t conformance_read_octets(const char *words, uint8_t *octets, size_t most);
 /* An event, with the octets of its frame, if there is one. */
 struct event conformance_event(enum event_kind kind, const uint8_t *octets, size_t length);
 
+int conformance_has_event(const struct script *script, enum event_kind kind);
+
 #endif

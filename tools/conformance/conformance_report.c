@@ -81,9 +81,7 @@ static int is_too_long(const struct script *script) {
 
 /* Says of a script that simulate refuses what runs it. */
 static void write_runner(const struct script *script, FILE *out) {
-    size_t place = 0;
-    while (place < script->length && script->events[place].kind != EVENT_FRAME && script->events[place].kind != EVENT_HEAR) place++;
-    if (place < script->length) {
+    if (conformance_has_event(script, EVENT_FRAME) || conformance_has_event(script, EVENT_HEAR)) {
         fputs("# Only --replay runs this script: simulate has no line `frame` or `answer`.\n", out);
     } else if (is_too_long(script)) {
         fputs("# Only --replay runs this script: simulate reads at most 1,048,576 octets.\n", out);

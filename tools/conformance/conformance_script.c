@@ -55,11 +55,7 @@ static void write_event(struct text *text, const struct event *event) {
 }
 
 static void write_header(const struct script *script, FILE *out) {
-    int version = 1;
-    size_t place;
-    for (place = 0; place < script->length; place++) {
-        if (script->events[place].kind == EVENT_RESTART) version = 2;
-    }
+    int version = conformance_has_event(script, EVENT_RESTART) ? 2 : 1;
     if (script->per_block != FIO2070_MOST_ENTRIES) version = 3;
     fprintf(out, "%s%d %u %u", HEADER, version, script->id, script->number);
     if (version == 3) fprintf(out, " %u %u", script->per_block, FIO2070_STANDARD_WAITING);

@@ -1,4 +1,5 @@
 /* What becomes of a difference: it is looked for again, shrunk and reported, and its rule is passed over. */
+#include "conformance_octets.h"
 #include "conformance_run.h"
 
 #include <string.h>
@@ -42,12 +43,6 @@ static int begin_anew(struct run *run) {
     conformance_join_scripts(run, &run->last_origin);
     run->script.length = conformance_run_again(run);
     return run->script.length > 0;
-}
-
-static int has_restart(const struct script *script) {
-    size_t place = 0;
-    while (place < script->length && script->events[place].kind != EVENT_RESTART) place++;
-    return place < script->length;
 }
 
 static void make_short(struct run *run) {
@@ -124,7 +119,7 @@ static remark shrink_here(struct run *run) {
     if (begin_anew(run)) {
         make_short(run);
         comes_again(run, TRIES);
-        return has_restart(&run->script) ? "# Something outlasts a reset: what comes before the last restart is needed.\n"
+        return conformance_has_event(&run->script, EVENT_RESTART) ? "# Something outlasts a reset: what comes before the last restart is needed.\n"
                                          : NULL;
     }
     take_sight(run, &sight);

@@ -34,9 +34,8 @@ struct wire {
 
 /* Begins a command with its standard input and output, opens a serial adapter as it was set up, or connects to
  * HOST:PORT. Returns 0 if that failed. The words have to last. */
-int conformance_wire_command(struct wire *wire, const char *command);
-int conformance_wire_serial(struct wire *wire, const char *device);
-int conformance_wire_socket(struct wire *wire, const char *address);
+enum wire_kind { WIRE_COMMAND, WIRE_SERIAL, WIRE_SOCKET };
+int conformance_wire_open(struct wire *wire, const char *target, enum wire_kind kind);
 
 /* Closes it. A process that does not end by the deadline is killed. */
 void conformance_wire_close(struct wire *wire);

@@ -57,11 +57,11 @@ static int read_option(struct setup *setup, const char *name, const char *word) 
     } else if (strcmp(name, "--deadline") == 0) {
         setup->wire.deadline_ms = atoi(word);
     } else if (strcmp(name, "--command") == 0) {
-        setup->is_open = conformance_wire_command(&setup->wire, setup->opened = word);
+        setup->is_open = conformance_wire_open(&setup->wire, setup->opened = word, WIRE_COMMAND);
     } else if (strcmp(name, "--serial") == 0) {
-        setup->is_open = conformance_wire_serial(&setup->wire, setup->opened = word);
+        setup->is_open = conformance_wire_open(&setup->wire, setup->opened = word, WIRE_SERIAL);
     } else if (strcmp(name, "--socket") == 0) {
-        setup->is_open = conformance_wire_socket(&setup->wire, setup->opened = word);
+        setup->is_open = conformance_wire_open(&setup->wire, setup->opened = word, WIRE_SOCKET);
     } else {
         return 0;
     }

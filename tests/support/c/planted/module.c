@@ -177,7 +177,10 @@ static void step(void *context, uint64_t inputs) {
     if (Q(STEPS_AFTER_SAMPLING)) count_up();
 }
 
-void module_drop_samples(void) { memset(module.run, 0, sizeof module.run); }
+void module_come_to(int place) {
+    if (Q(SAMPLES_ANEW_AT) == place) memset(module.run, 0, sizeof module.run);
+    if (Q(WAITING_DROPPED_AT) == place) module.count = 0;
+}
 
 void module_line_sync(void) {
     if (++module.syncs > (unsigned long)Q(SYNCS_MOST)) return;
@@ -186,8 +189,7 @@ void module_line_sync(void) {
     if (!module.is_asked && Q(SYNC_CLEARS_COUNTER)) module.counter = 0;
     if (Q(SYNC_STEPS)) module.counter++;
     if (!Q(LOAD_STAYS)) module.is_asked = 0;
-    if (Q(SAMPLES_ANEW_AT) == AT_SYNC) module_drop_samples();
-    if (Q(WAITING_DROPPED_AT) == AT_SYNC) module.count = 0;
+    module_come_to(AT_SYNC);
 }
 
 static void line_sync(void *context) {

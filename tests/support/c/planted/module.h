@@ -41,7 +41,7 @@ extern int module_quirks[MODULE_QUIRKS];
 
 enum { ROOM = 4096 };
 
-/* What drops samples or entries. */
+/* Where samples or entries are dropped. */
 enum { AT_NOTHING, AT_POLL, AT_CONFIGURATION, AT_REFUSED, AT_SYNC, AT_LOAD, AT_STATUS, AT_WATCHDOG };
 
 struct entry {
@@ -68,7 +68,7 @@ extern struct module_state {
 } module;
 
 void module_line_sync(void);
-void module_drop_samples(void);
+void module_come_to(int place);
 void module_add_entry(unsigned input, unsigned state);
 
 /* The last octets of an answer. */

@@ -15,7 +15,7 @@ static size_t answer_status(const uint8_t *octets, uint8_t *out) {
     if (Q(FLAGS_SET_BY_MASK)) module.flags |= octets[1];
     if (Q(CLEARS_ALL)) module.flags = 0;
     if (Q(CLEAR_NEEDS_ALL) && mask != 255) module.flags = before;
-    if (Q(WAITING_DROPPED_AT) == AT_STATUS) module.count = 0;
+    module_come_to(AT_STATUS);
     out[1] = Q(CLEAR_AFTER) ? before : module.flags;
     out[2] = (uint8_t)(Q(ERRORS) + (Q(ERRORS_COUNTED) ? module.errors : 0));
     out[3] = 0;
@@ -26,8 +26,7 @@ static size_t answer_load(const uint8_t *octets, uint8_t *out) {
     uint32_t load = (uint32_t)octets[1] << 24 | (uint32_t)octets[2] << 16 | (uint32_t)octets[3] << 8 | octets[4];
     if (!module.is_asked || !Q(FIRST_LOAD_HOLDS)) module.load = (Q(LOADS_ADD) && module.is_asked ? module.load : 0) + load;
     module.is_asked = (int)load != Q(LOAD_LEFT);
-    if (Q(SAMPLES_ANEW_AT) == AT_LOAD) module_drop_samples();
-    if (Q(WAITING_DROPPED_AT) == AT_LOAD) module.count = 0;
+    module_come_to(AT_LOAD);
     if (Q(LOAD_AT_ONCE)) module_line_sync();
     out[1] = (uint8_t)Q(LOAD_STATUS);
     return Q(LOAD_ANSWERED) ? 2 : 0;
@@ -86,8 +85,9 @@ static size_t answer_configuration(const uint8_t *octets, uint8_t *out) {
     if (!is_refused) apply_items(octets, count);
     if (is_refused && Q(ABSENT_APPLIES) == 1) apply_items(octets, absent);
     if (is_refused && Q(ABSENT_APPLIES) >= 2) apply_items(octets, count);
-    if (Q(CONFIGURATION_EMPTIES) || (is_refused && Q(WAITING_DROPPED_AT) == AT_REFUSED)) module.count = 0;
-    if (Q(SAMPLES_ANEW_AT) == AT_CONFIGURATION || (is_refused && Q(SAMPLES_ANEW_AT) == AT_REFUSED)) module_drop_samples();
+    if (Q(CONFIGURATION_EMPTIES)) module.count = 0;
+    module_come_to(AT_CONFIGURATION);
+    if (is_refused) module_come_to(AT_REFUSED);
     return 2;
 }
 
@@ -121,7 +121,7 @@ static size_t answer_outputs(const uint8_t *octets, uint8_t *out) {
 static size_t answer_watchdog(uint8_t asked, uint8_t *out) {
     uint8_t timeout = asked;
     out[1] = (uint8_t)module.was_before;
-    if (Q(WAITING_DROPPED_AT) == AT_WATCHDOG) module.count = 0;
+    module_come_to(AT_WATCHDOG);
     module.was_before = Q(BEFORE_SET);
     if (timeout < Q(TIMEOUT_LEAST) || timeout >= Q(TIMEOUT_NEGATIVE)) timeout = (uint8_t)Q(TIMEOUT_LEAST);
     if (asked == 0 && Q(TIMEOUT_OFF)) timeout = 0;

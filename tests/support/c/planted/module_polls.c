@@ -116,7 +116,7 @@ size_t module_poll(uint8_t number, uint8_t *out) {
     if (++module.polls == (unsigned long)Q(POLL_UNANSWERED)) return 0;
     if ((int)module.repeats == Q(REPEAT_UNANSWERED) || number == Q(NUMBER_LEFT)) return 0;
     if ((int)module.scans < Q(POLLS_FROM_SCAN)) return 0;
-    if (Q(SAMPLES_ANEW_AT) == AT_POLL) module_drop_samples();
+    module_come_to(AT_POLL);
     return out[2] == 0 && !Q(EMPTY_ANSWERED) ? 0 : length;
 }
 

@@ -72,9 +72,9 @@ static int look_for_all(const struct options *options, unsigned long most_tried)
     return missed > 0;
 }
 
-static const struct fault *fault_named(const char *name, size_t first, size_t end) {
-    size_t list, place;
-    for (list = first; list < end; list++) {
+static const struct fault *fault_named(const char *name, int is_module) {
+    size_t list = is_module ? 0 : MODULE_LISTS, end = is_module ? MODULE_LISTS : ALL_LISTS, place;
+    for (; list < end; list++) {
         for (place = 0; place < LISTS[list]->count; place++) {
             if (strcmp(LISTS[list]->faults[place].name, name) == 0) return &LISTS[list]->faults[place];
         }
@@ -89,7 +89,7 @@ static size_t faults_named(char *names, int is_module, const struct fault **foun
     while (names != NULL && strcmp(names, "none") != 0 && named < MOST_NAMES) {
         char *end = strstr(names, "; ");
         if (end != NULL) *end = '\0';
-        found[named++] = fault_named(names, is_module ? 0 : MODULE_LISTS, is_module ? MODULE_LISTS : ALL_LISTS);
+        found[named++] = fault_named(names, is_module);
         names = end == NULL ? NULL : end + 2;
     }
     return named;
@@ -98,6 +98,8 @@ static size_t faults_named(char *names, int is_module, const struct fault **foun
 int main(int count, char **words) {
     const struct fault *found[MOST_NAMES];
     struct options options;
+    size_t named;
+    int is_module, is_wire;
     memset(&options, 0, sizeof options);
     options.stops = 1;
     options.events = EVENTS;
@@ -107,18 +109,12 @@ int main(int count, char **words) {
         options.seed = count > 3 ? strtoul(words[3], NULL, 10) : 1;
         return look_for_all(&options, 1);
     }
-    if (strcmp(words[1], "wire") == 0) {
-        serve(module_with(found, faults_named(words[2], 1, found)), count > 3);
-        return 0;
-    }
-    if (strcmp(words[1], "wire-cpu") == 0) {
-        serve_cpu(cpu_with(found, faults_named(words[2], 0, found)));
-        return 0;
-    }
-    if (strcmp(words[1], "module") == 0) {
-        size_t named = faults_named(words[2], 1, found);
-        return conformance_main(module_with(found, named), count - 2, words + 2);
-    }
-    return conformance_cpu_main(cpu_with(found, faults_named(words[2], 0, found)), count - 2,
-                                words + 2);
+    is_wire = strncmp(words[1], "wire", 4) == 0;
+    is_module = strstr(words[1], "cpu") == NULL;
+    named = faults_named(words[2], is_module, found);
+    if (is_wire && is_module) serve(module_with(found, named), count > 3);
+    if (is_wire && !is_module) serve_cpu(cpu_with(found, named));
+    if (is_wire) return 0;
+    return is_module ? conformance_main(module_with(found, named), count - 2, words + 2)
+                     : conformance_cpu_main(cpu_with(found, named), count - 2, words + 2);
 }
