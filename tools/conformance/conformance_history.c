@@ -74,7 +74,6 @@ void conformance_saw_restart(struct history *history, const struct view *before,
     put_if(rules, RULE_RESTART_LOAD, history->is_asked);
     put_if(rules, RULE_RESTART_POLL, history->has_polled);
     conformance_begin(history);
-    history->is_restarted = 1;
 }
 
 /* ---- Frames ---- */
@@ -180,15 +179,9 @@ static void saw_load(struct history *history, struct rule_set *rules) {
     history->is_asked = 1;
 }
 
-static void saw_watchdog(struct history *history, struct rule_set *rules) {
-    conformance_put(rules, RULE_WATCHDOG_TIMEOUT);
-    conformance_put(rules, RULE_WATCHDOG_BEFORE);
-    history->is_watched = 1;
-}
-
-static void saw_outputs(struct rule_set *rules) {
-    conformance_put(rules, RULE_OUTPUTS_KEPT);
-    conformance_put(rules, RULE_OUTPUTS_ANSWER);
+static void put_both(struct rule_set *rules, enum rule one, enum rule other) {
+    conformance_put(rules, one);
+    conformance_put(rules, other);
 }
 
 void conformance_saw_frame(struct history *history, const struct view *before, const uint8_t *octets, size_t length,
@@ -216,8 +209,8 @@ void conformance_saw_frame(struct history *history, const struct view *before, c
     /* fall through */
     case FIO2070_TYPE_FILTERED_INPUTS: conformance_put(rules, RULE_INPUTS_ANSWER); break;
     case FIO2070_TYPE_POLL: saw_block(history, before, octets, answer, answer_length, rules); break;
-    case FIO2070_TYPE_SET_OUTPUTS: saw_outputs(rules); break;
-    case FIO2070_TYPE_WATCHDOG: saw_watchdog(history, rules); break;
+    case FIO2070_TYPE_SET_OUTPUTS: put_both(rules, RULE_OUTPUTS_KEPT, RULE_OUTPUTS_ANSWER); break;
+    case FIO2070_TYPE_WATCHDOG: put_both(rules, RULE_WATCHDOG_TIMEOUT, RULE_WATCHDOG_BEFORE); break;
     case FIO2070_TYPE_IDENTIFY: conformance_put(rules, RULE_IDENTIFICATION); break;
     default: conformance_put(rules, RULE_NO_ANSWER); break;
     }

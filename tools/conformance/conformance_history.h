@@ -9,7 +9,7 @@ struct history {
     uint8_t leading[64], trailing[64]; /* as last configured */
     uint64_t ignored, configured;      /* inputs */
     uint64_t levels;                   /* of the last scan */
-    int is_restarted, has_scanned, is_loaded, is_asked, has_polled, is_watched, is_reset_flag_up;
+    int has_scanned, is_loaded, is_asked, has_polled, is_reset_flag_up;
     uint8_t number;                   /* of the poll before */
     int was_out_of_sequence;          /* that poll */
     int is_changed;                   /* something that a repeat must not show came since the block was made */

@@ -86,10 +86,6 @@ static int open_socket(struct wire *wire) {
 
 int conformance_wire_open(struct wire *wire, const char *target, enum wire_kind kind) {
     static int (*const opens[])(struct wire *wire) = {open_command, open_serial, open_socket};
-    int deadline_ms = wire->deadline_ms, has_own_clock = wire->has_own_clock;
-    memset(wire, 0, sizeof *wire);
-    wire->has_own_clock = has_own_clock;
-    wire->deadline_ms = deadline_ms;
     wire->target = target;
     wire->open = opens[kind];
     wire->file = wire->errors = -1;
@@ -301,8 +297,6 @@ static int begin_anew(void *context) {
 static void hurry(void *context, enum hurry hurry) { ((struct wire *)context)->hurry = hurry; }
 
 void conformance_wire_outside(struct wire *wire, struct outside *outside) {
-    outside->context = wire;
-    outside->failure = failure;
-    outside->begin_anew = begin_anew;
-    outside->hurry = hurry;
+    const struct outside made = {wire, failure, begin_anew, hurry};
+    *outside = made;
 }

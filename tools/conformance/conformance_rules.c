@@ -3,8 +3,9 @@
 
 #include <string.h>
 
-#define ROW(end, code, name, source, fields, section, sentence) {end, name, source, fields, section, sentence},
-const struct rule_row CONFORMANCE_RULE_ROWS[RULES] = {CONFORMANCE_RULES(ROW)};
+#define MODULE_ROW(code, name, source, fields, section, sentence) {AT_MODULE, name, source, fields, section, sentence},
+#define CPU_ROW(code, name, source, fields, section, sentence) {AT_CPU, name, source, fields, section, sentence},
+const struct rule_row CONFORMANCE_RULE_ROWS[RULES] = {CONFORMANCE_MODULE_RULES(MODULE_ROW) CONFORMANCE_CPU_RULES(CPU_ROW)};
 
 void conformance_put(struct rule_set *set, enum rule rule) { set->words[rule / 64] |= UINT64_C(1) << rule % 64; }
 

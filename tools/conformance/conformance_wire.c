@@ -60,12 +60,6 @@ static size_t exchange(void *context, const uint8_t *octets, size_t length, uint
 }
 
 void conformance_wire_maker(struct wire *wire, uint8_t id, uint8_t per_block, struct maker *maker) {
-    memset(maker, 0, sizeof *maker);
-    maker->context = wire;
-    maker->id = id;
-    maker->per_block = per_block;
-    maker->reset = reset;
-    maker->step = step;
-    maker->line_sync = line_sync;
-    maker->exchange = exchange;
+    const struct maker made = {wire, id, per_block, reset, step, line_sync, exchange, NULL, NULL};
+    *maker = made;
 }

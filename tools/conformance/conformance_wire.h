@@ -33,7 +33,7 @@ struct wire {
 };
 
 /* Begins a command with its standard input and output, opens a serial adapter as it was set up, or connects to
- * HOST:PORT. Returns 0 if that failed. The words have to last. */
+ * HOST:PORT. All of the wire is 0 but its deadline and its clock. Returns 0 if that failed. The words have to last. */
 enum wire_kind { WIRE_COMMAND, WIRE_SERIAL, WIRE_SOCKET };
 int conformance_wire_open(struct wire *wire, const char *target, enum wire_kind kind);
 

@@ -57,9 +57,6 @@ static size_t hear(void *context, const uint8_t *octets, size_t length,
 static uint8_t number(void *context) { return ((struct wire *)context)->number; }
 
 void conformance_wire_cpu_maker(struct wire *wire, struct cpu_maker *maker) {
-    maker->context = wire;
-    maker->reset = reset;
-    maker->poll = poll;
-    maker->hear = hear;
-    maker->number = number;
+    const struct cpu_maker made = {wire, reset, poll, hear, number};
+    *maker = made;
 }
