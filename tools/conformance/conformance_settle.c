@@ -119,8 +119,8 @@ static remark shrink_here(struct run *run) {
     if (begin_anew(run)) {
         make_short(run);
         comes_again(run, TRIES);
-        return conformance_has_event(&run->script, EVENT_RESTART) ? "# Something outlasts a reset: what comes before the last restart is needed.\n"
-                                         : NULL;
+        if (!conformance_has_event(&run->script, EVENT_RESTART)) return NULL;
+        return "# Something outlasts a reset: what comes before the last restart is needed.\n";
     }
     take_sight(run, &sight);
     return "# It comes only after what ran before: a new process does not show it.\n";
