@@ -2,9 +2,6 @@
 """Many logs: `fiolog check` and `stats` of several files, what their summaries say is not judged, and summaries in Python, which
 can be added: of parts of a log, of files side by side, and by Dask over 500 files. Last line: `N passed, M failed`."""
 
-import json
-import os
-import re
 import subprocess
 import sys
 import tempfile
@@ -13,7 +10,7 @@ from collections import Counter
 sys.dont_write_bytecode = True
 
 from support.check import Check
-from support.fiolog import ENVIRONMENT, fiolog, use_library
+from support.fiolog import ENVIRONMENT, fiolog, reading, use_library, written
 from support.pages import text_of
 
 # One round each: a poll, and a block with one entry of input 12, 10 ms apart; and the round with an answer that is lost.
@@ -45,61 +42,34 @@ def check_parts(check):
         check.equal('a log that is cut after %d rounds' % cut, expected,
                     counted(sum((summary_of([part.encode()]) for part in parts), Summary())))
     check.equal('octets one by one', expected, counted(summary_of(octets[at:at + 1] for at in range(len(octets)))))
-    with tempfile.NamedTemporaryFile() as file:
-        file.write(octets)
-        file.flush()
-        check.equal('a path', expected, counted(summary_of(file.name)))
-        with open(file.name, 'rb') as opened:
+    with tempfile.TemporaryDirectory() as folder:
+        path = written(folder, 'log', octets)
+        check.equal('a path', expected, counted(summary_of(path)))
+        with open(path, 'rb') as opened:
             check.equal('a file', expected, counted(summary_of(opened)))
 
 
 def write_logs(folder):
     """Writes the logs: every seventh doubles an entry, every fifth lost an answer. Returns their paths."""
-    for number in range(FILES):
-        tail = (DOUBLED if number % 7 == 0 else '') if number % 5 else LOST
-        with open(os.path.join(folder, '%03d.log' % number), 'w', encoding='ascii') as file:
-            file.write(START + ''.join(ROUNDS) + tail)
-    return [os.path.join(folder, '%03d.log' % number) for number in range(FILES)]
-
-
-class Told:
-    """A reader that has these verdicts on a log, whatever its text is."""
-
-    def __init__(self, *verdicts):
-        self.verdicts = verdicts
-
-    def batches(self, octets):
-        """Nothing is certain yet."""
-        return ()
-
-    def last_batches(self):
-        """The verdicts."""
-        import fio2070
-        yield fio2070.LogBatch(self.verdicts)
+    return [written(folder, '%03d.log' % number, START + ''.join(ROUNDS) + (LOST if number % 5 == 0 else DOUBLED if number % 7 == 0 else ''))
+            for number in range(FILES)]
 
 
 def check_lost(check):
     """At a damaged line, and at a message among frames that nothing makes sure, the place is lost: nobody is accused. One above all
     frames is not judged and not counted."""
-    import fio2070
     from fiolog.summary import summary_of
-    from support.log_model import Verdict
-    real = fio2070.LogReader
-    poll, answer, later = (bytes.fromhex(digits) for digits in ('3605', 'b60500000000000a', '3607'))
+    sure = [('frames', '', (bytes.fromhex(digits),)) for digits in ('3605', 'b60500000000000a', '3607')]
+    possible = 'possible', *sure[1][1:]
 
     def judged(*lines):
-        fio2070.LogReader = lambda form='auto': Told(*(
-            Verdict(number, kind, '', frames) for number, (kind, frames) in enumerate(lines, 1)))
-        try:
+        with reading(lines):
             return summary_of([b'\n' * len(lines)])
-        finally:
-            fio2070.LogReader = real
-    sure = [('frames', (octets,)) for octets in (poll, answer, later)]
     check.equal('a poll for another number', {'advance': 1}, dict(judged(*sure).broken))
-    for kind in (('damaged', ()), ('possible', (answer,))):
-        found = judged(*sure[:2], kind, sure[2])
-        check.equal('below a line that is %s' % kind[0], (0, 1, 3), (found.breaches, found.left_out['lost_places'], found.counts.frames))
-    found = judged(('possible', (answer,)), *sure)
+    for line in ('damaged', '', ()), possible:
+        found = judged(*sure[:2], line, sure[2])
+        check.equal('below a line that is %s' % line[0], (0, 1, 3), (found.breaches, found.left_out['lost_places'], found.counts.frames))
+    found = judged(possible, *sure)
     check.equal('a possible one above', ({'advance': 1}, 3), (dict(found.broken), found.counts.frames))
 
 
@@ -108,11 +78,12 @@ def check_files(check, paths):
     doubled = [path for number, path in enumerate(paths) if number % 5 and number % 7 == 0]
     lost = [path for number, path in enumerate(paths) if number % 5 == 0]
     done = fiolog('check', '--json', '--jobs', '2', *paths)
-    rows = [json.loads(line) for line in done.out.splitlines()]
+    *rows, last = done.objects()
+    last = last['summary']
     check.equal('check of all files', (1, len(doubled), len(lost), FILES),
-                (done.status, rows[-1]['summary']['breaches'], rows[-1]['summary']['answers_lost'], rows[-1]['summary']['files']))
+                (done.status, last['breaches'], last['answers_lost'], last['files']))
     check.equal('the worst first', set(doubled), {row['file'] for row in rows[:len(doubled)]})
-    check.equal('then those that lost an answer', set(lost), {row['file'] for row in rows[len(doubled):len(doubled) + len(lost)]})
+    check.equal('then those that lost an answer', set(lost), {row['file'] for row in rows[len(doubled):][:len(lost)]})
     table = fiolog('check', *paths[:14]).out.splitlines()
     check.equal('a table', (18, '14 logs, the worst first', True, True),
                 (len(table), table[0], paths[7] in table[2], table[-1].startswith('not judged: ')))
@@ -125,7 +96,7 @@ def check_files(check, paths):
 def check_stats(check):
     """What `stats` counts: blocks, response times, and answers that were lost at the end of a file."""
     def numbers(text):
-        return json.loads(fiolog('stats', '--json', text=text).out)
+        return fiolog('stats', '--json', text=text).objects()[0]
     block = '> 3605\n< b605010c000a0%d0000000b\n'
     check.equal('a block with E on a number that is new', 1, numbers(block % 2)['entries'])
     check.equal('a block that is sent again', 1, numbers(block % 0 + block % 2)['entries'])
@@ -135,13 +106,9 @@ def check_stats(check):
         times = numbers(''.join(rounds[:count]))['response_ms']
         check.equal('response times of %d polls' % count, (count, *expected), tuple(times.values()))
     with tempfile.TemporaryDirectory() as folder:
-        paths = [os.path.join(folder, name) for name in ('open', 'whole')]
-        for path, last in zip(paths, ('> 3606\n', '')):
-            with open(path, 'w', encoding='ascii') as file:
-                file.write(block % 0 + last)
-        for order in (paths, paths[::-1]):
-            rows = [json.loads(line) for line in fiolog('stats', '--json', *order).out.splitlines()]
-            check.equal('a poll at the end of the %s of two logs' % ('first' if order is paths else 'second'), 1, rows[-1]['summary']['answers_lost'])
+        paths = [written(folder, 'open', block % 0 + '> 3606\n'), written(folder, 'whole', block % 0)]
+        for name, order in (('first', paths), ('second', paths[::-1])):
+            check.equal('a poll at the end of the %s of two logs' % name, 1, fiolog('stats', '--json', *order).summary()['answers_lost'])
 
 
 def check_dask(check, folder):
@@ -151,9 +118,7 @@ def check_dask(check, folder):
         check.skip('Dask over %d files' % FILES, 'no dask here (Debian package python3-dask)')
         return
     snippet = text_of('docs/CAPTURES.md').split('```python\n')[1].split('```')[0]
-    script = os.path.join(folder, 'snippet.py')
-    with open(script, 'w', encoding='ascii') as file:
-        file.write(snippet)
+    script = written(folder, 'snippet.py', snippet)
     done = subprocess.run([python, script], cwd=folder, env=ENVIRONMENT, stdout=subprocess.PIPE, stderr=subprocess.PIPE, check=False,
                           universal_newlines=True, timeout=300)
     breaches = sum(number % 5 != 0 and number % 7 == 0 for number in range(FILES))
@@ -179,35 +144,35 @@ WORDS = {'damaged_lines': '1 damaged line', 'lines_passed_over': '1 skipped line
          'gaps': '1 gap mark, above which transitions are lost', 'restarts': '1 restart of the module'}
 
 
+def counting(counts):
+    """The counts that are not 0."""
+    return {name: count for name, count in counts.items() if count}
+
+
 def check_unjudged(check):
     """The summaries of one log and of many say what is not judged, and why; `stats` says what is not counted."""
     with tempfile.TemporaryDirectory() as folder:
         paths, totals = [], Counter()
         for name, (lines, expected) in UNJUDGED.items():
-            paths.append(os.path.join(folder, '%d.log' % len(paths)))
-            with open(paths[-1], 'w', encoding='ascii') as file:
-                file.write('\n'.join(lines) + '\n')
+            path = written(folder, '%d.log' % len(paths), '\n'.join(lines) + '\n')
+            paths.append(path)
             totals.update(expected)
-            last = json.loads(fiolog('check', '--json', paths[-1]).out.splitlines()[-1])['summary']
-            check.equal('what is not judged: ' + name, expected, {key: count for key, count in last['not_judged'].items() if count})
-            said = re.findall('^not judged: .*', fiolog('check', paths[-1]).out, re.M)
+            check.equal('what is not judged: ' + name, expected, counting(fiolog('check', '--json', path).summary()['not_judged']))
             words = ', '.join(words for key, words in WORDS.items() if key in expected)
-            check.equal('words on what is not judged: ' + name, ['not judged: ' + words], said)
-            counted = json.loads(fiolog('stats', '--json', paths[-1]).out)['not_counted']
+            check.equal('words on what is not judged: ' + name, ['not judged: ' + words], fiolog('check', path).found('^not judged: .*'))
             check.equal('what is not counted: ' + name, {key: count for key, count in expected.items() if 'place' not in key},
-                        {key: count for key, count in counted.items() if count})
+                        counting(fiolog('stats', '--json', path).objects()[0]['not_counted']))
         for command, key in (('check', 'not_judged'), ('stats', 'not_counted')):
-            rows = [json.loads(line) for line in fiolog(command, '--json', *paths).out.splitlines()]
-            found = {name: count for name, count in rows[-1]['summary'][key].items() if count}
+            *rows, last = fiolog(command, '--json', *paths).objects()
             check.equal('%s of many logs, %s' % (command, key),
-                        {name: count for name, count in totals.items() if command == 'check' or 'place' not in name}, found)
-            by_file = {row['file']: row[key] for row in rows[:-1]}
+                        {name: count for name, count in totals.items() if command == 'check' or 'place' not in name}, counting(last['summary'][key]))
+            by_file = {row['file']: row[key] for row in rows}
             check.equal('%s of each log, %s' % (command, key), [1] * 3,
                         [by_file[paths[place]][name] for place, name in ((0, 'lines_passed_over'), (2, 'gaps'), (3, 'restarts'))])
             words = fiolog(command, *paths).out.splitlines()[-1]
             check.holds('%s of many logs says it' % command, words.startswith(key.replace('_', ' ') + ': 1 damaged line, 1 skipped line'), words)
-    above = json.loads(fiolog('check', '--json', '--start-at-poll', text='< b3 00\n< b3 00\n> 36 05\n').out.splitlines()[-1])
-    check.equal('what is above the first poll', 2, above['summary']['not_judged']['frames_above_a_poll'])
+    above = fiolog('check', '--json', '--start-at-poll', text='< b3 00\n< b3 00\n> 36 05\n').summary()
+    check.equal('what is above the first poll', 2, above['not_judged']['frames_above_a_poll'])
     check.holds('a log that is judged whole', 'not judged' not in fiolog('check', text='> 3605\n< b60500000000000a\n').out)
 
 

@@ -3,18 +3,16 @@
 have been in them, remarks of loss, headings, losses of sync. Logs of right links that restart, with loads, pauses and damage, are
 accused of nothing. Last line: `N passed, M failed`."""
 
-import json
 import os
 import random
 import re
 import sys
 import tempfile
-from types import SimpleNamespace
 
 sys.dont_write_bytecode = True
 
 from support.check import Check
-from support.fiolog import copied, fiolog, use_library
+from support.fiolog import copied, fiolog, reading, use_library, written
 
 WORDS = 'the module restarted, or the stamp is wrong: its counter went back'
 # The counter of the module is 1000, 1010 and then 10: it restarted above line 6. Up to the next poll, in line 9, nothing is judged.
@@ -35,50 +33,48 @@ def text_of(lines):
     return '\n'.join(lines) + '\n'
 
 
-def last_object(done):
-    """The summary of a run with --json."""
-    return json.loads(done.out.splitlines()[-1])['summary']
+def checked(lines, *words):
+    """What `check` says of a log."""
+    return fiolog('check', *words, text=text_of(lines))
 
 
 def not_judged(lines, *words):
     """What is not judged in a log, by its reason."""
-    return {name: count for name, count in last_object(fiolog('check', '--json', *words, text=text_of(lines)))['not_judged'].items() if count}
+    return {name: count for name, count in checked(lines, '--json', *words).summary()['not_judged'].items() if count}
+
+
+# The line and the first word of each breach or restart.
+TOLD = r'^line (\d+: \w+)'
 
 
 def check_check(check):
     """A restart is reported as a breach is, and is not counted as one."""
-    done = fiolog('check', text=text_of(RESTART))
+    done = checked(RESTART)
     check.equal('a restart', (['line 6: restarted: ' + WORDS, 'frames 10, polls 4, repeats 0, answers lost 0, gap marks 0, breaches 0, restarted 1',
                                'not judged: 1 loss of sync, 2 frames from a loss of sync to the next poll'],
                               'fiolog: restarted: once, in line 6\n', 1), (done.out.splitlines(), done.err, done.status))
-    done = fiolog('check', '--json', text=text_of(RESTART))
-    check.equal('its object', {'file': '-', 'line': 6, 'outcome': 'restarted', 'says': WORDS}, json.loads(done.out.splitlines()[0]))
-    check.equal('the object of the summary', (0, 1, 1), (last_object(done)['breaches'], last_object(done)['restarted'], done.status))
-    done = fiolog('check', text=text_of(GOOD))
-    check.equal('no restart', (0, False, 0), (done.status, 'restarted' in done.out + done.err,
-                                              last_object(fiolog('check', '--json', text=text_of(GOOD)))['restarted']))
+    done = checked(RESTART, '--json')
+    check.equal('its object', {'file': '-', 'line': 6, 'outcome': 'restarted', 'says': WORDS}, done.objects()[0])
+    check.equal('the object of the summary', (0, 1, 1), (done.summary()['breaches'], done.summary()['restarted'], done.status))
+    done = checked(GOOD)
+    check.equal('no restart', (0, False, 0), (done.status, 'restarted' in done.out + done.err, checked(GOOD, '--json').summary()['restarted']))
     for words in (['--rules', 'transcript'], ['--late-answers'], ['--whole'], ['--at', 'module'], ['--at', 'bus'], ['--start-at-poll'],
                   ['--except', 'clock']):
-        done = fiolog('check', *words, text=text_of(RESTART))
-        check.equal('a restart, ' + ' '.join(words), (['line 6: restarted'], True, 1),
-                    (re.findall(r'^line \d+: \w+', done.out, re.M), 'breaches 0, restarted 1' in done.out, done.status))
-    done = fiolog('check', text=text_of(RESTART + JUMP))
-    check.equal('a breach below the next poll', (['6: restarted', '11: advance'], True),
-                (re.findall(r'^line (\d+: \w+)', done.out, re.M), 'breaches 1, restarted 1' in done.out))
-    watchdog = ['> 3a32', '< ba00', '> 3a32', '< ba00']
+        done = checked(RESTART, *words)
+        check.equal('a restart, ' + ' '.join(words), (['6: restarted'], True, 1),
+                    (done.found(TOLD), 'breaches 0, restarted 1' in done.out, done.status))
+    done = checked(RESTART + JUMP)
+    check.equal('a breach below the next poll', (['6: restarted', '11: advance'], True), (done.found(TOLD), 'breaches 1, restarted 1' in done.out))
     check.equal('a watchdog that is forgotten', ['line 4: restarted: the module restarted, or forgot its watchdog: it says that none was set before'],
-                re.findall(r'^line .*', fiolog('check', text=text_of(watchdog)).out, re.M))
+                checked(['> 3a32', '< ba00'] * 2).found('^line .*'))
 
 
 def check_others(check, folder):
     """The other commands that judge say it too."""
-    paths = []
-    for name, lines in (('good', GOOD), ('damaged', [*GOOD, DAMAGED]), ('restart', RESTART), ('jump', GOOD[:4] + JUMP)):
-        paths.append(os.path.join(folder, name))
-        with open(paths[-1], 'w', encoding='ascii') as file:
-            file.write(text_of(lines))
-    done = fiolog('check', '--json', *paths)
-    rows = [json.loads(line) for line in done.out.splitlines()]
+    paths = [written(folder, name, text_of(lines)) for name, lines in (
+        ('good', GOOD), ('damaged', [*GOOD, DAMAGED]), ('restart', RESTART), ('jump', GOOD[:4] + JUMP), ('load', LOADS['a load that was sent'][0]))]
+    *paths, load = paths
+    rows = fiolog('check', '--json', *paths).objects()
     check.equal('a row of many logs: a restart is below breaches, and above damage', [('jump', 1, 0), ('restart', 0, 1), ('damaged', 0, 0), ('good', 0, 0)],
                 [(os.path.basename(row['file']), row['breaches'], row['restarted']) for row in rows[:-1]])
     check.equal('the row of all', (1, 1, {'advance': 1}), tuple(rows[-1]['summary'][name] for name in ('breaches', 'restarted', 'rules')))
@@ -88,13 +84,12 @@ def check_others(check, folder):
     for command, status in (('check', 1), ('stats', 0)):
         check.equal('the status of %s' % command, (status, 0), (fiolog(command, *paths[::2]).status, fiolog(command, paths[0], paths[0]).status))
     done = fiolog('live', '-q', '--fifo', paths[2])
-    check.equal('live', ('line 6: restarted: ' + WORDS, 'breaches 0, breaches in content 0, restarted 1', 1),
-                (done.out.splitlines()[0], done.out.splitlines()[-1][-len('breaches 0, breaches in content 0, restarted 1'):], done.status))
-    check.equal('live without one', (0, False), (fiolog('live', '-q', '--fifo', paths[0]).status, 'restarted' in fiolog('live', '-q', '--fifo', paths[0]).out))
-    path = os.path.join(folder, 'load')
-    with open(path, 'w', encoding='ascii') as file:
-        file.write(text_of(LOADS['a load that was sent'][0]))
-    done = fiolog('live', '-q', '--fifo', path)
+    first, *_, last = done.out.splitlines()
+    check.equal('live', ('line 6: restarted: ' + WORDS, ['breaches 0', 'breaches in content 0', 'restarted 1'], 1),
+                (first, last.split(', ')[-3:], done.status))
+    done = fiolog('live', '-q', '--fifo', paths[0])
+    check.equal('live without one', (0, False), (done.status, 'restarted' in done.out))
+    done = fiolog('live', '-q', '--fifo', load)
     check.equal('live where a load may explain a stamp', (True, False, 0), (
         'frames whose stamps a load of the counter may explain 1' in done.out, 'restarted' in done.out, done.status))
     done = fiolog('record', '-q', text=text_of(RESTART))
@@ -110,7 +105,7 @@ def check_record(check):
     check.equal('the table', items, fiolog('record', '-q', text=text_of(lines)).out.splitlines())
     check.equal('the text ends there', ['record 1', 'input 12 state 0 stamp 999 wide 999', 'line 4 restarted'],
                 fiolog('record', '-q', '--text', text=text_of(lines)).out.splitlines())
-    rows = [json.loads(row) for row in fiolog('record', '-q', '--json', text=text_of(lines)).out.splitlines()]
+    rows = fiolog('record', '-q', '--json', text=text_of(lines)).objects()
     check.equal('the objects', [(2, None), (4, 'restarted'), (4, None)], [(row['line'], row.get('outcome')) for row in rows])
     rows = [row.split(',') for row in fiolog('record', '-q', '--csv', text=text_of(lines)).out.splitlines()[1:]]
     check.equal('the rows', [('2', ''), ('4', 'restarted'), ('4', '')], [(row[0], row[-1]) for row in rows])
@@ -131,12 +126,11 @@ LOADS = {
 def check_loads(check):
     """A load of the counter, one that a lost line may have been too, explains one stamp that is before the latest."""
     for name, (lines, told, unjudged) in LOADS.items():
-        done = fiolog('check', text=text_of(lines))
-        check.equal('a load: ' + name, (told, int(bool(told)), unjudged),
-                    (re.findall(r'^line (\d+: \w+)', done.out, re.M), done.status, not_judged(lines)))
+        done = checked(lines)
+        check.equal('a load: ' + name, (told, int(bool(told)), unjudged), (done.found(TOLD), done.status, not_judged(lines)))
     for count, words in ((1, '1 frame whose stamp a load of the counter may explain'), (2, '2 frames whose stamps a load of the counter may explain')):
         lines = [*ABOVE, *LOAD, *LOAD, *BACK, *(AGAIN if count == 2 else [])]
-        check.holds('the words of %d' % count, words in fiolog('check', text=text_of(lines)).out)
+        check.holds('the words of %d' % count, words in checked(lines).out)
 
 
 # How often a log loses sync, with these options.
@@ -164,24 +158,7 @@ def check_losses(check):
             check.equal('losses of sync, %s: %s' % (' '.join(words) or 'all rules', name), count, not_judged(lines, *words).get('lost_places', 0))
     hidden = [*ABOVE, DAMAGED, '< b609000000000400', '> 35', '> 3605', '< b605000000000400', '> 3607']
     check.equal('what is directly below damage is not judged, what is below the next poll is',
-                (['line 10: advance'], {'damaged_lines': 1, 'lost_places': 2, 'frames_at_lost_places': 2}),
-                (re.findall(r'^line \d+: \w+', fiolog('check', text=text_of(hidden)).out, re.M), not_judged(hidden)))
-
-
-class Told:
-    """A reader that has these verdicts on a log, whatever its text is."""
-
-    def __init__(self, verdicts):
-        self.verdicts = verdicts
-
-    def batches(self, octets):
-        """Nothing is certain yet."""
-        return ()
-
-    def last_batches(self):
-        """The verdicts."""
-        import fio2070
-        yield fio2070.LogBatch(self.verdicts)
+                (['10: advance'], {'damaged_lines': 1, 'lost_places': 2, 'frames_at_lost_places': 2}), (checked(hidden).found(TOLD), not_judged(hidden)))
 
 
 POLL, ANSWER, LATER = (('frames', '', (bytes.fromhex(digits),)) for digits in ('3605', 'b60500000000000a', '3607'))
@@ -210,26 +187,18 @@ REMARKS = {
 
 def check_remarks(check, folder):
     """Remarks of loss and headings reach the judge in each command that judges, and are skipped lines."""
-    import fio2070
     from fiolog.summary import summary_of
-    from support.log_model import Verdict
-    path, real = os.path.join(folder, 'lines'), fio2070.LogReader
     for name, (lines, broken, lost) in REMARKS.items():
-        verdicts = [Verdict(number, kind, reason, frames) for number, (kind, reason, frames) in enumerate(lines, 1)]
-        with open(path, 'w', encoding='ascii') as file:
-            file.write('\n' * len(lines))
-        fio2070.LogReader = lambda form='auto', told=verdicts: Told(told)
-        try:
+        path = written(folder, 'lines', '\n' * len(lines))
+        with reading(lines):
             found = summary_of(path)
-            checked, live, record = (copied(words, b'')[:2] for words in (
+            check_run, live, record = (copied(words, b'')[:2] for words in (
                 ('check', '-q', path), ('live', '-q', '--fifo', path), ('record', '-q', path)))
-        finally:
-            fio2070.LogReader = real
         skipped = sum(kind == 'passed over' for kind, _, _ in lines)
         check.equal('a summary, ' + name, (broken, skipped, 0), (dict(found.broken), found.left_out['lines_passed_over'], found.left_out['damaged_lines']))
         if lost is not None:
             check.equal('losses of sync, ' + name, lost, found.left_out['lost_places'])
-        for command, (status, out) in (('check', checked), ('live', live)):
+        for command, (status, out) in (('check', check_run), ('live', live)):
             check.equal('%s, %s' % (command, name), (int(bool(broken)), list(broken)),
                         (status, re.findall(r'^line \d+: (\w+)', out.decode(), re.M)))
         check.equal('record, ' + name, (int(bool(broken)), list(broken)), (record[0], re.findall(r'breaks (\w+)', record[1].decode())))

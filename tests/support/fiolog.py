@@ -2,8 +2,11 @@
 check in a copy of its own process, since to begin Python and to compile the package costs ten times what most runs do, and with
 `--all` as a user does."""
 
+import contextlib
+import json
 import os
 import pty
+import re
 import signal
 import subprocess
 import sys
@@ -14,9 +17,8 @@ from support.tables import TOP
 
 PACKAGES = os.path.join(TOP, 'bindings', 'python')
 LIBRARY = os.environ.get('FIO2070_LIBRARY') or os.path.join(TOP, 'libfio2070.so')
-STANDIN = os.path.join(TOP, 'tests', 'support', 'standin')
-ENVIRONMENT = {**os.environ, 'FIO2070_LIBRARY': LIBRARY, 'PYTHONPATH': os.pathsep.join([PACKAGES, STANDIN]),
-               'PYTHONDONTWRITEBYTECODE': '1'}
+ENVIRONMENT = {**os.environ, 'FIO2070_LIBRARY': LIBRARY, 'PYTHONPATH': PACKAGES, 'PYTHONDONTWRITEBYTECODE': '1'}
+TOOL = [sys.executable, '-m', 'fiolog']
 
 
 # The longest input that a pipe takes at once, and the longest time of a run, in seconds.
@@ -30,6 +32,18 @@ class Done(NamedTuple):
     out: Union[str, bytes]
     err: str
     status: int
+
+    def objects(self):
+        """The objects that a run with `--json` wrote."""
+        return json.loads('[%s]' % self.out.replace('}\n{', '},{'))
+
+    def summary(self):
+        """What the last of them says of the whole."""
+        return self.objects()[-1]['summary']
+
+    def found(self, form):
+        """What of the lines of its output fits this form."""
+        return re.findall(form, self.out, re.M)
 
 
 def use_library(check, name):
@@ -47,8 +61,6 @@ def may_use_library(check, name):
     may_copy = not check.given.all and hasattr(os, 'fork')
     os.environ['FIO2070_LIBRARY'] = LIBRARY
     sys.path.insert(0, PACKAGES)
-    from support.standin.sitecustomize import stand_in
-    stand_in()
     if may_copy:
         from fiolog.__main__ import COMMANDS, module_of
         for command in COMMANDS:
@@ -62,11 +74,59 @@ def fiolog(*words, text='', is_text=True):
     if may_copy and len(octets) < PIPE:
         status, *written = copied(words, octets)
     else:
-        done = subprocess.run([sys.executable, '-m', 'fiolog', *words], input=octets, stdout=subprocess.PIPE,
-                              stderr=subprocess.PIPE, env=ENVIRONMENT, timeout=LONGEST)
+        done = subprocess.run([*TOOL, *words], input=octets, stdout=subprocess.PIPE, stderr=subprocess.PIPE, env=ENVIRONMENT, timeout=LONGEST)
         status, written = done.returncode, (done.stdout, done.stderr)
     out, err = (text.decode('utf-8', 'surrogateescape') for text in written)
     return Done(out if is_text else written[0], err, status)
+
+
+def started(*words, **streams):
+    """A run that goes on, whose streams are pipes unless they are named."""
+    pipes = dict.fromkeys(('stdin', 'stdout', 'stderr'), subprocess.PIPE)
+    return subprocess.Popen([*TOOL, *words], env=ENVIRONMENT, **{**pipes, **streams})
+
+
+def written(folder, name, content):
+    """The path of a new file with this content, octets or a text."""
+    path = os.path.join(folder, name)
+    with open(path, 'wb') as file:
+        file.write(content if isinstance(content, bytes) else content.encode())
+    return path
+
+
+def verdicts_on(octets, form='auto'):
+    """The verdicts of the library on the lines of a log."""
+    import fio2070
+    reader = fio2070.LogReader(form)
+    return reader.read(octets) + reader.end()
+
+
+def frames_in(verdicts, kind='frames'):
+    """The frames of verdicts, or the messages of those of another kind."""
+    return [octets for one in verdicts if one.kind == kind for octets in one.frames]
+
+
+@contextlib.contextmanager
+def reading(lines):
+    """Lets `fiolog` read these lines in any log, in copies of this process too: each is its kind, its reason and its frames."""
+    import fio2070
+    verdicts = [fio2070.Verdict(number, *line, (), None, '') for number, line in enumerate(lines, 1)]
+
+    class Reader:
+        def __init__(self, form='auto'):
+            pass
+
+        def batches(self, octets):
+            """Nothing is certain yet."""
+            return ()
+
+        def last_batches(self):
+            yield fio2070.LogBatch(verdicts)
+    real, fio2070.LogReader = fio2070.LogReader, Reader
+    try:
+        yield
+    finally:
+        fio2070.LogReader = real
 
 
 def copied(words, octets):
@@ -111,19 +171,13 @@ def on_terminal(python, words, out=None, text='', **settings):
     """What a run writes on a pseudo-terminal, where its standard error is, and its standard output without `out`."""
     leader, follower = pty.openpty()
     environment = {**ENVIRONMENT, 'TERM': 'xterm-256color', 'COLUMNS': '120', 'LINES': '40', **settings}
-    with subprocess.Popen([python, '-m', 'fiolog', *words], stdin=subprocess.PIPE, stdout=out or follower, stderr=follower,
-                          env={name: value for name, value in environment.items() if value is not None}) as done:
+    with subprocess.Popen([python, *TOOL[1:], *words], stdin=subprocess.PIPE, stdout=out or follower, stderr=follower, env=environment) as done:
         os.close(follower)
         done.stdin.write(text.encode())
         done.stdin.close()
-        written = b''
-        while True:
-            try:
-                part = os.read(leader, 1 << 16)
-            except OSError:
-                break
-            if not part:
-                break
-            written += part
+        shown = b''
+        with contextlib.suppress(OSError):      # the end, on Linux
+            while part := os.read(leader, 1 << 16):
+                shown += part
     os.close(leader)
-    return written.decode()
+    return shown.decode()
