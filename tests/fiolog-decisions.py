@@ -14,7 +14,8 @@ from typing import Callable, NamedTuple
 sys.dont_write_bytecode = True
 
 from support.check import Check
-from support.fiolog import use_library
+from support.damage import damaged
+from support.fiolog import use_library, verdicts_on
 from support.log_decisions import decisions
 from support.loggers import LOGGERS, pairs, stamp
 from support.neighbour_logs import NEIGHBOURS, link, neighbours, port, side
@@ -74,19 +75,6 @@ UNSEEN = 'Saleae', 'Saleae with names'
 LEFT_OUT = 'Saleae HDLC'
 FORMS = {name: logger for name, logger in LOGGERS.items() if name != LEFT_OUT}
 
-# What damage does to a line, at a place in it.
-DAMAGES = [lambda line, cut: line[:cut], lambda line, cut: line[cut:], lambda line, cut: line + line, lambda line, cut: '',
-           lambda line, cut: line[:cut] + line[cut + 1:], lambda line, cut: line[:cut] + ' ' + line[cut:],
-           lambda line, cut: line[:cut] + '?' + line[cut + 1:]]
-
-
-def read(octets):
-    """What the library says."""
-    import fio2070
-    reader = fio2070.LogReader()
-    return reader.read(octets) + reader.end()
-
-
 def said(one):
     """What of a verdict is compared."""
     time = one.time if one.kind == 'frames' else None
@@ -95,7 +83,7 @@ def said(one):
 
 def unlike(octets, causes):
     """The lines on which library and model differ, but for what the causes explain: each with its text and both verdicts."""
-    model, library = decisions(octets), read(octets)
+    model, library = decisions(octets), verdicts_on(octets)
     lines = re.split('\r\n|\r|\n', octets.decode('utf-8', 'replace'))
     found = [(lines[one.line - 1], one, other) for one, other in zip(model, library) if said(one) != said(other)]
     if len(model) != len(library):
@@ -122,13 +110,6 @@ def fault_of_damage(text, known, count):
     lines = [one.line for _, one, _ in rows]
     apart = [line for line in lines if line - 1 not in lines]
     return strange or (rows if len(apart) > count else None)
-
-
-def damaged(text, draw, count):
-    lines = text.split('\n')
-    for place in draw.sample(range(len(lines)), min(count, len(lines))):
-        lines[place] = draw.choice(DAMAGES)(lines[place], draw.randrange(len(lines[place]) + 1))
-    return '\n'.join(lines)
 
 
 # Random logs -----------------------------------------------------------------------------------------------------------

@@ -1,8 +1,7 @@
 #!/usr/bin/env python3
 """What the reader of logs finds in logs of other tools, by `fio2070.LogReader`: each form of tests/support/loggers.py, with
 frames of the protocol's tables and with random ones; logs of strangers; forms of lines, one by one; damage, noise and other
-text; right ends, which no cut accuses. If the library has no such class the model of the tests takes its place; else the
-two are compared. Last line: `N passed, M failed`."""
+text; right ends, which no cut accuses; and the reference model of the tests says the same. Last line: `N passed, M failed`."""
 
 import random
 import sys
@@ -10,8 +9,10 @@ import sys
 sys.dont_write_bytecode = True
 
 from support.check import Check
-from support.fiolog import use_library
+from support.damage import CUT_OR_LOST, DAMAGES, damaged
+from support.fiolog import frames_in, use_library, verdicts_on
 from support.log_model import OTHERWISE, REMARKS, LogReader as Model
+from support.log_runs import LOOSE
 from support.loggers import LOGGERS
 from support.other_text import BY_CHANCE, REMARKED, other_text
 from support.sessions import SESSION, random_session, timed
@@ -93,23 +94,23 @@ class Read:
     """What the reader makes of a text."""
 
     def __init__(self, text, form='auto'):
-        import fio2070
-        reader = fio2070.LogReader(form)
-        self.verdicts = reader.read(text.encode()) + reader.end()
-        self.frames = [(one, octets) for one in self.verdicts if one.kind == 'frames' for octets in one.frames]
-        self.octets = [octets for _, octets in self.frames]
-        self.possible = [octets for one in self.verdicts if one.kind == 'possible' for octets in one.frames]
+        self.verdicts = verdicts_on(text.encode(), form)
+        self.octets, self.possible = (frames_in(self.verdicts, kind) for kind in ('frames', 'possible'))
         self.is_whole = [one.line for one in self.verdicts] == list(range(1, len(self.verdicts) + 1))
 
+    def hexadecimal(self):
+        """The frames in digits."""
+        return [octets.hex() for octets in self.octets]
 
-def is_sure(octets):
-    """Whether a count inside confirms the length of a message."""
-    return octets[0] == 182 or octets[0] == 51 and len(octets) > 2
+    def reasons(self):
+        return [one.reason for one in self.verdicts]
 
+    def sides(self):
+        return [one.said for one in self.verdicts]
 
-def is_loose(octets):
-    """Whether messages of this type have any length."""
-    return octets[0] in (56, 57, 59, 183, 184, 185, 187, 188)
+    def strange(self, known):
+        """The frames of known length that are none of these, in digits."""
+        return [octets.hex() for octets in self.octets if octets not in known and octets[0] not in LOOSE]
 
 
 def is_below(some, whole):
@@ -129,7 +130,7 @@ def check_forms(check):
             check.holds('%s: %s, frames that are lost' % (name, kind), len(written) - len(read.octets) <= LOST.get(name, 0) * len(written),
                         '%d of %d are read' % (len(read.octets), len(written)))
             check.holds('%s: %s, each line has a verdict' % (name, kind), read.is_whole)
-            found = [one.time for one, _ in read.frames]
+            found = [one.time for one in read.verdicts if one.kind == 'frames' for _ in one.frames]
             if found and None not in found and len(found) == len(frames):
                 wrong = 1_000_000 if name in ('syslog', 'PuTTY', 'serial monitor') else 1_100
                 check.holds('%s: %s, the times' % (name, kind), all(
@@ -140,16 +141,13 @@ def check_lines(check):
     """Each line of the table by itself: the message that is written there is a frame or possible, and no other is a frame."""
     for line, expected in LINES:
         read = Read(line + '\n')
-        found = [octets.hex() for octets in read.octets + read.possible]
-        if expected:
-            check.equal('the line %r' % line, [expected], found)
-        else:
-            check.equal('the line %r' % line, [], [octets.hex() for octets in read.octets])
+        found = read.octets + read.possible if expected else read.octets
+        check.equal('the line %r' % line, [expected] * bool(expected), [octets.hex() for octets in found])
     below = 'TX 36 05 poll\nRX b6 05 00 00 00 00 00 01 block\n'
-    check.equal('an answer below makes a short message sure', ['3605', 'b605000000000001'], [octets.hex() for octets in Read(below).octets])
+    check.equal('an answer below makes a short message sure', ['3605', 'b605000000000001'], Read(below).hexadecimal())
     pair = 'size 3146\nat b1b42ef307ec49c3\n'
     for name, above, expected in (('half', 'size 9912\n', ['3146', 'b1b42ef307ec49c3']), ('a third', 'size 9912\nsize 7741\n', [])):
-        check.equal('a pair, %s of whose lines say messages' % name, expected, [octets.hex() for octets in Read(above + pair).octets])
+        check.equal('a pair, %s of whose lines say messages' % name, expected, Read(above + pair).hexadecimal())
 
 
 def check_long_lines(check):
@@ -157,7 +155,7 @@ def check_long_lines(check):
     if they are not all of it, it gives none."""
     few, poll = b''.join(SESSION[:6]), bytes.fromhex('3605')
     frames = random_session(7, 400)
-    known = [octets for octets in SESSION + frames if not is_loose(octets)]
+    known = [octets for octets in SESSION + frames if octets[0] not in LOOSE]
     for name, octets, expected in (
             ('a few messages', few, SESSION[:6]), ('many messages', b''.join(known), known), ('many blocks', SESSION[10] * 140, SESSION[10:11] * 140),
             ('none that confirms itself', bytes.fromhex('360536063607b300'), []), ('a cut end', b''.join(known)[:-1], []), ('a cut beginning', b''.join(known)[1:], []),
@@ -212,26 +210,25 @@ SIDES = {
 def check_sides(check):
     """A line says who sent its octets by what is before them, whatever is after them; a transcript by order by its first sign."""
     for words, side in SIDES.items():
-        check.equal('the side of %r' % words, [side], [one.said for one in Read('%s b605000000000001 TX\n' % words).verdicts])
-    dump = 'RX 2026\n0000 b6 05 00 00\n0004 00 00 00 01\n'
-    check.equal('the side of a dump', ['', '', ''], [one.said for one in Read(dump).verdicts])
-    check.equal('the side of lines without frames', ['', ''], [one.said for one in Read('TX 9600 baud\n> 36 05 06\n').verdicts])
-    check.equal('the side of a command and its answer', ['>'], [one.said for one in Read('TX 3605 RX b605000000000001\n').verdicts])
-    for form, sides in (('transcript', ['>', '<']), ('frames', [''])):
-        text = '> 3605\n< b300\n' if form == 'transcript' else '3605\n'
-        check.equal('the sides of %s' % form, sides, [one.said for one in Read(text, form).verdicts])
+        check.equal('the side of %r' % words, [side], Read('%s b605000000000001 TX\n' % words).sides())
+    for name, text, sides in (('a dump', 'RX 2026\n0000 b6 05 00 00\n0004 00 00 00 01\n', ['', '', '']),
+                              ('lines without frames', 'TX 9600 baud\n> 36 05 06\n', ['', '']),
+                              ('a command and its answer', 'TX 3605 RX b605000000000001\n', ['>'])):
+        check.equal('the side of ' + name, sides, Read(text).sides())
+    for form, text, sides in (('transcript', '> 3605\n< b300\n', ['>', '<']), ('frames', '3605\n', [''])):
+        check.equal('the sides of %s' % form, sides, Read(text, form).sides())
 
 
 def check_reasons(check):
     """Each text of the table has no frame, and its lines have these reasons; in a line like those of frames it is damaged."""
     for name, (text, expected) in REASONS.items():
         read = Read(text)
-        check.equal('%s: no frame, and why' % name, ([], expected), (read.octets + read.possible, [one.reason for one in read.verdicts]))
+        check.equal('%s: no frame, and why' % name, ([], expected), (read.octets + read.possible, read.reasons()))
     read = Read('RX b6 05 00 00 00 00 00 01\nRX b6 06 00 00 00 00 00 02 a4 7c\n')
     check.equal('a check of another kind below a frame', [('frames', ''), ('damaged', 'no message')], [(one.kind, one.reason) for one in read.verdicts])
     read = Read('RX b6 05 00 00 00 00 00 01\nRX b6 06 00 00 00 00 00\nRX b6 07 00 00 00 00\nRX b6 08 01 8c 03 e7 00 00 00 03\nRX lost\nRX\n3 lost\n')
     check.equal('octets that are missing below a frame', ['', 'one less', 'no message', 'one less', 'loss', 'no octets', 'loss'],
-                [one.reason for one in read.verdicts])
+                read.reasons())
 
 
 def check_strangers(check):
@@ -256,11 +253,6 @@ def check_strangers(check):
 # The kinds of lines on which the library and the model agree; what may have been a frame is tested in tests/fiolog-cuts.py.
 FOUND = 'frames', 'part', 'blank'
 
-# What damage does to a line, at a place in it. A changed character is another octet where Python writes the octet so.
-DAMAGES = [lambda line, cut: line[:cut], lambda line, cut: line[cut:], lambda line, cut: line + line, lambda line, cut: '',
-           lambda line, cut: line[:cut] + line[cut + 1:], lambda line, cut: line[:cut] + ' ' + line[cut:],
-           lambda line, cut: line[:cut] + '?' + line[cut + 1:]]
-
 # The forms of which a lost digit or row is not seen: octets without zeros before them, an octet a row.
 UNSEEN = ('Python words', 'JSON of numbers', 'Saleae', 'Saleae with names', 'Saleae HDLC', 'Python bytes')
 
@@ -270,27 +262,21 @@ def fault_of_damage(name, seed):
     forms of which that is said; each line has a verdict."""
     draw = random.Random(seed)
     frames = timed([octets for octets in random_session(seed, 400) if seed % 2 or octets[0] in (54, 182)])
-    lines = LOGGERS[name](frames).split('\n')
-    for place in draw.sample(range(len(lines)), min(60, len(lines))):
-        damage = draw.choice(DAMAGES[:-1] if name == 'Python bytes' else DAMAGES)
-        lines[place] = damage(lines[place], draw.randrange(len(lines[place]) + 1))
-    read, known = Read('\n'.join(lines)), {octets for _, _, octets in frames}
+    # A changed character is another octet where Python writes the octet so.
+    read = Read(damaged(LOGGERS[name](frames), draw, 60, CUT_OR_LOST if name == 'Python bytes' else DAMAGES))
     if not read.is_whole:
         return 'lines without a verdict'
-    strange = [octets.hex() for octets in read.octets if octets not in known and not is_loose(octets)]
+    strange = read.strange([octets for _, _, octets in frames])
     return 'of %d frames %s' % (len(strange), strange[0]) if strange and name not in UNSEEN else None
 
 
 def fault_of_damaged_stranger(name, text, expected):
     """No line that is cut, changed, lost or doubled makes another frame of known length."""
-    draw, known, lines = random.Random(name), {one[1:] for one in expected}, text.splitlines()
-    for _ in range(12):
-        place, damage = draw.randrange(len(lines)), draw.choice(DAMAGES[:-1])
-        line = damage(lines[place], draw.randrange(len(lines[place]) + 1))
-        read = Read('\n'.join([*lines[:place], line, *lines[place + 1:]]) + '\n')
-        strange = [octets.hex() for octets in read.octets if octets.hex() not in known and not is_loose(octets)]
-        if strange and name not in ('Erlang', 'Java', 'interceptty', 'PulseView', 'Saleae, an octet a line'):
-            return '%r: %r' % (line, strange[0])
+    draw, known = random.Random(name), [bytes.fromhex(one[1:]) for one in expected]
+    for _ in range(0 if name in ('Erlang', 'Java', 'interceptty', 'PulseView', 'Saleae, an octet a line') else 12):
+        log = damaged(text, draw, 1, CUT_OR_LOST)
+        if Read(log).strange(known):
+            return log, Read(log).strange(known)
     return None
 
 
@@ -299,7 +285,7 @@ def fault_of_noise(seed):
     draw = random.Random(seed)
     words = ['link', 'up', '9600', 'baud', 'error', '17', 'TX', 'queue', '0x', 'ok', 'rate:', '--', 'COM3', 'at', '12:30:01']
     read = Read('\n'.join(' '.join(draw.choice(words) for _ in range(draw.randrange(9))) for _ in range(1000)))
-    return None if read.is_whole and not read.octets else '%d frames, such as %r' % (len(read.octets), read.frames[:1])
+    return None if read.is_whole and not read.octets else '%d frames, such as %r' % (len(read.octets), read.octets[:1])
 
 
 def check_other_text(check):
@@ -309,8 +295,7 @@ def check_other_text(check):
     for name, text in other_text(count, 2000 if count > 13_000 else 500):
         read = Read(text)
         check.holds('%s: each line has a verdict' % name, read.is_whole)
-        for one, octets in read.frames:
-            found[name, one.line] = octets.hex()
+        found.update({(name, one.line): octets.hex() for one in read.verdicts if one.kind == 'frames' for octets in one.frames})
         remarked.update({(name, one.line): one.reason for one in read.verdicts if one.reason in OTHERWISE})
     for row, listed, got in (('frames', BY_CHANCE, found), ('remarks', REMARKED, remarked)):
         expected = {key: value for key, value in listed.items() if count > 13_000 or key[1] <= 500 and int(key[0].split(', ')[-1]) < 26}
@@ -327,20 +312,13 @@ def agreed(one, other):
 def check_model(check):
     """The library and the model of the tests say the same of each line. A reader that has read other logs says so too."""
     import fio2070
-    if fio2070.LogReader is Model:
-        check.skip('the library and the model', 'this library has no reader of logs yet: the model takes its place')
-        return
     texts, used = {name: logger(timed(random_session(len(name), 60))) for name, logger in LOGGERS.items()}, fio2070.LogReader()
     texts.update({name: text for name, text, _ in READ + PASSED})
     texts.update({name: text for name, (text, _) in REASONS.items()})
     for name, text in texts.items():
         for seed in range(4):
-            draw, lines = random.Random('%s %d' % (name, seed)), text.split('\n')
-            for place in draw.sample(range(len(lines)), min(seed * 3, len(lines))):
-                lines[place] = draw.choice(DAMAGES)(lines[place], draw.randrange(len(lines[place]) + 1))
-            octets = '\n'.join(lines).encode()
-            model = Model()
-            expected, read = model.read(octets) + model.end(), Read('\n'.join(lines)).verdicts
+            octets, model = damaged(text, random.Random('%s %d' % (name, seed)), 3 * seed).encode(), Model()
+            expected, read = model.read(octets) + model.end(), verdicts_on(octets)
             check.equal('the model on %s, %d' % (name, seed), (len(expected), list(map(agreed, expected, read))),
                         (len(read), list(map(agreed, read, expected))))
             check.equal('after other logs, %s, %d' % (name, seed), read, used.read(octets) + used.end())

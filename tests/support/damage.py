@@ -1,4 +1,5 @@
-"""Logs with damage of one kind each, which fiolog and the page refuse or remark on."""
+"""Damage to logs: logs with damage of one kind each, which fiolog and the page refuse or remark on; and lines that are damaged by
+chance."""
 
 # What is damaged, the lines, the frames that are read, and a reason or a remark on the others.
 DAMAGED = [
@@ -20,3 +21,16 @@ DAMAGED = [
     ('a list of words that is cut', "INFO:root:tx ['0x36', '0x5']\nINFO:root:rx ['0xb6', '0x1', '0x', '0x34'\n", 1, ''),
     ('a type of any length', 'TX 36 05\nRX BB 01 02\n', 2, 'frames of types that may have any length: 1'),
 ]
+
+# What damage does to a line, at a place in it.
+CUT_OR_LOST = [lambda line, cut: line[:cut], lambda line, cut: line[cut:], lambda line, cut: line + line, lambda line, cut: '',
+               lambda line, cut: line[:cut] + line[cut + 1:], lambda line, cut: line[:cut] + ' ' + line[cut:]]
+DAMAGES = [*CUT_OR_LOST, lambda line, cut: line[:cut] + '?' + line[cut + 1:]]
+
+
+def damaged(text, draw, count, damages=DAMAGES):
+    """A log of which this many lines are damaged."""
+    lines = text.split('\n')
+    for place in draw.sample(range(len(lines)), min(count, len(lines))):
+        lines[place] = draw.choice(damages)(lines[place], draw.randrange(len(lines[place]) + 1))
+    return '\n'.join(lines)
