@@ -12,6 +12,7 @@ sys.dont_write_bytecode = True
 from support.check import Check
 from support.fiolog import use_library
 from support.loggers import LOGGERS
+from support.talking import session
 
 FORMS = ('transcript', 'TX and RX', 'arrows', 'CPU and FIO', 'WRITE and READ', 'counts', 'ISO times', 'US times', 'JSON lines', 'syslog',
          '0x and commas', 'characters', 'Python logging', 'CRLF, mark and tabs', 'table', 'line numbers')
@@ -21,12 +22,6 @@ CUTS = {'the end': lambda line, a, b: line[:a], 'the beginning': lambda line, a,
 # One answer in this many is cut.
 EACH = 50
 WORDS = ['link', 'up', '9600', 'baud', 'error', '17', 'queue', 'ok', 'rate:', '--', 'COM3', 'at', '12:30:01', '192.168.1.7', '36', 'retries']
-
-
-def session(count):
-    """The frames of the proved ends, with times."""
-    from support.talking import rounds
-    return [(round(0.01 * place, 3), direction, octets) for place, (direction, octets) in enumerate(rounds(count))]
 
 
 def summary(lines):

@@ -1,6 +1,9 @@
 #!/usr/bin/env python3
 """Logs that have more than one link in them: lines of other ports, other ids and other programs between those of the link. The
-expected frames are those that were written for the link; no right link is accused. Last line: `N passed, M failed`."""
+expected frames are those that were written for the link; no right link is accused. And a message that confirms itself, by a count of
+its entries or items or by its frame check, is found: if the lines directly above and below a line are blank, and the line says no
+other message, that message is the one frame of its line, however it is written, and whatever the rest of the log is. Last line:
+`N passed, M failed`."""
 
 import random
 import sys
@@ -8,7 +11,9 @@ import sys
 sys.dont_write_bytecode = True
 
 from support.check import Check
-from support.fiolog import use_library
+from support.fiolog import frames_in, use_library, verdicts_on
+from support.line_model import with_check
+from support.loggers import column
 
 # How each link writes a frame: its time, its direction, its octets. The second form is that of a neighbour.
 LINKS = {
@@ -56,12 +61,11 @@ def session(draw, count):
 
 
 def read(lines):
-    """The frames of a log, the kinds of its lines, and the rules that are said to be broken."""
-    import fio2070
+    """The frames of a log, the verdicts on its lines, and the rules that are said to be broken."""
     from fiolog.summary import summary_of
-    octets, reader = ('\n'.join(lines) + '\n').encode(), fio2070.LogReader()
-    verdicts = reader.read(octets) + reader.end()
-    return [frame for one in verdicts if one.kind == 'frames' for frame in one.frames], verdicts, dict(summary_of([octets]).broken)
+    octets = ('\n'.join(lines) + '\n').encode()
+    verdicts = verdicts_on(octets)
+    return frames_in(verdicts), verdicts, dict(summary_of([octets]).broken)
 
 
 def fault_of(own, neighbour, allowed):
@@ -128,7 +132,6 @@ def check_directions(check):
 
 def check_digits(check):
     """A message that confirms itself is a frame, however many digits its octets have."""
-    from support.line_model import with_check
     rows = [(b'\x36' + bytes([number]), bytes([182, number, 1, 12, number // 16, number, 0, 0, 0, 0, number])) for number in range(40, 100)]
     for name, form in (('plain', lambda octets: octets), ('with checks', lambda octets: with_check(b'\x14\x83' + octets))):
         lines = [' '.join('%X' % octet for octet in form(octets)) for row in rows for octets in row]
@@ -146,16 +149,78 @@ def check_dumps(check):
                 frames.append(octets)
                 for place in range(0, len(octets), 16):
                     row = octets[place:place + 16]
-                    lines.append('%s%08x: %-48s %s' % (words, place, row.hex(' '), ''.join(chr(octet) if 32 <= octet < 127 else '.' for octet in row)))
+                    lines.append('%s%08x: %-48s %s' % (words, place, row.hex(' '), column(row)))
         found, _, _ = read(lines)
         check.equal('a dump after %r' % words, frames, found)
 
 
+# A message that confirms itself ---------------------------------------------------------------------------------------
+
+WRITTEN = {
+    'words': lambda octets: octets.hex(' '),
+    'capitals': lambda octets: octets.hex(' ').upper(),
+    'digits without blanks': lambda octets: octets.hex(),
+    'dashes': lambda octets: octets.hex('-'),
+    'colons': lambda octets: octets.hex(':'),
+    'words of four digits': lambda octets: octets.hex(' ', -2),
+    '0x and commas': lambda octets: ', '.join('0x%02x' % octet for octet in octets),
+    'escapes': lambda octets: ''.join('\\x%02x' % octet for octet in octets),
+    'numbers in brackets': lambda octets: str(list(octets)),
+    'bytes of Python': repr,
+}
+FRONTS = '', 'TX ', 'RX ', '07:15:02.123 ', '2026-11-22 07:15:02 RX: ', 'data=', 'sent ', '    '
+TAILS = '', ' ok', ' ; note', ' .'
+
+
+def sure_message(draw):
+    """A message that confirms itself, and the octets that say it."""
+    count = draw.choice([0, 1, 1, 2, 3, 5])
+    block = bytes([182, draw.randrange(256), count]) + draw.randbytes(3 * count) + bytes([draw.choice([0, 2, 4, 8])]) + draw.randbytes(4)
+    items = draw.randrange(1, 4)
+    message = draw.choice([block, bytes([51, items]) + draw.randbytes(3 * items)])
+    if draw.random() < .7:
+        return message, message
+    message = draw.choice([message, bytes([54, draw.randrange(256)]), bytes([179, 0])])
+    octets = with_check(b'\x14\x83' + message)
+    return message, draw.choice([octets, b'~' + octets + b'~'])
+
+
+def other_lines(draw):
+    """Lines that may want the ones below them: cut messages, rows of a dump, octets alone, short messages, words."""
+    in_form = WRITTEN[draw.choice(sorted(WRITTEN))]
+    for _ in range(draw.randrange(6)):
+        message, octets = sure_message(draw)
+        front = draw.choice(FRONTS + ('0000  ', '0010  ', '00000000 '))
+        yield draw.choice([
+            front + in_form(octets[:draw.randrange(1, len(octets) + 1)]),
+            front + '%02x' % draw.choice([35, 36, 49, 53, 54, 182]),
+            front + in_form(bytes([54, draw.randrange(256)])) + draw.choice(TAILS),
+            'connected at 9600 baud',
+            '',
+        ])
+
+
+def check_alone(check, count):
+    """Each way of writing, before and after random lines."""
+    for name, in_form in WRITTEN.items():
+        draw, faults = random.Random(name), []
+        for _ in range(count):
+            message, octets = sure_message(draw)
+            above, below = list(other_lines(draw)), list(other_lines(draw))
+            lines = above + [''] * bool(above) + [draw.choice(FRONTS) + in_form(octets) + draw.choice(TAILS)] + [''] * bool(below) + below
+            place = len(above) + bool(above)
+            verdict = verdicts_on('\n'.join(lines).encode())[place]
+            if (verdict.kind, verdict.frames) != ('frames', (message,)):
+                faults.append((lines, message.hex(), verdict))
+        check.equal('a message that confirms itself, alone: ' + name, [], faults[:1])
+
+
 def main():
-    check = Check()
+    check = Check(messages=(100, 2000))
     use_library(check, 'logs with neighbours')
     for part in (check_sources, check_others, check_counters, check_directions, check_digits, check_dumps):
         part(check)
+    check_alone(check, check.given.messages)
     check.end()
 
 

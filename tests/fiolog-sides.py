@@ -2,7 +2,6 @@
 """`fiolog` on logs of one direction: what is missing is said, and no rule is judged; and on the two files of a line, which `--merge`
 reads as one log in the order of time. Last line: `N passed, M failed`."""
 
-import json
 import os
 import re
 import sys
@@ -11,9 +10,10 @@ import tempfile
 sys.dont_write_bytecode = True
 
 from support.check import Check
-from support.fiolog import fiolog, use_library
+from support.fiolog import fiolog, use_library, written
 from support.kinds import KINDS, SIGNS, blocks, polls
 from support.loggers import LOGGERS
+from support.talking import session
 
 COMMANDS = 'fiolog: this log has the commands alone: the answers were not logged, so no rule is judged (two files of one line: see --merge)'
 ANSWERS = 'fiolog: this log has the answers alone: the commands were not logged, so no rule is judged (two files of one line: see --merge)'
@@ -44,24 +44,27 @@ SIDES = {
 def check_kinds(check):
     """What a log looks like is said once, and counts for nothing."""
     for name, (lines, sign) in KINDS.items():
-        done, last = fiolog('check', text=''.join(lines)), json.loads(fiolog('check', '--json', text=''.join(lines)).out.splitlines()[-1])
+        done, last = fiolog('check', text=''.join(lines)), fiolog('check', '--json', text=''.join(lines)).summary()
         check.equal(name, [SIGNS[sign]] if sign else [], [words[8:] for words in done.err.splitlines() if words[8:] in SIGNS.values()])
-        remarks = [words for words in last['summary'].get('remarks', []) if words in SIGNS]
+        remarks = [words for words in last.get('remarks', []) if words in SIGNS]
         check.equal(name + ', as an object', [sign] if sign else [], remarks)
+
+
+def sentences(done):
+    """Which of the sentences a run said."""
+    return [line for line in done.err.splitlines() if line in SENTENCES]
 
 
 def check_sides(check):
     """What is said of a log, by each command that judges."""
     for name, (text, said, breaches, status) in SIDES.items():
         done = fiolog('check', text=text)
-        found = [line for line in done.err.splitlines() if line in SENTENCES]
-        check.equal(name, (said, breaches, status), (found, len(re.findall('^line ', done.out, re.M)), done.status))
+        check.equal(name, (said, breaches, status), (sentences(done), len(done.found('^line ')), done.status))
         if said and status:
-            record, last = fiolog('record', text=text), json.loads(fiolog('check', '--json', text=text).out.splitlines()[-1])
-            check.equal('record: ' + name, (said, 0, 1), ([line for line in record.err.splitlines() if line in SENTENCES],
-                                                          record.out.count('breaks') + record.err.count('was due'), record.status))
-            not_judged = {key: count for key, count in last['summary']['not_judged'].items() if 'frame' in key and count}
-            check.equal('no frame is judged: ' + name, {'frames_of_one_direction': last['summary']['frames']}, not_judged)
+            record, last = fiolog('record', text=text), fiolog('check', '--json', text=text).summary()
+            check.equal('record: ' + name, (said, 0, 1), (sentences(record), record.out.count('breaks') + record.err.count('was due'), record.status))
+            not_judged = {key: count for key, count in last['not_judged'].items() if 'frame' in key and count}
+            check.equal('no frame is judged: ' + name, {'frames_of_one_direction': last['frames']}, not_judged)
     for words in ('--late-answers', '--start-at-poll', '--whole'):
         done = fiolog('check', words, text=polls(5, 6, 7, 8))
         check.equal('polls that rise, ' + words, (True, 0, 1), (COMMANDS in done.err, done.out.count('line '), done.status))
@@ -69,44 +72,26 @@ def check_sides(check):
 
 def check_many(check, folder):
     """A row of a table says it, and so does a live line."""
-    for name, text in (('tx', polls(5, 6, 7, 8)), ('rx', blocks(5, 6, 7, 8)), ('good', polls(5) + blocks(5))):
-        with open(os.path.join(folder, name + '.log'), 'w', encoding='ascii') as file:
-            file.write(text)
-    paths = [os.path.join(folder, name + '.log') for name in ('tx', 'rx', 'good')]
-    rows = [json.loads(line) for line in fiolog('check', '--json', *paths).out.splitlines()]
-    found = {os.path.basename(row['file']): (row['breaches'], row.get('remarks')) for row in rows[:-1]}
+    paths = [written(folder, name, text) for name, text in (
+        ('tx.log', polls(5, 6, 7, 8)), ('rx.log', blocks(5, 6, 7, 8)), ('good.log', polls(5) + blocks(5)))]
+    *rows, _ = fiolog('check', '--json', *paths).objects()
+    found = {os.path.basename(row['file']): (row['breaches'], row.get('remarks')) for row in rows}
     check.equal('logs of one direction in a table', {'tx.log': (0, {'the commands alone': 1}), 'rx.log': (0, {'the answers alone': 1}), 'good.log': (0, None)}, found)
     check.equal('its status', (1, 0), (fiolog('check', *paths).status, fiolog('check', paths[2], paths[2]).status))
     check.holds('its words', re.search('tx.log .*the commands alone', fiolog('check', *paths).out))
-    for name, number, said, status in (('tx.log', 0, COMMANDS, 1), ('rx.log', 1, ANSWERS, 1)):
-        done = fiolog('live', '-q', '--fifo', paths[number])
-        check.equal('live on ' + name, (True, 0, status), (said in done.err, done.out.count('line '), done.status))
-
-
-def session(count, apart=0.05):
-    """The frames of the proved ends, `apart` seconds after each other."""
-    from support.talking import rounds
-    return [(round(apart * place, 3), direction, octets) for place, (direction, octets) in enumerate(rounds(count))]
+    for path, said in zip(paths, (COMMANDS, ANSWERS)):
+        done = fiolog('live', '-q', '--fifo', path)
+        check.equal('live on ' + os.path.basename(path), (True, 0, 1), (said in done.err, done.out.count('line '), done.status))
 
 
 def merged(folder, command, *texts):
     """What a command says of files that are merged."""
-    paths = []
-    for number, text in enumerate(texts):
-        paths.append(os.path.join(folder, 'part%d' % number))
-        with open(paths[-1], 'w', encoding='utf-8') as file:
-            file.write(text)
-    return fiolog(*command, '--merge', *paths)
+    return fiolog(*command, '--merge', *(written(folder, 'part%d' % number, text) for number, text in enumerate(texts)))
 
 
 TO_TRANSCRIPT = 'convert', '-q', '--to', 'transcript'
 # Forms with times: clocks of milliseconds, and of whole seconds, in which several frames have the same time.
 TIMED = 'ISO times', 'epoch times', 'German times', 'US times', 'JSON lines', 'Docklight', 'syslog', 'PuTTY'
-
-
-def transcript_of(frames):
-    """Frames as a transcript."""
-    return ''.join('%s %s\n' % (direction, octets.hex()) for _, direction, octets in frames)
 
 
 def check_merge(check, folder):
@@ -117,7 +102,7 @@ def check_merge(check, folder):
             parts = [LOGGERS[form]([frame for frame in frames if frame[1] == side]) for side in '><']
             for order, texts in (('commands', parts), ('answers', parts[::-1])):
                 done = merged(folder, TO_TRANSCRIPT, *texts)
-                check.equal('%s, %s s apart, %s first' % (form, apart, order), (transcript_of(frames), 0), (done.out, done.status))
+                check.equal('%s, %s s apart, %s first' % (form, apart, order), (LOGGERS['transcript'](frames), 0), (done.out, done.status))
                 check.equal('%s, %s s apart, %s first: nobody is accused' % (form, apart, order), 0, merged(folder, ('check', '-q'), *texts).status)
 
 
@@ -176,9 +161,9 @@ def check_places(check, folder):
     for name, words in (('a breach', '^%s line 3: advance: block 6 was due' % part), ('when it was first', 'once, in %s line 3 at 1.2' % part),
                         ('a line that is passed over', '%s line 2: no octets: idle' % part), ('how many', '1 of 5 lines skipped')):
         check.holds(name, re.search(words, done.out + done.err, re.M), done)
-    row = json.loads(merged(folder, ('check', '--json'), sent, heard).out.splitlines()[0])
+    row = merged(folder, ('check', '--json'), sent, heard).objects()[0]
     check.equal('the object of a breach', ('part0', 3, 'advance'), (os.path.basename(row['file']), row['line'], row['rule']))
-    row = json.loads(merged(folder, ('decode', '--json'), sent, heard).out.splitlines()[1])
+    row = merged(folder, ('decode', '--json'), sent, heard).objects()[1]
     check.equal('the object of a frame', ('part1', 1, 'b605010c00010000000001'), (os.path.basename(row['file']), row['line'], row['octets']))
     record = merged(folder, ('record',), sent, heard).out.splitlines()
     check.equal('the record', ['part1 1: 1.100000 input 12 state 0 stamp 1 wide 1', 'part0 line 3 breaks advance'],

@@ -6,9 +6,8 @@ LOSSES = 5      # one answer in this many is lost
 
 def rounds(count):
     """What is sent and heard in this many rounds, after a configuration of input 0."""
-    import fio2070
-    from fio2070 import ConfigurationItem, encode
-    module, poller = fio2070.Module(), fio2070.Poller(255)
+    from fio2070 import ConfigurationItem, Module, Poller, encode
+    module, poller = Module(), Poller(255)
     configuration = encode.configure_inputs([ConfigurationItem(0, False, 1, 1)])
     yield '>', configuration
     yield '<', module.receive(configuration)
@@ -20,6 +19,11 @@ def rounds(count):
         if number % LOSSES:
             poller.hear(answer)
             yield '<', answer
+
+
+def session(count, apart=0.01):
+    """The same with times, `apart` seconds after each other."""
+    return [(round(apart * place, 3), direction, octets) for place, (direction, octets) in enumerate(rounds(count))]
 
 
 def main():
