@@ -6,7 +6,6 @@ import csv
 import glob
 import gzip
 import io
-import json
 import os
 import random
 import re
@@ -17,7 +16,7 @@ import tempfile
 sys.dont_write_bytecode = True
 
 from support.check import Check
-from support.fiolog import ENVIRONMENT, fiolog, on_terminal, use_library
+from support.fiolog import ENVIRONMENT, TOOL, fiolog, on_terminal, started, use_library, written
 from support.loggers import LOGGERS
 from support.pcapng import frames_of
 from support.sessions import SESSION, timed
@@ -39,7 +38,7 @@ def check_decode(check):
                  if not BIT.match(line)]
         faults = [line for line in found if re.match(r'(?:unknown|wrong length|too long|\d+: +\? damaged: bad line)', line)]
         check.equal('decode of ' + os.path.basename(name), expected, [line for line in found if line not in faults])
-    rows = [json.loads(line) for line in fiolog('decode', '--json', text=LOG).out.splitlines()]
+    rows = fiolog('decode', '--json', text=LOG).objects()
     check.equal('the octets of decode --json', [octets.hex() for octets in SESSION], [row['octets'] for row in rows])
     check.equal('an object', {'line': 7, 'direction': '<', 'type': 182, 'says': 'block 0 entries 1 status 00 stamp 1000',
                               'block': 0, 'status': 0, 'stamp': 1000,
@@ -53,11 +52,10 @@ def check_decode(check):
     for words, lines in [(['--input', '13'], [9]), (['--type', 'poll'], [3, 4, 6, 8, 10, 22]),
                          (['--type', '182', '--block', '1'], [9]), (['--lines', '1-2'], [1, 2]),
                          (['--status', 'E'], [5]), (['--unanswered'], [3]), (['--direction', 'sent', '--lines', '5-8'], [6, 8])]:
-        rows = [json.loads(line) for line in fiolog('decode', '--json', *words, text=LOG).out.splitlines()]
-        check.equal('decode ' + ' '.join(words), lines, [row['line'] for row in rows])
+        check.equal('decode ' + ' '.join(words), lines, [row['line'] for row in fiolog('decode', '--json', *words, text=LOG).objects()])
     cut = 'TX 36 05\nTX 36 06\nRX B6 06 00 00 00 00 00 0\nTX 36 07\nRX B6 07 00 00 00 00 00 01\nTX 36 08\n'
     check.equal('polls without an answer: not above a damaged line', [1, 6],
-                [json.loads(line)['line'] for line in fiolog('decode', '--json', '--unanswered', text=cut).out.splitlines()])
+                [row['line'] for row in fiolog('decode', '--json', '--unanswered', text=cut).objects()])
     check.holds('colours where they are asked for', '\x1b[' in fiolog('decode', '--color', 'always', text=LOG).out)
     check.holds('no colours in a pipe', '\x1b[' not in fiolog('decode', text=LOG).out)
 
@@ -67,7 +65,7 @@ def check_shown(check):
     sets, says = ('3131', 'b1a1000000000005', 'ba01', 'b60500060000000a'), {
         'P': 'the module was reset', 'R': 'status flag', 'K': 'status flag', 'E': 'the same block number was asked for again',
         'F': 'entries between the block before and this one were pushed out', 'Y': 'the watchdog had been set before'}
-    rows = [json.loads(line) for line in fiolog('decode', '--json', '--format', 'frames', text='\n'.join(sets)).out.splitlines()]
+    rows = fiolog('decode', '--json', '--format', 'frames', text='\n'.join(sets)).objects()
     letters = ('KRW', 'PKW', 'Y', 'FE')
     check.equal('the letters of bits', letters, tuple(''.join(row['bits']) for row in rows))
     check.equal('what bits say', [], [(letter, words) for row in rows for letter, words in row['bits'].items()
@@ -76,11 +74,11 @@ def check_shown(check):
     check.equal('the bits of a block', ['  F: ' + says['F'], '  E: ' + says['E']], out.splitlines()[1:])
     check.equal('the row of a repeat', '1:     < block 5 entries 0 status 06 stamp 10' + AGAIN, out.splitlines()[0])
     check.equal('the object of a repeat', [None, None, None, AGAIN.strip()], [row.get('repeat') for row in rows])
-    out = fiolog('decode', text='08:15:02.25 TX 36 05\n08:15:02.26 RX b6 05 00 00 00 00 00 0a\n').out
-    check.equal('the clock of the log', ['08:15:02.25', '08:15:02.26'], re.findall(r'\d\d:\d\d:\S+', out))
+    done = fiolog('decode', text='08:15:02.25 TX 36 05\n08:15:02.26 RX b6 05 00 00 00 00 00 0a\n')
+    check.equal('the clock of the log', ['08:15:02.25', '08:15:02.26'], done.found(r'\d\d:\d\d:\S+'))
     late = fiolog('decode', '--json', text='{"ts": 1e17, "data": "b60500000000000a"}\n{"ts": 9.5, "data": "b60600000000000a"}\n')
     check.equal('a time beyond the year 9999 is none', (0, [None, 9.5]),
-                (late.status, [json.loads(line)['time'] for line in late.out.splitlines()]))
+                (late.status, [row['time'] for row in late.objects()]))
 
 
 def check_judged(check):
@@ -129,9 +127,24 @@ def check_words(check):
                 fiolog('decode', '--pattern', pattern, text='1.5!tx!3605\n').out)
 
 
+# Words of `plan`, and the first numbers that it gives: of filters that differ, and for modules of which few entries may wait.
+PLANS = [('--group 60:20 --group 4:1', [33, 252, 32, 504, 65]),
+         ('--inputs 8 --filter 5 --block 64 --waiting 71', [40, 64, 39, 20, 64, 39]),
+         ('--inputs 8 --filter 5 --block 64 --waiting 70', [39, 64, 38, 19, 64, 37]),
+         ('--inputs 8 --filter 5 --block 64 --waiting 136', [40, 64, 39, 128, 79]),
+         ('--group 60:20 --group 4:1 --waiting 503', [33, 252, 32, 32, 496, 63]),
+         ('--group 60:20 --group 4:1 --waiting 251', [32, 248, 31, 16, 248, 31]),
+         ('--inputs 64 --filter 1 --waiting 63', [0, 0])]
+
+
+def planned(words):
+    """The numbers that `plan` gives for these words, by what they are."""
+    return {one['what']: int(str(one['number']).split()[0]) for one in fiolog('plan', '--json', *words.split()).objects()[0]}
+
+
 def check_numbers(check):
     """`stats` counts, and `plan` prints the rows of docs/PLANNING.md."""
-    found = json.loads(fiolog('stats', '--json', text=LOG).out)
+    found = fiolog('stats', '--json', text=LOG).objects()[0]
     check.equal('stats', (len(SESSION), 6, 1, 1, 36, 3, {'12': 34, '13': 1, '14': 1}),
                 (found['frames'], found['polls'], found['repeats'], found['answers_lost'], found['entries'],
                  len(found['response_ms']) - 1, found['entries_by_input']))
@@ -141,30 +154,16 @@ def check_numbers(check):
     for row in rows[::5]:
         names = ['poll every', 'entries that wait, at most', 'late, at most', 'entries that wait, at most, answers lost',
                  'late, at most, answers lost', 'outage without loss, at most']
-        plan = {one['what']: int(str(one['number']).split()[0]) for one in
-                json.loads(fiolog('plan', '--json', '--inputs', str(row[0]), '--filter', str(row[1])).out)}
+        plan = planned('--inputs %d --filter %d' % tuple(row[:2]))
         check.equal('plan for %d inputs with filters of %d' % tuple(row[:2]), row[2:8], [plan[name] for name in names])
-    rounds = fiolog('plan', '--inputs', '64', '--filter', '5', '--outage', '80').out
+    rounds = fiolog('plan', '--inputs', '64', '--filter', '5', '--outage', '80')
     check.equal('a round every 12 ms with 5 of each 100 lost, none later than 71', ['12', '71'],
-                re.findall(r'5 of each 100 rounds lost +(\d+) ms', rounds))
-    differing = json.loads(fiolog('plan', '--json', '--group', '60:20', '--group', '4:1').out)
-    check.equal('60 filters of 20 and 4 of 1', [33, 252, 32, 504, 65], [int(str(one['number']).split()[0]) for one in differing])
-    check_small_rings(check)
+                rounds.found(r'5 of each 100 rounds lost +(\d+) ms'))
+    for words, expected in PLANS:
+        check.equal('plan ' + words, expected, list(planned(words).values())[:len(expected)])
     for words in (['--group', '60'], ['--group', '60:20', '--group', '5:1'], ['--group', '8:5', '--every', '5'], ['--inputs', '8'], []):
         check.equal('plan ' + ' '.join(words), 2, fiolog('plan', *words).status)
-    check.holds('6 rounds after the longest outage', re.search(r'nothing between the rounds +6 rounds', rounds), rounds)
-
-
-def check_small_rings(check):
-    """`plan` for modules of which few entries may wait."""
-    for words, expected in (('--inputs 8 --filter 5 --block 64 --waiting 71', [40, 64, 39, 20, 64, 39]),
-                            ('--inputs 8 --filter 5 --block 64 --waiting 70', [39, 64, 38, 19, 64, 37]),
-                            ('--inputs 8 --filter 5 --block 64 --waiting 136', [40, 64, 39, 128, 79]),
-                            ('--group 60:20 --group 4:1 --waiting 503', [33, 252, 32, 32, 496, 63]),
-                            ('--group 60:20 --group 4:1 --waiting 251', [32, 248, 31, 16, 248, 31]),
-                            ('--inputs 64 --filter 1 --waiting 63', [0, 0])):
-        plan = json.loads(fiolog('plan', '--json', *words.split()).out)
-        check.equal('plan ' + words, expected, [int(str(one['number']).split()[0]) for one in plan][:len(expected)])
+    check.holds('6 rounds after the longest outage', rounds.found(r'nothing between the rounds +6 rounds'), rounds)
 
 
 def check_convert(check):
@@ -210,7 +209,7 @@ def check_check(check):
     broken = '> 36ff\nnoise\n> 3600\n< b600018000020000000002\n> 3601\n> 3604\n< b6040000000000ff\n'
     done = fiolog('check', text=broken)
     check.equal('every breach', [('3', 'advance', 'block 255 was due, 0 came'), ('6', 'advance', 'block 1 was due, 4 came')],
-                re.findall(r'line (\d+): (\w+): ([^:\n]*)', done.out))
+                done.found(r'line (\d+): (\w+): ([^:\n]*)'))
     check.holds('how often, from where to where', 'fiolog: advance: 2 times, first in line 3, last in line 6\n' in done.err, done.err)
     timed_log = '07:15:02.100 TX 36 ff\n07:15:02.200 TX 36 00\n'
     check.holds('since when', 'fiolog: advance: once, in line 2 at 07:15:02.200\n' in fiolog('check', text=timed_log).err)
@@ -222,16 +221,15 @@ def check_check(check):
             ('ahead, around 255', 255, 1, 'block 0 was due, 1 came: the CPU went on without an answer, and what block 0 had is lost; or the '
              'log lost a line (own profile; TEES allows it)')):
         done = fiolog('check', text='> 36%02x\n< b6%02x0000000003e8\n> 36%02x\n' % (above, above, number))
-        check.equal('what a poll %s means' % name, ['line 3: advance: ' + words], re.findall('^line 3.*', done.out, re.M))
+        check.equal('what a poll %s means' % name, ['line 3: advance: ' + words], done.found('^line 3.*'))
     with open(os.path.join(EXAMPLES, 'lost-answer.frames'), encoding='ascii') as file:
         done = fiolog('check', text=file.read())
-    check.equal('a log of the bus does not accuse a right CPU', ('', 0, True),
-                (''.join(re.findall(r'line .*', done.out)), done.status, 'not judged' in done.err))
+    check.equal('a log of the bus does not accuse a right CPU', ([], 0, True), (done.found('line .*'), done.status, 'not judged' in done.err))
     middle = '< b6050000000003e8\n> 3606\n< b6060000000003e9\n'
     check.equal('--start-at-poll', 0, fiolog('check', '--start-at-poll', text=middle).status)
     # F without C: a module in which no more may wait than a block takes can say that it lost entries.
     lost = '> 3605\n< b605010c000a040000000b\n'
-    check.equal('the standard limits', ['limits'], re.findall(r'^line 2: (\w+)', fiolog('check', text=lost).out, re.M))
+    check.equal('the standard limits', ['limits'], fiolog('check', text=lost).found(r'^line 2: (\w+)'))
     for words, status in ((('255', '64'), 0), (('255', '1024'), 1), (('0', '64'), 2), (('255', '8193'), 2)):
         check.equal('--limits ' + ' '.join(words), status, fiolog('check', '--limits', *words, text=lost).status)
     check.equal('no frame', 1, fiolog('check', text='').status)
@@ -246,10 +244,10 @@ def with_library(name):
 
 def without(folder, name):
     """The environment of a Python in which a library is missing."""
-    os.makedirs(os.path.join(folder, 'none'), exist_ok=True)
-    with open(os.path.join(folder, 'none', name + '.py'), 'w', encoding='ascii') as file:
-        file.write('raise ImportError(%r)\n' % name)
-    return {'PYTHONPATH': os.path.join(folder, 'none') + os.pathsep + ENVIRONMENT['PYTHONPATH']}
+    above = os.path.join(folder, 'none')
+    os.makedirs(above, exist_ok=True)
+    written(above, name + '.py', 'raise ImportError(%r)\n' % name)
+    return {'PYTHONPATH': above + os.pathsep + ENVIRONMENT['PYTHONPATH']}
 
 
 def check_terminal(check, folder):
@@ -261,10 +259,9 @@ def check_terminal(check, folder):
         check.holds('no colours with %s' % name, '\x1b[' not in text, text)
     text = on_terminal(sys.executable, ['check', '-q'], text='> 36ff\n> 3600\n')
     check.holds('the colour of a breach', 'line 2: \x1b[31;1madvance\x1b[0m: block 255 was due' in text, text)
-    path, kept = os.path.join(folder, 'long.log'), os.path.join(folder, 'kept')
-    with open(path, 'w', encoding='ascii') as file:
-        # Long by its octets, not by its messages.
-        file.write((LOG + 'link down, %s\n' % ('\0' * 2 ** 18)) * 17)
+    kept = os.path.join(folder, 'kept')
+    # Long by its octets, not by its messages.
+    path = written(folder, 'long.log', (LOG + 'link down, %s\n' % ('\0' * 2 ** 18)) * 17)
     text = on_terminal(sys.executable, ['stats', path], **without(folder, 'rich'))
     check.holds('without rich a word and a plain table', 'rich is not installed: no progress bar' in text
                 and 'rich is not installed: plain tables' in text and re.search(r'\n  polls +\d+', text), text)
@@ -286,56 +283,36 @@ def check_terminal(check, folder):
     check.holds('no bar for a short file', 'reading' not in on_terminal(python, ['stats'], text=LOG))
 
 
-# Python that says how many inputs and gap marks the picture of blocks has, and where an input changes.
-LANES = """
-from fiolog import log, plot, record
-from types import SimpleNamespace as Names
-given = Names(files=['-'], quiet=True, format='auto', pattern=None, sdlc=False, no_check=False, verbose=False, at='auto', start_at_poll=False, whole=False,
-              limits=(255, 1024))
-lanes = plot.Lanes()
-for block in record.Record(log.Log(given), given).blocks():
-    lanes.add(block)
-print({number: (list(lanes.times[number]), [str(state) for state in lanes.states[number]]) for number in sorted(lanes.times)})
-print(lanes.gaps)
-"""
-
-
 def check_plot(check, folder):
     """`record --plot`: a picture, or the word that matplotlib is missing."""
-    text = '> 3600\n< b600018c03e700000003e8\n> 3601\n< b601010c03f304000003fc\n'
-    done = subprocess.run([sys.executable, '-c', LANES], input=text, stdout=subprocess.PIPE, env=ENVIRONMENT, universal_newlines=True)
-    check.equal('the lanes of a picture, unknown in a gap',
-                "{12: ([999.0, 1000.0, 1011.0], ['1.0', 'nan', '0.0'])}\n[(1000, 1011)]\n", done.stdout)
-    path = os.path.join(folder, 'picture.png')
-    missing = {**ENVIRONMENT, **without(folder, 'matplotlib')}
-    done = subprocess.run([sys.executable, '-m', 'fiolog', 'record', '-q', '--plot', path], input=LOG, stderr=subprocess.PIPE,
-                          env=missing, universal_newlines=True)
+    def plotted(python, name, **settings):
+        """A run that makes this picture."""
+        words = [python, *TOOL[1:], 'record', '-q', '--plot', os.path.join(folder, name)]
+        return subprocess.run(words, input=LOG, stdout=subprocess.PIPE, stderr=subprocess.PIPE, env={**ENVIRONMENT, **settings}, universal_newlines=True)
+
+    done = plotted(sys.executable, 'picture.png', **without(folder, 'matplotlib'))
     check.equal('--plot without matplotlib', (3, 'fiolog: --plot needs matplotlib (Debian package python3-matplotlib)\n', False),
-                (done.returncode, done.stderr, os.path.exists(path)))
+                (done.returncode, done.stderr, os.path.exists(os.path.join(folder, 'picture.png'))))
     python = with_library('matplotlib')
     if not python:
         check.skip('a picture', 'no matplotlib here (Debian package python3-matplotlib)')
         return
     for ending, begins in (('png', b'\x89PNG\r\n'), ('svg', b'<?xml'), ('pdf', b'%PDF')):
-        path = os.path.join(folder, 'picture.' + ending)
-        done = subprocess.run([python, '-m', 'fiolog', 'record', '-q', '--plot', path], input=LOG, stdout=subprocess.PIPE,
-                              stderr=subprocess.PIPE, env=ENVIRONMENT, universal_newlines=True)
-        with open(path, 'rb') as file:
+        done = plotted(python, 'picture.' + ending)
+        with open(os.path.join(folder, 'picture.' + ending), 'rb') as file:
             octets = file.read()
         check.equal('a picture as .' + ending, (1, 'fiolog: line 11 input 12 breaks apart\nfiolog: line 13 restarted\n', True),
                     (done.returncode, done.stdout + done.stderr, octets.startswith(begins)))
     check.equal('the inputs of a picture', {'12', '13', '14'}, set(re.findall(r'<!-- input (\d+) -->', open(
         os.path.join(folder, 'picture.svg'), encoding='utf-8').read())))
     for name, words in (('picture.xyz', '.png, .svg and .pdf'), ('no-folder/picture.png', 'No such file')):
-        done = subprocess.run([python, '-m', 'fiolog', 'record', '-q', '--plot', os.path.join(folder, name)], input=LOG,
-                              stderr=subprocess.PIPE, env=ENVIRONMENT, universal_newlines=True)
+        done = plotted(python, name)
         check.equal('--plot ' + name, (3, True), (done.returncode, words in done.stderr and 'Traceback' not in done.stderr))
 
 
 def fault_of_following():
     """`decode` answers each line at once, as with `tail -f`, but a short one of a form that nothing has made sure."""
-    command = subprocess.Popen([sys.executable, '-m', 'fiolog', 'decode', '-q'], stdin=subprocess.PIPE,
-                               stdout=subprocess.PIPE, env=ENVIRONMENT)
+    command = started('decode', '-q', stderr=None)
     try:
         command.stdin.write(b'TX 36 04\n')
         for line, expected in [(b'RX B6 04 00 00 00 00 00 01\n', b'poll block 4'), (b'', b'block 4 entries 0'), (b'TX 36 05\n', b'poll block 5'),
@@ -388,24 +365,17 @@ def check_hostile(check, folder):
     for name, hostile in [('a line of 3 MB', b'> ' + b'b6' * 1_500_000 + b'\n'), ('zeros', bytes(200_000) + b'\n'),
                           ('a line of words', b'tx rx ' * 40_000 + b'3605\n'), ('no UTF-8', b'\x80\xfe TX 36 05\n'),
                           ('a long row', b'{"data": "' + b' ' * 200_000 + b'3605"}\n')]:
-        path = os.path.join(folder, 'hostile')
-        with open(path, 'wb') as file:
-            file.write(hostile + good)
-        done = fiolog('decode', '-v', path)
+        done = fiolog('decode', '-v', written(folder, 'hostile', hostile + good))
         status = 1 if name == 'no UTF-8' else 0     # that line is damaged: it may have held a frame
-        check.equal('below %s' % name, (status, ['2', '3', '4']), (done.status, re.findall(r'^([2-9]):', done.out, re.M)))
+        check.equal('below %s' % name, (status, ['2', '3', '4']), (done.status, done.found(r'^([2-9]):')))
         check.holds('%s is named' % name, 'line 1: ' in done.err or name in ('zeros', 'no UTF-8'), done.err[:300])
     for seed in range(3):
-        with open(path, 'wb') as file:
-            file.write(draw.randbytes(60_000))
-        done = fiolog('decode', path)
+        done = fiolog('decode', written(folder, 'hostile', draw.randbytes(60_000)))
         check.equal('random octets, %d' % seed, (1, ''), (done.status, done.out))
     packed = gzip.compress(good * 2000)
     for name, octets, words in [('gzip', packed, ''), ('a gzip file cut short', packed[:-20], 'is read'),
                                 ('a damaged gzip file', packed[:-60] + bytes(60), 'is read')]:
-        with open(path, 'wb') as file:
-            file.write(octets)
-        done = fiolog('decode', path)
+        done = fiolog('decode', written(folder, 'hostile', octets))
         check.holds(name, done.out.startswith('1:     > poll block 5\n2:     < block 5') and words in done.err, done.err)
     done = fiolog('decode', os.path.join(EXAMPLES, 'captures', 'udp.pcap'))
     check.equal('a capture file', (1, True), (done.status, 'tshark reads it' in done.err))

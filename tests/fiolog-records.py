@@ -5,7 +5,6 @@ what goes on after a breach, in the middle of traffic, and in logs of the bus an
 
 import csv
 import glob
-import json
 import os
 import random
 import re
@@ -18,6 +17,7 @@ sys.dont_write_bytecode = True
 from support.check import Check
 from support.faults import FAULTS, changed
 from support.fiolog import ENVIRONMENT, fiolog, use_library
+from support.lossy_runs import lossy_script, run_of_link
 from support.tables import TOP, output_of
 
 EXAMPLES = os.path.join(TOP, 'examples')
@@ -54,10 +54,10 @@ def check_examples(check):
         path = os.path.join(EXAMPLES, name + '.transcript')
         words = 'line %d %sbreaks %s' % (line, 'input %d ' % where[0] if where else '', rule)
         done = fiolog('record', '-q', path)
-        check.equal('the table of %s' % name, (1, [words]), (done.status, [one for one in done.out.splitlines() if 'breaks' in one]))
+        check.equal('the table of %s' % name, (1, [words]), (done.status, done.found('.*breaks.*')))
         entries = sum(octets[2] for octets in blocks_of(transcript(name)))
-        check.equal('all items of %s' % name, entries, len(re.findall(r'^\d+: +input', done.out, re.M)))
-        rows = [json.loads(one) for one in fiolog('record', '-q', '--json', path).out.splitlines()]
+        check.equal('all items of %s' % name, entries, len(done.found(r'^\d+: +input')))
+        rows = fiolog('record', '-q', '--json', path).objects()
         check.equal('the object of %s' % name, [{'line': line, 'time': None, **dict(zip(('input', 'entry'), where)), 'breaks': rule}],
                     [one for one in rows if 'breaks' in one])
         done = fiolog('record', '-q', '--vcd', path)
@@ -67,14 +67,14 @@ def check_examples(check):
         path, words = os.path.join(EXAMPLES, name + '.transcript'), 'line %d restarted\n' % line
         check.equal('the text of %s' % name, ('record 0\n' + words, 1), fiolog('record', '-q', '--text', path)[::2])
         check.equal('the table of %s' % name, (words, 1), fiolog('record', '-q', path)[::2])
-        rows = [json.loads(one) for one in fiolog('record', '-q', '--json', path).out.splitlines()]
+        rows = fiolog('record', '-q', '--json', path).objects()
         check.equal('the object of %s' % name, [{'line': line, 'time': None, 'outcome': 'restarted'}], rows)
         check.equal('the row of %s' % name, '%d,,,,,,restarted' % line, fiolog('record', '-q', '--csv', path).out.splitlines()[-1])
         done = fiolog('record', '-q', '--vcd', path)
         check.equal('the VCD of %s' % name, (1, 'fiolog: ' + words), (done.status, done.err))
+    path = os.path.join(EXAMPLES, 'good.transcript')
     check.equal('a record without a breach', (0, False),
-                (fiolog('record', '-q', os.path.join(EXAMPLES, 'good.transcript')).status,
-                 'breach' in fiolog('record', '-q', '--vcd', os.path.join(EXAMPLES, 'good.transcript')).out))
+                (fiolog('record', '-q', path).status, 'breach' in fiolog('record', '-q', '--vcd', path).out))
 
 
 def blocks_of(text):
@@ -82,26 +82,11 @@ def blocks_of(text):
     return [bytes.fromhex(digits) for digits in re.findall(r'^< (b6\w+)$', text, re.M)]
 
 
-def written_by(name, *words, text=''):
-    """What a tool writes for an input."""
-    return subprocess.run([os.path.join(TOP, 'tools', name), *words], input=text, stdout=subprocess.PIPE, check=True,
-                          universal_newlines=True).stdout
-
-
-def transcript_of_run(folder, seed):
-    """The transcript of a run whose bus loses frames."""
-    script, path = written_by('lossy-script', '--rounds', '120', '--repeat', '0', '--loss', str((0, 0.1, 0.3)[seed % 3]), '--seed',
-                              str(seed), '--inputs', str((2, 4, 16)[seed // 3 % 3])), os.path.join(folder, 'script')
-    with open(path, 'w', encoding='ascii') as file:
-        file.write(script)
-    return written_by('transcript', path, text=output_of('simulate', script)[0])
-
-
-def check_runs(check, folder):
+def check_runs(check):
     """Runs of the link are not accused; most of those in which an entry was changed are."""
     draw, found = random.Random(32), dict.fromkeys(FAULTS, 0)
     for seed in range(SEEDS):
-        text = transcript_of_run(folder, seed)
+        text = run_of_link(lossy_script(seed, (2, 4, 16)))
         check.equal('run %d is not accused' % seed, 0, same_text(check, 'run %d' % seed, text))
         for fault in FAULTS:
             found[fault] += same_text(check, 'run %d with an entry %s' % (seed, fault.__name__), changed(text, fault, draw))
@@ -120,7 +105,7 @@ SKIP = '> 3609\n< b60900000000001f\n> 360a\n< b60a000000000020\n'
 def breaches(*words, text):
     """What is broken, by line, and the status."""
     done = fiolog('record', '-q', *words, text=text)
-    return re.findall(r'^line \d+ .*$', done.out, re.M), done.status
+    return done.found(r'^line \d+ .*$'), done.status
 
 
 def check_course(check):
@@ -150,8 +135,8 @@ def check_course(check):
     check.equal('--start-at-poll', ([], 0), breaches('--start-at-poll', text=middle))
     above = '< b605010c03e700000003e8\n' + '> 3606\n< b606018c03f200000003f3\n'
     done = fiolog('record', text=above)
-    check.equal('an entry above the first command is recorded, and that is said', (0, [12, 12], True),
-                (done.status, [int(one) for one in re.findall(r'input (\d+)', done.out)], '1 frame above the first command' in done.err))
+    check.equal('an entry above the first command is recorded, and that is said', (0, ['12', '12'], True),
+                (done.status, done.found(r'input (\d+)'), '1 frame above the first command' in done.err))
     check.equal('as text the record begins at the first command', 'record 1\ninput 12 state 1 stamp 1010 wide 1010\n',
                 fiolog('record', '-q', '--text', text=above).out)
     check.equal('noise in between', (['line 9 input 12 breaks alternate'], 1), breaches(text=START + FIRST + '# restarted\n' + AGAIN))
@@ -160,12 +145,11 @@ def check_course(check):
     with open(os.path.join(EXAMPLES, 'lost-answer.frames'), encoding='ascii') as file:
         done = fiolog('record', '-q', text=file.read())
     check.equal('a log of the bus has each entry once, and accuses nobody', (0, 2, []),
-                (done.status, len(done.out.splitlines()), re.findall('breaks', done.out)))
+                (done.status, len(done.out.splitlines()), done.found('breaks')))
 
 
-# Python that prints the positions of the crosses in the picture of a log.
-CROSSES = '''
-import sys
+# Python that says how many inputs and gap marks the picture of blocks has, where an input changes, and where its crosses are.
+LANES = '''
 from types import SimpleNamespace as Names
 from fiolog import log, plot, record
 given = Names(files=['-'], quiet=True, format='auto', pattern=None, sdlc=False, no_check=False, verbose=False, at='auto', start_at_poll=False, whole=False,
@@ -173,15 +157,21 @@ given = Names(files=['-'], quiet=True, format='auto', pattern=None, sdlc=False, 
 lanes = plot.Lanes()
 for block in record.Record(log.Log(given), given).blocks():
     lanes.add(block)
-print(lanes.broken)
+print({number: (list(lanes.times[number]), [str(state) for state in lanes.states[number]]) for number in sorted(lanes.times)})
+print(lanes.gaps, lanes.broken)
 '''
 
 
 def check_picture(check):
-    """The crosses of a picture."""
-    done = subprocess.run([sys.executable, '-c', CROSSES], input=START + FIRST + AGAIN, stdout=subprocess.PIPE, stderr=subprocess.PIPE,
-                          env=ENVIRONMENT, universal_newlines=True)
-    check.equal('the crosses of a picture', ('[(12, 20, 0)]\n', 'fiolog: line 8 input 12 breaks alternate\n'), (done.stdout, done.stderr))
+    """The lanes of a picture, and its crosses."""
+    gap = '> 3600\n< b600018c03e700000003e8\n> 3601\n< b601010c03f304000003fc\n'
+    for name, text, lanes, err in (
+            ('the lanes of a picture, unknown in a gap', gap, "{12: ([999.0, 1000.0, 1011.0], ['1.0', 'nan', '0.0'])}\n[(1000, 1011)] []\n", 'fiolog: line 4 breaks limits\n'),
+            ('the crosses of a picture', START + FIRST + AGAIN, "{12: ([10.0, 20.0], ['0.0', '0.0'])}\n[] [(12, 20, 0)]\n",
+             'fiolog: line 8 input 12 breaks alternate\n')):
+        done = subprocess.run([sys.executable, '-c', LANES], input=text, stdout=subprocess.PIPE, stderr=subprocess.PIPE,
+                              env=ENVIRONMENT, universal_newlines=True)
+        check.equal(name, (lanes, err), (done.stdout, done.stderr))
 
 
 # Two blocks, the first made when the counter was 100; the second says that entries were pushed out (F), and then the counter is
@@ -202,9 +192,8 @@ def check_events(check, folder):
     check.equal('what is missing is said', (3, True, True, True),
                 (len(rows), 'the counter went back' in done.err, 'gap mark: transitions are missing before 2026-03-01 07:00:00.020'
                  in done.err, 'inputs 3' in done.err))
-    check.equal('options that events need', (2, True),
-                (fiolog('record', '--hires', name, text=HIRES).status,
-                 '--start, --signal, --on' in fiolog('record', '--hires', name, text=HIRES).err))
+    done = fiolog('record', '--hires', name, text=HIRES)
+    check.equal('options that events need', (2, True), (done.status, '--start, --signal, --on' in done.err))
     check.equal('a map that is none', 2, fiolog('record', '--channels', '64:1', text=HIRES).status)
     table = list(csv.DictReader(fiolog('record', '-q', '--csv', text=HIRES).out.splitlines()))
     check.equal('record --csv', [('12', '0', '90', ''), ('', '', '', 'gap'), ('3', '0', '120', ''), ('12', '1', '130', ''), ('12', '0', '5', '')],
@@ -218,7 +207,7 @@ def main():
         part(check)
     with tempfile.TemporaryDirectory() as folder:
         check_events(check, folder)
-        check_runs(check, folder)
+    check_runs(check)
     check.end()
 
 

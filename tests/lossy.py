@@ -4,16 +4,14 @@ each once, on a bus that loses and repeats frames; frames are lost and repeated 
 tools/transcript writes for runs. Last line: `N passed, M failed`."""
 
 import os
-import subprocess
 import sys
-import tempfile
 
 sys.dont_write_bytecode = True
 
 from support.check import Check
+from support.lossy_runs import run, transcripts_of
 from support.tables import TOP, output_of
 
-TOOLS = os.path.join(TOP, 'tools')
 ROUNDS = 400
 WORDS = ('--loss', '0', '--repeat', '0'), ('--loss', '0.1', '--repeat', '0.05'), ('--loss', '0.3', '--repeat', '0.3'), \
     ('--loss', '0', '--repeat', '0.5'), ('--loss', '0.5', '--repeat', '0', '--inputs', '64', '--change', '0.02')
@@ -42,13 +40,6 @@ NO_REPORTS = [
     ('a text of show', 'poll block 5\n', 'poll block 5'),
     ('a verdict', 'good 7 frames\n', 'good 7 frames'),
 ]
-
-
-def run(tool, words, text=''):
-    """What a tool writes, what it writes on standard error, and its exit status."""
-    done = subprocess.run([os.path.join(TOOLS, tool), *words], input=text.encode(), stdout=subprocess.PIPE,
-                          stderr=subprocess.PIPE, timeout=60)
-    return done.stdout.decode(), done.stderr.decode(), done.returncode
 
 
 def transitions(lines, inputs):
@@ -89,11 +80,7 @@ def fault_of_transcript(words, seed):
     """What is wrong with the transcript of a run without repeats, or None."""
     words = ['--rounds', str(ROUNDS), '--seed', str(seed), '--repeat', '0', *words]
     script = run('lossy-script', words)[0]
-    with tempfile.NamedTemporaryFile('w', suffix='.script') as file:
-        file.write(script)
-        file.flush()
-        report = output_of('simulate', script)[0]
-        texts = [run('transcript', [file.name], report), run('transcript', [], report)]
+    texts = transcripts_of(script)
     frames = sum(line.startswith(('poll', 'send', 'to-cpu')) for line in script.split('\n'))
     verdict = output_of('check', texts[0][0])
     fits = texts[0] == texts[1] and texts[0][1:] == ('', 0) and verdict == ('good %d frames\n' % frames, 0)

@@ -4,18 +4,16 @@ runs of `simulate`, as they are, from a later line on, and with an entry dropped
 independent model in `support/content.py`. A run that nobody changed breaks no rule, whole or from any line on; most of
 the changed ones are found. Last line: `N passed, M failed`."""
 
-import os
 import random
-import subprocess
 import sys
-import tempfile
 
 sys.dont_write_bytecode = True
 
 from support.check import Check
 from support.content import Record
 from support.faults import FAULTS, changed
-from support.tables import MOST_OCTETS, TOP, in_short, lines_that_fit, output_of, row
+from support.lossy_runs import lossy_script, run_of_link
+from support.tables import MOST_OCTETS, lines_that_fit, row
 
 SEEDS = 30
 LATE_RUNS = 60
@@ -290,13 +288,6 @@ def random_transcript(draw):
     return '\n'.join(lines) + '\n'
 
 
-def lossy_script(seed):
-    """A script of tools/lossy-script, whose bus loses frames and repeats none."""
-    words = ['--rounds', '120', '--repeat', '0', '--loss', str((0, 0.1, 0.3)[seed % 3]), '--seed', str(seed),
-             '--inputs', str((1, 4, 16)[seed // 3 % 3])]
-    return written_by([os.path.join(TOP, 'tools', 'lossy-script'), *words])
-
-
 def late_script(draw):
     """A script with configurations and loads of the counter: a command is lost, arrives at once, or arrives late, after
     further commands; its answer reaches the CPU directly after the command or never."""
@@ -330,20 +321,6 @@ def late_script(draw):
         elif arrives < 0.9:
             late.append(sent)
     return '\n'.join(lines) + '\n'
-
-
-def written_by(words, text=''):
-    """What a command writes for an input."""
-    return subprocess.run(words, input=text.encode(), stdout=subprocess.PIPE, timeout=60).stdout.decode()
-
-
-def run_of_link(script):
-    """The transcript of a run of `simulate`."""
-    report = output_of('simulate', script)[0]
-    with tempfile.NamedTemporaryFile('w', suffix='.script') as file:
-        file.write(script)
-        file.flush()
-        return written_by([os.path.join(TOP, 'tools', 'transcript'), file.name], report)
 
 
 def from_later(text, draw):
