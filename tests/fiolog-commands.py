@@ -12,12 +12,14 @@ import re
 import subprocess
 import sys
 import tempfile
+from pathlib import Path
 
 sys.dont_write_bytecode = True
 
 from support.check import Check
 from support.fiolog import ENVIRONMENT, TOOL, fiolog, on_terminal, started, use_library, written
 from support.loggers import LOGGERS
+from support.pages import text_of
 from support.pcapng import frames_of
 from support.sessions import SESSION, timed
 from support.tables import TOP
@@ -32,8 +34,7 @@ LOG = LOGGERS['ISO times'](timed(SESSION))
 def check_decode(check):
     """`decode` says what `show` says for the examples, and its other forms say the same."""
     for name in sorted(glob.glob(os.path.join(EXAMPLES, '*.frames'))):
-        with open(name[:-len('frames')] + 'shown', encoding='ascii') as file:
-            expected = [line for line in file.read().splitlines() if not line.startswith('line ')]
+        expected = [line for line in text_of(name[:-len('frames')] + 'shown').splitlines() if not line.startswith('line ')]
         found = [LINE.sub('', line).removesuffix(AGAIN) for line in fiolog('decode', '--format', 'frames', name).out.splitlines()
                  if not BIT.match(line)]
         faults = [line for line in found if re.match(r'(?:unknown|wrong length|too long|\d+: +\? damaged: bad line)', line)]
@@ -148,9 +149,8 @@ def check_numbers(check):
     check.equal('stats', (len(SESSION), 6, 1, 1, 36, 3, {'12': 34, '13': 1, '14': 1}),
                 (found['frames'], found['polls'], found['repeats'], found['answers_lost'], found['entries'],
                  len(found['response_ms']) - 1, found['entries_by_input']))
-    with open(os.path.join(TOP, 'docs', 'PLANNING.md'), encoding='utf-8') as page:
-        rows = [[int(cell.replace(',', '')) for cell in re.findall(r'[\d,]+', line)]
-                for line in page if re.match(r'\| \d', line)]
+    rows = [[int(cell.replace(',', '')) for cell in re.findall(r'[\d,]+', line)]
+            for line in re.findall(r'^\| \d.*', text_of('docs/PLANNING.md'), re.M)]
     for row in rows[::5]:
         names = ['poll every', 'entries that wait, at most', 'late, at most', 'entries that wait, at most, answers lost',
                  'late, at most, answers lost', 'outage without loss, at most']
@@ -189,10 +189,7 @@ def check_check(check):
     """`check` finds first what the program finds, by `check` or else by `record`, and goes on: past noise, past damage, in
     logs of the other end. It says that the module restarted where the program names `clock` or `watchdog`."""
     for name in sorted(glob.glob(os.path.join(EXAMPLES, '*.transcript'))):
-        texts = ''
-        for path in sorted(glob.glob(name[:-len('transcript')] + '[rv]e*'), reverse=True):
-            with open(path, encoding='ascii') as file:
-                texts += file.read()
+        texts = ''.join(map(text_of, sorted(glob.glob(name[:-len('transcript')] + '[rv]e*'), reverse=True)))
         verdict = re.search(r'^line (\d+) (?:input \d+ )?breaks (\w+)', texts, re.M)
         for form in ('transcript', 'auto'):
             done = fiolog('check', '-q', '--format', form, name)
@@ -222,8 +219,7 @@ def check_check(check):
              'log lost a line (own profile; TEES allows it)')):
         done = fiolog('check', text='> 36%02x\n< b6%02x0000000003e8\n> 36%02x\n' % (above, above, number))
         check.equal('what a poll %s means' % name, ['line 3: advance: ' + words], done.found('^line 3.*'))
-    with open(os.path.join(EXAMPLES, 'lost-answer.frames'), encoding='ascii') as file:
-        done = fiolog('check', text=file.read())
+    done = fiolog('check', text=text_of('examples/lost-answer.frames'))
     check.equal('a log of the bus does not accuse a right CPU', ([], 0, True), (done.found('line .*'), done.status, 'not judged' in done.err))
     middle = '< b6050000000003e8\n> 3606\n< b6060000000003e9\n'
     check.equal('--start-at-poll', 0, fiolog('check', '--start-at-poll', text=middle).status)
@@ -277,8 +273,7 @@ def check_terminal(check, folder):
         with open(kept, 'wb') as out:
             text = on_terminal(python, [*words, path], out=out)
         check.holds('a bar beside %s into a file' % words[0], 'reading' in text, text[:300])
-        with open(kept, encoding='utf-8') as out:
-            check.equal('what %s writes stays in the file' % words[0], fiolog(*words, path).out, out.read())
+        check.equal('what %s writes stays in the file' % words[0], fiolog(*words, path).out, Path(kept).read_text(encoding='utf-8'))
     check.holds('no bar between messages', 'reading' not in on_terminal(python, ['decode', '--type', '60', path]))
     check.holds('no bar for a short file', 'reading' not in on_terminal(python, ['stats'], text=LOG))
 
@@ -299,12 +294,11 @@ def check_plot(check, folder):
         return
     for ending, begins in (('png', b'\x89PNG\r\n'), ('svg', b'<?xml'), ('pdf', b'%PDF')):
         done = plotted(python, 'picture.' + ending)
-        with open(os.path.join(folder, 'picture.' + ending), 'rb') as file:
-            octets = file.read()
+        octets = Path(folder, 'picture.' + ending).read_bytes()
         check.equal('a picture as .' + ending, (1, 'fiolog: line 11 input 12 breaks apart\nfiolog: line 13 restarted\n', True),
                     (done.returncode, done.stdout + done.stderr, octets.startswith(begins)))
-    check.equal('the inputs of a picture', {'12', '13', '14'}, set(re.findall(r'<!-- input (\d+) -->', open(
-        os.path.join(folder, 'picture.svg'), encoding='utf-8').read())))
+    check.equal('the inputs of a picture', {'12', '13', '14'}, set(re.findall(
+        r'<!-- input (\d+) -->', Path(folder, 'picture.svg').read_text(encoding='utf-8'))))
     for name, words in (('picture.xyz', '.png, .svg and .pdf'), ('no-folder/picture.png', 'No such file')):
         done = plotted(python, name)
         check.equal('--plot ' + name, (3, True), (done.returncode, words in done.stderr and 'Traceback' not in done.stderr))

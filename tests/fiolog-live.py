@@ -14,13 +14,15 @@ import sys
 import tempfile
 import termios
 import time
+from pathlib import Path
 
 sys.dont_write_bytecode = True
 
 from support.check import Check
-from support.fiolog import ENVIRONMENT, fiolog, on_terminal, use_library
+from support.fiolog import ENVIRONMENT, fiolog, on_terminal, started, use_library, written
 from support.line_model import line_of
 from support.loggers import LOGGERS
+from support.pages import text_of
 from support.pcapng import frames_of
 from support.sessions import SESSION, timed
 from support.tables import TOP
@@ -39,21 +41,12 @@ def numbers_of(text):
     return {name: int(number) for name, number in re.findall(r'([a-z ]+) (\d+)(?:, |$)', text.strip().splitlines()[-1])}
 
 
-def started(*words):
-    """A run that goes on."""
-    return subprocess.Popen([sys.executable, '-m', 'fiolog', 'live', *words], stdout=subprocess.PIPE, stderr=subprocess.PIPE,
-                            env=ENVIRONMENT)
-
-
 def check_forms(check, folder):
     """A process may write any form that is read; a transcript is shown line by line."""
-    name = os.path.join(folder, 'log')
     for form in ('ISO times', 'TX and RX', 'arrows', 'transcript', 'JSON lines', 'Docklight', 'hexdump -C', 'SDLC'):
-        with open(name, 'w', encoding='utf-8') as file:
-            file.write('# connected\n' + LOGGERS[form](timed(SESSION)))
-        done = fiolog('live', '-q', '--exec', 'cat ' + name)
+        done = fiolog('live', '-q', '--exec', 'cat ' + written(folder, 'log', '# connected\n' + LOGGERS[form](timed(SESSION))))
         check.equal('a process that writes %s' % form, len(SESSION), numbers_of(done.out)['frames'])
-    live = started('--exec', "sh -c 'echo hello; echo \\> 3605; exec sleep 20'")
+    live = started('live', '--exec', "sh -c 'echo hello; echo \\> 3605; exec sleep 20'")
     check.holds('a poll of a transcript is shown as it comes', b'> poll block 5' in live.stdout.readline())
     live.terminate()
     live.communicate(timeout=20)
@@ -75,7 +68,7 @@ def fault_of_process():
 def on_serial(write, *words):
     """The output and the status of a run whose serial port is a pseudo-terminal that brings this text."""
     ours, theirs = pty.openpty()
-    command = started('--serial', os.ttyname(theirs), '--quiet', '--seconds', '5', *words)
+    command = started('live', '--serial', os.ttyname(theirs), '--quiet', '--seconds', '5', *words)
     for _ in range(200):
         time.sleep(0.1)
         if not termios.tcgetattr(theirs)[3] & termios.ICANON:
@@ -143,20 +136,18 @@ def fault_of_doubled():
 def wait_for(port):
     """Waits until a socket for datagrams is bound to this port (Linux: /proc/net/udp has its ports in hexadecimal)."""
     for _ in range(200):
-        with open('/proc/net/udp', encoding='ascii') as table:
-            if ':%04X ' % port in table.read():
-                return
+        if ':%04X ' % port in Path('/proc/net/udp').read_text():
+            return
         time.sleep(0.1)
 
 
 def fault_of_datagrams():
     """Datagrams, one of them no message, and one without octets, which is none."""
     from support.talking import rounds
-    probe = socket.socket(socket.AF_INET, socket.SOCK_DGRAM)
-    probe.bind(('127.0.0.1', 0))
-    port = probe.getsockname()[1]
-    probe.close()
-    command = started('--udp', str(port), '--seconds', '5')
+    with socket.socket(socket.AF_INET, socket.SOCK_DGRAM) as probe:
+        probe.bind(('127.0.0.1', 0))
+        port = probe.getsockname()[1]
+    command = started('live', '--udp', str(port), '--seconds', '5')
     wait_for(port)
     frames = [b''] + [octets for _, octets in rounds(10)] + [b'\x30']
     with socket.socket(socket.AF_INET, socket.SOCK_DGRAM) as sender:
@@ -171,9 +162,8 @@ def heard(folder, text, *words):
     pipe = os.path.join(folder, 'pipe')
     if not os.path.exists(pipe):
         os.mkfifo(pipe)
-    command = started('--fifo', pipe, *words)
-    with open(pipe, 'w') as file:
-        file.write(text)
+    command = started('live', '--fifo', pipe, *words)
+    Path(pipe).write_text(text)
     out, err = (octets.decode() for octets in command.communicate(timeout=30))
     return out, err, command.returncode
 
@@ -182,13 +172,9 @@ def fault_of_pipe(folder):
     """A named pipe, with a transcript and a capture as well, whose writer stops in the middle of a line."""
     transcript, capture = [os.path.join(folder, name) for name in ('transcript', 'capture')]
     out = heard(folder, LOG + '2026-11-22T07:15:09.000Z tx 36', '--quiet', '--transcript', transcript, '--pcapng', capture)[0]
-    with open(transcript, encoding='ascii') as file:
-        lines = file.read().splitlines()
-    with open(capture, 'rb') as file:
-        frames = frames_of(file.read())
-    expected = [(direction, octets) for _, direction, octets in timed(SESSION)]
-    written = [(line[0], bytes.fromhex(line[2:])) for line in lines]
-    fits = written[:len(expected)] == frames[:len(expected)] == expected
+    frames, expected = frames_of(Path(capture).read_bytes()), [(direction, octets) for _, direction, octets in timed(SESSION)]
+    lines = [(line[0], bytes.fromhex(line[2:])) for line in Path(transcript).read_text().splitlines()]
+    fits = lines[:len(expected)] == frames[:len(expected)] == expected
     return None if fits and numbers_of(out)['polls'] == 6 else out
 
 
@@ -196,10 +182,8 @@ def check_content(check, folder):
     """The examples whose record breaks a rule on content are accused of it, and no others are; of those that say so the module
     restarted."""
     for path in sorted(glob.glob(os.path.join(EXAMPLES, '*.record'))):
-        with open(path, encoding='ascii') as file:
-            expected = re.findall(r'^line (\d+) (?:input (\d+) )?breaks (\w+)$', file.read(), re.M)
-        with open(path[:-len('record')] + 'transcript', encoding='ascii') as file:
-            out, _, status = heard(folder, file.read(), '--quiet')
+        expected = re.findall(r'^line (\d+) (?:input (\d+) )?breaks (\w+)$', text_of(path), re.M)
+        out, _, status = heard(folder, text_of(path[:-len('record')] + 'transcript'), '--quiet')
         found = re.findall(r'^line (\d+): (\w+): (?:input (\d+) )?', out, re.M)
         numbers, name = numbers_of(out), os.path.basename(path)[:-len('.record')]
         restarts = int(name in ('clock-back', 'watchdog-forgotten'))
@@ -214,8 +198,7 @@ def check_beginning(check, folder):
     out, _, status = heard(folder, middle, '--quiet')
     found = numbers_of(out)
     check.equal('an answer to what was sent before', (0, 1, 0), (found['breaches'], found['frames above the first command'], status))
-    with open(os.path.join(EXAMPLES, 'lost-answer.frames'), encoding='ascii') as file:
-        out, err, status = heard(folder, file.read(), '--quiet')
+    out, err, status = heard(folder, text_of('examples/lost-answer.frames'), '--quiet')
     check.equal('the bus', (0, 0, 0, True), (numbers_of(out)['breaches'], numbers_of(out)['breaches in content'], status, 'not judged' in err))
 
 
@@ -251,15 +234,12 @@ def screen(text):
 
 def check_status_line(check, folder):
     """On a terminal the status line goes before each message, and the summary follows the last."""
-    path = os.path.join(folder, 'slow')
-    with open(path, 'w', encoding='ascii') as file:
-        file.write('import time\n' + ''.join('print("%s %s", flush=True); time.sleep(0.1)\n' % ('<' if digits[0] == 'b' else '>', digits)
-                                             for digits in DOUBLED) + 'time.sleep(3)\n')
+    lines = ['%s %s' % ('<' if digits[0] == 'b' else '>', digits) for digits in DOUBLED]
+    path = written(folder, 'slow', 'import time\n' + ''.join('print("%s", flush=True); time.sleep(0.1)\n' % line for line in lines) + 'time.sleep(3)\n')
     text = on_terminal(sys.executable, ['live', '--exec', '%s %s' % (sys.executable, path)])
     shown = screen(text)
     messages = [line[re.match(r'\d+: +\S+ \S+ ', line).end():] for line in shown if re.match(r'\d+: ', line)]
-    expected = [line.split(None, 1)[1] for line in fiolog('decode', '-q', text=''.join(
-        '%s %s\n' % ('<' if digits[0] == 'b' else '>', digits) for digits in DOUBLED)).out.splitlines() if line[0] != ' ']
+    expected = fiolog('decode', '-q', text='\n'.join(lines)).found(r'^\S+ +(.*)')
     check.equal('the messages on a terminal', expected, messages)
     check.equal('the last lines', [True, 'frames 8, polls 3, repeats 0, answers lost 0, gap marks 0, breaches 0, breaches in content 1', ''],
                 [shown[-3].startswith(REMARK), *shown[-2:]])
@@ -274,8 +254,7 @@ def check_process_ends(check):
     with tempfile.TemporaryDirectory() as folder:
         path = os.path.join(folder, 'number')
         done = fiolog('live', '--exec', "sh -c 'echo $$ > %s; exec sleep 60'" % path, '--seconds', '1')
-        with open(path, encoding='ascii') as file:
-            number = int(file.read())
+        number = int(Path(path).read_text())
     time.sleep(0.2)
     check.equal('a process that goes on is ended', (1, False), (done.status, os.path.exists('/proc/%d' % number)))
     for words in (['--exec', 'no-such-command'], ['--exec', '"'], ['--fifo', 'no-such-pipe'], ['--serial', '/dev/no-such-port'],
@@ -287,14 +266,13 @@ def check_process_ends(check):
 def check_ended_from_outside(check, folder):
     """SIGTERM acts like Ctrl-C; a pipe without a writer is left in time."""
     path, pipe = os.path.join(folder, 'number'), os.path.join(folder, 'silent')
-    live = started('--exec', "sh -c 'echo \\> 3605; echo $$ > %s; exec sleep 60'" % path, '--quiet')
+    live = started('live', '--exec', "sh -c 'echo \\> 3605; echo $$ > %s; exec sleep 60'" % path, '--quiet')
     while not os.path.exists(path) or not os.path.getsize(path):
         time.sleep(0.05)
     time.sleep(0.2)
     live.terminate()
     out = live.communicate(timeout=20)[0].decode()
-    with open(path, encoding='ascii') as file:
-        number = int(file.read())
+    number = int(Path(path).read_text())
     check.equal('SIGTERM ends both, with the summary', (1, False), (numbers_of(out)['frames'], os.path.exists('/proc/%d' % number)))
     os.mkfifo(pipe)
     done = fiolog('live', '--fifo', pipe, '--seconds', '0.2')
@@ -308,8 +286,7 @@ def check_capture_in_pipe(check):
         return
     expected = subprocess.run([sys.executable, os.path.join(TOP, 'tests', 'support', 'talking.py')], stdout=subprocess.PIPE,
                               env=ENVIRONMENT, universal_newlines=True).stdout
-    live = subprocess.Popen([sys.executable, '-m', 'fiolog', 'live', '--exec', TALK, '--quiet', '--pcapng', '-'],
-                            stdout=subprocess.PIPE, stderr=subprocess.DEVNULL, env=ENVIRONMENT)
+    live = started('live', '--exec', TALK, '--quiet', '--pcapng', '-', stdin=None, stderr=subprocess.DEVNULL)
     done = subprocess.run(['tshark', '-X', 'lua_script:' + os.path.join(TOP, 'tools', 'wireshark', 'fio2070.lua'), '-r', '-', '-T',
                            'fields', '-e', 'frame.packet_flags_direction', '-e', 'fio2070.octets'], stdin=live.stdout,
                           stdout=subprocess.PIPE, stderr=subprocess.DEVNULL, universal_newlines=True)
