@@ -3,20 +3,19 @@
 what a file is by its beginning; frames with flags in lines and dumps of a log, and of each side; whose frames are judged; a sample
 clock that is too fast. However the octets come, the events are the same. Last line: `N passed, M failed`."""
 
-import json
-import os
 import random
 import sys
 import tempfile
+import textwrap
 
 sys.dont_write_bytecode = True
 
 from support import line_model as model
 from support.check import Check
-from support.fiolog import fiolog, use_library
+from support.fiolog import fiolog, use_library, written
 from support.frames import random_message
 from support.hostile_lines import hostile_bits, hostile_line
-from support.loggers import LOGGERS, hexdump, pairs, xxd
+from support.loggers import LOGGERS, hexdump, pairs, rows_of, xxd
 from support.sessions import random_session, timed
 
 POLL, BLOCK = bytes.fromhex('3605'), bytes.fromhex('b605018c03e700000003e8')
@@ -77,7 +76,7 @@ def fault_of_bits(count):
         bits = model.FLAG_BITS + ''.join(hostile_bits(dice) for _ in range(20))
         bits += '1' * (-len(bits) % 8)
         due, width = due_of(model.said_by_bits(bits)), dice.randrange(1, 100)
-        text = '\n'.join(bits[place:place + width] for place in range(0, len(bits), width))
+        text = '\n'.join(textwrap.wrap(bits, width))
         single = bytes(map(int, bits))
         for form, octets in (('bits', text.encode()), ('bits', single), ('bits', packed(bits)), ('bits-high-first', packed(bits, True))):
             got = said_of(events_of(octets, dice.choice((1, 7, 1 << 20)), line=form))
@@ -171,8 +170,8 @@ def dumps(octets, dice):
     width = dice.randrange(1, 40)
     yield 'xxd', '\n'.join(xxd(octets))
     yield 'hexdump -C', '\n'.join([*hexdump(octets), '%08x' % len(octets)])
-    yield 'xxd -p', '\n'.join(octets[place:place + 30].hex() for place in range(0, len(octets), 30))
-    yield 'rows', '\n'.join(pairs(octets[place:place + width]) for place in range(0, len(octets), width))
+    yield 'xxd -p', '\n'.join(row.hex() for row in rows_of(octets, 30))
+    yield 'rows', '\n'.join(map(pairs, rows_of(octets, width)))
     yield 'offsets alone', '\n'.join('%04X  %s' % (place, pairs(octets[place:place + 8])) for place in range(0, len(octets), 8))
     yield 'below a heading', 'TX %d bytes\n' % len(octets) + '\n'.join(hexdump(octets))
 
@@ -196,14 +195,6 @@ def fault_of_dumps(count):
 
 # What is said -----------------------------------------------------------------------------------------------------------
 
-def written(folder, name, octets):
-    """The path of a new file."""
-    path = os.path.join(folder, name)
-    with open(path, 'wb') as file:
-        file.write(octets)
-    return path
-
-
 def check_others(check, folder):
     """The frames of another address are shown and counted, and nobody is accused for them; `--address` names whose are judged."""
     line = b''.join(model.line_of(message, address) for message, address in (
@@ -214,17 +205,15 @@ def check_others(check, folder):
                 (done.status, done.out.splitlines()[0]))
     check.equal('and are counted', 'not judged: 3 frames of other addresses', done.out.splitlines()[1])
     check.holds('and said', '3 frames of address 15, control octet 83: not judged (--address)' in done.err, done.err)
-    check.equal('in JSON', 3, json.loads(fiolog('check', '--json', path).out.splitlines()[-1])['summary']['not_judged']['frames_of_others'])
-    summary = json.loads(fiolog('check', '--json', path, path).out.splitlines()[-1])['summary']
-    check.equal('of two logs', 6, summary['not_judged']['frames_of_others'])
+    for name, count in (('in JSON', 1), ('of two logs', 2)):
+        check.equal(name, 3 * count, fiolog('check', '--json', *[path] * count).summary()['not_judged']['frames_of_others'])
     check.holds('and not counted', 'not counted: 3 frames of other addresses' in fiolog('stats', path).out)
     shown = fiolog('decode', path).out.splitlines()
     check.equal('and shown', '2:     > poll block 99  of address 15, control octet 83: not judged', shown[1])
     check.equal('and not converted', 3, len(fiolog('convert', '--to', 'frames', path).out.splitlines()))
     for address, count in (('14', 3), ('15', 3), ('1583', 3), ('1582', 0), ('any', 6), ('aa', 0)):
-        done = fiolog('decode', '--json', '--address', address, path)
-        others = sum('other' in json.loads(line) for line in done.out.splitlines())
-        check.equal('--address %s' % address, (6, 6 - count), (len([line for line in done.out.splitlines() if '"octets"' in line]), others))
+        rows = fiolog('decode', '--json', '--address', address, path).objects()
+        check.equal('--address %s' % address, (6, 6 - count), (sum('octets' in row for row in rows), sum('other' in row for row in rows)))
     for word in ('5', '12345', 'x4', '', '0x14'):
         check.equal('--address %r' % word, 2, fiolog('decode', '--address', word, path).status)
     text = ' '.join(pairs(model.line_of(message, address)) for message, address in ((POLL, 0x14), (POLL, 0x15))) + '\n'

@@ -3,6 +3,7 @@
 log or in a file's name, files that are read and written, recordings that are there already, full disks, long lines, processes
 that die, Ctrl-C. Last line: `N passed, M failed`."""
 
+import contextlib
 import json
 import os
 import re
@@ -12,11 +13,12 @@ import subprocess
 import sys
 import tempfile
 import time
+from pathlib import Path
 
 sys.dont_write_bytecode = True
 
 from support.check import Check
-from support.fiolog import ENVIRONMENT, on_terminal, use_library
+from support.fiolog import ENVIRONMENT, TOOL, on_terminal, started, use_library, written
 from support.tables import TOP
 
 GOOD = b'> 3605\n< b605018c03e700000003e8\n> 3606\n< b606010c07d000000007d1\n'
@@ -37,11 +39,23 @@ COMMANDS = [['decode'], ['decode', '-v'], ['decode', '--json'], ['decode', '--cs
 EVENTS = ['--start', '2026-03-01T07:00:00', '--signal', '7', '--on', '0']
 
 
-def run(*words, text=b'', folder=None, **settings):
-    """A run of the tool: its status, and what it wrote on both streams, in octets."""
-    done = subprocess.run([sys.executable, '-m', 'fiolog', *words], input=text, stdout=subprocess.PIPE, stderr=subprocess.PIPE,
-                          env={**ENVIRONMENT, **settings}, cwd=folder, timeout=300, check=False)
+def run(*words, text=b'', folder=None, tool=TOOL, out=subprocess.PIPE, **settings):
+    """A run of a tool, mostly `fiolog`: its status, and what it wrote on both streams, in octets."""
+    done = subprocess.run([*tool, *words], input=text, stdout=out, stderr=subprocess.PIPE, env={**ENVIRONMENT, **settings}, cwd=folder,
+                          timeout=300, check=False)
     return done.returncode, done.stdout, done.stderr
+
+
+def run_of_shell(words):
+    """A run of `fiolog` with words for a shell."""
+    return run('%s -m fiolog %s' % (sys.executable, words), tool=['sh', '-c'])
+
+
+def run_on_full_disk(*words, **settings):
+    """The status of a run whose standard output is a full disk, and what it says."""
+    with open('/dev/full', 'wb') as out:
+        status, _, err = run(*words, out=out, **settings)
+    return status, err.decode()
 
 
 def lines_of(octets):
@@ -51,20 +65,17 @@ def lines_of(octets):
 
 def check_locales(check, folder):
     """Each command, in each locale, for a log and a name with octets that are no UTF-8: no traceback, nothing that acts."""
-    name = os.fsencode(folder) + b'/n\xff\xe9\x1b[1m\x07\xc3\xa9.log'
-    with open(name, 'wb') as file:
-        file.write(DAMAGED + b' '.join(ACTING) + ' \u00e9 \u2192\n'.encode() + b'link \x1b]0;x\x07 \xfe down\n')
+    name = written(folder, os.fsdecode(b'n\xff\xe9\x1b[1m\x07\xc3\xa9.log'),
+                   DAMAGED + b' '.join(ACTING) + ' \u00e9 \u2192\n'.encode() + b'link \x1b]0;x\x07 \xfe down\n')
     for locale, settings in LOCALES.items() if check.whole('in all locales') else list(LOCALES.items())[:2]:
         for words in COMMANDS:
-            status, out, err = run(*words, os.fsdecode(name), **settings)
+            status, out, err = run(*words, name, **settings)
             title = '%s in %s' % (' '.join(words), locale)
             check.holds('%s: no traceback' % title, status in (0, 1) and b'Traceback' not in err, err.decode('utf-8', 'replace')[-300:])
             texts = (err,) if 'pcapng' in words else (out, err)
-            check.equal('%s: nothing that acts' % title, [], [ACTS.findall(text.decode('utf-8', 'replace')) for text in texts
-                                                              if ACTS.search(text.decode('utf-8', 'replace'))])
-        for words in (['plan', '--inputs', '8', '--filter', '5'], ['live', '--fifo', os.fsdecode(name), '-v'],
-                      ['check', os.fsdecode(name), os.fsdecode(name) + 'none'], ['stats', '--json', os.fsdecode(name), 'none'],
-                      ['decode', os.fsdecode(name) + 'none'], ['decode', '--' + os.fsdecode(b'\xff\x1b')]):
+            check.equal('%s: nothing that acts' % title, [], [one for text in texts for one in ACTS.findall(text.decode('utf-8', 'replace'))])
+        for words in (['plan', '--inputs', '8', '--filter', '5'], ['live', '--fifo', name, '-v'], ['check', name, name + 'none'],
+                      ['stats', '--json', name, 'none'], ['decode', name + 'none'], ['decode', '--' + os.fsdecode(b'\xff\x1b')]):
             status, out, err = run(*words, folder=folder, **settings)
             check.equal('%s in %s' % (words[0] + ' ' + words[-1].isascii() * words[-1], locale), (False, None, None),
                         (b'Traceback' in err, *(ACTS.search(text.decode('utf-8', 'replace')) for text in (out, err))))
@@ -80,9 +91,7 @@ def check_shown(check, folder):
             if '--json' in words:
                 found = json.loads(found.splitlines()[-1])['fault']
             check.holds('%s shows %s' % (' '.join(words), shown), shown in found, found)
-    name = os.path.join(folder, os.fsdecode(b'\x1b[2J\xff.log'))
-    with open(name, 'wb') as file:
-        file.write(GOOD + b'> 3609\nRX b6 09 00 \xff\n')    # block 7 was due
+    name = written(folder, os.fsdecode(b'\x1b[2J\xff.log'), GOOD + b'> 3609\nRX b6 09 00 \xff\n')    # block 7 was due
 
     def refuse(word):
         raise ValueError(word)
@@ -91,25 +100,21 @@ def check_shown(check, folder):
         names = {row['file'] for row in rows if 'file' in row} - {os.path.join(folder, '\\x1b[2J\\xff.log.none')}
         check.equal('the name in %s' % ' '.join(words[:2]), {os.path.join(folder, '\\x1b[2J\\xff.log')}, names)
     os.mkdir(os.path.join(folder, '['))
-    with open(os.path.join(folder, '[', 'red].log'), 'wb') as file:
-        file.write(GOOD)
+    red = written(folder, '[/red].log', GOOD)
     for python in [sys.executable, '/usr/bin/python3'] if os.path.exists('/usr/bin/python3') else [sys.executable]:
-        text = on_terminal(python, ['stats', '-q', name, os.path.join(folder, '[', 'red].log')], COLUMNS='400')
+        text = on_terminal(python, ['stats', '-q', name, red], COLUMNS='400')
         check.holds('names on a terminal of %s' % python, all(words in text for words in ('[2J\\xff', '[/red].log'))
                     and '\x1b[2J' not in text, text)
 
 
 def state(path):
     """The octets and the mode of a file."""
-    with open(path, 'rb') as file:
-        return file.read(), stat.S_IMODE(os.stat(path).st_mode)
+    return Path(path).read_bytes(), stat.S_IMODE(os.stat(path).st_mode)
 
 
 def check_evidence(check, folder):
     """An output that is an input is refused; one that fails leaves what was there, and nothing beside it."""
-    log, link, hard = (os.path.join(folder, name) for name in ('log', 'link', 'hard'))
-    with open(log, 'wb') as file:
-        file.write(GOOD)
+    log, link, hard = written(folder, 'log', GOOD), *(os.path.join(folder, name) for name in ('link', 'hard'))
     os.symlink('log', link)
     os.link(log, hard)
     for path in (log, link, hard, os.path.join(folder, '.', 'log')):
@@ -120,13 +125,10 @@ def check_evidence(check, folder):
             check.equal('%s over its input' % ' '.join(words[:3]), (2, True, GOOD), (status, b' is read and written' in err, state(log)[0]))
     for words in ('convert --to frames -o %s < %s' % (log, link), 'convert --to frames -o %s - < %s' % (link, log), 'decode -v %s >> %s' % (log, hard),
                   'decode -v %s 2>> %s' % (log, link)):
-        done = subprocess.run('%s -m fiolog %s' % (sys.executable, words), shell=True, stderr=subprocess.PIPE, env=ENVIRONMENT, check=False, timeout=60)
-        check.equal('a redirection over the input: ' + words.replace(folder, ''), (2, True), (done.returncode, state(log)[0].startswith(GOOD)))
-        with open(log, 'r+b') as file:
-            file.truncate(len(GOOD))
-    out = os.path.join(folder, 'out')
-    with open(out, 'wb') as file:
-        file.write(b'old')
+        status = run_of_shell(words)[0]
+        check.equal('a redirection over the input: ' + words.replace(folder, ''), (2, True), (status, state(log)[0].startswith(GOOD)))
+        os.truncate(log, len(GOOD))
+    out = written(folder, 'out', b'old')
     os.chmod(out, 0o640)
     for words in (['convert', '--to', 'frames', '-o', out, log, 'none'], ['record', '--hires', out, *EVENTS, log, 'none'],
                   ['record', '--hires', out, '--start', '9999-12-31T23:59:59', *EVENTS[2:], log],
@@ -156,7 +158,7 @@ def check_evidence(check, folder):
 def check_signals(check, out):
     """Ctrl-C and SIGTERM while a file is made leave the old one."""
     for number in (signal.SIGINT, signal.SIGTERM):
-        command = subprocess.Popen([sys.executable, '-m', 'fiolog', 'convert', '--to', 'frames', '-o', out], stdin=subprocess.PIPE, stderr=subprocess.PIPE, env=ENVIRONMENT)
+        command = started('convert', '--to', 'frames', '-o', out, stdout=None)
         command.stdin.write(GOOD)
         command.stdin.flush()
         folder = os.path.dirname(out)
@@ -166,9 +168,9 @@ def check_signals(check, out):
         check.equal('%s leaves the old file' % number.name, (130, b'', GOOD), (command.returncode, err, state(out)[0]))
 
 
-def wait_until(holds):
+def wait_until(holds, seconds=60):
     """Waits for a condition, for a minute at most."""
-    for _ in range(600):
+    for _ in range(10 * seconds):
         if holds():
             return
         time.sleep(0.1)
@@ -176,10 +178,7 @@ def wait_until(holds):
 
 def check_recordings(check, folder):
     """What `live` records begins new files, or overwrites them with --force; pipes and devices are written as they are."""
-    log, kept, other = (os.path.join(folder, name) for name in ('log', 'kept', 'other'))
-    for path, octets in ((log, GOOD), (kept, b'evidence')):
-        with open(path, 'wb') as file:
-            file.write(octets)
+    log, kept, other = written(folder, 'log', GOOD), written(folder, 'kept', b'evidence'), os.path.join(folder, 'other')
     for name in ('--transcript', '--pcapng'):
         status, _, err = run('live', '--fifo', log, name, kept)
         check.equal('live %s over a file' % name, (2, b'evidence', 1), (status, state(kept)[0], len(err.splitlines())))
@@ -189,14 +188,14 @@ def check_recordings(check, folder):
     for name in ('/dev/null', '/dev/stdout'):
         status, out, _ = run('live', '-q', '--fifo', log, '--transcript', name)
         check.equal('live --transcript ' + name, (0, name == '/dev/stdout'), (status, GOOD in out))
-    for words in (['convert', '--to', 'transcript', '-o', '%s', log], ['live', '-q', '--fifo', log, '--transcript', '%s']):
-        check.equal('%s into /dev/stdout' % words[0], (0, True), (lambda done: (done[0], GOOD in done[1]))(
-            run(*(word.replace('%s', '/dev/stdout') for word in words))))
-        pipe = os.path.join(folder, 'pipe-' + words[0])
+    for command, *words in (('convert', '--to', 'transcript', log, '-o'), ('live', '-q', '--fifo', log, '--transcript')):
+        status, out, _ = run(command, *words, '/dev/stdout')
+        check.equal('%s into /dev/stdout' % command, (0, True), (status, GOOD in out))
+        pipe = os.path.join(folder, 'pipe-' + command)
         os.mkfifo(pipe)
         with subprocess.Popen(['cat', pipe], stdout=subprocess.PIPE) as reader:
-            status = run(*(word.replace('%s', pipe) for word in words))[0]
-            check.equal('%s into a pipe' % words[0], (0, GOOD), (status, reader.communicate(timeout=60)[0]))
+            status = run(command, *words, pipe)[0]
+            check.equal('%s into a pipe' % command, (0, GOOD), (status, reader.communicate(timeout=60)[0]))
     for name in ('--exec', '--serial', '--fifo'):
         status, _, err = run('live', name, '')
         check.equal('live %s without a name' % name, (2, 1), (status, len(err.splitlines())))
@@ -204,15 +203,10 @@ def check_recordings(check, folder):
 
 def check_full(check, folder):
     """A full disk, and a read that fails, are said in one line that names the file."""
-    log = os.path.join(folder, 'log')
-    with open(log, 'wb') as file:
-        file.write(GOOD)
-    full = ': No space left on device\n'
+    log, full = written(folder, 'log', GOOD), ': No space left on device\n'
     for words in (['decode', '-q', log], ['decode', '--json', '-q', log], ['stats', log], ['check', '-q', log], ['record', '-q', log], ['plan', '--inputs', '8', '--filter', '5'],
                   ['convert', '-q', '--to', 'vcd', log], ['convert', '-q', '--to', 'pcapng', log], ['live', '--fifo', log], ['check', log, log]):
-        with open('/dev/full', 'wb') as out:
-            done = subprocess.run([sys.executable, '-m', 'fiolog', *words], stdout=out, stderr=subprocess.PIPE, env=ENVIRONMENT, check=False, timeout=60)
-        check.equal('a full disk: ' + words[0], (3, 'fiolog: standard output' + full), (done.returncode, done.stderr.decode()))
+        check.equal('a full disk: ' + words[0], (3, 'fiolog: standard output' + full), run_on_full_disk(*words))
     for words in (['convert', '--to', 'frames', '-o', '/dev/full', log], ['record', '--hires', '/dev/full', *EVENTS, log], ['live', '-q', '--fifo', log, '--pcapng', '/dev/full'],
                   ['live', '-q', '--fifo', log, '--transcript', '/dev/full']):
         status, _, err = run(*words)
@@ -222,9 +216,8 @@ def check_full(check, folder):
         if not os.path.exists(path):
             check.skip('a full disk: ' + tool, 'it is not built here (make library)')
             continue
-        with open('/dev/full', 'wb') as out:
-            done = subprocess.run([path, *words], input=text, stdout=out, stderr=subprocess.PIPE, env=ENVIRONMENT, check=False, timeout=60)
-        check.equal('a full disk: ' + tool, (status, True), (done.returncode, done.stderr.decode().endswith('standard output' + full)))
+        got, err = run_on_full_disk(*words, tool=[path], text=text)
+        check.equal('a full disk: ' + tool, (status, True), (got, err.endswith('standard output' + full)))
     check.equal('a read that fails', (3, b'fiolog: /proc/self/mem: Input/output error\n'), run('decode', '/proc/self/mem')[::2])
     status, out, err = run('check', log, '/proc/self/mem')
     check.equal('a read of many that fails', (3, True, b'fiolog: /proc/self/mem: Input/output error\n'), (status, b'all 1 ' in out, err))
@@ -232,17 +225,15 @@ def check_full(check, folder):
 
 def check_tools(check, folder):
     """The tools beside it: noise on standard input, a file that is not there, a capture over its text."""
-    for tool, status in (('waveform/vcd', 1), ('transcript', 1)):
+    def run_tool(name, *words, **settings):
+        return run(*words, tool=[os.path.join(TOP, 'tools', name)], folder=folder, **settings)
+    for name in ('waveform/vcd', 'transcript'):
         for text in (b'\xff\xfe\x1b]0;x\x07\n', b'', b'\0' * 70000):
-            done = subprocess.run([os.path.join(TOP, 'tools', *tool.split('/'))], input=text, stdout=subprocess.PIPE, stderr=subprocess.PIPE, env={**ENVIRONMENT, 'PYTHONIOENCODING': 'utf-8:strict'}, check=False, timeout=60)
-            check.equal('%s of noise' % tool, (status, False, None), (done.returncode, b'Traceback' in done.stderr, ACTS.search((done.stdout + done.stderr).decode())))
-    done = subprocess.run([os.path.join(TOP, 'tools', 'transcript'), 'none'], input=b'', stderr=subprocess.PIPE, env=ENVIRONMENT, check=False, cwd=folder)
-    check.equal('transcript of no script', (3, b'transcript: none: No such file or directory\n'), (done.returncode, done.stderr))
-    log = os.path.join(folder, 'frames')
-    with open(log, 'wb') as file:
-        file.write(GOOD)
-    done = subprocess.run([os.path.join(TOP, 'tools', 'wireshark', 'hex2pcap'), log, log], stderr=subprocess.PIPE, check=False)
-    check.equal('hex2pcap over its text', (2, GOOD), (done.returncode, state(log)[0]))
+            status, out, err = run_tool(name, text=text, PYTHONIOENCODING='utf-8:strict')
+            check.equal('%s of noise' % name, (1, False, None), (status, b'Traceback' in err, ACTS.search((out + err).decode())))
+    check.equal('transcript of no script', (3, b'transcript: none: No such file or directory\n'), run_tool('transcript', 'none')[::2])
+    log = written(folder, 'frames', GOOD)
+    check.equal('hex2pcap over its text', (2, GOOD), (run_tool('wireshark/hex2pcap', log, log)[0], state(log)[0]))
 
 
 def seconds_of(*words, text):
@@ -271,39 +262,32 @@ def check_long(check):
 
 def children(number):
     """The processes that a process began."""
-    try:
-        with open('/proc/%d/task/%d/children' % (number, number), encoding='ascii') as file:
-            return [int(word) for word in file.read().split()]
-    except OSError:
-        return []
+    with contextlib.suppress(OSError):
+        return [int(word) for word in Path('/proc/%d/task/%d/children' % (number, number)).read_text().split()]
+    return []
 
 
 def check_many(check, folder):
     """Of many logs each fault is a line, and the rows of the others are written."""
-    logs, pipe = [os.path.join(folder, '%d.log' % number) for number in range(3)], os.path.join(folder, 'pipe')
-    for path in logs:
-        with open(path, 'wb') as file:
-            file.write(GOOD)
+    logs, pipe = [written(folder, '%d.log' % number, GOOD) for number in range(3)], os.path.join(folder, 'pipe')
     os.mkfifo(pipe)
     for jobs, status, count in (('0', 2, 1), ('-3', 2, 1), ('x', 2, 1), ('5000', 0, 0), ('1', 0, 0)):
         done = run('check', '--jobs', jobs, *logs)
         check.equal('--jobs ' + jobs, (status, count, status == 0), (done[0], len(done[2].splitlines()), b'all 3 ' in done[1]))
     done = run('check', logs[0], '-', text=GOOD)
     check.equal('standard input among many', (0, b''), (done[0], done[2]))
-    command = subprocess.Popen([sys.executable, '-m', 'fiolog', 'check', '--jobs', '2', *logs, pipe], stdout=subprocess.PIPE, stderr=subprocess.PIPE, env=ENVIRONMENT)
-    for _ in range(1200):
-        if command.poll() is not None:
-            break
+    command = started('check', '--jobs', '2', *logs, pipe)
+
+    def has_ended():
         for child in children(command.pid):
-            try:
+            with contextlib.suppress(OSError):
                 os.kill(child, signal.SIGKILL)
-            except OSError:
-                pass
-        time.sleep(0.5)
+        return command.poll() is not None
+    wait_until(has_ended, 600)
     out, err = command.communicate(timeout=60)
     check.equal('a process that dies', (3, True, 'fiolog: %s: the process that read it died\n' % pipe), (command.returncode, b'all 3 ' in out, err.decode()))
     for number in (signal.SIGINT, signal.SIGTERM):
-        command = subprocess.Popen([sys.executable, '-m', 'fiolog', 'check', '--jobs', '2', *logs, pipe], stdout=subprocess.PIPE, stderr=subprocess.PIPE, env=ENVIRONMENT)
+        command = started('check', '--jobs', '2', *logs, pipe)
         wait_until(lambda: children(command.pid))
         time.sleep(2)
         command.send_signal(number)
@@ -313,19 +297,15 @@ def check_many(check, folder):
 
 def check_odd(check, folder):
     """Other files: empty ones, folders, files that may not be read, NUL octets, no line end, broken pipes."""
-    paths = {name: os.path.join(folder, name) for name in ('empty', 'zeros', 'open-end')}
-    for name, octets in (('empty', b''), ('zeros', bytes(200_000)), ('open-end', GOOD[:-1])):
-        with open(paths[name], 'wb') as file:
-            file.write(octets)
+    open_end = written(folder, 'open-end', GOOD[:-1])
+    files = (('an empty file', written(folder, 'empty', b''), (1,)), ('zeros', written(folder, 'zeros', bytes(200_000)), (1,)),
+             ('no line end', open_end, (0, 1)), ('a folder', folder, (3,)), ('no file', 'none', (3,)))
     for words in COMMANDS if check.whole('odd files by all commands') else COMMANDS[::4]:
-        for name, path, expected in (('an empty file', paths['empty'], (1,)), ('zeros', paths['zeros'], (1,)), ('no line end', paths['open-end'], (0, 1)),
-                                     ('a folder', folder, (3,)), ('no file', 'none', (3,))):
+        for name, path, expected in files:
             status, _, err = run(*words, path)
             check.holds('%s of %s' % (' '.join(words), name), status in expected and b'Traceback' not in err, err)
-    text = ('%s -m fiolog decode -q %s | head -n 1' % (sys.executable, ' '.join([paths['open-end']] * 500)))
-    done = subprocess.run(text, shell=True, stdout=subprocess.PIPE, stderr=subprocess.PIPE, env=ENVIRONMENT, check=False)
-    check.equal('a reader that has enough', b'', done.stderr)
-    command = subprocess.Popen([sys.executable, '-m', 'fiolog', 'decode', '-q'], stdin=subprocess.PIPE, stdout=subprocess.PIPE, stderr=subprocess.PIPE, env=ENVIRONMENT)
+    check.equal('a reader that has enough', b'', run_of_shell('decode -q %s | head -n 1' % ' '.join([open_end] * 500))[2])
+    command = started('decode', '-q')
     command.stdin.write(GOOD)
     command.stdin.flush()
     command.stdout.readline()

@@ -15,6 +15,11 @@ def pairs(octets, form='%02X', between=' '):
     return between.join(form % octet for octet in octets)
 
 
+def rows_of(octets, width=16):
+    """Octets in rows of this width."""
+    return [octets[place:place + width] for place in range(0, len(octets), width)]
+
+
 def column(octets):
     """The characters of octets, with a dot for each octet that has none."""
     return ''.join(chr(octet) if 0x20 <= octet < 0x7f else '.' for octet in octets)
@@ -36,23 +41,14 @@ def each_line(line):
     return log
 
 
-def hexdump(octets, width=16):
+def hexdump(octets):
     """As `hexdump -C` writes octets, without the last offset."""
-    lines = []
-    for place in range(0, len(octets), width):
-        row = octets[place:place + width]
-        halves = pairs(row[:8], '%02x') + '  ' + pairs(row[8:], '%02x')
-        lines.append('%08x  %-49s |%s|' % (place, halves.rstrip(), column(row)))
-    return lines
+    return ['%08x  %-49s |%s|' % (16 * number, '  '.join((row[:8].hex(' '), row[8:].hex(' '))).rstrip(), column(row))
+            for number, row in enumerate(rows_of(octets))]
 
 
 def xxd(octets):
-    lines = []
-    for place in range(0, len(octets), 16):
-        row = octets[place:place + 16]
-        digits = ' '.join(row[start:start + 2].hex() for start in range(0, len(row), 2))
-        lines.append('%08x: %-40s %s' % (place, digits, column(row)))
-    return lines
+    return ['%08x: %-40s %s' % (16 * number, row.hex(' ', -2), column(row)) for number, row in enumerate(rows_of(octets))]
 
 
 def dumped(dump, head):
@@ -68,9 +64,9 @@ def dumped(dump, head):
 def wrapped(frames):
     lines = []
     for seconds, direction, octets in frames:
-        rows = [pairs(octets[place:place + 16]) for place in range(0, len(octets), 16)]
+        rows = map(pairs, rows_of(octets))
         head = '%s %s: ' % (stamp(seconds, '%H:%M:%S'), words('TX', 'RX')[direction])
-        lines += [head + rows[0]] + [' ' * len(head) + row for row in rows[1:]]
+        lines += [head + next(rows), *(' ' * len(head) + row for row in rows)]
     return '\n'.join(lines) + '\n'
 
 
@@ -106,7 +102,7 @@ def c_arrays(frames):
     lines = ['/* Frames of the bench. */']
     for number, (_, direction, octets) in enumerate(frames):
         lines.append('static const uint8_t %s_%d[%d] = {' % (words('tx', 'rx')[direction], number, len(octets)))
-        lines += ['    ' + pairs(octets[place:place + 12], '0x%02x', ', ') + ',' for place in range(0, len(octets), 12)]
+        lines += ['    ' + pairs(row, '0x%02x', ', ') + ',' for row in rows_of(octets, 12)]
         lines.append('};')
     return '\n'.join(lines) + '\n'
 
@@ -120,9 +116,7 @@ def putty(frames):
     for seconds, direction, octets in frames:
         lines.append('%s raw data at %s' % (words('Outgoing', 'Incoming')[direction],
                                             time.strftime('%Y-%m-%d %H:%M:%S', time.gmtime(START + seconds))))
-        for place in range(0, len(octets), 16):
-            row = octets[place:place + 16]
-            lines.append('  %08x  %-47s  %s' % (place, pairs(row, '%02x'), column(row)))
+        lines += ['  %08x  %-47s  %s' % (16 * number, row.hex(' '), column(row)) for number, row in enumerate(rows_of(octets))]
     return '\n'.join(lines) + '\n'
 
 
@@ -141,8 +135,7 @@ def hdlc_rows(frames):
 
 def columned(octets, indent):
     """Octets wrapped at 16, with their characters."""
-    return [indent + '%-47s   %s' % (pairs(octets[place:place + 16], '%02x'), column(octets[place:place + 16]))
-            for place in range(0, len(octets), 16)]
+    return [indent + '%-47s   %s' % (row.hex(' '), column(row)) for row in rows_of(octets)]
 
 
 def docklight(frames):
