@@ -4,11 +4,10 @@ docs/CAPTURES.md by one who had not read the reader: frames, their places and ti
 other tools, whole and damaged, the captures of `examples/`, and random logs. What is not the same is listed here with its
 cause. Last line: `N passed, M failed`."""
 
-import glob
-import os
 import random
 import re
 import sys
+from pathlib import Path
 from typing import Callable, NamedTuple
 
 sys.dont_write_bytecode = True
@@ -154,12 +153,11 @@ def main():
     for name, logger in FORMS.items():
         check.fault('%s: the session' % name, differences, logger(timed(SESSION)).encode(), WRONG)
         check.fault('%s: random frames' % name, differences, logger(timed(random_session(len(name), 300))).encode(), WRONG)
-    for path in sorted(glob.glob(os.path.join(TOP, 'examples', 'captures', '*.txt'))):
-        with open(path, 'rb') as log:
-            octets = log.read()
+    for path in sorted(Path(TOP, 'examples', 'captures').glob('*.txt')):
+        octets = path.read_bytes()
         if octets.startswith(b'\xff\xfe'):
             octets = octets.decode('utf-16').encode()
-        check.fault(os.path.basename(path), differences, octets, WRONG)
+        check.fault(path.name, differences, octets, WRONG)
     for text in LINES + LOGS:
         for name, log in (('a small log', text), ('a small log below frames', ABOVE + text)):
             check.fault('%s, %r' % (name, text), differences, (log + '\n').encode(), WRONG)

@@ -18,6 +18,7 @@ from support.check import Check
 from support.faults import FAULTS, changed
 from support.fiolog import ENVIRONMENT, fiolog, use_library
 from support.lossy_runs import lossy_script, run_of_link
+from support.pages import text_of
 from support.tables import TOP, output_of
 
 EXAMPLES = os.path.join(TOP, 'examples')
@@ -29,11 +30,6 @@ BROKEN = {'doubled-entry': (10, 'fresh', 12, 0), 'flag-left': (3, 'cleared'),
 # Those in which the module restarted, or a stamp is wrong: `fio2070 record` names a rule, `fiolog` accuses nobody. The line of each.
 RESTARTED = {'clock-back': 5, 'watchdog-forgotten': 5}
 SEEDS = 9
-
-
-def transcript(name):
-    with open(os.path.join(EXAMPLES, name + '.transcript'), encoding='ascii') as file:
-        return file.read()
 
 
 def same_text(check, name, text):
@@ -49,13 +45,13 @@ def check_examples(check):
     for path in sorted(glob.glob(os.path.join(EXAMPLES, '*.transcript'))):
         name = os.path.splitext(os.path.basename(path))[0]
         if name not in RESTARTED:
-            same_text(check, name, transcript(name))
+            same_text(check, name, text_of(path))
     for name, (line, rule, *where) in BROKEN.items():
         path = os.path.join(EXAMPLES, name + '.transcript')
         words = 'line %d %sbreaks %s' % (line, 'input %d ' % where[0] if where else '', rule)
         done = fiolog('record', '-q', path)
         check.equal('the table of %s' % name, (1, [words]), (done.status, done.found('.*breaks.*')))
-        entries = sum(octets[2] for octets in blocks_of(transcript(name)))
+        entries = sum(octets[2] for octets in blocks_of(text_of(path)))
         check.equal('all items of %s' % name, entries, len(done.found(r'^\d+: +input')))
         rows = fiolog('record', '-q', '--json', path).objects()
         check.equal('the object of %s' % name, [{'line': line, 'time': None, **dict(zip(('input', 'entry'), where)), 'breaks': rule}],
@@ -142,8 +138,7 @@ def check_course(check):
     check.equal('noise in between', (['line 9 input 12 breaks alternate'], 1), breaches(text=START + FIRST + '# restarted\n' + AGAIN))
     turned = (START + FIRST + AGAIN).translate(str.maketrans('<>', '><'))
     check.equal('the log of the module', (['line 8 input 12 breaks alternate'], 1), breaches('--at', 'module', text=turned))
-    with open(os.path.join(EXAMPLES, 'lost-answer.frames'), encoding='ascii') as file:
-        done = fiolog('record', '-q', text=file.read())
+    done = fiolog('record', '-q', text=text_of('examples/lost-answer.frames'))
     check.equal('a log of the bus has each entry once, and accuses nobody', (0, 2, []),
                 (done.status, len(done.out.splitlines()), done.found('breaks')))
 

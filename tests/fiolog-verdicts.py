@@ -2,7 +2,6 @@
 """What `fiolog` judges and says of a log: where a log begins, which rules are left out, what to try if a log is not
 read, and what is a fault. Last line: `N passed, M failed`."""
 
-import os
 import re
 import sys
 import tempfile
@@ -10,13 +9,8 @@ import tempfile
 sys.dont_write_bytecode = True
 
 from support.check import Check
-from support.fiolog import fiolog, use_library
+from support.fiolog import fiolog, use_library, written
 from support.pages import text_of
-
-
-def not_judged(done):
-    """What a run says is not judged."""
-    return re.findall('^not judged: (.*)', done.out, re.M)
 
 
 def check_beginning(check):
@@ -25,13 +19,11 @@ def check_beginning(check):
                                ('two answers', '< b301\n< b605018c03e700000003e8\n', 2)):
         done = fiolog('check', text=above + '> 3606\n< b6060000000003e9\n> 3607\n< b6070000000003ea\n')
         words = ['%d frame%s above the first command' % (count, 's' * (count > 1))]
-        check.equal('%s above the first command' % name, (0, words, ''), (done.status, not_judged(done), done.err))
+        check.equal('%s above the first command' % name, (0, words, ''), (done.status, done.found('^not judged: (.*)'), done.err))
     text = '< b6050000000003e8\n> 3606\n< b6060000000003e9\n< b6060000000003e9\n'
-    check.equal('what is below the first command is judged', ['line 4: pair'], re.findall('^line .*: pair', fiolog('check', text=text).out, re.M))
-    check.equal('a log that is whole begins with a command', ['line 1: pair', 'line 4: pair'],
-                re.findall('^line .*: pair', fiolog('check', '--whole', text=text).out, re.M))
-    check.equal('the rules of transcripts alone', ['line 4: pair'],
-                re.findall('^line .*: pair', fiolog('check', '--rules', 'transcript', text=text).out, re.M))
+    for name, words, lines in (('what is below the first command is judged', [], ['4']), ('a log that is whole begins with a command', ['--whole'], ['1', '4']),
+                               ('the rules of transcripts alone', ['--rules', 'transcript'], ['4'])):
+        check.equal(name, lines, fiolog('check', *words, text=text).found('^line (.*): pair'))
 
 
 def check_explained(check):
@@ -44,7 +36,7 @@ def check_explained(check):
         check.equal('%s is explained' % name, (0, '', []), (done.status, done.err, [part for part in words if re.sub(
             r'\binput I (.*)to S\b', r'input I \1to S', part) not in said]))
     check.equal('the words that a rule uses', ['C', 'clear', 'excuses', 'late'],
-                sorted(re.findall(r'^  (\w+): ', fiolog('check', '--explain', 'fresh').out, re.M)))
+                sorted(fiolog('check', '--explain', 'fresh').found(r'^  (\w+): ')))
 
 
 def check_cures(check):
@@ -79,10 +71,8 @@ def check_cures(check):
     check.equal('their lines are shown', 4, fiolog('decode', text=pieces).out.count('? part of a message in two lines: '))
     binary = bytes.fromhex('7e1483') + bytes.fromhex('b6050000000000010a') * 30
     for name, octets, is_binary in (('a binary file', binary, True), ('a text', 'caf\u00e9 \u2192\n'.encode() * 30, False), ('one line', b'\x1b[1mhello\n', False)):
-        with tempfile.NamedTemporaryFile() as file:
-            file.write(octets)
-            file.flush()
-            done = fiolog('check', file.name)
+        with tempfile.TemporaryDirectory() as folder:
+            done = fiolog('check', written(folder, 'log', octets))
         check.equal('%s needs xxd' % name, (1, is_binary), (done.status, 'this is a binary file: pass it through `xxd`' in done.err))
 
 
@@ -97,10 +87,8 @@ def check_few(check):
         check.equal('judged: ' + name, (int(bool(words)), [words] * bool(words)), (done.status, found))
         check.equal('record: ' + name, int(bool(words)), fiolog('record', text=text).status)
     with tempfile.TemporaryDirectory() as folder:
-        path = os.path.join(folder, 'few')
-        with open(path, 'w', encoding='ascii') as file:
-            file.write(whole + cut * 3)
-        check.equal('a row of many says it', (1, True), (fiolog('check', path, path).status, 'fewer than half judged' in fiolog('check', path, path).out))
+        done = fiolog('check', *[written(folder, 'few', whole + cut * 3)] * 2)
+        check.equal('a row of many says it', (1, True), (done.status, 'fewer than half judged' in done.out))
 
 
 def check_except(check):
@@ -112,16 +100,14 @@ def check_except(check):
             ('one rule of two', jump + lost, ['--except', 'limits'], ['advance'], 1),
             ('a rule on content', '> 32000000ff\n< b201\n', ['--except', 'done'], [], 1)):
         done = fiolog('check', *words, text=text)
-        left_out = re.findall(r'(\d+) breach(?:es)? of (?:a rule|rules) that (?:is|are) left out', done.out)
+        left_out = done.found(r'(\d+) breach(?:es)? of (?:a rule|rules) that (?:is|are) left out')
         check.equal('--except, %s' % name, (rules, int(bool(rules)), [str(count)] * bool(count)),
-                    (re.findall(r'^line \d+: (\w+)', done.out, re.M), done.status, left_out))
+                    (done.found(r'^line \d+: (\w+)'), done.status, left_out))
     check.equal('--except of no rule', 2, fiolog('check', '--except', 'nothing', text=jump).status)
     with tempfile.TemporaryDirectory() as folder:
-        path = os.path.join(folder, 'jump')
-        with open(path, 'w', encoding='ascii') as file:
-            file.write(jump)
-        check.equal('--except of two logs', (1, 0), (fiolog('check', path, path).status, fiolog('check', '--except', 'advance', path, path).status))
-        check.equal('--except of a live line', (1, 0), (fiolog('live', '--fifo', path).status, fiolog('live', '--except', 'advance', '--fifo', path).status))
+        path = written(folder, 'jump', jump)
+        for name, command, *files in (('two logs', 'check', path, path), ('a live line', 'live', '--fifo', path)):
+            check.equal('--except of ' + name, (1, 0), (fiolog(command, *files).status, fiolog(command, '--except', 'advance', *files).status))
 
 
 def check_places(check):
@@ -139,8 +125,7 @@ def check_places(check):
             ('the CPU did not hear a wrong check', ['--sdlc', '--at', 'cpu'], checked, ['line 5: advance']),
             ('on the bus it may have', ['--sdlc', '--at', 'bus'], checked, []),
             ('the state of an entry below a gap mark', ['--limits', '255', '64'], good + '< b606028c000b8c000d040000000e\n', ['line 4: alternate: input 12 went to 1 twice in a row'])):
-        found = fiolog('check', *words, text=text).out
-        check.equal('judged: %s' % name, expected, re.findall(r'^line \d+: \w+(?:: input[^,]*)?', found, re.M))
+        check.equal('judged: %s' % name, expected, fiolog('check', *words, text=text).found(r'^line \d+: \w+(?:: input[^,]*)?'))
     again = '%s 36 05\n%s B6 05 00 00 00 00 00 01\n%s 36 05\n%s B6 05 00 02 00 00 00 01\n'
     for name, sides, status in (('the CPU', ('TX', 'RX'), 1), ('the module', ('RX', 'TX'), 0), ('the CPU, with arrows', ('>', '<'), 1),
                                 ('the module, with arrows', ('<', '>'), 0)):
@@ -148,12 +133,9 @@ def check_places(check):
         check.equal('a block that is asked for again, in a log of %s' % name, (status, bool(status)), (done.status, 'line 3: advance' in done.out))
     named = ['TX 36 05 poll', 'RX B6 05 00 00 00 00 00 01 block', 'TX 37%s outputs' % (' 00' * 16), 'RX B7 00 00 00 00 02 other',
              'TX 36 06 poll', 'RX B6 06 00 00 00 00 00 03 block', 'TX 3C identify', 'RX BC 02 other']
-    check.equal('a command of one octet in a line with words of its own', '', re.sub('(?m)^(?!line).*\n?', '', fiolog('check', text='\n'.join(named) + '\n').out))
+    check.equal('a command of one octet in a line with words of its own', [], fiolog('check', text='\n'.join(named) + '\n').found('^line.*'))
     with tempfile.TemporaryDirectory() as folder:
-        paths = [os.path.join(folder, name) for name in ('first', 'second')]
-        for path in paths:
-            with open(path, 'w', encoding='ascii') as file:
-                file.write('> 34\n< b301\n' + good)
+        paths = [written(folder, name, '> 34\n< b301\n' + good) for name in ('first', 'second')]
         for words, count in ((['--start-at-poll'], 0), ([], 2)):
             for title, files in (('two files', paths), ('a file twice', paths[:1] * 2)):
                 check.equal('record %s of %s' % (' '.join(words), title), count, fiolog('record', *words, *files).out.count('breaks pair'))
@@ -163,7 +145,7 @@ def check_said(check):
     """Why lines are passed over, the text of each, and octets without a zero first."""
     frames = 'TX 36 05\nRX B6 05 00 00 00 00 00 01\n'
     text = 'hello\n' * 3 + '01 02 03 04\n' * 2 + 'RX B6 05 01 8C 03 E7 00 00 00 03 E8 A4 7C\n' + frames
-    reasons = re.findall(r'(\d) skipped lines? \([^,]* (\d), [^,]* (\d), [^,)]* (\d)\)', fiolog('check', text=text).out)
+    reasons = fiolog('check', text=text).found(r'(\d) skipped lines? \([^,]* (\d), [^,]* (\d), [^,)]* (\d)\)')
     check.equal('three reasons', [('6', '3', '2', '1')], reasons)
     named = re.findall(r'line (\d): no octets: (\w+)', fiolog('check', '-v', text=frames + 'one\ntwo\nthree\n').err)
     check.equal('the text of each line', [('3', 'one'), ('4', 'two'), ('5', 'three')], named)

@@ -2,17 +2,16 @@
 """What the library counts of a log's frames, beside a model that counts whole lists, and beside the counts of `fiolog`: on the logs
 of examples/, and on random logs in which frames are lost. Last line: `N passed, M failed`."""
 
-import glob
-import os
 import random
 import sys
 from collections import Counter
+from pathlib import Path
 from typing import NamedTuple, Optional
 
 sys.dont_write_bytecode = True
 
 from support.check import Check
-from support.fiolog import use_library
+from support.fiolog import use_library, verdicts_on
 from support.log_runs import spells
 from support.tables import TOP
 
@@ -113,9 +112,7 @@ def difference(log):
 
 def log_of(data):
     """The lines of a log as the reader finds them."""
-    import fio2070
-    reader = fio2070.LogReader()
-    for verdict in reader.read(data) + reader.end():
+    for verdict in verdicts_on(data):
         yield from [Line(octets, verdict.time) for octets in verdict.frames] if verdict.kind == 'frames' else \
             [Line(None)] * (verdict.kind == 'damaged')
 
@@ -151,12 +148,10 @@ def main():
     check = Check(logs=(300, 5000))
     use_library(check, 'what is counted of a log')
     frames = 0
-    for path in sorted(glob.glob(os.path.join(TOP, 'examples/*.transcript')) + glob.glob(os.path.join(TOP, 'examples/*.frames'))
-                       + glob.glob(os.path.join(TOP, 'examples/captures/*.txt'))):
-        with open(path, 'rb') as file:
-            log = list(log_of(file.read()))
+    for path in sorted(path for form in ('*.transcript', '*.frames', 'captures/*.txt') for path in Path(TOP, 'examples').glob(form)):
+        log = list(log_of(path.read_bytes()))
         frames += sum(bool(line.octets) for line in log)
-        check.fault(os.path.basename(path), difference, log)
+        check.fault(path.name, difference, log)
     check.holds('frames of examples', frames > 100, frames)
     check.fault('random logs', fault_of_random_logs, check.given.logs)
     check.end()

@@ -10,6 +10,7 @@ sys.dont_write_bytecode = True
 
 from support.check import Check
 from support.lossy_runs import run, transcripts_of
+from support.pages import text_of
 from support.tables import TOP, output_of
 
 ROUNDS = 400
@@ -102,8 +103,7 @@ def main():
     for loss in ('0', '0.1', '0.4'):
         check.fault('transcript with --loss ' + loss, fault_of_transcript, ('--loss', loss), 5)
     script = 'examples/lost-answer.script'
-    with open(os.path.join(TOP, script), encoding='ascii') as file:
-        report = output_of('simulate', file.read())[0]
+    report = output_of('simulate', text_of(script))[0]
     check.fault('a transcript', fault_of_text, [], script, report, LOST_ANSWER, 0)
     check.fault('a transcript with times', fault_of_text, ['--times'], script, report, TIMES, 0)
     refused = '1 sent 1 3600\n2 sent 2 3600\n3 sent 1 b600000000000000\n4 refused out of order 1 after 2\n'
