@@ -1,5 +1,7 @@
 """The reference model of the reader of logs: what octets say, and the runs of octets of a line. docs/CAPTURES.md has the
-definition; each function is a scanner without regular expressions."""
+definition."""
+
+import re
 
 from support.line_model import frame_check
 from support.log_clock import DIGITS, HEX, is_word
@@ -103,24 +105,16 @@ class Run:
 MARKS = [('', ''), ('0x', ''), ('\\x', ''), ('$', ''), ('', 'h'), ('[', ']'), ('<', '>'), ('{', '}'), ("'0x", "'")]
 
 
+WORDS = {mark: re.compile(r'%s([0-9A-Fa-f]+)%s(?!\w|\.[0-9])' % tuple(map(re.escape, mark))) for mark in MARKS}
+
+
 def tokens(line, mark, begin):
-    """The words of hex digits between these marks."""
-    before, after = mark
-    found, place, last = [], begin, -1
-    while place < len(line):
-        start = place + len(before)
-        end = start
-        if line.startswith(before, place):
-            while end < len(line) and line[end] in HEX:
-                end += 1
-        stop = end + len(after)
-        free = place == 0 or place == last or not (is_word(line[place - 1]) or line[place - 1] == '.') or before == '\\x'
-        if end > start and free and line.startswith(after, end) and not is_word(line[stop:stop + 1]) and not (
-                line[stop:stop + 1] == '.' and line[stop + 1:stop + 2] in DIGITS and line[stop + 1:stop + 2]):
-            found.append((place, stop, line[start:end]))
-            place = last = stop
-        else:
-            place = max(end if not before else place + 1, place + 1)
+    """The words of hex digits between these marks: none touches a word, but for the word above."""
+    found = []
+    for one in WORDS[mark].finditer(line, begin):
+        above = line[one.start() - 1] if one.start() else ''
+        if mark[0] == '\\x' or found and found[-1][1] == one.start() or not (is_word(above) or above == '.'):
+            found.append((*one.span(), one[1]))
     return found
 
 
@@ -181,45 +175,22 @@ def fits_width(digits, width):
 ESCAPES = {'n': 10, 'r': 13, 't': 9, '\\': 92, '"': 34, "'": 39, 'a': 7, 'b': 8, 'f': 12, 'v': 11, '/': 47}
 
 
+LITERAL = re.compile(r'''(["'])((?:\\.|(?!\1)[^\\])*)\1''', re.DOTALL)
+ESCAPE = re.compile(r'\\(?:x([0-9A-Fa-f]{2})|u([0-9A-Fa-f]{4})|([0-7]{1,3})|(.))|(.)', re.DOTALL)
+
+
 def literal(line, place):
     """The run of the string literal whose quote is here, with an escape in it, or with a b before it."""
-    quote, start, octets, escaped, plain, hexed = line[place], place, bytearray(), False, False, False
-    place += 1
-    while place < len(line) and line[place] != quote:
-        char, place = line[place], place + 1
-        if char != '\\':
-            if ord(char) > 255:
-                return None
-            octets.append(ord(char))
-            plain = True
-            continue
-        escaped = True
-        char = line[place:place + 1]
-        width = {'x': 2, 'u': 4}.get(char, 0)
-        if width:
-            digits = line[place + 1:place + 1 + width]
-            if len(digits) < width or not set(digits) <= HEX or int(digits, 16) > 255:
-                return None
-            octets.append(int(digits, 16))
-            hexed |= 32 <= octets[-1] < 127 and octets[-1] not in b'\'"\\'
-            place += 1 + width
-        elif char and char in '01234567':
-            end = place
-            while end < min(place + 3, len(line)) and line[end] in '01234567':
-                end += 1
-            if int(line[place:end], 8) > 255:
-                return None
-            octets.append(int(line[place:end], 8))
-            place = end
-        elif char and char in ESCAPES:
-            octets.append(ESCAPES[char])
-            place += 1
-        else:
-            return None
-    is_bytes = start > 0 and line[start - 1] in 'bB' and (start < 2 or not is_word(line[start - 2]))
-    if place >= len(line) or not (escaped or is_bytes) or plain and hexed:
+    found = LITERAL.match(line, place)
+    octets, escaped, plain, hexed = [], False, False, False
+    for two, four, octal, letter, char in ESCAPE.findall(found[2]) if found else ():
+        octets.append(ord(char) if char else int(octal, 8) if octal else ESCAPES.get(letter, 256) if letter else int(two or four, 16))
+        plain, escaped = plain or char != '', escaped or not char
+        hexed |= bool(two or four) and 32 <= octets[-1] < 127 and octets[-1] not in b'\'"\\'
+    is_bytes = place > 0 and line[place - 1] in 'bB' and (place < 2 or not is_word(line[place - 2]))
+    if not found or not (escaped or is_bytes) or plain and hexed or any(octet > 255 for octet in octets):
         return None
-    return Run(bytes(octets), start, place + 1, ('literal', ''), {'some'} if plain else {'all'} if hexed else {'some', 'all'})
+    return Run(bytes(octets), place, found.end(), ('literal', ''), {'some'} if plain else {'all'} if hexed else {'some', 'all'})
 
 
 def numbers(line, place):
