@@ -5,10 +5,6 @@ import struct
 
 WIDE = 1 << 32
 ALL = frozenset(range(64))
-# Rules that the program does not have yet; each is switched on with it.
-# In a log that begins with both ends Y says that an earlier 58 came, so one was sent above the one that is answered; and P is
-# set at the start, and left while no 49 that was sent clears it.
-BEGUN = False
 BLOCK_END = 64                                 # in place of an input, above each of them
 
 
@@ -31,7 +27,7 @@ class Record:
     def __init__(self, text, begun=False):
         self.items, self.breach, self.number = [], None, None
         self.command, self.watchdog = b'', False
-        self.begun, self.excuses, self.watchdogs, self.left_p = begun, 0, 0, True
+        self.excuses = 0
         self.asked, self.since = False, set()
         self.clock, self.floor, self.full, self.seen = None, None, None, None
         self.levels, self.times, self.watched, self.shaded = {}, {}, set(), set()
@@ -61,10 +57,6 @@ class Record:
             self.asked, self.since = True, set()
         if octets[0] == 50:
             self.excuses = min(255, self.excuses + 1)
-        if octets[0] == 58:
-            self.watchdogs += 1
-        if octets[0] == 49 and octets[1] & 128:
-            self.left_p = False
         items = {octets[at] & 127: octets[at:at + 3] for at in range(2, len(octets), 3)} if octets[0] == 51 else {}
         for named, item in items.items():          # of each input the last one counts
             if named in ALL:
@@ -98,9 +90,9 @@ class Record:
             return self.breaks('done')
         if kind == 179 and status & 1 and not any(named & 127 > 63 for named in self.command[2::3]):
             return self.breaks('accepted')
-        if kind == 177 and (octets[1] & self.command[1] or self.knows_begin() and self.left_p and not octets[1] & 128):
+        if kind == 177 and octets[1] & self.command[1]:
             return self.breaks('cleared')
-        if kind == 186 and (self.watchdog and not status & 1 or self.knows_begin() and self.watchdogs < 2 and status & 1):
+        if kind == 186 and self.watchdog and not status & 1:
             return self.breaks('watchdog')
         self.heard = self.heard or kind == 182
         timed = kind in (177, 180, 181) or kind == 182 and not octets[-5] & 2
@@ -195,10 +187,6 @@ class Record:
         self.told = {named: states[named] for named in ALL - self.touched}
         self.seen = None
         return bool(others) and self.accuses('state', min(others))
-
-    def knows_begin(self):
-        """Whether it is known how the ends began."""
-        return BEGUN and self.begun
 
     def accuses(self, rule, named=None):
         """A rule on time is broken. Returns whether nothing excuses it. A load that was sent excuses one breach, since the counter
