@@ -17,7 +17,7 @@ builds() {
         *) language="-x c -D_DEFAULT_SOURCE $*" ;;
     esac
     mkdir -p "$folder"
-    for source in support/c/rows support/c/table support/c/turns support/c/whole support/c/started support/c/sized support/c/wire_rows support/c/fresh support/c/fuzz ../examples/c/decode ../examples/c/poller; do
+    for source in support/c/rows support/c/table support/c/started support/c/sized support/c/wire_rows support/c/fresh support/c/fuzz ../examples/c/decode ../examples/c/poller; do
         # shellcheck disable=SC2086
         "$compiler" $language $strict -I "$top/include" -I "$room" "$top/tests/$source.c" -x none "$archive" \
             -o "$folder/$(basename "$source")" || return 1
@@ -271,8 +271,6 @@ for build in 'gcc -std=c99' 'g++ -std=c++11' 'clang -std=c99 -g -O1 -fsanitize=a
     first "build by $1" builds "$room/$1" "$@"
     counts "rows by $1" "$room/$1/rows"
     counts "the table of rows by $1" "$room/$1/table"
-    counts "calls of a module in turn by $1" "$room/$1/turns"
-    counts "whole structs by $1" "$room/$1/whole"
     counts "started structs by $1" "$room/$1/started"
     counts "modules in slots of the caller by $1" "$room/$1/sized"
     counts "rows of the wire by $1" "$room/$1/wire_rows"

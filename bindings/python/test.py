@@ -196,6 +196,44 @@ def by_batches(form, as_said, text):
     return ' '.join([', '.join(found), *said])
 
 
+def heard(number, text):
+    """What a poller says of frames, what each adds to the record, and the number of the next poll."""
+    poller, said = fio2070.Poller(number), []
+    for octets in text.split(', '):
+        one = poller.hear(bytes.fromhex(octets))
+        words = [one.text, *('%s %d' % (name, getattr(one, name)) for name in ('number', 'stamp') if getattr(one, name))]
+        words += ['item %d %d %d %d %d' % item for item in poller.record]
+        poller.record.clear()
+        said.append(' '.join([*words, 'next %d' % poller.number]))
+    return ', '.join(said)
+
+
+def state_words(module):
+    """What a module is: its levels, and its numbers and outputs that are not 0."""
+    fields = zip(('counter', 'waiting', 'flags', 'watchdog', 'receive', 'transmit'),
+                 (module.counter, module.waiting, module.flags, module.watchdog_ms, *module.errors))
+    outputs = zip(('levels', 'controls'), module.outputs)
+    return ' '.join(['filtered %016x raw %016x' % (module.filtered, module.raw), *('%s %d' % one for one in fields if one[1]),
+                     *('%s %s' % (name, octets.hex()) for name, octets in outputs if any(octets))])
+
+
+def by_steps(per_block, waiting, text):
+    """What a module answers, and its states, by the frames that it gets and the calls between them."""
+    module, said = fio2070.Module(2, per_block, waiting), []
+    for step in text.split(', '):
+        name, _, number = step.partition(' ')
+        if name == '>':
+            answer = module.receive(bytes.fromhex(number))
+            said.append('no command' if answer is None else answer.hex() or 'no answer')
+        elif name == 'state':
+            said.append(state_words(module))
+        elif name == 'set_errors':
+            module.set_errors(int(number, 16) >> 8, int(number, 16) & 255)
+        else:
+            getattr(module, {'raise': 'raise_flags'}.get(name, name))(*([int(number, 16)] if number else []))
+    return ', '.join(said)
+
+
 def said_by(call, numbers, text):
     """The result of a row, or its error."""
     if call.startswith('encode_'):
@@ -204,6 +242,8 @@ def said_by(call, numbers, text):
         return str(getattr(fio2070, call)(*numbers))
     if call in ('wire', 'wire_bits'):
         return heard_line(call, numbers, text)
+    if call == 'poller':
+        return heard(*numbers, text)
     if call == 'log':
         return verdicts(*numbers, text)
     if call == 'log_signs':
@@ -214,8 +254,10 @@ def said_by(call, numbers, text):
         return by_batches(*numbers, text)
     if call.startswith('content'):
         return breaches(fio2070.ContentChecker(begun=call == 'content_begun'), text)
-    octets = b'' if call.startswith(('checker', 'judge', 'log_judge')) else bytes.fromhex(text)
+    octets = b'' if call.startswith(('checker', 'judge', 'log_judge', 'module')) else bytes.fromhex(text)
     try:
+        if call == 'module':
+            return by_steps(*numbers, text)
         if call.startswith('judge'):
             return outcomes(fio2070.LinkJudge(*numbers[:2], begun=call == 'judge_begun'), numbers[2], text)
         if call == 'log_judge':
@@ -232,8 +274,6 @@ def said_by(call, numbers, text):
             return fields_of(fio2070.decode_command(octets), fio2070._library.CCommand)
         if call == 'decode_answer':
             return fields_of(fio2070.decode_answer(octets), fio2070._library.CAnswer)
-        if call == 'heard_text':
-            return fio2070.Poller(*numbers).hear(octets).text
         return str(getattr(fio2070, call)(octets))
     except fio2070.Fault as fault:
         return str(fault)

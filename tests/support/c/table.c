@@ -99,13 +99,75 @@ static void say_number(const struct row *row, size_t length) {
     else if (stamp != 9 || id != 9) say(", and written");
 }
 
-static void say_heard(const struct row *row, size_t length) {
+/* Says what a poller hears. Only what is of its kind is not 0. */
+static void say_heard(const struct row *row) {
+    static const uint8_t none[5] = {0};
     static struct fio2070_record_item record[FIO2070_MOST_RECORD_ITEMS];
     struct fio2070_poller poller;
-    struct fio2070_heard heard;
+    const char *frame;
     fio2070_poller_start(&poller, (uint8_t)row->numbers[0]);
-    heard = fio2070_poller_hear(&poller, octets, length, record, FIO2070_MOST_RECORD_ITEMS);
-    SAY_TEXT(fio2070_heard_text(&heard, text, room));
+    for (frame = row->text; frame != NULL; frame = next_frame(frame)) {
+        const struct fio2070_heard it = fio2070_poller_hear(&poller, octets, octets_in(frame, octets), record, FIO2070_MOST_RECORD_ITEMS);
+        say("%s", *said ? ", " : "");
+        SAY_TEXT(fio2070_heard_text(&it, text, room));
+        say_block(it.number, it.stamp, record, it.items, poller.number);
+        if (memcmp(it.reserved, none, sizeof it.reserved) != 0 || (it.code != 0 && it.kind != FIO2070_HEARD_OTHER) ||
+            ((it.entries != 0 || it.status != 0 || it.items != 0) && it.kind != FIO2070_HEARD_TAKEN) ||
+            (it.fault.kind != FIO2070_FAULT_NONE && it.kind != FIO2070_HEARD_UNREADABLE))
+            say(" with numbers of another");
+    }
+}
+
+/* Says what a module answers, and that nothing is written beyond it. */
+static void say_reply(size_t count) {
+    say("%s", *said ? ", " : "");
+    if (count == FIO2070_NO_MESSAGE) say("no command");
+    else if (count == 0) say("no answer");
+    else say_octets(out, count);
+    if (out[count == FIO2070_NO_MESSAGE ? 0 : count] != '?') say(" too much written");
+}
+
+/* Takes a step of a module: a frame that it gets, or a call. The calls of one kind have its slots, too. */
+#define STEPS(kind, ...)                                                                           \
+    static void step_##kind(struct fio2070_##kind *it, const char *step) {                         \
+        const uint64_t number = number_in(step);                                                   \
+        memset(out, '?', sizeof out);                                                              \
+        if (*step == '>')                                                                          \
+            say_reply(fio2070_##kind##_receive(it, __VA_ARGS__ octets, octets_in(step + 2, octets), out, FIO2070_LONGEST_FRAME)); \
+        else if (is_step(step, "scan")) fio2070_##kind##_scan(it, __VA_ARGS__ number);             \
+        else if (is_step(step, "line_sync")) fio2070_##kind##_line_sync(it);                       \
+        else if (is_step(step, "raise")) fio2070_##kind##_raise(it, (uint8_t)number);              \
+        else if (is_step(step, "set_errors")) fio2070_##kind##_set_errors(it, (uint8_t)(number >> 8), (uint8_t)number); \
+        else if (is_step(step, "count_receive_error")) fio2070_##kind##_count_receive_error(it);   \
+        else if (is_step(step, "count_transmit_error")) fio2070_##kind##_count_transmit_error(it); \
+        else if (is_step(step, "restart")) fio2070_##kind##_restart(it);                           \
+        else if (is_step(step, "state"))                                                           \
+            say_state(fio2070_##kind##_filtered(it), fio2070_##kind##_raw(it), fio2070_##kind##_counter(it), \
+                      fio2070_##kind##_waiting(it), fio2070_##kind##_flags(it), fio2070_##kind##_watchdog_ms(it), \
+                      fio2070_##kind##_errors(it), fio2070_##kind##_outputs(it));                  \
+        else say("no such step");                                                                  \
+    }
+static struct fio2070_slot slots[FIO2070_STANDARD_WAITING];
+STEPS(module, )
+STEPS(sized_module, FIO2070_RING(slots), )
+
+/* By a module with slots of its own if it has the standard limit, else by one without. */
+static void say_module(const struct row *row) {
+    static struct fio2070_module own;
+    static struct fio2070_sized_module sized;
+    const struct fio2070_limits limits = {(uint16_t)row->numbers[1], (uint8_t)row->numbers[0], 0};
+    const int is_own = limits.waiting == FIO2070_STANDARD_WAITING;
+    const char *step;
+    memset(&own, 0xa5, sizeof own);
+    memset(&sized, 0xa5, sizeof sized);
+    if ((is_own ? fio2070_module_start(&own, 2, limits) : fio2070_sized_module_start(&sized, 2, limits)) != FIO2070_STARTED) {
+        say("refused");
+        return;
+    }
+    for (step = row->text; step != NULL; step = next_frame(step)) {
+        if (is_own) step_module(&own, step);
+        else step_sized_module(&sized, step);
+    }
 }
 
 static void say_breaches(const struct row *row) {
@@ -362,7 +424,8 @@ static void run(const struct row *row) {
     else if (is_call(row, "widen")) say("%lu", (unsigned long)fio2070_widen((uint32_t)numbers[0], (uint16_t)numbers[1]));
     else if (is_call(row, "rule_text")) SAY_TEXT(fio2070_rule_text((uint8_t)numbers[0], text, room));
     else if (is_call(row, "content_rule_text")) SAY_TEXT(fio2070_content_rule_text((uint8_t)numbers[0], text, room));
-    else if (is_call(row, "heard_text")) say_heard(row, length);
+    else if (is_call(row, "poller")) say_heard(row);
+    else if (is_call(row, "module")) say_module(row);
     else if (strncmp(row->call, "checker", 7) == 0) say_breaches(row);
     else if (strncmp(row->call, "content", 7) == 0) say_content_breaches(row);
     else if (strncmp(row->call, "judge", 5) == 0) say_outcomes(row);

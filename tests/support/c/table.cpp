@@ -71,6 +71,49 @@ static std::string listed(const row &it, const List &octets) {
 template <typename Number>
 static std::string number_of(const fio2070::Read<Number> &read) { return read ? std::to_string(*read) : read.fault().text(); }
 
+static std::string heard(const row &it) {
+    fio2070::Poller poller(static_cast<std::uint8_t>(it.numbers[0]));
+    *said = 0;
+    for (const char *frame = it.text; frame; frame = next_frame(frame)) {
+        List octets(1024);
+        octets.resize(octets_in(frame, octets.data()));
+        const auto heard = poller.hear(octets);
+        const auto items = poller.drain();
+        say("%s%s", *said ? ", " : "", heard.text().c_str());
+        say_block(heard.number(), heard.stamp(), items.data(), items.size(), poller.number());
+        if (heard.items() != items.size()) say(", with other items");
+    }
+    return said;
+}
+
+template <typename Module>
+static void take_step(Module &module, const char *step) {
+    const std::uint64_t number = number_in(step);
+    List octets(1024);
+    octets.resize(*step == '>' ? octets_in(step + 2, octets.data()) : 0);
+    if (*step == '>') {
+        const auto answer = module.receive(octets);
+        say("%s%s", *said ? ", " : "", answer ? "" : fio2070::decode_command(octets) ? "no answer" : "no command");
+        if (answer) say_octets(answer->data(), answer->size());
+    } else if (is_step(step, "scan")) module.scan(number);
+    else if (is_step(step, "line_sync")) module.line_sync();
+    else if (is_step(step, "raise")) module.raise(static_cast<std::uint8_t>(number));
+    else if (is_step(step, "set_errors")) module.set_errors(static_cast<std::uint8_t>(number >> 8), static_cast<std::uint8_t>(number));
+    else if (is_step(step, "count_receive_error")) module.count_receive_error();
+    else if (is_step(step, "count_transmit_error")) module.count_transmit_error();
+    else if (is_step(step, "restart")) module.restart();
+    else say_state(module.filtered(), module.raw(), module.counter(), module.waiting(), module.flags(),
+                   module.watchdog_ms().value_or(0), module.errors(), module.outputs());
+}
+
+template <std::uint16_t Waiting>
+static std::string by_steps(const row &it) {
+    auto module = fio2070::Module<Waiting>::start(2, static_cast<std::uint8_t>(it.numbers[0]));
+    *said = 0;
+    for (const char *step = it.text; module && step; step = next_frame(step)) take_step(*module, step);
+    return module ? said : "refused";
+}
+
 static std::string judged(const row &it) {
     const auto per_block = static_cast<std::uint8_t>(it.numbers[0]);
     const auto waiting = static_cast<std::uint16_t>(it.numbers[1]);
@@ -269,7 +312,8 @@ static std::string run(const row &it) {
     if (call == "widen") return std::to_string(fio2070::widen(static_cast<std::uint32_t>(it.numbers[0]), static_cast<std::uint16_t>(it.numbers[1])));
     if (call == "rule_text") return fio2070::rule_text(static_cast<std::uint8_t>(it.numbers[0]));
     if (call == "content_rule_text") return fio2070::content_rule_text(static_cast<std::uint8_t>(it.numbers[0]));
-    if (call == "heard_text") return fio2070::Poller(static_cast<std::uint8_t>(it.numbers[0])).hear(octets).text();
+    if (call == "poller") return heard(it);
+    if (call == "module") return it.numbers[1] == 3 ? by_steps<3>(it) : by_steps<FIO2070_STANDARD_WAITING>(it);
     if (call.rfind("checker", 0) == 0) return judged(it);
     if (call.rfind("content", 0) == 0) return content_judged(it);
     if (call.rfind("judge", 0) == 0) return outcomes(it);

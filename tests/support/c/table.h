@@ -115,6 +115,25 @@ static void say_answer(const struct fio2070_answer *it) {
     say_field("count", it->count), say_field("body", it->body), say_field("stamp", it->stamp), say_field("inputs", it->inputs);
 }
 
+/* Says what a module is, of its numbers those that are not 0. */
+static void say_state(uint64_t filtered, uint64_t raw, uint32_t counter, size_t waiting, uint8_t flags, uint8_t watchdog,
+                      struct fio2070_error_counts errors, struct fio2070_outputs outputs) {
+    say("%sfiltered %016llx raw %016llx", *said ? ", " : "", (unsigned long long)filtered, (unsigned long long)raw);
+    say_field("counter", counter), say_field("waiting", waiting), say_field("flags", flags), say_field("watchdog", watchdog);
+    say_field("receive", errors.receive), say_field("transmit", errors.transmit);
+    say_octets_field("levels", outputs.levels), say_octets_field("controls", outputs.controls);
+}
+
+/* Says what of a block was heard, and not its text: its number, its stamp, what it adds to the record, and the next number. */
+static void say_block(uint8_t number, uint32_t stamp, const struct fio2070_record_item *items, size_t count, uint8_t next) {
+    size_t place;
+    say_field("number", number), say_field("stamp", stamp);
+    for (place = 0; place < count; place++)
+        say(" item %u %u %u %u %lu", items[place].gap, items[place].input, items[place].state, items[place].stamp,
+            (unsigned long)items[place].wide);
+    say(" next %u", next);
+}
+
 static void say_breach(const struct fio2070_breach *it) {
     say("%s%u", *said ? ", " : "", it->rule);
     if (it->has_due) say(" due %u got %u", it->due, it->got);
@@ -178,7 +197,11 @@ static size_t log_in(const char *text, uint8_t *log) {
 
 static int is_call(const struct row *row, const char *name) { return strcmp(row->call, name) == 0; }
 
-/* The frame below one of a text of frames, or NULL. */
+/* Whether a step is the call of this name; the number that it has. */
+static int is_step(const char *step, const char *name) { return strncmp(step, name, strlen(name)) == 0; }
+static uint64_t number_in(const char *step) { return strtoull(step + strcspn(step, " ,"), NULL, 16); }
+
+/* The frame or the step below one of a text, or NULL. */
 static const char *next_frame(const char *frame) {
     const char *comma = strchr(frame, ',');
     return comma ? comma + 2 : NULL;

@@ -1,15 +1,7 @@
 // What fio2070.hpp alone has, and worked examples that tests/rows.json does not have. The last line is `N passed, M failed`.
 #include "fio2070.hpp"
 
-#include <cstdio>
-
-static int passed, failed;
-#define CHECK(condition) check((condition), #condition, __LINE__)
-
-static void check(bool holds, const char *text, int line) {
-    (holds ? passed : failed)++;
-    if (!holds) std::printf("line %d: %s\n", line, text);
-}
+#include "checks.h"
 
 static std::vector<std::uint8_t> octets(const fio2070::Frame &frame) { return {frame.begin(), frame.end()}; }
 using List = std::vector<std::uint8_t>;
@@ -24,35 +16,18 @@ static void reads_and_writes() {
     auto configuration = fio2070::encode::configure_inputs(items);
     CHECK(configuration && octets(*configuration) == List({0x33, 2, 12, 5, 3, 0x83, 0, 0}));
     CHECK(!fio2070::encode::configure_inputs(absent));
-    CHECK(fio2070::command_items(List({0x33, 0})).empty() && fio2070::command_items(BLOCK).empty());
-    CHECK(fio2070::block_entries(*configuration).empty());
-    CHECK(fio2070::command_items(*configuration).size() == 2 && fio2070::command_items(*configuration)[1].ignore == 1);
+    CHECK(fio2070::command_items(BLOCK).empty() && fio2070::block_entries(*configuration).empty());
     auto command = fio2070::decode_command(fio2070::encode::poll(5));
-    CHECK(command && command->code == 54 && command->block == 5 && command.fault().kind() == FIO2070_FAULT_NONE);
+    CHECK(command && command->block == 5 && command.fault().kind() == FIO2070_FAULT_NONE);
     auto nothing = fio2070::decode_command(List());
     CHECK(!nothing && !nothing.message() && nothing.fault().text() == "empty");
     auto answer = fio2070::decode_answer(BLOCK);
-    CHECK(answer && (*answer).block == 5 && answer->count == 1 && answer->stamp == 1000);
+    CHECK(answer && (*answer).block == 5 && answer->count == 1);
     auto cut = fio2070::read_block({BLOCK.data(), 1});
     CHECK(!cut && cut.fault().text() == "wrong length needed 8 got 1" && cut.fault().needed() == 8);
     CHECK(cut.fault().got() == 1 && cut.fault().code() == 0);
-    CHECK(fio2070::read_block(BLOCK)->number == 5);
-    auto entries = fio2070::block_entries(BLOCK);
-    CHECK(entries.size() == 1 && entries[0].input == 12 && entries[0].state == 1 && entries[0].stamp == 999);
-    CHECK(fio2070::body(BLOCK).size() == 10 && fio2070::body({}).empty());
-    CHECK(octets(*fio2070::encode::block_answer(5, entries, 0, 1000)) == BLOCK);
-}
-
-static void reads_numbers() {
     CHECK(fio2070::read_outputs_answer({0xb7, 0, 1, 2, 3, 4}).value() == 0x01020304);
-    CHECK(*fio2070::read_identification({0xbc, 0xfe}) == 0xfe);
-    CHECK(fio2070::read_outputs_answer({0xbc, 2}).fault().text() == "unknown type 188");
-    CHECK(fio2070::read_identification({0xbc}).fault().text() == "wrong length needed 2 got 1");
-    fio2070::Poller poller(5);
-    auto taken = poller.hear(BLOCK), stale = poller.hear(BLOCK), other = poller.hear(List({0xb3, 0}));
-    CHECK(taken.is_taken() && taken.number() == 5 && taken.stamp() == 1000);
-    CHECK(!stale.is_taken() && stale.number() == 5 && stale.stamp() == 1000);
-    CHECK(other.number() == 0 && other.stamp() == 0);
+    CHECK(fio2070::body(BLOCK).size() == 10 && fio2070::body({}).empty());
 }
 
 static void has_values() {
@@ -61,14 +36,7 @@ static void has_values() {
     CHECK(octets(*fio2070::encode::block_answer(5, {{12, 1, 999}}, 0, 1000)) == BLOCK);
     CHECK(fio2070::decode_command({0x36, 5}).value().block == 5);
     CHECK(fio2070::block_entries(BLOCK) == std::vector<fio2070::Entry>({{12, 1, 999}}));
-    CHECK(*fio2070::decode_command({0x36, 5}) == *fio2070::decode_command({0x36, 5}));
-    CHECK(*fio2070::decode_command({0x36, 5}) != *fio2070::decode_command({0x36, 6}));
-    CHECK(*fio2070::decode_answer(BLOCK) == *fio2070::decode_answer(BLOCK));
-    CHECK(*fio2070::decode_answer({0xb2, 0}) != *fio2070::decode_answer({0xb2, 1}));
     CHECK(*fio2070::read_block(BLOCK) == fio2070::BlockHeader({5, 0, 1, 0, 1000}));
-    CHECK(*fio2070::read_block(BLOCK) != fio2070::BlockHeader({5, 0, 1, 0, 1001}));
-    CHECK(fio2070::ErrorCounts({3, 4}) == fio2070::ErrorCounts({3, 4}) && fio2070::ErrorCounts({3, 4}) != fio2070::ErrorCounts({3, 5}));
-    CHECK(fio2070::Outputs({{1}, {2}}) == fio2070::Outputs({{1}, {2}}) && fio2070::Outputs({{1}, {2}}) != fio2070::Outputs({{1}, {3}}));
     std::string text;
     try {
         (void)fio2070::decode_command({0x33}).value();
@@ -92,7 +60,7 @@ static void tells(Field Value::*field, const char *name, int line) {
         other.*field = static_cast<Field>(Field(1) << bit);
         holds = holds && one == Value{} && !(one == other) && one != other;
     }
-    check(holds, name, line);
+    check(holds, name, static_cast<unsigned>(line));
 }
 
 template <typename Value>
@@ -103,7 +71,7 @@ static void tells(std::uint8_t (Value::*field)[8], const char *name, int line) {
         (other.*field)[place] = 1;
         holds = holds && one == Value{} && !(one == other) && one != other;
     }
-    check(holds, name, line);
+    check(holds, name, static_cast<unsigned>(line));
 }
 #define TELLS(field) tells(&fio2070_##field, #field, __LINE__)
 
@@ -127,73 +95,34 @@ static void tells_values() {
     TELLS(answer::stamp), TELLS(answer::inputs);
 }
 
-/* The text of the longest fault, and a block that says that entries were lost. */
-static void has_the_most() {
+static void has_the_longest_text() {
     const fio2070::Fault fault({FIO2070_FAULT_WRONG_LENGTH, 0, 65535, {}, SIZE_MAX});
     CHECK(fault.text() == "wrong length needed 65535 got 18446744073709551615");
     CHECK(fault.needed() == 65535 && fault.got() == SIZE_MAX);
     CHECK(fio2070::FaultError(fault).what() == fault.text() && fio2070::FaultError(fault).fault().got() == SIZE_MAX);
-    fio2070::Poller poller(5);
-    auto heard = poller.hear(List({0xb6, 5, 1, 0x8c, 3, 0xe7, 0x0c, 0, 0, 3, 0xe8}));
-    CHECK(heard.is_taken() && heard.status() == 0x0c && heard.entries() == 1 && heard.items() == 2);
-    CHECK(poller.record() == std::vector<fio2070::RecordItem>({{1, 0, 0, {}, 0, 0}, {0, 12, 1, {}, 999, 999}}));
 }
 
-template <typename Module>
-static void polls_a_module() {
-    CHECK(!Module::start(2, 0));
-    auto module = Module::start(2);
+// What tests/rows.json does not say of a poller: the fields of what it heard, and the record of several blocks.
+static void hears() {
     fio2070::Poller poller(5);
-    CHECK(module && !module->watchdog_ms() && module->filtered() == ~std::uint64_t(0));
-    const fio2070::ConfigurationItem item[] = {{12, 0, 1, 1}};
-    CHECK(octets(*module->receive(*fio2070::encode::configure_inputs(item))) == List({0xb3, 0}));
-    CHECK(!module->receive(List({56})) && !module->receive(List({6})));
-    module->scan(~(std::uint64_t(1) << 12));
-    CHECK(module->counter() == 1 && module->waiting() == 1);
-    auto answer = module->receive(poller.poll());
-    CHECK(answer && octets(*answer) == List({0xb6, 5, 1, 12, 0, 1, 0, 0, 0, 0, 1}));
-    auto heard = poller.hear(*answer);
-    CHECK(heard.is_taken() && heard.entries() == 1 && heard.status() == 0 && poller.number() == 6);
-    CHECK(poller.record().size() == 1 && poller.record()[0].input == 12 && poller.record()[0].wide == 1);
-    CHECK(poller.hear(*answer).kind() == FIO2070_HEARD_STALE && poller.hear(*answer).number() == 5);
-    CHECK(poller.hear(List({0xb3, 0})).other_code() == 179);
+    const auto taken = poller.hear(List({0xb6, 5, 1, 0x8c, 3, 0xe7, 0x0c, 0, 0, 3, 0xe8}));
+    CHECK(taken.is_taken() && taken.status() == 0x0c && taken.entries() == 1 && taken.items() == 2);
+    CHECK(octets(poller.poll()) == List({54, 6}) && poller.hear(List({0xb3, 0})).other_code() == 179);
+    CHECK(!poller.hear(BLOCK).is_taken() && poller.hear(BLOCK).kind() == FIO2070_HEARD_STALE);
     CHECK(poller.hear(List()).kind() == FIO2070_HEARD_UNREADABLE && poller.hear(List()).fault().text() == "empty");
-    CHECK(poller.hear(List({0xb6, 6, 0, 12, 0, 0, 0, 1})).is_taken() && poller.record().size() == 2);
-    CHECK(poller.record()[1].gap == 1);
-    module->receive(fio2070::encode::watchdog(200));
-    CHECK(module->watchdog_ms() == 100);
-    module->receive(fio2070::encode::load_counter(999));
-    module->line_sync();
-    CHECK(module->counter() == 999);
-    module->set_errors(3, 4);
-    CHECK(module->errors().receive == 3 && module->errors().transmit == 4 && module->flags() == 0x80);
-    CHECK((*module->receive(fio2070::encode::status(0)))[2] == 3);
-    module->count_receive_error();
-    module->count_transmit_error();
-    CHECK(module->errors().receive == 4 && module->errors().transmit == 5);
-    CHECK(module->raw() == ~(std::uint64_t(1) << 12));
-    module->raise(1);
-    CHECK((*module->receive(fio2070::encode::status(0)))[1] == 0x81);
-    fio2070::Outputs outputs{};
-    outputs.levels[7] = 1;
-    module->receive(fio2070::encode::set_outputs(outputs));
-    CHECK(module->outputs().levels[7] == 1 && module->outputs().controls[7] == 0);
-    module->restart();
-    CHECK(module->counter() == 0 && module->outputs().levels[7] == 0);
+    CHECK(poller.hear(List({0xb6, 6, 0, 12, 0, 0, 0, 1})).is_taken() && poller.record().size() == 3);
+    CHECK(poller.record() == std::vector<fio2070::RecordItem>({{1, 0, 0, {}, 0, 0}, {0, 12, 1, {}, 999, 999}, {1, 0, 0, {}, 0, 0}}));
 }
 
-/* Four transitions of inputs 0 and 1, of which three may wait: the first is pushed out. */
-static void has_little_room() {
+/* A copy of a module has its waiting entries. */
+static void moves() {
     auto module = fio2070::Module<3>::start(2);
-    const fio2070::ConfigurationItem items[] = {{0, 0, 1, 1}, {1, 0, 1, 1}};
-    module->receive(*fio2070::encode::configure_inputs(items));
-    module->scan(~std::uint64_t(3));
-    module->scan(~std::uint64_t(0));
-    CHECK(module->waiting() == 3);
+    const fio2070::ConfigurationItem item[] = {{0, 0, 1, 1}};
+    CHECK(!module->watchdog_ms() && octets(*module->receive(*fio2070::encode::configure_inputs(item))) == List({0xb3, 0}));
+    module->scan(~std::uint64_t(1));
     auto moved = module;
     module.reset();
-    CHECK(octets(*moved->receive(fio2070::encode::poll(7))) ==
-          List({0xb6, 7, 3, 1, 0, 1, 0x80, 0, 2, 0x81, 0, 2, 4, 0, 0, 0, 2}));
+    CHECK(octets(*moved->receive(fio2070::encode::poll(7))) == List({0xb6, 7, 1, 0, 0, 1, 0, 0, 0, 0, 1}));
     CHECK(moved->waiting() == 0);
 }
 
@@ -243,13 +172,6 @@ static void has_checkers() {
     CHECK(fio2070::LogSigns().sign() == FIO2070_LOG_SIGN_NONE);
 }
 
-static void writes_a_line() {
-    const List digits = {'1', '2', '3', '4', '5', '6', '7', '8', '9'};
-    CHECK(fio2070::wire_check(digits) == 0x906e && fio2070::wire_check({}) == 0);
-    CHECK(*fio2070::wire_frame({0x36, 0x7e}) == List({0x7e, 0x14, 0x83, 0x36, 0x7d, 0x5e, 0x90, 0xd6, 0x7e}));
-    CHECK(!fio2070::wire_frame({}) && !fio2070::wire_frame(List(774, 0)) && fio2070::wire_frame(List(773, 0x7e))->size() > 1550);
-}
-
 static void reads_a_line() {
     const List shared = {0x7e, 0x14, 0x83, 0x36, 1, 0xe0, 0x5d, 0x7e, 0x14, 0x83, 0x36, 2, 0x7b, 0x6f, 0x7e};
     const List longest = *fio2070::wire_frame(List(773, 0x7d), 0x7d, 0x7e);
@@ -258,22 +180,19 @@ static void reads_a_line() {
     auto first = wire.read(rest), second = wire.read(rest);
     CHECK(first->is_message() && octets(first->message()) == List({0x36, 1}) && octets(second->message()) == List({0x36, 2}));
     CHECK(octets(any.read(all)->message()) == List(773, 0x7d) && all.empty());
+    CHECK(*fio2070::wire_frame({0x36, 1}) == List(shared.begin(), shared.begin() + 8) && !fio2070::wire_frame({}));
 }
 
 int main() {
     reads_and_writes();
-    reads_numbers();
     has_values();
     tells_values();
-    has_the_most();
-    polls_a_module<fio2070::Module<>>();
-    polls_a_module<fio2070::Module<1>>();
-    has_little_room();
+    has_the_longest_text();
+    hears();
+    moves();
     constructs_a_module();
     has_parts();
     has_checkers();
-    writes_a_line();
     reads_a_line();
-    std::printf("%d passed, %d failed\n", passed, failed);
-    return failed != 0;
+    return end_of_checks();
 }

@@ -146,13 +146,8 @@ fn fields_of(fields: &[(&str, u64)]) -> String {
 
 fn command_of(octets: &[u8]) -> Result<String, Fault> {
     let it = decode_command(octets)?;
-    let mut words = fields!(it, code, clear, block, timeout, count, body, load);
-    for (name, octets) in [("levels", it.levels), ("controls", it.controls)] {
-        if octets != [0; 8] {
-            words += &format!(" {name} {}", hex(&octets));
-        }
-    }
-    Ok(words)
+    let words = fields!(it, code, clear, block, timeout, count, body, load);
+    Ok(words + &outputs_of(&it.levels, &it.controls))
 }
 
 fn answer_of(octets: &[u8]) -> Result<String, Fault> {
@@ -223,6 +218,96 @@ fn by_checker(row: &Row) -> String {
             breach.rule.to_string()
         })
     })
+}
+
+/// What a poller says of frames, what each adds to the record, and the number of the next poll.
+fn by_poller(row: &Row) -> String {
+    let mut poller = Poller::new(row.numbers[0] as u8);
+    let mut room = [RecordItem::default(); MOST_RECORD_ITEMS];
+    let said = row.text.split(", ").map(|frame| {
+        let heard = poller.hear(&octets_of(frame), &mut room);
+        let (number, stamp, count) = match heard {
+            Heard::Taken {
+                number,
+                stamp,
+                items,
+                ..
+            } => (number, stamp, items),
+            Heard::Stale { number, stamp } => (number, stamp, 0),
+            _ => (0, 0, 0),
+        };
+        let fields = fields_of(&[("number", number.into()), ("stamp", stamp.into())]);
+        let mut words = vec![heard.to_string(), fields];
+        words.extend(room[..count].iter().map(item_words));
+        words.push(format!("next {}", poller.number()));
+        words.retain(|word| !word.is_empty());
+        words.join(" ")
+    });
+    said.collect::<Vec<_>>().join(", ")
+}
+
+fn item_words(it: &RecordItem) -> String {
+    let gap = u8::from(it.gap);
+    let (input, state, stamp, wide) = (it.input, it.state, it.stamp, it.wide);
+    format!("item {gap} {input} {state} {stamp} {wide}")
+}
+
+/// What a module answers, and its states, by the frames that it gets and the calls between them.
+fn by_module<const WAITING: usize>(row: &Row) -> String {
+    let Some(mut module) = Module::<WAITING>::sized(2, row.numbers[0] as u8) else {
+        return "refused".to_string();
+    };
+    let mut said = Vec::new();
+    for step in row.text.split(", ") {
+        let (name, given) = step.split_once(' ').unwrap_or((step, ""));
+        let number = u64::from_str_radix(given, 16).unwrap_or(0);
+        match name {
+            ">" => said.push(reply_of(&mut module, &octets_of(given))),
+            "scan" => module.scan(number),
+            "line_sync" => module.line_sync(),
+            "raise" => module.raise(number as u8),
+            "set_errors" => module.set_errors((number >> 8) as u8, number as u8),
+            "count_receive_error" => module.count_receive_error(),
+            "count_transmit_error" => module.count_transmit_error(),
+            "restart" => module.restart(),
+            _ => said.push(state_of(&module)),
+        }
+    }
+    said.join(", ")
+}
+
+fn reply_of<const WAITING: usize>(module: &mut Module<WAITING>, octets: &[u8]) -> String {
+    match module.receive(octets, &mut [0; LONGEST_FRAME]) {
+        Some(answer) => hex(answer),
+        None if decode_command(octets).is_ok() => "no answer".to_string(),
+        None => "no command".to_string(),
+    }
+}
+
+/// What a module is, of its numbers and outputs those that are not 0.
+fn state_of<const WAITING: usize>(module: &Module<WAITING>) -> String {
+    let (filtered, raw, errors) = (module.filtered(), module.raw(), module.errors());
+    let numbers = fields_of(&[
+        ("counter", module.counter().into()),
+        ("waiting", module.waiting() as u64),
+        ("flags", module.flags().into()),
+        ("watchdog", module.watchdog_ms().unwrap_or(0).into()),
+        ("receive", errors.receive.into()),
+        ("transmit", errors.transmit.into()),
+    ]);
+    let outputs = outputs_of(&module.outputs().levels, &module.outputs().controls);
+    let words = format!("filtered {filtered:016x} raw {raw:016x} {numbers}");
+    words.trim_end().to_string() + &outputs
+}
+
+fn outputs_of(levels: &[u8; 8], controls: &[u8; 8]) -> String {
+    let mut words = String::new();
+    for (name, octets) in [("levels", levels), ("controls", controls)] {
+        if *octets != [0; 8] {
+            words += &format!(" {name} {}", hex(octets));
+        }
+    }
+    words
 }
 
 fn by_content_checker(row: &Row) -> String {
@@ -517,12 +602,9 @@ fn run(row: &Row) -> Result<String, Fault> {
         "content_rule_text" => {
             words_of(content_rule_text(number(0) as u8, &mut text).map(str::to_string))
         }
-        "heard_text" => {
-            let mut items = [RecordItem::default(); constants::MOST_RECORD_ITEMS];
-            Poller::new(number(0) as u8)
-                .hear(&octets, &mut items)
-                .to_string()
-        }
+        "poller" => by_poller(row),
+        "module" if number(1) == 3 => by_module::<3>(row),
+        "module" => by_module::<1024>(row),
         "checker" | "checker_anywhere" => by_checker(row),
         "content" | "content_begun" => by_content_checker(row),
         "judge" | "judge_begun" => by_judge(row),
