@@ -2,38 +2,15 @@
 
 use crate::logs::LogBatch;
 use crate::raw::{self, LogCounts};
+use core::mem::MaybeUninit;
 
 // SAFETY of the calls below: slices are given with their lengths, all memory is initialised and,
-// where it is written, borrowed by the call alone.
+// where it is written, borrowed by the call alone; the counts are numbers, of which all zeros are some.
 
 impl LogCounts {
     /// The counts of no frame.
     pub fn new() -> LogCounts {
-        let mut counts = LogCounts {
-            frames: 0,
-            polls: 0,
-            repeats: 0,
-            unanswered: 0,
-            marks: 0,
-            entries: 0,
-            restarts: 0,
-            types: [0; 256],
-            inputs: [0; 128],
-            fills: [0; 256],
-            sent_at: 0,
-            has_sent_at: 0,
-            command: 0,
-            has_command: 0,
-            polled: 0,
-            has_polled: 0,
-            waits: 0,
-            block: 0,
-            has_block: 0,
-            reset: 0,
-            first_reset: 0,
-            has_reset: 0,
-            reserved: [0; 5],
-        };
+        let mut counts = unsafe { MaybeUninit::<LogCounts>::zeroed().assume_init() };
         unsafe { raw::fio2070_log_counts_start(&mut counts) };
         counts
     }
@@ -62,11 +39,5 @@ impl LogCounts {
     pub fn batch<'a>(&mut self, batch: &LogBatch, taken: &'a mut [u64; 20480]) -> &'a [u64] {
         let count = unsafe { raw::fio2070_log_counts_batch(self, &batch.0, taken) };
         &taken[..count as usize]
-    }
-}
-
-impl Default for LogCounts {
-    fn default() -> LogCounts {
-        LogCounts::new()
     }
 }

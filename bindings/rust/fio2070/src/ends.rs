@@ -119,12 +119,6 @@ impl Poller {
 #[derive(Clone)]
 pub struct Checker(RawChecker);
 
-impl Default for Checker {
-    fn default() -> Checker {
-        Checker::new()
-    }
-}
-
 impl Checker {
     /// Above the first frame, of a module with the limits of TEES 2009.
     pub fn new() -> Checker {
@@ -150,13 +144,8 @@ impl Checker {
         per_block: u8,
         waiting: u16,
     ) -> Option<Checker> {
-        let limits = RawLimits {
-            waiting,
-            per_block,
-            reserved: 0,
-        };
         let mut checker = RawChecker::default();
-        match unsafe { start(&mut checker, limits) } {
+        match unsafe { start(&mut checker, RawLimits::of(waiting, per_block)) } {
             0 => Some(Checker(checker)),
             _ => None,
         }
@@ -187,12 +176,6 @@ impl Checker {
 /// whose first number is that of the first poll sent.
 #[derive(Clone)]
 pub struct ContentChecker(RawContentChecker);
-
-impl Default for ContentChecker {
-    fn default() -> ContentChecker {
-        ContentChecker::new()
-    }
-}
 
 impl ContentChecker {
     /// Above the first frame of a log, which may begin anywhere: what the CPU heard above the first frame that it sent is
@@ -229,21 +212,10 @@ impl ContentChecker {
 #[derive(Clone)]
 pub struct Counter(RawCounter);
 
-impl Default for Counter {
-    fn default() -> Counter {
-        Counter::new()
-    }
-}
-
 impl Counter {
     /// At 0, with no load asked for.
     pub fn new() -> Counter {
-        let mut counter = RawCounter {
-            value: 0,
-            load: 0,
-            is_asked: 0,
-            reserved: [0; 3],
-        };
+        let mut counter = RawCounter::default();
         unsafe { raw::fio2070_counter_start(&mut counter) };
         Counter(counter)
     }
@@ -272,12 +244,6 @@ impl Counter {
 /// The filters of the 64 inputs. Bit i of a word is input i.
 #[derive(Clone)]
 pub struct Filters(RawFilters);
-
-impl Default for Filters {
-    fn default() -> Filters {
-        Filters::new()
-    }
-}
 
 impl Filters {
     /// Each input is ignored, both its filters are 5, and its raw level and filtered state are 1.
@@ -334,11 +300,7 @@ impl<const WAITING: usize> Module<WAITING> {
     /// It answers `id` to command 60; its blocks have at most `per_block` entries. `None` where that is 0, and
     /// where `WAITING` is not 1 to 8,192.
     pub fn sized(id: u8, per_block: u8) -> Option<Self> {
-        let limits = RawLimits {
-            waiting: u16::try_from(WAITING).ok()?,
-            per_block,
-            reserved: 0,
-        };
+        let limits = RawLimits::of(u16::try_from(WAITING).ok()?, per_block);
         let mut raw = RawSizedModule::default();
         match unsafe { raw::fio2070_sized_module_start(&mut raw, id, limits) } {
             0 => Some(Module {

@@ -29,13 +29,8 @@ impl LinkJudge {
         per_block: u8,
         waiting: u16,
     ) -> Option<LinkJudge> {
-        let limits = RawLimits {
-            waiting,
-            per_block,
-            reserved: 0,
-        };
         let mut judge = RawJudge::default();
-        match unsafe { start(&mut judge, limits) } {
+        match unsafe { start(&mut judge, RawLimits::of(waiting, per_block)) } {
             0 => Some(LinkJudge(judge)),
             _ => None,
         }
@@ -82,11 +77,7 @@ impl LogJudge {
     /// `start` says, one of `constants::LOG_BEGINS_ANYWHERE` and those after it, of a module whose blocks have at most `per_block`
     /// entries, 1 to 255, and of which `waiting` may wait, 1 to 8,192. `None` where one of these two is out of its range.
     pub fn new(place: u8, start: u8, per_block: u8, waiting: u16) -> Option<LogJudge> {
-        let limits = RawLimits {
-            waiting,
-            per_block,
-            reserved: 0,
-        };
+        let limits = RawLimits::of(waiting, per_block);
         let mut judge = RawLogJudge::default();
         match unsafe { raw::fio2070_log_judge_start(&mut judge, limits, place, start) } {
             0 => Some(LogJudge(judge)),
@@ -157,12 +148,6 @@ impl LogJudge {
 /// ```
 #[derive(Clone)]
 pub struct LogSigns(RawLogSigns);
-
-impl Default for LogSigns {
-    fn default() -> LogSigns {
-        LogSigns::new()
-    }
-}
 
 impl LogSigns {
     /// Above the first frame of a log.

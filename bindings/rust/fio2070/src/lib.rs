@@ -55,6 +55,19 @@ use written::{front, text};
 
 pub use constants::{LONGEST_FRAME, MOST_ENTRIES, MOST_RECORD_ITEMS};
 
+/// What these are by default: new.
+macro_rules! new_by_default {
+    ($($name:ident),*) => {$(
+        impl Default for $name {
+            fn default() -> $name {
+                $name::new()
+            }
+        }
+    )*};
+}
+
+new_by_default! { Checker, ContentChecker, Counter, Filters, LogSigns, LogCounts, LogBatch }
+
 impl fmt::Display for Fault {
     /// As `fio2070 show` writes it.
     fn fmt(&self, formatter: &mut fmt::Formatter<'_>) -> fmt::Result {

@@ -32,12 +32,6 @@ impl LogReader {
 /// Verdicts on lines of a log. It is some 600 KB.
 pub struct LogBatch(pub(crate) RawLogBatch);
 
-impl Default for LogBatch {
-    fn default() -> LogBatch {
-        LogBatch::new()
-    }
-}
-
 impl LogBatch {
     /// A batch without verdicts.
     pub const fn new() -> LogBatch {

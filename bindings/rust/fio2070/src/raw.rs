@@ -117,7 +117,7 @@ pub struct ErrorCounts {
     pub transmit: u8,
 }
 
-#[derive(Clone)]
+#[derive(Clone, Default)]
 #[repr(C)]
 pub(crate) struct RawCounter {
     pub value: u32,
@@ -187,6 +187,16 @@ pub struct RawLimits {
     pub waiting: u16,
     pub per_block: u8,
     pub reserved: u8,
+}
+
+impl RawLimits {
+    pub fn of(waiting: u16, per_block: u8) -> RawLimits {
+        RawLimits {
+            waiting,
+            per_block,
+            reserved: 0,
+        }
+    }
 }
 
 /// What the reader of logs says of a line.
