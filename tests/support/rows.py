@@ -1,8 +1,8 @@
 #!/usr/bin/env python3
 """The table tests/rows.json: calls of the library, each with its arguments and its result or its error, which the tests of the
 library in C, C++, Python and Rust read. An argument is a number, or a text: octets in hexadecimal, a list of items or entries,
-frames that were sent (>) and heard (<), where `-` is a place at which lines are lost, a line, of whose octets one is lost at `,
-`, or a log, in which `~` is the end of a line. For a judge of a log a second `>` or `<` is who sent a frame as its line says,
+frames that were sent (>) and heard (<), where `-` is a place at which lines are lost, a line, of whose octets one is lost at
+`, `, or a log, in which `~` is the end of a line. For a judge of a log a second `>` or `<` is who sent a frame as its line says,
 `?` is a possible message, and `!` a line that speaks of loss. For counts of a log a frame has its octets, and its time if it has
 one. For a module `>` is a frame that it gets, and each other step a call, with its argument in hexadecimal; `state` is all calls
 that ask what it is. `30*3` is short for `303030`, and `+` joins octets. A result that is a struct is written by its fields that
