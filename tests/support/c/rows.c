@@ -235,16 +235,6 @@ static void checks(void) {
     }
 }
 
-/* A checker of a module with no room is not started. */
-static void refuses_limits(void) {
-    static const struct fio2070_limits none = {0, 255, 0};
-    struct fio2070_checker checker, before;
-    memset(&checker, 0xa5, sizeof checker);
-    before = checker;
-    CHECK(fio2070_checker_start_within(&checker, none) == FIO2070_REFUSED && memcmp(&checker, &before, sizeof checker) == 0);
-    CHECK(fio2070_checker_start_anywhere(&checker, none) == FIO2070_REFUSED && memcmp(&checker, &before, sizeof checker) == 0);
-}
-
 /* ---- Parts of a module ---- */
 
 static void counts(void) {
@@ -452,7 +442,6 @@ int main(void) {
     checks();
     reads_the_next_log();
     ends_with_verdicts_due();
-    refuses_limits();
     counts();
     filters();
     refuses_other_limits();
