@@ -7,12 +7,11 @@ Last line: `N passed, M failed`."""
 import os
 import re
 import shutil
-import subprocess
 import sys
-import tempfile
 
 from support import instructions as cases
 from support.check import Check
+from support.room import path, room, run, written
 from support.tables import TOP
 from support.translators import UNSEEN, changed
 
@@ -30,21 +29,11 @@ WAYS = [['-O0'], ['-O2', '-DFIO2070_FAST', '-DPLAIN', '-w'],
         ['-O1', '-fsanitize=address,undefined', '-fno-sanitize-recover=all']]
 
 check = Check()
-room = tempfile.mkdtemp()
-
-
-def run(*words):
-    return subprocess.run(words, capture_output=True, text=True, errors='replace', timeout=120, cwd=room, check=False)
-
-
-def path(name):
-    return os.path.join(room, name)
 
 
 def module_of(functions):
     """The module of some functions in WebAssembly's text, as octets in a file."""
-    with open(path('module.wat'), 'w', encoding='utf-8') as file:
-        file.write(cases.module_text(functions))
+    written('module.wat', cases.module_text(functions))
     done = run('wat2wasm', *FLAGS, 'module.wat', '-o', 'module.wasm')
     if done.returncode:
         raise ValueError(done.stderr)
@@ -74,10 +63,8 @@ def translated(functions, options, translator=TRANSLATOR):
     text = translated_text(module_of(functions), translator)
     if text is None:
         return {}
-    with open(path('translated.c'), 'w', encoding='utf-8') as file:
-        file.write(text)
-    with open(path('cases.c'), 'w', encoding='utf-8') as file:
-        file.writelines('CASE(%s)\n' % name for name, _ in functions)
+    written('translated.c', text)
+    written('cases.c', ''.join('CASE(%s)\n' % name for name, _ in functions))
     done = run('gcc', '-std=c99', *options, '-I', room, C, '-o', path('cases'))
     if done.returncode:
         return {'compiler': done.stderr[-500:]}
@@ -119,5 +106,4 @@ for name, text in cases.REFUSED:
     check.fault('%s is refused' % name, is_refused, text)
 check.equal('the instructions that the translator takes', sorted(cases.OPCODES.values()),
             sorted({*RULES, *LOADS, *STORES, *STEPS}))
-shutil.rmtree(room)
 check.end()

@@ -8,15 +8,14 @@ import functools
 import os
 import re
 import shutil
-import subprocess
 import sys
-import tempfile
 
 sys.dont_write_bytecode = True
 
 from support import cortex
 from support.check import Check
 from support.figures import differ
+from support.room import fault_of, path, room, run, written
 from support.tables import TOP
 
 STRICT = ['-Wall', '-Wextra', '-Wpedantic', '-Wconversion', '-Werror']
@@ -46,27 +45,6 @@ target_link_libraries(part fio2070::fio2070)
 MOST_CODE = 20_000
 
 check = Check()
-room = tempfile.mkdtemp()
-
-
-def path(name):
-    return os.path.join(room, name)
-
-
-def run(*words, **settings):
-    return subprocess.run(words, capture_output=True, text=True, errors='replace', timeout=900, cwd=room, check=False, **settings)
-
-
-def fault_of(*words):
-    """What a command writes if it fails, otherwise nothing."""
-    done = run(*words)
-    return done.stderr[-500:] or 'status %d' % done.returncode if done.returncode else None
-
-
-def written(name, text):
-    with open(path(name), 'w', encoding='utf-8') as file:
-        file.write(text)
-    return path(name)
 
 
 @functools.cache
@@ -182,6 +160,4 @@ try:
     main()
 except cortex.Failed as why:
     check.holds('building', False, str(why))
-finally:
-    shutil.rmtree(room, ignore_errors=True)
 check.end()

@@ -10,12 +10,12 @@ import re
 import shutil
 import subprocess
 import sys
-import tempfile
 
 sys.dont_write_bytecode = True
 
 from support import cortex
 from support.check import Check
+from support.room import fault_of, path, room, run, written
 from support.tables import TOP
 from support.translators import WRONG, changed
 
@@ -46,21 +46,6 @@ MOST = {'module_scan, nothing changes': 150, 'module_scan, inputs 0 and 1 change
         'module_receive, poll': 1280, 'poller_hear, 255 entries': 1024}
 
 check = Check(every=False)
-room = tempfile.mkdtemp()
-
-
-def run(*words, **settings):
-    return subprocess.run(words, capture_output=True, text=True, errors='replace', timeout=300, cwd=room, **settings)
-
-
-def fault_of(*words):
-    """What a command writes if it fails, otherwise nothing."""
-    done = run(*words)
-    return done.stderr[-500:] or 'status %d' % done.returncode if done.returncode else None
-
-
-def path(name):
-    return os.path.join(room, name)
 
 
 def build(compiler, options, name, folder=PORTABLE):
@@ -84,10 +69,8 @@ def translate(header, out, module=MODULE):
 def refuses(change, words):
     """The translator stops at a changed header with this message."""
     with open(os.path.join(TOP, 'include/fio2070.h'), encoding='utf-8') as file:
-        text = change(file.read())
-    with open(path('changed.h'), 'w', encoding='utf-8') as file:
-        file.write(text)
-    done = translate(path('changed.h'), path('refused'))
+        header = written('changed.h', change(file.read()))
+    done = translate(header, path('refused'))
     return None if done.returncode and words in done.stderr else 'status %d: %s' % (done.returncode, done.stderr)
 
 
@@ -268,5 +251,4 @@ elif shutil.which('aarch64-linux-gnu-gcc') and shutil.which('qemu-aarch64'):
 else:
     check.skip('the archive for aarch64', 'it runs with the Debian packages gcc-aarch64-linux-gnu and qemu-user')
 wrong_translators()
-shutil.rmtree(room)
 check.end()
