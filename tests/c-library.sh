@@ -173,15 +173,12 @@ fits_not() {
     ! "$1" -ffreestanding -I "$top/include" -fsyntax-only header.c 2>said && grep -q '#error "libfio2070.a' said
 }
 
-# misused COMPILER: it takes the right uses of support/c/misuses.c, and warns of each other use. Those from 51 on are of rings.
+# misused COMPILER: it takes the right uses of support/c/misuses.c, and warns of each other use.
 misused() {
     source=$top/tests/support/c/misuses.c
-    most=50
-    ! grep -q 'define FIO2070_RING(' "$top/include/fio2070.h" || most=99
     # shellcheck disable=SC2086
     "$1" -std=c99 $strict -DMISUSE=0 -I "$top/include" -c "$source" -o misuses.o || return 1
     for number in $(grep -o 'MISUSE [=!]= [0-9]*' "$source" | grep -o '[0-9]*$'); do
-        [ "$number" -le "$most" ] || continue
         # shellcheck disable=SC2086
         "$1" -std=c99 $strict -DMISUSE="$number" -I "$top/include" -c "$source" -o misuses.o 2>said || continue
         echo "$1 takes misuse $number"

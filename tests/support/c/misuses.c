@@ -1,5 +1,4 @@
-/* Uses of the library about which a compiler warns. MISUSE is the number of one, or 0 for right uses only. Those of a ring
- * have the numbers from 51 on. */
+/* Uses of the library about which a compiler warns. MISUSE is the number of one, or 0 for right uses only. */
 #include "fio2070.h"
 
 void drops(uint8_t *out, size_t room, char *text);
@@ -7,6 +6,7 @@ const char *says(const struct fio2070_heard *heard);
 const char *rules(uint8_t rule, uint8_t content);
 const char *faults(uint8_t kind, uint8_t configured, uint8_t started, uint8_t type);
 const char *lines(struct fio2070_wire *wire, struct fio2070_wire_bits *bits, uint8_t *out);
+void keeps(struct fio2070_sized_module *module, struct fio2070_slot *slots, uint8_t *out, size_t room);
 
 static const uint8_t frame[] = {0x36, 5};
 
@@ -144,9 +144,6 @@ const char *lines(struct fio2070_wire *wire, struct fio2070_wire_bits *bits, uin
 }
 
 /* A module over a ring of the caller. */
-#ifdef FIO2070_RING
-void keeps(struct fio2070_sized_module *module, struct fio2070_slot *slots, uint8_t *out, size_t room);
-
 void keeps(struct fio2070_sized_module *module, struct fio2070_slot *slots, uint8_t *out, size_t room) {
     static struct fio2070_slot array[64];
     static const struct fio2070_limits limits = {64, 255, 0};
@@ -170,4 +167,3 @@ void keeps(struct fio2070_sized_module *module, struct fio2070_slot *slots, uint
     if (fio2070_sized_module_start(module, limits, 2) != FIO2070_STARTED) return;
 #endif
 }
-#endif
