@@ -130,23 +130,19 @@ size_t fio2070_heard_text(const struct fio2070_heard *heard, char *text, size_t 
     }
 }
 
-size_t fio2070_rule_text(uint8_t rule, char *text, size_t room) {
-    MACHINE(fio2070_rule_text);
-    return (size_t)call_fio2070_rule_text(&machine, rule, WRITES(text, room), room);
-}
-
-size_t fio2070_content_rule_text(uint8_t rule, char *text, size_t room) {
-    MACHINE(fio2070_content_rule_text);
-    return (size_t)call_fio2070_content_rule_text(&machine, rule, WRITES(text, room), room);
-}
-
-size_t fio2070_show(const uint8_t *octets, size_t length, char *text, size_t room) {
-    MACHINE(fio2070_show);
-    {
-        uint64_t a = READS(octets, length), b = WRITES(text, room);
-        return (size_t)call_fio2070_show(&machine, a, length, b, room);
+/* Calls that take numbers and octets, and write to the room that they are given. */
+#define ENCODES(name, takes, ...)                                          \
+    size_t fio2070_##name takes {                                          \
+        MACHINE(fio2070_##name);                                           \
+        {                                                                  \
+            uint64_t to = WRITES(out, room);                               \
+            return (size_t)call_fio2070_##name(&machine, __VA_ARGS__);     \
+        }                                                                  \
     }
-}
+
+ENCODES(rule_text, (uint8_t rule, char *out, size_t room), rule, to, room)
+ENCODES(content_rule_text, (uint8_t rule, char *out, size_t room), rule, to, room)
+ENCODES(show, (const uint8_t *octets, size_t length, char *out, size_t room), READS(octets, length), length, to, room)
 
 uint32_t fio2070_version(void) {
     MACHINE(fio2070_version);
@@ -155,22 +151,30 @@ uint32_t fio2070_version(void) {
 
 /* ---- Blocks ---- */
 
-struct fio2070_fault fio2070_read_block(const uint8_t *octets, size_t length, struct fio2070_block_header *header) {
-    uint8_t fault[16] = {0}, into[8] = {0};
-    MACHINE(fio2070_read_block);
-    {
-        uint64_t a = WRITES(fault, 16), b = READS(octets, length), c = WRITES(into, 8);
-        call_fio2070_read_block(&machine, a, b, length, c);
+/* Calls that read so many octets of a message, of which `settle` makes what the caller gets if there is no fault. */
+#define DECODES(name, count, type, settle)                                                         \
+    struct fio2070_fault fio2070_##name(const uint8_t *octets, size_t length, type *it) {          \
+        uint8_t fault[16] = {0}, into[count] = {0};                                                \
+        MACHINE(fio2070_##name);                                                                   \
+        {                                                                                          \
+            uint64_t a = WRITES(fault, 16), b = READS(octets, length), c = WRITES(into, count);    \
+            call_fio2070_##name(&machine, a, b, length, c);                                        \
+        }                                                                                          \
+        if (fault[0] == FIO2070_FAULT_NONE) settle;                                                \
+        return fault_in(fault);                                                                    \
     }
-    if (fault[0] == FIO2070_FAULT_NONE) {
-        memset(header, 0, sizeof *header);
-        header->number = into[0];
-        header->status = into[1];
-        header->count = into[2];
-        header->stamp = get32(into + 4);
-    }
-    return fault_in(fault);
+
+static void settle_header(struct fio2070_block_header *header, const uint8_t *into) {
+    memset(header, 0, sizeof *header);
+    header->number = into[0];
+    header->status = into[1];
+    header->count = into[2];
+    header->stamp = get32(into + 4);
 }
+
+DECODES(read_block, 8, struct fio2070_block_header, settle_header(it, into))
+DECODES(read_outputs_answer, 4, uint32_t, *it = get32(into))
+DECODES(read_identification, 1, uint8_t, *it = into[0])
 
 /* Entries that the module wrote, in the processor's own order of octets. */
 static void settle_entries(struct fio2070_entry *entries, size_t count) {
@@ -196,27 +200,20 @@ uint32_t fio2070_widen(uint32_t answer_stamp, uint16_t stamp) {
 
 /* ---- Any message ---- */
 
-struct fio2070_fault fio2070_decode_command(const uint8_t *octets, size_t length, struct fio2070_command *command) {
-    uint8_t fault[16] = {0}, into[28] = {0};
-    MACHINE(fio2070_decode_command);
-    {
-        uint64_t a = WRITES(fault, 16), b = READS(octets, length), c = WRITES(into, 28);
-        call_fio2070_decode_command(&machine, a, b, length, c);
-    }
-    if (fault[0] == FIO2070_FAULT_NONE) {
-        memset(command, 0, sizeof *command);
-        command->code = into[0];
-        command->clear = into[1];
-        command->block = into[2];
-        command->timeout = into[3];
-        command->count = into[4];
-        command->body = get16(into + 6);
-        command->load = get32(into + 8);
-        memcpy(command->levels, into + 12, 8);
-        memcpy(command->controls, into + 20, 8);
-    }
-    return fault_in(fault);
+static void settle_command(struct fio2070_command *command, const uint8_t *into) {
+    memset(command, 0, sizeof *command);
+    command->code = into[0];
+    command->clear = into[1];
+    command->block = into[2];
+    command->timeout = into[3];
+    command->count = into[4];
+    command->body = get16(into + 6);
+    command->load = get32(into + 8);
+    memcpy(command->levels, into + 12, 8);
+    memcpy(command->controls, into + 20, 8);
 }
+
+DECODES(decode_command, 28, struct fio2070_command, settle_command(it, into))
 
 size_t fio2070_command_items(const uint8_t *octets, size_t length, struct fio2070_configuration_item *items,
                              size_t room) {
@@ -225,60 +222,23 @@ size_t fio2070_command_items(const uint8_t *octets, size_t length, struct fio207
     return (size_t)call_fio2070_command_items(&machine, a, length, b, room);
 }
 
-struct fio2070_fault fio2070_decode_answer(const uint8_t *octets, size_t length, struct fio2070_answer *answer) {
-    uint8_t fault[16] = {0}, into[24] = {0};
-    MACHINE(fio2070_decode_answer);
-    {
-        uint64_t a = WRITES(fault, 16), b = READS(octets, length), c = WRITES(into, 24);
-        call_fio2070_decode_answer(&machine, a, b, length, c);
-    }
-    if (fault[0] == FIO2070_FAULT_NONE) {
-        memset(answer, 0, sizeof *answer);
-        answer->code = into[0];
-        answer->flags = into[1];
-        answer->receive_errors = into[2];
-        answer->transmit_errors = into[3];
-        answer->status = into[4];
-        answer->block = into[5];
-        answer->count = into[6];
-        answer->body = get16(into + 10);
-        answer->stamp = get32(into + 12);
-        answer->inputs = get64(into + 16);
-    }
-    return fault_in(fault);
+static void settle_answer(struct fio2070_answer *answer, const uint8_t *into) {
+    memset(answer, 0, sizeof *answer);
+    answer->code = into[0];
+    answer->flags = into[1];
+    answer->receive_errors = into[2];
+    answer->transmit_errors = into[3];
+    answer->status = into[4];
+    answer->block = into[5];
+    answer->count = into[6];
+    answer->body = get16(into + 10);
+    answer->stamp = get32(into + 12);
+    answer->inputs = get64(into + 16);
 }
 
-struct fio2070_fault fio2070_read_outputs_answer(const uint8_t *octets, size_t length, uint32_t *stamp) {
-    uint8_t fault[16] = {0}, into[4] = {0};
-    MACHINE(fio2070_read_outputs_answer);
-    {
-        uint64_t a = WRITES(fault, 16), b = READS(octets, length), c = WRITES(into, 4);
-        call_fio2070_read_outputs_answer(&machine, a, b, length, c);
-    }
-    if (fault[0] == FIO2070_FAULT_NONE) *stamp = get32(into);
-    return fault_in(fault);
-}
+DECODES(decode_answer, 24, struct fio2070_answer, settle_answer(it, into))
 
-struct fio2070_fault fio2070_read_identification(const uint8_t *octets, size_t length, uint8_t *id) {
-    uint8_t fault[16] = {0};
-    MACHINE(fio2070_read_identification);
-    {
-        uint64_t a = WRITES(fault, 16), b = READS(octets, length), c = WRITES(id, 1);
-        call_fio2070_read_identification(&machine, a, b, length, c);
-    }
-    return fault_in(fault);
-}
-
-/* ---- Writing: calls that take numbers, and octets to write to ---- */
-
-#define ENCODES(name, takes, ...)                                          \
-    size_t fio2070_##name takes {                                          \
-        MACHINE(fio2070_##name);                                           \
-        {                                                                  \
-            uint64_t to = WRITES(out, room);                               \
-            return (size_t)call_fio2070_##name(&machine, __VA_ARGS__);     \
-        }                                                                  \
-    }
+/* ---- Writing ---- */
 
 ENCODES(encode_status, (uint8_t clear, uint8_t *out, size_t room), clear, to, room)
 ENCODES(encode_load_counter, (uint32_t load, uint8_t *out, size_t room), load, to, room)
@@ -328,11 +288,6 @@ size_t fio2070_encode_block_answer(uint8_t block, const struct fio2070_entry *en
 }
 
 /* ---- The CPU's end ---- */
-
-void fio2070_poller_start(struct fio2070_poller *poller, uint8_t number) {
-    MACHINE(fio2070_poller_start);
-    call_fio2070_poller_start(&machine, WRITES(poller, 1), number);
-}
 
 struct fio2070_heard fio2070_poller_hear(struct fio2070_poller *poller, const uint8_t *octets, size_t length,
                                          struct fio2070_record_item *items, size_t room) {
@@ -387,13 +342,14 @@ struct fio2070_heard fio2070_poller_hear(struct fio2070_poller *poller, const ui
         }                                                                                          \
     }
 
+OVER(poller, start, 1, void, , (struct fio2070_poller * poller, uint8_t number), it, number)
+
 OVER(counter, start, 1, void, , (struct fio2070_counter * counter), it)
 OVER(counter, tick, 1, void, , (struct fio2070_counter * counter), it)
 OVER(counter, ask_load, 1, void, , (struct fio2070_counter * counter, uint32_t number), it, number)
 OVER(counter, line_sync, 1, void, , (struct fio2070_counter * counter), it)
 OVER(counter, now, 0, uint32_t, return, (const struct fio2070_counter *counter), it)
 
-/* Where fio2070_checker_start is declared: */
 OVER(checker, start, 1, void, , (struct fio2070_checker * checker), it)
 
 BEGINS(checker, start_within, (struct fio2070_checker * checker, struct fio2070_limits limits), it, given)
@@ -404,7 +360,6 @@ OVER(checker, sent, 1, uint8_t, return (uint8_t),
 OVER(checker, heard, 1, uint8_t, return (uint8_t),
      (struct fio2070_checker * checker, const uint8_t *octets, size_t length, struct fio2070_breach *breach), it,
      READS(octets, length), length, WRITES(breach, sizeof *breach))
-/* So far. */
 
 OVER(content, start, 1, void, , (struct fio2070_content_checker * content), it)
 OVER(content, start_begun, 1, void, , (struct fio2070_content_checker * content), it)
@@ -662,22 +617,18 @@ OVER(sized_module, counter, 0, uint32_t, return, (const struct fio2070_sized_mod
 OVER(sized_module, filtered, 0, uint64_t, return, (const struct fio2070_sized_module *sized_module), it)
 OVER(sized_module, waiting, 0, size_t, return (size_t), (const struct fio2070_sized_module *sized_module), it)
 
-struct fio2070_outputs fio2070_sized_module_outputs(const struct fio2070_sized_module *module) {
-    struct fio2070_outputs outputs = {{0}, {0}};
-    MACHINE(fio2070_sized_module_outputs);
-    {
-        uint64_t a = WRITES(&outputs, sizeof outputs), b = READS(module, sizeof *module);
-        call_fio2070_sized_module_outputs(&machine, a, b);
+/* Calls over such a struct that return one of octets. */
+#define RETURNS(part, name, type)                                                                  \
+    struct fio2070_##type fio2070_##part##_##name(const struct fio2070_##part *part) {             \
+        struct fio2070_##type found;                                                               \
+        MACHINE(fio2070_##part##_##name);                                                          \
+        memset(&found, 0, sizeof found);                                                           \
+        {                                                                                          \
+            uint64_t a = WRITES(&found, sizeof found), b = READS(part, sizeof *part);              \
+            call_fio2070_##part##_##name(&machine, a, b);                                          \
+        }                                                                                          \
+        return found;                                                                              \
     }
-    return outputs;
-}
 
-struct fio2070_error_counts fio2070_sized_module_errors(const struct fio2070_sized_module *module) {
-    struct fio2070_error_counts errors = {0, 0};
-    MACHINE(fio2070_sized_module_errors);
-    {
-        uint64_t a = WRITES(&errors, sizeof errors), b = READS(module, sizeof *module);
-        call_fio2070_sized_module_errors(&machine, a, b);
-    }
-    return errors;
-}
+RETURNS(sized_module, outputs, outputs)
+RETURNS(sized_module, errors, error_counts)

@@ -47,6 +47,11 @@ def c_name(name):
     return re.sub(r'\W+', '_', re.sub(r'<#\w+>', '', name)).strip('_')
 
 
+# The sections by their numbers; those without a name are not read: what is in tables is called by instructions that are refused.
+SECTIONS = {0: 'custom', 1: 'type', 3: 'function', 4: None, 5: 'memory', 6: 'global', 7: 'export', 9: None, 10: 'code', 11: 'data',
+            12: None}
+
+
 class Module:
     """A module, read."""
 
@@ -59,11 +64,10 @@ class Module:
         while reader.place < len(octets):
             number = reader.octet()
             section, _ = reader.sub()
-            name = {0: 'custom', 1: 'type', 3: 'function', 4: 'table', 5: 'memory', 6: 'global', 7: 'export',
-                    9: 'elements', 10: 'code', 11: 'data', 12: 'data_count'}.get(number)
-            if name is None:
+            if number not in SECTIONS:
                 raise Refused('the module has a section of number %d' % number)
-            getattr(self, 'read_' + name)(section)
+            if SECTIONS[number]:
+                getattr(self, 'read_' + SECTIONS[number])(section)
 
     def read_custom(self, it):
         if it.text() != 'name':
@@ -84,14 +88,6 @@ class Module:
 
     def read_function(self, it):
         self.functions = [it.number() for _ in range(it.number())]
-
-    # What is in tables is called by instructions that are refused.
-
-    def read_table(self, it):
-        pass
-
-    def read_elements(self, it):
-        pass
 
     def read_memory(self, it):
         if it.number() != 1 or not it.octet() & 4:
@@ -115,9 +111,6 @@ class Module:
         for _ in range(it.number()):
             body, _ = it.sub()
             self.codes.append(body)
-
-    def read_data_count(self, it):
-        pass
 
     def read_data(self, it):
         if it.number() != 1 or it.number() != 0 or it.octet() != 0x42:
