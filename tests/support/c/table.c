@@ -118,13 +118,15 @@ static void say_heard(const struct row *row) {
     }
 }
 
-/* Says what a module answers, and that nothing is written beyond it. */
+/* Says what a module answers, or that something is written beyond it. */
 static void say_reply(size_t count) {
+    size_t place = count == FIO2070_NO_MESSAGE ? 0 : count;
     say("%s", *said ? ", " : "");
     if (count == FIO2070_NO_MESSAGE) say("no command");
     else if (count == 0) say("no answer");
     else say_octets(out, count);
-    if (out[count == FIO2070_NO_MESSAGE ? 0 : count] != '?') say(" too much written");
+    for (; place < sizeof out; place++)
+        if (out[place] != '?') say(" too much written");
 }
 
 /* Takes a step of a module: a frame that it gets, or a call. The calls of one kind have its slots, too. */
