@@ -331,144 +331,62 @@ opaque! {
 
 // The calls: written by tools/generate-layouts. Not each is used here.
 #[allow(dead_code)]
+#[rustfmt::skip]
 extern "C" {
-    pub(crate) fn fio2070_encode_status_answer(
-        flags: u8,
-        receive_errors: u8,
-        transmit_errors: u8,
-        stamp: u32,
-        out: *mut u8,
-        out_count: usize,
-    ) -> usize;
-    pub(crate) fn fio2070_encode_load_counter_answer(
-        status: u8,
-        out: *mut u8,
-        out_count: usize,
-    ) -> usize;
-    pub(crate) fn fio2070_encode_configure_inputs_answer(
-        status: u8,
-        out: *mut u8,
-        out_count: usize,
-    ) -> usize;
-    pub(crate) fn fio2070_encode_raw_inputs_answer(
-        inputs: u64,
-        stamp: u32,
-        out: *mut u8,
-        out_count: usize,
-    ) -> usize;
-    pub(crate) fn fio2070_encode_filtered_inputs_answer(
-        inputs: u64,
-        stamp: u32,
-        out: *mut u8,
-        out_count: usize,
-    ) -> usize;
-    pub(crate) fn fio2070_encode_block_answer(
-        block: u8,
-        entries: *const Entry,
-        entries_count: usize,
-        status: u8,
-        stamp: u32,
-        out: *mut u8,
-        out_count: usize,
-    ) -> usize;
-    pub(crate) fn fio2070_encode_watchdog_answer(
-        status: u8,
-        out: *mut u8,
-        out_count: usize,
-    ) -> usize;
-    pub(crate) fn fio2070_encode_other_answer(
-        code: u8,
-        body: *const u8,
-        body_count: usize,
-        out: *mut u8,
-        out_count: usize,
-    ) -> usize;
-    pub(crate) fn fio2070_read_outputs_answer(
-        octets: *const u8,
-        octets_count: usize,
-        stamp: &mut u32,
-    ) -> Fault;
-    pub(crate) fn fio2070_read_identification(
-        octets: *const u8,
-        octets_count: usize,
-        id: &mut u8,
-    ) -> Fault;
-    pub(crate) fn fio2070_decode_answer(
-        octets: *const u8,
-        octets_count: usize,
-        answer: &mut Answer,
-    ) -> Fault;
-    pub(crate) fn fio2070_block_entries(
-        octets: *const u8,
-        octets_count: usize,
-        entries: *mut Entry,
-        entries_count: usize,
-    ) -> usize;
+    pub(crate) fn fio2070_encode_status_answer(flags: u8, receive_errors: u8, transmit_errors: u8,
+        stamp: u32, out: *mut u8, out_count: usize) -> usize;
+    pub(crate) fn fio2070_encode_load_counter_answer(status: u8, out: *mut u8,
+        out_count: usize) -> usize;
+    pub(crate) fn fio2070_encode_configure_inputs_answer(status: u8, out: *mut u8,
+        out_count: usize) -> usize;
+    pub(crate) fn fio2070_encode_raw_inputs_answer(inputs: u64, stamp: u32, out: *mut u8,
+        out_count: usize) -> usize;
+    pub(crate) fn fio2070_encode_filtered_inputs_answer(inputs: u64, stamp: u32, out: *mut u8,
+        out_count: usize) -> usize;
+    pub(crate) fn fio2070_encode_block_answer(block: u8, entries: *const Entry,
+        entries_count: usize, status: u8, stamp: u32, out: *mut u8, out_count: usize) -> usize;
+    pub(crate) fn fio2070_encode_watchdog_answer(status: u8, out: *mut u8,
+        out_count: usize) -> usize;
+    pub(crate) fn fio2070_encode_other_answer(code: u8, body: *const u8, body_count: usize,
+        out: *mut u8, out_count: usize) -> usize;
+    pub(crate) fn fio2070_read_outputs_answer(octets: *const u8, octets_count: usize,
+        stamp: &mut u32) -> Fault;
+    pub(crate) fn fio2070_read_identification(octets: *const u8, octets_count: usize,
+        id: &mut u8) -> Fault;
+    pub(crate) fn fio2070_decode_answer(octets: *const u8, octets_count: usize,
+        answer: &mut Answer) -> Fault;
+    pub(crate) fn fio2070_block_entries(octets: *const u8, octets_count: usize, entries: *mut Entry,
+        entries_count: usize) -> usize;
     pub(crate) fn fio2070_checker_start(checker: &mut RawChecker);
     pub(crate) fn fio2070_checker_start_within(checker: &mut RawChecker, limits: RawLimits) -> u8;
     pub(crate) fn fio2070_checker_start_anywhere(checker: &mut RawChecker, limits: RawLimits) -> u8;
-    pub(crate) fn fio2070_checker_sent(
-        checker: &mut RawChecker,
-        octets: *const u8,
-        octets_count: usize,
-        breach: &mut Breach,
-    ) -> u8;
-    pub(crate) fn fio2070_checker_heard(
-        checker: &mut RawChecker,
-        octets: *const u8,
-        octets_count: usize,
-        breach: &mut Breach,
-    ) -> u8;
+    pub(crate) fn fio2070_checker_sent(checker: &mut RawChecker, octets: *const u8,
+        octets_count: usize, breach: &mut Breach) -> u8;
+    pub(crate) fn fio2070_checker_heard(checker: &mut RawChecker, octets: *const u8,
+        octets_count: usize, breach: &mut Breach) -> u8;
     pub(crate) fn fio2070_encode_status(clear: u8, out: *mut u8, out_count: usize) -> usize;
     pub(crate) fn fio2070_encode_load_counter(load: u32, out: *mut u8, out_count: usize) -> usize;
-    pub(crate) fn fio2070_encode_configure_inputs(
-        items: *const ConfigurationItem,
-        items_count: usize,
-        out: *mut u8,
-        out_count: usize,
-    ) -> usize;
+    pub(crate) fn fio2070_encode_configure_inputs(items: *const ConfigurationItem,
+        items_count: usize, out: *mut u8, out_count: usize) -> usize;
     pub(crate) fn fio2070_encode_raw_inputs(out: *mut u8, out_count: usize) -> usize;
     pub(crate) fn fio2070_encode_filtered_inputs(out: *mut u8, out_count: usize) -> usize;
     pub(crate) fn fio2070_encode_poll(block: u8, out: *mut u8, out_count: usize) -> usize;
-    pub(crate) fn fio2070_encode_set_outputs(
-        levels: &[u8; 8],
-        controls: &[u8; 8],
-        out: *mut u8,
-        out_count: usize,
-    ) -> usize;
+    pub(crate) fn fio2070_encode_set_outputs(levels: &[u8; 8], controls: &[u8; 8], out: *mut u8,
+        out_count: usize) -> usize;
     pub(crate) fn fio2070_encode_watchdog(timeout: u8, out: *mut u8, out_count: usize) -> usize;
     pub(crate) fn fio2070_encode_identify(out: *mut u8, out_count: usize) -> usize;
-    pub(crate) fn fio2070_encode_other_command(
-        code: u8,
-        body: *const u8,
-        body_count: usize,
-        out: *mut u8,
-        out_count: usize,
-    ) -> usize;
-    pub(crate) fn fio2070_decode_command(
-        octets: *const u8,
-        octets_count: usize,
-        command: &mut Command,
-    ) -> Fault;
-    pub(crate) fn fio2070_command_items(
-        octets: *const u8,
-        octets_count: usize,
-        items: *mut ConfigurationItem,
-        items_count: usize,
-    ) -> usize;
+    pub(crate) fn fio2070_encode_other_command(code: u8, body: *const u8, body_count: usize,
+        out: *mut u8, out_count: usize) -> usize;
+    pub(crate) fn fio2070_decode_command(octets: *const u8, octets_count: usize,
+        command: &mut Command) -> Fault;
+    pub(crate) fn fio2070_command_items(octets: *const u8, octets_count: usize,
+        items: *mut ConfigurationItem, items_count: usize) -> usize;
     pub(crate) fn fio2070_content_start(content: &mut RawContentChecker);
     pub(crate) fn fio2070_content_start_begun(content: &mut RawContentChecker);
-    pub(crate) fn fio2070_content_sent(
-        content: &mut RawContentChecker,
-        octets: *const u8,
-        octets_count: usize,
-    );
-    pub(crate) fn fio2070_content_heard(
-        content: &mut RawContentChecker,
-        octets: *const u8,
-        octets_count: usize,
-        breach: &mut ContentBreach,
-    ) -> u8;
+    pub(crate) fn fio2070_content_sent(content: &mut RawContentChecker, octets: *const u8,
+        octets_count: usize);
+    pub(crate) fn fio2070_content_heard(content: &mut RawContentChecker, octets: *const u8,
+        octets_count: usize, breach: &mut ContentBreach) -> u8;
     pub(crate) fn fio2070_counter_start(counter: &mut RawCounter);
     pub(crate) fn fio2070_counter_tick(counter: &mut RawCounter);
     pub(crate) fn fio2070_counter_ask_load(counter: &mut RawCounter, number: u32);
@@ -479,133 +397,60 @@ extern "C" {
     pub(crate) fn fio2070_filters_scan(filters: &mut RawFilters, raw: u64) -> u64;
     pub(crate) fn fio2070_filters_filtered(filters: &RawFilters) -> u64;
     pub(crate) fn fio2070_filters_raw(filters: &RawFilters) -> u64;
-    pub(crate) fn fio2070_filters_configure(
-        filters: &mut RawFilters,
-        items: *const ConfigurationItem,
-        items_count: usize,
-    ) -> RawConfigured;
+    pub(crate) fn fio2070_filters_configure(filters: &mut RawFilters,
+        items: *const ConfigurationItem, items_count: usize) -> RawConfigured;
     pub(crate) fn fio2070_judge_start_anywhere(judge: &mut RawJudge, limits: RawLimits) -> u8;
     pub(crate) fn fio2070_judge_start_begun(judge: &mut RawJudge, limits: RawLimits) -> u8;
     pub(crate) fn fio2070_judge_lose(judge: &mut RawJudge);
-    pub(crate) fn fio2070_judge_sent(
-        judge: &mut RawJudge,
-        at: u8,
-        octets: *const u8,
-        octets_count: usize,
-        outcome: &mut JudgeOutcome,
-    ) -> u8;
-    pub(crate) fn fio2070_judge_heard(
-        judge: &mut RawJudge,
-        at: u8,
-        octets: *const u8,
-        octets_count: usize,
-        outcome: &mut JudgeOutcome,
-    ) -> u8;
+    pub(crate) fn fio2070_judge_sent(judge: &mut RawJudge, at: u8, octets: *const u8,
+        octets_count: usize, outcome: &mut JudgeOutcome) -> u8;
+    pub(crate) fn fio2070_judge_heard(judge: &mut RawJudge, at: u8, octets: *const u8,
+        octets_count: usize, outcome: &mut JudgeOutcome) -> u8;
     pub(crate) fn fio2070_log_start(reader: &mut RawLogReader, form: u8);
-    pub(crate) fn fio2070_log_read(
-        reader: &mut RawLogReader,
-        octets: *const u8,
-        octets_count: usize,
-        batch: &mut RawLogBatch,
-    ) -> usize;
+    pub(crate) fn fio2070_log_read(reader: &mut RawLogReader, octets: *const u8,
+        octets_count: usize, batch: &mut RawLogBatch) -> usize;
     pub(crate) fn fio2070_log_end(reader: &mut RawLogReader);
     pub(crate) fn fio2070_log_counts_start(counts: &mut LogCounts);
     pub(crate) fn fio2070_log_counts_lose(counts: &mut LogCounts);
-    pub(crate) fn fio2070_log_counts_frame(
-        counts: &mut LogCounts,
-        has_time: u8,
-        time: u64,
-        octets: *const u8,
-        octets_count: usize,
-        taken: &mut u64,
-    ) -> u8;
-    pub(crate) fn fio2070_log_counts_batch(
-        counts: &mut LogCounts,
-        batch: &RawLogBatch,
-        taken: &mut [u64; 20480],
-    ) -> u32;
-    pub(crate) fn fio2070_log_judge_start(
-        judge: &mut RawLogJudge,
-        limits: RawLimits,
-        place: u8,
-        start: u8,
-    ) -> u8;
+    pub(crate) fn fio2070_log_counts_frame(counts: &mut LogCounts, has_time: u8, time: u64,
+        octets: *const u8, octets_count: usize, taken: &mut u64) -> u8;
+    pub(crate) fn fio2070_log_counts_batch(counts: &mut LogCounts, batch: &RawLogBatch,
+        taken: &mut [u64; 20480]) -> u32;
+    pub(crate) fn fio2070_log_judge_start(judge: &mut RawLogJudge, limits: RawLimits, place: u8,
+        start: u8) -> u8;
     pub(crate) fn fio2070_log_judge_lose(judge: &mut RawLogJudge);
     pub(crate) fn fio2070_log_judge_possible(judge: &mut RawLogJudge);
     pub(crate) fn fio2070_log_judge_miss(judge: &mut RawLogJudge);
-    pub(crate) fn fio2070_log_judge_frame(
-        judge: &mut RawLogJudge,
-        from_cpu: u8,
-        said: u8,
-        octets: *const u8,
-        octets_count: usize,
-        outcome: &mut JudgeOutcome,
-    ) -> u8;
-    pub(crate) fn fio2070_log_judge_batch(
-        judge: &mut RawLogJudge,
-        as_said: u8,
-        batch: &RawLogBatch,
-        outcomes: &mut [JudgeOutcome; 20480],
-    ) -> u32;
+    pub(crate) fn fio2070_log_judge_frame(judge: &mut RawLogJudge, from_cpu: u8, said: u8,
+        octets: *const u8, octets_count: usize, outcome: &mut JudgeOutcome) -> u8;
+    pub(crate) fn fio2070_log_judge_batch(judge: &mut RawLogJudge, as_said: u8, batch: &RawLogBatch,
+        outcomes: &mut [JudgeOutcome; 20480]) -> u32;
     pub(crate) fn fio2070_log_signs_start(signs: &mut RawLogSigns);
-    pub(crate) fn fio2070_log_signs_frame(
-        signs: &mut RawLogSigns,
-        from_cpu: u8,
-        said: u8,
-        octets: *const u8,
-        octets_count: usize,
-    );
-    pub(crate) fn fio2070_log_signs_batch(
-        signs: &mut RawLogSigns,
-        as_said: u8,
-        batch: &RawLogBatch,
-    );
+    pub(crate) fn fio2070_log_signs_frame(signs: &mut RawLogSigns, from_cpu: u8, said: u8,
+        octets: *const u8, octets_count: usize);
+    pub(crate) fn fio2070_log_signs_batch(signs: &mut RawLogSigns, as_said: u8,
+        batch: &RawLogBatch);
     pub(crate) fn fio2070_log_signs_sign(signs: &RawLogSigns) -> u8;
     pub(crate) fn fio2070_poller_start(poller: &mut RawPoller, number: u8);
     pub(crate) fn fio2070_poller_poll(poller: &RawPoller, out: *mut u8, out_count: usize) -> usize;
-    pub(crate) fn fio2070_poller_hear(
-        poller: &mut RawPoller,
-        octets: *const u8,
-        octets_count: usize,
-        items: *mut RecordItem,
-        items_count: usize,
-    ) -> RawHeard;
-    pub(crate) fn fio2070_show(
-        octets: *const u8,
-        octets_count: usize,
-        text: *mut u8,
-        text_count: usize,
-    ) -> usize;
-    pub(crate) fn fio2070_sized_module_start(
-        device: &mut RawSizedModule,
-        id: u8,
-        limits: RawLimits,
-    ) -> u8;
+    pub(crate) fn fio2070_poller_hear(poller: &mut RawPoller, octets: *const u8,
+        octets_count: usize, items: *mut RecordItem, items_count: usize) -> RawHeard;
+    pub(crate) fn fio2070_show(octets: *const u8, octets_count: usize, text: *mut u8,
+        text_count: usize) -> usize;
+    pub(crate) fn fio2070_sized_module_start(device: &mut RawSizedModule, id: u8,
+        limits: RawLimits) -> u8;
     pub(crate) fn fio2070_sized_module_restart(device: &mut RawSizedModule);
-    pub(crate) fn fio2070_sized_module_scan(
-        device: &mut RawSizedModule,
-        ring: *mut [u8; 3],
-        ring_count: usize,
-        raw: u64,
-    );
+    pub(crate) fn fio2070_sized_module_scan(device: &mut RawSizedModule, ring: *mut [u8; 3],
+        ring_count: usize, raw: u64);
     pub(crate) fn fio2070_sized_module_line_sync(device: &mut RawSizedModule);
     pub(crate) fn fio2070_sized_module_raise(device: &mut RawSizedModule, mask: u8);
-    pub(crate) fn fio2070_sized_module_set_errors(
-        device: &mut RawSizedModule,
-        receive: u8,
-        transmit: u8,
-    );
+    pub(crate) fn fio2070_sized_module_set_errors(device: &mut RawSizedModule, receive: u8,
+        transmit: u8);
     pub(crate) fn fio2070_sized_module_count_receive_error(device: &mut RawSizedModule);
     pub(crate) fn fio2070_sized_module_count_transmit_error(device: &mut RawSizedModule);
-    pub(crate) fn fio2070_sized_module_receive(
-        device: &mut RawSizedModule,
-        ring: *mut [u8; 3],
-        ring_count: usize,
-        octets: *const u8,
-        octets_count: usize,
-        out: *mut u8,
-        out_count: usize,
-    ) -> usize;
+    pub(crate) fn fio2070_sized_module_receive(device: &mut RawSizedModule, ring: *mut [u8; 3],
+        ring_count: usize, octets: *const u8, octets_count: usize, out: *mut u8,
+        out_count: usize) -> usize;
     pub(crate) fn fio2070_sized_module_flags(device: &RawSizedModule) -> u8;
     pub(crate) fn fio2070_sized_module_errors(device: &RawSizedModule) -> ErrorCounts;
     pub(crate) fn fio2070_sized_module_outputs(device: &RawSizedModule) -> Outputs;
@@ -621,30 +466,16 @@ extern "C" {
     pub(crate) fn fio2070_version() -> u32;
     pub(crate) fn fio2070_wire_start(wire: &mut RawWire, address: u16, control: u16);
     pub(crate) fn fio2070_wire_read(wire: &mut RawWire, octet: u8) -> u8;
-    pub(crate) fn fio2070_wire_read_many(
-        wire: &mut RawWire,
-        octets: *const u8,
-        octets_count: usize,
-        heard: &mut u8,
-    ) -> usize;
+    pub(crate) fn fio2070_wire_read_many(wire: &mut RawWire, octets: *const u8, octets_count: usize,
+        heard: &mut u8) -> usize;
     pub(crate) fn fio2070_wire_lose(wire: &mut RawWire);
     pub(crate) fn fio2070_wire_message_length(wire: &RawWire) -> usize;
-    pub(crate) fn fio2070_wire_write(
-        address: u8,
-        control: u8,
-        message: *const u8,
-        message_count: usize,
-        out: *mut u8,
-        out_count: usize,
-    ) -> usize;
+    pub(crate) fn fio2070_wire_write(address: u8, control: u8, message: *const u8,
+        message_count: usize, out: *mut u8, out_count: usize) -> usize;
     pub(crate) fn fio2070_wire_check(octets: *const u8, octets_count: usize) -> u16;
     pub(crate) fn fio2070_wire_bits_start(bits: &mut RawWireBits, address: u16, control: u16);
     pub(crate) fn fio2070_wire_bits_read(bits: &mut RawWireBits, bit: u8) -> u8;
-    pub(crate) fn fio2070_wire_bits_read_many(
-        bits: &mut RawWireBits,
-        octets: *const u8,
-        octets_count: usize,
-        heard: &mut u8,
-    ) -> usize;
+    pub(crate) fn fio2070_wire_bits_read_many(bits: &mut RawWireBits, octets: *const u8,
+        octets_count: usize, heard: &mut u8) -> usize;
     pub(crate) fn fio2070_wire_bits_message_length(bits: &RawWireBits) -> usize;
 }
