@@ -17,7 +17,7 @@ builds() {
         *) language="-x c -D_DEFAULT_SOURCE $*" ;;
     esac
     mkdir -p "$folder"
-    for source in support/c/rows support/c/table support/c/started support/c/sized support/c/wire_rows support/c/fresh support/c/fuzz ../examples/c/decode ../examples/c/poller; do
+    for source in support/c/rows support/c/table support/c/started support/c/sized support/c/fresh support/c/fuzz ../examples/c/decode ../examples/c/poller; do
         # shellcheck disable=SC2086
         "$compiler" $language $strict -I "$top/include" -I "$room" "$top/tests/$source.c" -x none "$archive" \
             -o "$folder/$(basename "$source")" || return 1
@@ -270,7 +270,6 @@ for build in 'gcc -std=c99' 'g++ -std=c++11' 'clang -std=c99 -g -O1 -fsanitize=a
     counts "the table of rows by $1" "$room/$1/table"
     counts "started structs by $1" "$room/$1/started"
     counts "modules in slots of the caller by $1" "$room/$1/sized"
-    counts "rows of the wire by $1" "$room/$1/wire_rows"
     counts "memory that nothing has written by $1" "$room/$1/fresh"
     holds "decode by $1" decodes "$room/$1"
     holds "poller by $1" polls "$room/$1"
