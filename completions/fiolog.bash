@@ -3,28 +3,17 @@
 _fiolog() {
     local word=${COMP_WORDS[COMP_CWORD]} command=${COMP_WORDS[1]} words=
     case "$command ${COMP_WORDS[COMP_CWORD - 1]}" in
-    'decode --format') words='auto frames transcript' ;;
-    'decode --line') words='octets bits bits-high-first' ;;
+    'decode --format' | 'check --format' | 'stats --format' | 'convert --format' | 'record --format') words='auto frames transcript' ;;
+    'decode --line' | 'check --line' | 'stats --line' | 'convert --line' | 'record --line') words='octets bits bits-high-first' ;;
     'decode --direction') words='sent heard' ;;
     'decode --color') words='auto always never' ;;
-    'check --format') words='auto frames transcript' ;;
-    'check --line') words='octets bits bits-high-first' ;;
-    'check --at') words='auto cpu module bus' ;;
+    'check --at' | 'record --at' | 'live --at') words='auto cpu module bus' ;;
     'check --rules') words='all transcript' ;;
-    'check --except') words='readable pair number advance same sequence limits rest refusal order fresh alternate apart ignored state clock done accepted cleared watchdog' ;;
+    'check --except' | 'live --except') words='readable pair number advance same sequence limits rest refusal order fresh alternate apart ignored state clock done accepted cleared watchdog' ;;
     'check --explain') words='readable pair number advance same sequence limits rest refusal order fresh alternate apart ignored state clock done accepted cleared watchdog' ;;
-    'stats --format') words='auto frames transcript' ;;
-    'stats --line') words='octets bits bits-high-first' ;;
     'plan --limits') words='standard largest' ;;
-    'convert --format') words='auto frames transcript' ;;
-    'convert --line') words='octets bits bits-high-first' ;;
     'convert --to') words='transcript frames pcapng vcd' ;;
-    'record --format') words='auto frames transcript' ;;
-    'record --line') words='octets bits bits-high-first' ;;
-    'record --at') words='auto cpu module bus' ;;
     'record --on') words='0 1' ;;
-    'live --at') words='auto cpu module bus' ;;
-    'live --except') words='readable pair number advance same sequence limits rest refusal order fresh alternate apart ignored state clock done accepted cleared watchdog' ;;
     *)
         case $COMP_CWORD:$word in
         1:*) words='decode check stats plan convert record live -h --help' ;;

@@ -17,172 +17,107 @@ _fiolog() {
         return
     fi
     local command=$words[2]
+    local -a specs=('*:file:_files')
     shift words
     (( CURRENT-- ))
     case $command in
+    decode|check|stats|plan|convert|record|live)
+        specs+=(
+            {-h,--help}'[show this help message and exit]') ;|
+    decode|check|stats|convert|record)
+        specs+=(
+            '--format[auto (the default); frames or transcript, as fio2070 show and check read lines]:name:(auto frames transcript)'
+            '--pattern[a regular expression with the group octets (hexadecimal digits), and if you like time and dir]:regex:'
+            '--sdlc[each line ends with frames that have address, control and frame check; with flags, a frame may go on in the next line, or row of a dump]'
+            '--no-check[with --sdlc, each line ends with one frame, without the frame check]'
+            '--line[the file is what a line carried, octets, or bits (bits-high-first), one a clock, as a text of 0 and 1 or eight to an octet]:form:(octets bits bits-high-first)'
+            '--merge[read the files as one log, in the order of their times, such as one file of each channel]'
+            {-q,--quiet}'[write only errors to standard error]') ;|
+    decode|check|stats|convert|record|live)
+        specs+=(
+            '--address[the address of the frames of a line that are judged (14), with or without the control octet (1483), or any]:hex:'
+            {-v,--verbose}'[name each line that is skipped, and why]') ;|
     decode)
-        _arguments \
-            '-h[show this help message and exit]' \
-            '--help[show this help message and exit]' \
-            '--format[auto (the default); frames or transcript, as fio2070 show and check read lines]:name:(auto frames transcript)' \
-            '--pattern[a regular expression with the group octets (hexadecimal digits), and if you like time and dir]:regex:' \
-            '--sdlc[each line ends with frames that have address, control and frame check; with flags, a frame may go on in the next line, or row of a dump]' \
-            '--no-check[with --sdlc, each line ends with one frame, without the frame check]' \
-            '--line[the file is what a line carried, octets, or bits (bits-high-first), one a clock, as a text of 0 and 1 or eight to an octet]:form:(octets bits bits-high-first)' \
-            '--address[the address of the frames of a line that are judged (14), with or without the control octet (1483), or any]:hex:' \
-            '--merge[read the files as one log, in the order of their times, such as one file of each channel]' \
-            '-v[name each line that is skipped, and why]' \
-            '--verbose[name each line that is skipped, and why]' \
-            '-q[write only errors to standard error]' \
-            '--quiet[write only errors to standard error]' \
-            '--json[one object a line, file, line, time (seconds or null), direction (> or <) and octets; then fault, or type, says, the numbers of that message by name, what its status bits say, of a repeated block that it is one, and entries or items]' \
-            '--csv[a table; an entry a row]' \
-            '--input[only messages with this input, and of them its lines]:n:' \
-            '--type[only this type, 49 to 60, 177 to 188, poll, block]:n:' \
-            '--block[only polls and blocks with this number]:n:' \
-            '--status[only blocks with one of these bits, C, F, E, G]:letters:' \
-            '--unanswered[only polls without a block answer, check counts them as answers lost]' \
-            '--direction[only what the CPU sent or heard]:direction:(sent heard)' \
-            '--lines[only these lines]:a-b:' \
-            '--color[colours (on a terminal)]:color:(auto always never)' \
-            '*:file:_files' ;;
+        specs+=(
+            '--json[one object a line, file, line, time (seconds or null), direction (> or <) and octets; then fault, or type, says, the numbers of that message by name, what its status bits say, of a repeated block that it is one, and entries or items]'
+            '--csv[a table; an entry a row]'
+            '--input[only messages with this input, and of them its lines]:n:'
+            '--type[only this type, 49 to 60, 177 to 188, poll, block]:n:'
+            '--block[only polls and blocks with this number]:n:'
+            '--status[only blocks with one of these bits, C, F, E, G]:letters:'
+            '--unanswered[only polls without a block answer, check counts them as answers lost]'
+            '--direction[only what the CPU sent or heard]:direction:(sent heard)'
+            '--lines[only these lines]:a-b:'
+            '--color[colours (on a terminal)]:color:(auto always never)') ;|
+    check|record)
+        specs+=(
+            '--at[where the log was taken; auto, at the CPU where directions say so, else on the bus]:at:(auto cpu module bus)'
+            '--start-at-poll[leave out what comes before the first poll]') ;|
+    check|record|live)
+        specs+=(
+            '--whole[the log begins at the start of both ends, then more faults can be found]'
+            '--limits[of the module, the most entries of a block, and the most that wait (255 1024)]:entries::waiting:') ;|
     check)
-        _arguments \
-            '-h[show this help message and exit]' \
-            '--help[show this help message and exit]' \
-            '--format[auto (the default); frames or transcript, as fio2070 show and check read lines]:name:(auto frames transcript)' \
-            '--pattern[a regular expression with the group octets (hexadecimal digits), and if you like time and dir]:regex:' \
-            '--sdlc[each line ends with frames that have address, control and frame check; with flags, a frame may go on in the next line, or row of a dump]' \
-            '--no-check[with --sdlc, each line ends with one frame, without the frame check]' \
-            '--line[the file is what a line carried, octets, or bits (bits-high-first), one a clock, as a text of 0 and 1 or eight to an octet]:form:(octets bits bits-high-first)' \
-            '--address[the address of the frames of a line that are judged (14), with or without the control octet (1483), or any]:hex:' \
-            '--merge[read the files as one log, in the order of their times, such as one file of each channel]' \
-            '-v[name each line that is skipped, and why]' \
-            '--verbose[name each line that is skipped, and why]' \
-            '-q[write only errors to standard error]' \
-            '--quiet[write only errors to standard error]' \
-            '--at[where the log was taken; auto, at the CPU where directions say so, else on the bus]:at:(auto cpu module bus)' \
-            '--start-at-poll[leave out what comes before the first poll]' \
-            '--whole[the log begins at the start of both ends, then more faults can be found]' \
-            '--limits[of the module, the most entries of a block, and the most that wait (255 1024)]:entries::waiting:' \
-            '--rules[transcript, only the rules on the order of messages, not those on what entries and answers say]:rules:(all transcript)' \
-            '--except[leave out breaches of this rule, and count them; may be given again]:rule:(readable pair number advance same sequence limits rest refusal order fresh alternate apart ignored state clock done accepted cleared watchdog)' \
-            '--explain[say what this rule says, and read no log]:rule:(readable pair number advance same sequence limits rest refusal order fresh alternate apart ignored state clock done accepted cleared watchdog)' \
-            '--late-answers[leave out answers that came late or twice, and count them]' \
-            '--jobs[with several logs, read this many at a time (all processors)]:n:' \
-            '--json[an object for each breach, with several logs for each log; and one for the summary]' \
-            '*:file:_files' ;;
+        specs+=(
+            '--rules[transcript, only the rules on the order of messages, not those on what entries and answers say]:rules:(all transcript)'
+            '--explain[say what this rule says, and read no log]:rule:(readable pair number advance same sequence limits rest refusal order fresh alternate apart ignored state clock done accepted cleared watchdog)'
+            '--json[an object for each breach, with several logs for each log; and one for the summary]') ;|
+    check|live)
+        specs+=(
+            '--except[leave out breaches of this rule, and count them; may be given again]:rule:(readable pair number advance same sequence limits rest refusal order fresh alternate apart ignored state clock done accepted cleared watchdog)'
+            '--late-answers[leave out answers that came late or twice, and count them]') ;|
+    check|stats)
+        specs+=(
+            '--jobs[with several logs, read this many at a time (all processors)]:n:') ;|
     stats)
-        _arguments \
-            '-h[show this help message and exit]' \
-            '--help[show this help message and exit]' \
-            '--format[auto (the default); frames or transcript, as fio2070 show and check read lines]:name:(auto frames transcript)' \
-            '--pattern[a regular expression with the group octets (hexadecimal digits), and if you like time and dir]:regex:' \
-            '--sdlc[each line ends with frames that have address, control and frame check; with flags, a frame may go on in the next line, or row of a dump]' \
-            '--no-check[with --sdlc, each line ends with one frame, without the frame check]' \
-            '--line[the file is what a line carried, octets, or bits (bits-high-first), one a clock, as a text of 0 and 1 or eight to an octet]:form:(octets bits bits-high-first)' \
-            '--address[the address of the frames of a line that are judged (14), with or without the control octet (1483), or any]:hex:' \
-            '--merge[read the files as one log, in the order of their times, such as one file of each channel]' \
-            '-v[name each line that is skipped, and why]' \
-            '--verbose[name each line that is skipped, and why]' \
-            '-q[write only errors to standard error]' \
-            '--quiet[write only errors to standard error]' \
-            '--jobs[with several logs, read this many at a time (all processors)]:n:' \
-            '--json[one object; with several logs one for each, and one for all]' \
-            '*:file:_files' ;;
+        specs+=(
+            '--json[one object; with several logs one for each, and one for all]') ;|
     plan)
-        _arguments \
-            '-h[show this help message and exit]' \
-            '--help[show this help message and exit]' \
-            '--inputs[inputs that are not ignored, 1 to 64]:n:' \
-            '--filter[the smallest filter of one of them, 0 to 255]:n:' \
-            '--group[instead of both, at most N inputs are open in a group with such filters; repeat it for each group]:n:filter:' \
-            '--limits[1,024 entries wait (standard) or 8,192]:limits:(standard largest)' \
-            '--block[a block takes N entries, 1 to 255]:n:' \
-            '--waiting[instead of --limits, N entries wait, 1 to 8,192]:n:' \
-            '--outage[the link is down so long]:ms:' \
-            '--lost[rounds lost in a row]:n:' \
-            '--every[a poll comes so often]:ms:' \
-            '-v[also the clause that each number is from]' \
-            '--verbose[also the clause that each number is from]' \
-            '--json[a list of objects]' \
-            '*:file:_files' ;;
+        specs+=(
+            '--inputs[inputs that are not ignored, 1 to 64]:n:'
+            '--filter[the smallest filter of one of them, 0 to 255]:n:'
+            '--group[instead of both, at most N inputs are open in a group with such filters; repeat it for each group]:n:filter:'
+            '--limits[1,024 entries wait (standard) or 8,192]:limits:(standard largest)'
+            '--block[a block takes N entries, 1 to 255]:n:'
+            '--waiting[instead of --limits, N entries wait, 1 to 8,192]:n:'
+            '--outage[the link is down so long]:ms:'
+            '--lost[rounds lost in a row]:n:'
+            '--every[a poll comes so often]:ms:'
+            {-v,--verbose}'[also the clause that each number is from]'
+            '--json[a list of objects]') ;|
     convert)
-        _arguments \
-            '-h[show this help message and exit]' \
-            '--help[show this help message and exit]' \
-            '--format[auto (the default); frames or transcript, as fio2070 show and check read lines]:name:(auto frames transcript)' \
-            '--pattern[a regular expression with the group octets (hexadecimal digits), and if you like time and dir]:regex:' \
-            '--sdlc[each line ends with frames that have address, control and frame check; with flags, a frame may go on in the next line, or row of a dump]' \
-            '--no-check[with --sdlc, each line ends with one frame, without the frame check]' \
-            '--line[the file is what a line carried, octets, or bits (bits-high-first), one a clock, as a text of 0 and 1 or eight to an octet]:form:(octets bits bits-high-first)' \
-            '--address[the address of the frames of a line that are judged (14), with or without the control octet (1483), or any]:hex:' \
-            '--merge[read the files as one log, in the order of their times, such as one file of each channel]' \
-            '-v[name each line that is skipped, and why]' \
-            '--verbose[name each line that is skipped, and why]' \
-            '-q[write only errors to standard error]' \
-            '--quiet[write only errors to standard error]' \
-            '--to[]:to:(transcript frames pcapng vcd)' \
-            '-o[where to (standard output)]:file:_files' \
-            '--output[where to (standard output)]:file:_files' \
-            '--times[begin lines with their time in seconds]' \
-            '*:file:_files' ;;
+        specs+=(
+            '--to[]:to:(transcript frames pcapng vcd)'
+            {-o,--output}'[where to (standard output)]:file:_files'
+            '--times[begin lines with their time in seconds]') ;|
     record)
-        _arguments \
-            '-h[show this help message and exit]' \
-            '--help[show this help message and exit]' \
-            '--format[auto (the default); frames or transcript, as fio2070 show and check read lines]:name:(auto frames transcript)' \
-            '--pattern[a regular expression with the group octets (hexadecimal digits), and if you like time and dir]:regex:' \
-            '--sdlc[each line ends with frames that have address, control and frame check; with flags, a frame may go on in the next line, or row of a dump]' \
-            '--no-check[with --sdlc, each line ends with one frame, without the frame check]' \
-            '--line[the file is what a line carried, octets, or bits (bits-high-first), one a clock, as a text of 0 and 1 or eight to an octet]:form:(octets bits bits-high-first)' \
-            '--address[the address of the frames of a line that are judged (14), with or without the control octet (1483), or any]:hex:' \
-            '--merge[read the files as one log, in the order of their times, such as one file of each channel]' \
-            '-v[name each line that is skipped, and why]' \
-            '--verbose[name each line that is skipped, and why]' \
-            '-q[write only errors to standard error]' \
-            '--quiet[write only errors to standard error]' \
-            '--at[where the log was taken; auto, at the CPU where directions say so, else on the bus]:at:(auto cpu module bus)' \
-            '--start-at-poll[leave out what comes before the first poll]' \
-            '--whole[the log begins at the start of both ends, then more faults can be found]' \
-            '--limits[of the module, the most entries of a block, and the most that wait (255 1024)]:entries::waiting:' \
-            '--text[as fio2070 record writes it, to the first breach or restart]' \
-            '--json[one object a line, an item, with breaks a breach, or with outcome a restart]' \
-            '--csv[a table; an item, a breach or a restart a row]' \
-            '--vcd[a VCD file; breaches and restarts on standard error]' \
-            '--plot[a picture of the inputs over time, as .png, .svg or .pdf (by matplotlib)]:file:_files' \
-            '--hires[write the transitions as a high-resolution event log (CSV)]:file:_files' \
-            '--start[when the first block was made, as 2026-03-01T07,00,00]:time:' \
-            '--signal[the signal of the events]:id:' \
-            '--on[the state of an input that is on, the profile does not say it]:on:(0 1)' \
-            '--channels[inputs and channels, as 12,5,0-7,1 (the default is 0-63,1); other inputs are left out]:map:' \
-            '*:file:_files' ;;
+        specs+=(
+            '--text[as fio2070 record writes it, to the first breach or restart]'
+            '--json[one object a line, an item, with breaks a breach, or with outcome a restart]'
+            '--csv[a table; an item, a breach or a restart a row]'
+            '--vcd[a VCD file; breaches and restarts on standard error]'
+            '--plot[a picture of the inputs over time, as .png, .svg or .pdf (by matplotlib)]:file:_files'
+            '--hires[write the transitions as a high-resolution event log (CSV)]:file:_files'
+            '--start[when the first block was made, as 2026-03-01T07,00,00]:time:'
+            '--signal[the signal of the events]:id:'
+            '--on[the state of an input that is on, the profile does not say it]:on:(0 1)'
+            '--channels[inputs and channels, as 12,5,0-7,1 (the default is 0-63,1); other inputs are left out]:map:') ;|
     live)
-        _arguments \
-            '-h[show this help message and exit]' \
-            '--help[show this help message and exit]' \
-            '--exec[a process that writes lines > HEX and < HEX, or those of another log]:command:' \
-            '--serial[octet-stuffed HDLC with frame check]:device:_files' \
-            '--udp[a frame a datagram]:port:' \
-            '--fifo[a pipe or file with lines of a log]:file:_files' \
-            '--address[the address of the frames of a line that are judged (14), with or without the control octet (1483), or any]:hex:' \
-            '--rate[of the serial port (153600)]:baud:' \
-            '--host[the address to hear datagrams at (127.0.0.1)]:host:' \
-            '--transcript[write what comes as a transcript]:file:_files' \
-            '--pcapng[write it as pcapng; - for | wireshark -k -i -]:file:_files' \
-            '--force[overwrite files that are there already]' \
-            '--at[where it is heard]:at:(auto cpu module bus)' \
-            '--whole[the log begins at the start of both ends, then more faults can be found]' \
-            '--limits[of the module, the most entries of a block, and the most that wait (255 1024)]:entries::waiting:' \
-            '--except[leave out breaches of this rule, and count them; may be given again]:rule:(readable pair number advance same sequence limits rest refusal order fresh alternate apart ignored state clock done accepted cleared watchdog)' \
-            '--late-answers[leave out answers that came late or twice, and count them]' \
-            '--seconds[end after so long]:n:' \
-            '-v[name each line that is skipped, and why]' \
-            '--verbose[name each line that is skipped, and why]' \
-            '-q[do not write the messages]' \
-            '--quiet[do not write the messages]' \
-            '*:file:_files' ;;
+        specs+=(
+            '--exec[a process that writes lines > HEX and < HEX, or those of another log]:command:'
+            '--serial[octet-stuffed HDLC with frame check]:device:_files'
+            '--udp[a frame a datagram]:port:'
+            '--fifo[a pipe or file with lines of a log]:file:_files'
+            '--rate[of the serial port (153600)]:baud:'
+            '--host[the address to hear datagrams at (127.0.0.1)]:host:'
+            '--transcript[write what comes as a transcript]:file:_files'
+            '--pcapng[write it as pcapng; - for | wireshark -k -i -]:file:_files'
+            '--force[overwrite files that are there already]'
+            '--at[where it is heard]:at:(auto cpu module bus)'
+            '--seconds[end after so long]:n:'
+            {-q,--quiet}'[do not write the messages]') ;|
     esac
+    _arguments $specs
 }
 
 _fiolog "$@"
