@@ -1,12 +1,11 @@
 """Logs of other kinds than that of one link in order, and what is said of them."""
 
-import json
 import os
+import runpy
 
 from support.tables import TOP
 
-with open(os.path.join(TOP, 'tools', 'log-words.json'), encoding='utf-8') as words_file:
-    SIGNS = json.load(words_file)['signs']
+SIGNS = runpy.run_path(os.path.join(TOP, 'bindings', 'python', 'fiolog', 'log_words.py'))['SIGNS']
 
 
 def polls(*numbers):

@@ -112,7 +112,7 @@ MARKS = [
 
 # Lines that say so, and whether the reader knows them.
 WORDS = {'loss': '3 frames lost\n', 'heading': '---- part 2 ----\n'}
-HAS_WORDS = 'loss' in json.loads(text_of('../tools/log-words.json'))['reasons']
+HAS_WORDS = "'loss': " in text_of('../bindings/python/fiolog/log_words.py')
 
 
 def check_marks(check, browser, name):

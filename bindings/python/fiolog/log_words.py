@@ -1,5 +1,6 @@
-"""What is said of the lines of a log: why one gives no frame, by the reasons of `fio2070.Verdict`; of which frames damage is
-not seen; and which directions are missing; and of what a line carried. Written by tools/generate-messages."""
+"""What is said of the lines of a log: why one gives no frame, by the reasons of `fio2070.Verdict` in the order of their numbers; of
+which frames damage is not seen; which directions are missing; and of what a line carried. tools/generate-messages writes the same
+words for the page."""
 
 REASONS = {
     'no octets': 'no octets',
