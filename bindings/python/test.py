@@ -234,47 +234,40 @@ def by_steps(per_block, waiting, text):
     return ', '.join(said)
 
 
+# What the package says by each call of the rows, but for those that take octets alone.
+CALLS = {
+    'widen': lambda numbers, text: str(fio2070.widen(*numbers)),
+    'rule_text': lambda numbers, text: fio2070.rule_text(*numbers),
+    'content_rule_text': lambda numbers, text: fio2070.content_rule_text(*numbers),
+    'wire': lambda numbers, text: heard_line('wire', numbers, text),
+    'wire_bits': lambda numbers, text: heard_line('wire_bits', numbers, text),
+    'log': lambda numbers, text: verdicts(*numbers, text),
+    'log_signs': lambda numbers, text: sign_of(text),
+    'log_counts': lambda numbers, text: counted(text),
+    'log_batches': lambda numbers, text: by_batches(*numbers, text),
+    'log_judge': lambda numbers, text: log_outcomes(*numbers, text),
+    'judge': lambda numbers, text: outcomes(fio2070.LinkJudge(*numbers[:2]), numbers[2], text),
+    'judge_begun': lambda numbers, text: outcomes(fio2070.LinkJudge(*numbers[:2], begun=True), numbers[2], text),
+    'content': lambda numbers, text: breaches(fio2070.ContentChecker(), text),
+    'content_begun': lambda numbers, text: breaches(fio2070.ContentChecker(begun=True), text),
+    'checker': lambda numbers, text: breaches(fio2070.Checker(*numbers), text),
+    'checker_anywhere': lambda numbers, text: breaches(fio2070.Checker(*numbers, anywhere=True), text),
+    'wire_frame': lambda numbers, text: fio2070.wire_frame(bytes.fromhex(text), *numbers).hex(),
+    'command_items': lambda numbers, text: parts_of(fio2070.decode_command, 51, bytes.fromhex(text), 'items'),
+    'block_entries': lambda numbers, text: parts_of(fio2070.decode_answer, 182, bytes.fromhex(text), 'entries'),
+    'decode_command': lambda numbers, text: fields_of(fio2070.decode_command(bytes.fromhex(text)), fio2070._library.CCommand),
+    'decode_answer': lambda numbers, text: fields_of(fio2070.decode_answer(bytes.fromhex(text)), fio2070._library.CAnswer),
+    'poller': lambda numbers, text: heard(*numbers, text),
+    'module': lambda numbers, text: by_steps(*numbers, text),
+}
+
+
 def said_by(call, numbers, text):
     """The result of a row, or its error."""
-    if call.startswith('encode_'):
-        return encoded(call[7:], numbers, text)
-    if call in ('widen', 'rule_text', 'content_rule_text'):
-        return str(getattr(fio2070, call)(*numbers))
-    if call in ('wire', 'wire_bits'):
-        return heard_line(call, numbers, text)
-    if call == 'poller':
-        return heard(*numbers, text)
-    if call == 'log':
-        return verdicts(*numbers, text)
-    if call == 'log_signs':
-        return sign_of(text)
-    if call == 'log_counts':
-        return counted(text)
-    if call == 'log_batches':
-        return by_batches(*numbers, text)
-    if call.startswith('content'):
-        return breaches(fio2070.ContentChecker(begun=call == 'content_begun'), text)
-    octets = b'' if call.startswith(('checker', 'judge', 'log_judge', 'module')) else bytes.fromhex(text)
     try:
-        if call == 'module':
-            return by_steps(*numbers, text)
-        if call.startswith('judge'):
-            return outcomes(fio2070.LinkJudge(*numbers[:2], begun=call == 'judge_begun'), numbers[2], text)
-        if call == 'log_judge':
-            return log_outcomes(*numbers, text)
-        if call.startswith('checker'):
-            return breaches(fio2070.Checker(*numbers, anywhere=call == 'checker_anywhere'), text)
-        if call == 'wire_frame':
-            return fio2070.wire_frame(octets, *numbers).hex()
-        if call == 'command_items':
-            return parts_of(fio2070.decode_command, 51, octets, 'items')
-        if call == 'block_entries':
-            return parts_of(fio2070.decode_answer, 182, octets, 'entries')
-        if call == 'decode_command':
-            return fields_of(fio2070.decode_command(octets), fio2070._library.CCommand)
-        if call == 'decode_answer':
-            return fields_of(fio2070.decode_answer(octets), fio2070._library.CAnswer)
-        return str(getattr(fio2070, call)(octets))
+        if call.startswith('encode_'):
+            return encoded(call[7:], numbers, text)
+        return CALLS[call](numbers, text) if call in CALLS else str(getattr(fio2070, call)(bytes.fromhex(text)))
     except fio2070.Fault as fault:
         return str(fault)
     except ValueError:
@@ -619,7 +612,6 @@ class Messages(unittest.TestCase):
                  fio2070.read_identification, fio2070.Poller(5).hear, fio2070.Checker().sent, fio2070.Checker().heard,
                  fio2070.ContentChecker().sent, fio2070.ContentChecker().heard, fio2070.Module().receive,
                  lambda octets: fio2070.LogJudge().frame(octets, True),
-                 fio2070.LogReader().read, fio2070.Wire().read, fio2070.WireBits().read, fio2070.wire_frame, fio2070.wire_check,
                  fio2070.LogReader().read, fio2070.LogCounts().frame, fio2070.Wire().read, fio2070.WireBits().read, fio2070.wire_frame, fio2070.wire_check,
                  lambda octets: encode.set_outputs(octets, bytes(8)),
                  lambda octets: encode.set_outputs(bytes(8), octets), lambda octets: encode.other_command(56, octets),

@@ -16,7 +16,7 @@ import operator
 from typing import Any, List, NamedTuple, Optional, Sequence, Tuple
 
 from . import _library as c
-from . import constants, encode
+from . import constants, encode, judges
 from .counts import LogCounts
 from .encode import Octets
 from .judges import LinkJudge, LogJudge, LogSigns
@@ -63,23 +63,29 @@ def version() -> int:
     return int(c.library.fio2070_version())
 
 
+def _read(name: str, into: Any, octets: bytes) -> Any:
+    """What a call of the library reads into a struct or a number. Raises Fault for octets that are no such message."""
+    fault = getattr(c.library, 'fio2070_' + name)(octets, len(octets), into)
+    if fault.kind != 0:
+        raise _fault(fault)
+    return into
+
+
+def _elements(name: str, struct: Any, octets: bytes) -> Any:
+    """The elements of a message that a call of the library copies; none of another message."""
+    elements = (struct * c.MOST_ENTRIES)()
+    count = getattr(c.library, 'fio2070_' + name)(octets, len(octets), elements, len(elements))
+    return elements[:0 if count == c.NO_MESSAGE else count]
+
+
 def decode_command(octets: Octets) -> Command:
     """The command that the octets spell. Raises Fault if they spell none."""
     octets = encode.octets_of(octets)
-    read = c.CCommand()
-    fault = c.library.fio2070_decode_command(octets, len(octets), read)
-    if fault.kind != 0:
-        raise _fault(fault)
-    items = (c.CItem * c.MOST_ENTRIES)()
-    count = c.library.fio2070_command_items(octets, len(octets), items, len(items))
+    read = _read('decode_command', c.CCommand(), octets)
     return Command(read.code, read.clear, read.block, read.timeout, read.load, bytes(read.levels),
                    bytes(read.controls), octets[1:1 + read.body],
                    [ConfigurationItem(one.input, bool(one.ignore), one.leading, one.trailing)
-                    for one in items[:_written(count)]])
-
-
-def _written(count: int) -> int:
-    return 0 if count == c.NO_MESSAGE else count
+                    for one in _elements('command_items', c.CItem, octets)])
 
 
 def show(octets: Octets) -> str:
@@ -95,33 +101,20 @@ def show(octets: Octets) -> str:
 def decode_answer(octets: Octets) -> Answer:
     """The answer that the octets spell. Raises Fault if they spell none."""
     octets = encode.octets_of(octets)
-    read = c.CAnswer()
-    fault = c.library.fio2070_decode_answer(octets, len(octets), read)
-    if fault.kind != 0:
-        raise _fault(fault)
-    entries = (c.CEntry * c.MOST_ENTRIES)()
-    count = c.library.fio2070_block_entries(octets, len(octets), entries, len(entries))
+    read = _read('decode_answer', c.CAnswer(), octets)
     return Answer(read.code, read.flags, read.receive_errors, read.transmit_errors, read.status, read.block,
                   read.stamp, read.inputs, octets[1:1 + read.body],
-                  [Entry(one.input, one.state, one.stamp) for one in entries[:_written(count)]])
-
-
-def _read_number(call: Any, number: Any, octets: Octets) -> int:
-    octets = encode.octets_of(octets)
-    fault = call(octets, len(octets), number)
-    if fault.kind != 0:
-        raise _fault(fault)
-    return int(number.value)
+                  [Entry(one.input, one.state, one.stamp) for one in _elements('block_entries', c.CEntry, octets)])
 
 
 def read_outputs_answer(octets: Octets) -> int:
     """The module's millisecond counter in its answer to command 55 (answer 183). Raises Fault for anything else."""
-    return _read_number(c.library.fio2070_read_outputs_answer, ctypes.c_uint32(), octets)
+    return int(_read('read_outputs_answer', ctypes.c_uint32(), encode.octets_of(octets)).value)
 
 
 def read_identification(octets: Octets) -> int:
     """Which module answered command 60 (answer 188). Raises Fault for anything else."""
-    return _read_number(c.library.fio2070_read_identification, ctypes.c_uint8(), octets)
+    return int(_read('read_identification', ctypes.c_uint8(), encode.octets_of(octets)).value)
 
 
 def _shown(one: object, **values: object) -> str:
@@ -203,9 +196,8 @@ class Checker:
 
     def __init__(self, per_block: int = c.MOST_ENTRIES, waiting: int = c.STANDARD_WAITING, anywhere: bool = False) -> None:
         """The module's blocks have at most `per_block` entries, 1 to 255; `waiting` is 1 to 8,192."""
+        judges.check_limits(per_block, waiting)
         self._checker, self._breach = c.CChecker(), c.CBreach()
-        if not (1 <= per_block <= 255 and 1 <= waiting <= c.MOST_WAITING):
-            raise ValueError('per_block is 1 to 255, waiting 1 to 8,192')
         start = c.library.fio2070_checker_start_anywhere if anywhere else c.library.fio2070_checker_start_within
         start(self._checker, c.CLimits(waiting, per_block, 0))
 
@@ -225,7 +217,7 @@ class Checker:
     def _breach_by(self, take: Any, octets: Octets) -> Optional[Breach]:
         octets, found = encode.octets_of(octets), self._breach
         rule = take(self._checker, octets, len(octets), found)
-        return Breach(rule, bool(found.has_due), found.due, found.got) if rule else None
+        return judges.breach_of(found) if rule else None
 
 
 class ContentChecker:
@@ -250,44 +242,40 @@ class ContentChecker:
         """The first rule that a frame breaks that the CPU heard; None if it breaks none. The whole frame is taken."""
         octets, found = encode.octets_of(octets), self._breach
         rule = c.library.fio2070_content_heard(self._content, octets, len(octets), found)
-        named = None if found.input == constants.NO_INPUT else found.input
-        return ContentBreach(rule, named, found.items) if rule else None
+        return judges.content_breach_of(found) if rule else None
 
 
-class Counter:
+class Counter(c.Kept):
     """The millisecond counter."""
-
-    def __init__(self) -> None:
-        self._counter = c.CCounter()
-        c.library.fio2070_counter_start(self._counter)
+    _name, _struct = 'counter', c.CCounter
 
     def __repr__(self) -> str:
         return _shown(self, now=self.now())
 
     def tick(self) -> None:
         """One step, from 4,294,967,295 to 0."""
-        c.library.fio2070_counter_tick(self._counter)
+        self._call('tick')
 
     def ask_load(self, number: int) -> None:
         """The next line sync loads this number."""
         encode.check_range(2**32, number)
-        c.library.fio2070_counter_ask_load(self._counter, number)
+        self._call('ask_load', number)
 
     def line_sync(self) -> None:
         """LINESYNC goes from 0 to 1."""
-        c.library.fio2070_counter_line_sync(self._counter)
+        self._call('line_sync')
 
     def now(self) -> int:
         """The milliseconds counted, modulo 2^32."""
-        return int(c.library.fio2070_counter_now(self._counter))
+        return int(self._call('now'))
 
 
-class Filters:
+class Filters(c.Kept):
     """The filters of the 64 inputs. Bit i of a word is input i."""
+    _name, _struct = 'filters', c.CFilters
 
-    def __init__(self) -> None:
-        self._filters = c.CFilters()
-        c.library.fio2070_filters_start(self._filters)
+    filtered: int = c.number('filtered', 'The filtered states, also of ignored inputs.')
+    raw: int = c.number('raw', 'The levels of the last scan, all 1 before any.')
 
     def __repr__(self) -> str:
         return _shown(self, filtered='%016x' % self.filtered, raw='%016x' % self.raw)
@@ -295,7 +283,7 @@ class Filters:
     def configure(self, items: Sequence[ConfigurationItem]) -> None:
         """Applies the items in order. Raises ValueError, and applies none, where one names an input above
         63 or there are more than 255."""
-        done = c.library.fio2070_filters_configure(self._filters, encode.items_of(items), len(items))
+        done = self._call('configure', encode.items_of(items), len(items))
         if done.kind == 1:
             raise ValueError('item %d names an input above 63' % done.place)
         if done.kind == 2:
@@ -304,32 +292,26 @@ class Filters:
     def scan(self, raw: int) -> int:
         """Samples each input. A one for each input that is not ignored and whose filtered state changed."""
         encode.check_range(2**64, raw)
-        return int(c.library.fio2070_filters_scan(self._filters, raw))
-
-    @property
-    def filtered(self) -> int:
-        """The filtered states, also of ignored inputs."""
-        return int(c.library.fio2070_filters_filtered(self._filters))
-
-    @property
-    def raw(self) -> int:
-        """The levels of the last scan, all 1 before any."""
-        return int(c.library.fio2070_filters_raw(self._filters))
+        return int(self._call('scan', raw))
 
 
-class Module:
+class Module(c.Kept):
     """A field I/O module of which `waiting` entries may wait."""
+    _name, _struct = 'sized_module', c.CSizedModule
+
+    counter: int = c.number('counter', 'The milliseconds counted, modulo 2^32.')
+    filtered: int = c.number('filtered', 'The filtered states, also of ignored inputs.')
+    raw: int = c.number('raw', 'The levels of the last scan, all 1 before any.')
+    flags: int = c.number('flags', 'The flags that are up.')
+    waiting: int = c.number('waiting', 'How many entries wait for a poll.')
 
     def __init__(self, id: int = 2, per_block: int = c.MOST_ENTRIES, waiting: int = c.STANDARD_WAITING) -> None:
         """It answers `id` to command 60; its blocks have at most `per_block` entries, 1 to 255; `waiting` is 1 to 8,192."""
         if not (0 <= id <= 255 and 1 <= per_block <= 255 and 1 <= waiting <= c.MOST_WAITING):
             raise ValueError('id is 0 to 255, per_block 1 to 255, waiting 1 to 8,192')
-        self._module = c.CSizedModule()
+        self._kept = self._struct()
         self._ring = ((ctypes.c_uint8 * 3 * waiting)(), waiting)
         self._call('start', operator.index(id), c.CLimits(waiting, per_block, 0))
-
-    def _call(self, name: str, *arguments: Any) -> Any:
-        return getattr(c.library, 'fio2070_sized_module_' + name)(self._module, *arguments)
 
     def __repr__(self) -> str:
         return _shown(self, counter=self.counter, waiting=self.waiting, flags='%02x' % self.flags)
@@ -385,32 +367,7 @@ class Module:
         return int(self._call('watchdog_ms')) or None
 
     @property
-    def counter(self) -> int:
-        """The milliseconds counted, modulo 2^32."""
-        return int(self._call('counter'))
-
-    @property
-    def filtered(self) -> int:
-        """The filtered states, also of ignored inputs."""
-        return int(self._call('filtered'))
-
-    @property
-    def raw(self) -> int:
-        """The levels of the last scan, all 1 before any."""
-        return int(self._call('raw'))
-
-    @property
-    def flags(self) -> int:
-        """The flags that are up."""
-        return int(self._call('flags'))
-
-    @property
     def errors(self) -> Tuple[int, int]:
         """The error counts, in receiving and in transmitting."""
         errors = self._call('errors')
         return errors.receive, errors.transmit
-
-    @property
-    def waiting(self) -> int:
-        """How many entries wait for a poll."""
-        return int(self._call('waiting'))

@@ -190,6 +190,24 @@ def _declare(name: str, result: Any, *arguments: Any) -> None:
     function.argtypes = arguments
 
 
+class Kept:
+    """What the library keeps in a struct of its caller: `_name` is that of its calls, `_struct` the struct."""
+    _name: str
+    _struct: Any
+
+    def __init__(self) -> None:
+        self._kept = self._struct()
+        self._call('start')
+
+    def _call(self, name: str, *arguments: Any) -> Any:
+        return getattr(library, 'fio2070_%s_%s' % (self._name, name))(self._kept, *arguments)
+
+
+def number(name: str, words: str) -> Any:
+    """A property: the number that a call without arguments returns, and what it says."""
+    return property(lambda self: int(self._call(name)), doc=words)
+
+
 # The calls: written by tools/generate-layouts.
 
 _declare('fio2070_encode_status_answer', c_size_t, c_uint8, c_uint8, c_uint8, c_uint32, POINTER(c_uint8), c_size_t)

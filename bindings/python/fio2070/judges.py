@@ -22,7 +22,8 @@ _SIGNS = {constants.LOG_SIGN_NONE: '', constants.LOG_SIGN_TWICE: 'twice', consta
 _OUTCOME, _NOT_KEPT = ctypes.sizeof(c.CJudgeOutcome), re.compile(b'[^\0]')
 
 
-def _check_limits(per_block: int, waiting: int) -> None:
+def check_limits(per_block: int, waiting: int) -> None:
+    """Raises ValueError if a module has no such limits."""
     if not (1 <= per_block <= 255 and 1 <= waiting <= c.MOST_WAITING):
         raise ValueError('per_block is 1 to 255, waiting 1 to 8,192')
 
@@ -34,12 +35,20 @@ def _side(said: str) -> int:
     return _SIDES[said]
 
 
+def breach_of(found: Any) -> Breach:
+    """The breach of a rule of transcripts in a struct of the library."""
+    return Breach(found.rule, bool(found.has_due), found.due, found.got)
+
+
+def content_breach_of(found: Any) -> ContentBreach:
+    """The breach of a rule on content in a struct of the library."""
+    return ContentBreach(found.rule, None if found.input == constants.NO_INPUT else found.input, found.items)
+
+
 def _outcome(found: Any) -> Outcome:
     """What a struct of the library says of a frame."""
-    named = None if found.input == constants.NO_INPUT else found.input
-    breach = Breach(found.rule, bool(found.has_due), found.due, found.got) if found.kind == constants.OUTCOME_BROKEN else None
-    content = ContentBreach(found.rule, named, found.items) if found.kind == constants.OUTCOME_BROKEN_CONTENT else None
-    return Outcome(found.kind, found.why, breach, content)
+    return Outcome(found.kind, found.why, breach_of(found) if found.kind == constants.OUTCOME_BROKEN else None,
+                   content_breach_of(found) if found.kind == constants.OUTCOME_BROKEN_CONTENT else None)
 
 
 class LinkJudge:
@@ -48,7 +57,7 @@ class LinkJudge:
 
     def __init__(self, per_block: int = c.MOST_ENTRIES, waiting: int = c.STANDARD_WAITING, begun: bool = False) -> None:
         """The module's blocks have at most `per_block` entries, 1 to 255; `waiting` is 1 to 8,192."""
-        _check_limits(per_block, waiting)
+        check_limits(per_block, waiting)
         self._judge, self._found = c.CJudge(), c.CJudgeOutcome()
         start = c.library.fio2070_judge_start_begun if begun else c.library.fio2070_judge_start_anywhere
         start(self._judge, c.CLimits(waiting, per_block, 0))
@@ -85,7 +94,7 @@ class LogJudge:
         finds it by the directions that the lines say. With `begun` the log begins with the start of both ends: more is found then.
         With `late_answers` it was taken at a CPU's end that waits for each answer only until a deadline, and late answers are left
         out; a log can't be both."""
-        _check_limits(per_block, waiting)
+        check_limits(per_block, waiting)
         if place not in _PLACES:
             raise ValueError('the place is auto, cpu, module or bus')
         if begun and late_answers:

@@ -1,7 +1,7 @@
 """The wire: frames on a line, between flags, with octet stuffing or bit stuffing and a frame check (own profile)."""
 
 import ctypes
-from typing import Any, List, NamedTuple, Optional
+from typing import List, NamedTuple, Optional
 
 from . import _library as c
 from . import constants
@@ -41,19 +41,14 @@ def wire_check(octets: Octets) -> int:
     return int(c.library.fio2070_wire_check(octets, len(octets)))
 
 
-class _Decoder:
-    """What both decoders do: `_name` is that of the library's calls, `_struct` their struct."""
-    _name: str
-    _struct: Any
+class _Decoder(c.Kept):
+    """What both decoders do."""
 
     def __init__(self, address: Optional[int] = None, control: Optional[int] = None) -> None:
         """One's own frames have this address and this control octet; each is one's own if that is None."""
         check_range(256, *(number for number in (address, control) if number is not None))
-        self._decoder, self._heard = self._struct(), ctypes.c_uint8()
+        self._kept, self._heard = self._struct(), ctypes.c_uint8()
         self._call('start', *(constants.WIRE_ANY if number is None else number for number in (address, control)))
-
-    def _call(self, name: str, *arguments: Any) -> Any:
-        return getattr(c.library, 'fio2070_%s_%s' % (self._name, name))(self._decoder, *arguments)
 
     def _read(self, octets: bytes) -> List[WireHeard]:
         heard: List[WireHeard] = []
@@ -69,7 +64,7 @@ class _Decoder:
         length = self._call('message_length')
         if length == 0:
             return WireHeard(kind)
-        address, control, *message = self._decoder.octets[:length + 2]
+        address, control, *message = self._kept.octets[:length + 2]
         return WireHeard(kind, address, control, bytes(message))
 
 

@@ -2,16 +2,14 @@
 come and what came, or with what the breach means."""
 
 import argparse
-import json
 import sys
 from collections import Counter
+from copy import deepcopy
 
-from . import judge, log, many, sides, terminal, unjudged
+from . import log, many, sides, terminal, unjudged
 from .batch import Made
 from .counts import Counts, in_words
-from .decode import clock_of
 from .events import BAD, FRAME, JUDGED, LOSSES, OTHER, PASSED, POSSIBLE
-from .explain import explanation
 from .message import BLOCK, POLL, TYPE_ANSWER
 from .options import number_in
 from .protocol import BLOCK_ENTRIES, CONTENT_RULES, MOST_WAITING, RULES, STANDARD_WAITING
@@ -27,17 +25,12 @@ def add_place(parser):
                         help='where the log was taken; auto: at the CPU where directions say so, else on the bus')
     start = parser.add_mutually_exclusive_group()
     start.add_argument('--start-at-poll', action='store_true', help='leave out what comes before the first poll')
-    add_whole(start)
-    add_limits(parser)
+    add_module(parser, start)
 
 
-def add_whole(parser):
-    """The option of what is above a log."""
-    parser.add_argument('--whole', action='store_true', help='the log begins at the start of both ends: then more faults can be found')
-
-
-def add_limits(parser):
-    """The option of the module's limits."""
+def add_module(parser, start):
+    """The options of what is above a log, and of the module's limits."""
+    start.add_argument('--whole', action='store_true', help='the log begins at the start of both ends: then more faults can be found')
     parser.add_argument('--limits', nargs=2, action=Limits, default=(BLOCK_ENTRIES, STANDARD_WAITING), metavar=('ENTRIES', 'WAITING'),
                         help='of the module: the most entries of a block, and the most that wait (%d %d)' % (BLOCK_ENTRIES, STANDARD_WAITING))
 
@@ -57,6 +50,7 @@ class Explain(argparse.Action):
     """Says what a rule says, and ends."""
 
     def __call__(self, parser, namespace, values, option_string=None):
+        from .explain import explanation
         print('\n'.join(explanation(values)))
         parser.exit()
 
@@ -105,7 +99,7 @@ class Spans:
 def _place(event):
     """The line of a frame, and its time where it has one; a time of the day as the log writes it."""
     place = 'in %sline %d' % (event.head, event.number)
-    return place if event.time is None else '%s at %s' % (place, clock_of(event))
+    return place if event.time is None else '%s at %s' % (place, event.clock)
 
 
 def judged(read, option):
@@ -167,7 +161,7 @@ class Findings:
         self.spans.add(found.rule, event)
         if self.option.json:
             kind = {'outcome': found.rule} if found.is_restart else {'rule': found.rule, **found.due}
-            print(json.dumps({'file': shown(event.file or self.read.name), 'line': event.number, **kind, 'says': found.says}))
+            terminal.print_object({'file': shown(event.file or self.read.name), 'line': event.number, **kind, 'says': found.says})
         else:
             print('%sline %d: %s: %s' % (event.head, event.number, self.paint('fault', found.rule), found.says))
 
@@ -176,43 +170,24 @@ class Findings:
         are those above the lines."""
         if self.has_late_answers or all(found.rule != 'pair' and not found.is_restart for _, _, found in broken):
             return
-        sent, above = Sent(counts), 0
+        sent, above = deepcopy(counts.now), 0
+        losses = {batch.frames_above(line) for line, event in batch.others if event.kind in LOSSES}
         for frame, event, found in broken:
-            sent.go_on(batch, above, frame)
+            for index in range(above, frame + 1):
+                if index in losses:
+                    sent.lose()
+                if index < frame:
+                    sent.frame(batch.octets[index])
             above = frame
             is_undue = found.rule == 'pair' or found.is_restart and event.octets[0] - TYPE_ANSWER != sent.command
-            self.has_late_answers |= is_undue and sent.is_answered_by(event.octets)
+            self.has_late_answers |= is_undue and is_answered(sent, event.octets)
 
 
-class Sent:
-    """What was sent above a frame: the command that waits for its answer, the types of commands, and the number of the last poll."""
-
-    def __init__(self, counts):
-        self.command, self.types, self.number = counts.now.command, set(counts.types), counts.now.polled
-
-    def go_on(self, batch, first, last):
-        """Goes on below these frames, and the lines among them."""
-        losses = {batch.frames_above(line) for line, event in batch.others if event.kind in LOSSES}
-        for frame in range(first, last + 1):
-            self.command = None if frame in losses else self.command
-            if frame < last:
-                self._add(batch.octets[frame])
-
-    def _add(self, octets):
-        if not judge.spells(octets):
-            return
-        if octets[0] < TYPE_ANSWER:
-            self.command = octets[0]
-            self.types.add(octets[0])
-            self.number = octets[1] if octets[0] == POLL else self.number
-        elif octets[0] - TYPE_ANSWER == self.command:
-            self.command = None
-
-    def is_answered_by(self, octets):
-        """Whether this is an answer to a command above, or a block of the latest number or the one before."""
-        if octets[0] == BLOCK:
-            return self.number is not None and (self.number - octets[1]) % 256 < 2
-        return octets[0] - TYPE_ANSWER in self.types
+def is_answered(sent, octets):
+    """Whether octets are an answer to a command of those that were counted, or a block of the latest number or the one before."""
+    if octets[0] == BLOCK:
+        return sent.polled is not None and (sent.polled - octets[1]) % 256 < 2
+    return octets[0] - TYPE_ANSWER in sent.types
 
 
 def run(option):
@@ -253,7 +228,7 @@ def end(option, read, counts, judgement, findings):
     sides.say_signs(read.judgements)
     if option.json:
         remarks = [words for one in read.judgements for words in (sides.IN_SHORT.get(one.verdict), one.sign) if words]
-        print(json.dumps({'summary': {**numbers, **({'remarks': remarks} if remarks else {}), 'not_judged': unjudged.numbers(left_out)}}))
+        terminal.print_object({'summary': {**numbers, **({'remarks': remarks} if remarks else {}), 'not_judged': unjudged.numbers(left_out)}})
     else:
         print(', '.join('%s %d' % (in_words(name), number) for name, number in numbers.items()))
         if left_out:

@@ -1,20 +1,18 @@
 """`fiolog decode`: what each frame says."""
 
 import argparse
-import csv
 import functools
 import json
 import re
 import sys
-import time
 
 from fio2070.constants import LOG_FROM_CPU
 
-from . import judge, log, terminal
+from . import log, terminal
 from .batch import Made
-from .events import BAD, DAMAGED, DATED, DOUBTFUL, END_OF_TIME, FRAME, LOSSES, OF_DAY, OTHER, PIECE, POSSIBLE
+from .events import BAD, DAMAGED, DATED, DOUBTFUL, END_OF_TIME, FRAME, LOSSES, MICRO, OTHER, PIECE, POSSIBLE, dated
 from .log_words import POSSIBLE as UNSURE
-from .message import BLOCK, LETTERS, POLL, SENT_AGAIN, SHORT, TYPE_ANSWER, message_of
+from .message import BLOCK, LETTERS, POLL, SENT_AGAIN, SHORT, TYPE_ANSWER, message_of, spells
 from .options import line_range, message_type, number_in, status_letters
 from .shown import shown
 
@@ -24,7 +22,6 @@ SPOKEN = FRAME, *UNSURE_KINDS
 SHOWN = *SPOKEN, BAD, OTHER, DAMAGED, PIECE
 # The most characters of a damaged line that are shown.
 MOST_SHOWN = 100
-MICRO = 1_000_000
 # The stamp 0, at the end of the words of a block.
 _NO_STAMP = re.compile(r'(?<= stamp )0')
 COLUMNS = ['file', 'line', 'time', 'direction', 'octets', 'type', 'says', 'input', 'state', 'stamp', 'wide']
@@ -48,31 +45,6 @@ def add_arguments(parser):
     parser.add_argument('--color', choices=('auto', 'always', 'never'), default='auto', help='colours (on a terminal)')
 
 
-@functools.lru_cache(maxsize=64)
-def _date(whole):
-    return time.strftime('%Y-%m-%d %H:%M:%S.', time.gmtime(whole))
-
-
-def clock(seconds):
-    """A time as it is shown: with its date where it has one, in UTC."""
-    if seconds is None:
-        return ''
-    if seconds < DATED:
-        return '%.6f' % seconds
-    return _dated(*divmod(round(seconds * 1e6), MICRO))
-
-
-def _dated(whole, part):
-    """A time with a date, in seconds and microseconds."""
-    return _date(whole) + ('%06d' % part if part % 1000 else '%03d' % (part // 1000))
-
-
-def clock_of(event):
-    """The time of a frame: a time of the day as the log writes it, else as `clock` has it."""
-    of_day = OF_DAY.search(event.text) if event.time is not None and event.time < DATED else None
-    return of_day[0] if of_day else clock(event.time)
-
-
 def fault_in(event):
     """What is wrong with a line that says no message."""
     if event.kind == BAD:
@@ -85,7 +57,7 @@ def fault_in(event):
 
 def spoken(event):
     """The message that a line says; None if it spells none."""
-    return message_of(event.octets) if event.kind in SPOKEN or event.kind == OTHER and judge.spells(event.octets) else None
+    return message_of(event.octets) if event.kind in SPOKEN or event.kind == OTHER and spells(event.octets) else None
 
 
 class Filter:
@@ -132,7 +104,7 @@ class Text:
         self.short, self.empty = (functools.lru_cache(maxsize=1024)(says) for says in (self._says, self._empty))
 
     def __call__(self, name, event, message):
-        head = '%s%-6s %s%s ' % (event.head, '%d:' % event.number, clock_of(event) + ' ' if event.time is not None else '', event.direction or '?')
+        head = '%s%s ' % (event.place, event.direction or '?')
         if message is None:
             self.write('%s%s\n' % (head, self.paint('fault', fault_in(event))))
             return
@@ -165,7 +137,7 @@ class Text:
         """Writes lines that it takes."""
         rows = []
         for number, time, octets, side in zip(batch.said.numbers(), batch.said.times(), batch.octets, batch.senders):
-            when = _dated(*divmod(time, MICRO)) + ' ' if time else ''
+            when = dated(*divmod(time, MICRO)) + ' ' if time else ''
             direction = '>' if side == LOG_FROM_CPU else '<'
             if len(octets) < SHORT:
                 says = self.short(octets, direction)
@@ -202,6 +174,7 @@ def as_json(write, takes_part):
 
 def as_csv(write, takes_part):
     """Writes a row for each message without entries, and for each entry."""
+    import csv
     rows = csv.writer(argparse.Namespace(write=write), lineterminator='\n')
     rows.writerow(COLUMNS)
 

@@ -4,9 +4,9 @@ import re
 
 import fio2070
 
-from . import judge
 from .events import text_of
 from .log_words import DOUBTS
+from .message import LOOSE
 
 # Numbers in brackets, and octets of one digit.
 _NUMBERS = re.compile(r'[\[({<]+\s*-?\d+(?:\s*[,;]|\s+-?\d)')
@@ -58,7 +58,7 @@ class Doubts:
     @property
     def loose(self):
         """How many frames are of types that have any length."""
-        return sum(count for code, count in self._counts.types.items() if judge.is_loose(bytes([code])))
+        return sum(count for code, count in self._counts.types.items() if code in LOOSE)
 
     def words(self):
         """What is said of them."""

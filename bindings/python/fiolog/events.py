@@ -1,10 +1,12 @@
 """What the reader makes of each line."""
 
+import functools
 import re
+import time
 from typing import NamedTuple, Optional
 
-from . import judge
 from .log_words import CURES, REASONS
+from .message import direction_of, words_of
 from .shown import shown
 
 FRAME, BAD, OTHER, POSSIBLE, DOUBTFUL, DAMAGED, PIECE, PASSED, PART, BLANK = (
@@ -22,6 +24,7 @@ LONGEST_TEXT = 1 << 16
 DATED = 1e8
 # The year 10000, which no time of a log has, in microseconds.
 END_OF_TIME = 253_402_300_800_000_000
+MICRO = 1_000_000
 OF_DAY = re.compile(r'\d{1,2}:\d\d:\d\d(?:[.,]\d{1,9})?')
 _COLOURS = re.compile('\x1b\\[[^A-Za-z]*[A-Za-z]')
 _MARKS = dict.fromkeys((0, 0xfeff))
@@ -61,6 +64,17 @@ class Line(NamedTuple):
         return shown(self.file) + ' ' if self.file else ''
 
     @property
+    def clock(self):
+        """The time as it is shown: a time of the day as the log writes it."""
+        of_day = OF_DAY.search(self.text) if self.time is not None and self.time < DATED else None
+        return of_day[0] if of_day else clock(self.time)
+
+    @property
+    def place(self):
+        """How what is written of the line begins: with its number, and its time if it has one."""
+        return '%s%-6s %s' % (self.head, '%d:' % self.number, self.clock + ' ' if self.time is not None else '')
+
+    @property
     def is_remark(self):
         """Whether judges get it, though it is skipped."""
         return self.kind == PASSED and self.note in REMARKS
@@ -76,12 +90,29 @@ class Line(NamedTuple):
         return text_of(self.raw)
 
 
-def seconds_of(time):
+def seconds_of(micro):
     """The seconds of a time in microseconds; None if there is none."""
-    return None if time is None or time >= END_OF_TIME else time / 1_000_000
+    return None if micro is None or micro >= END_OF_TIME else micro / MICRO
+
+
+@functools.lru_cache(maxsize=64)
+def _date(whole):
+    return time.strftime('%Y-%m-%d %H:%M:%S.', time.gmtime(whole))
+
+
+def clock(seconds):
+    """A time as it is shown: with its date where it has one, in UTC."""
+    if seconds is None:
+        return ''
+    return '%.6f' % seconds if seconds < DATED else dated(*divmod(round(seconds * 1e6), MICRO))
+
+
+def dated(whole, part):
+    """A time with a date, in seconds and microseconds."""
+    return _date(whole) + ('%06d' % part if part % 1000 else '%03d' % (part // 1000))
 
 
 def frame_of(number, octets, **line):
     """The event of a frame, with its direction, and its fault if it spells no message."""
-    fault = judge.words_of(octets)
-    return Line(number, BAD if fault else FRAME, octets=octets, direction=judge.direction_of(octets), note=fault, **line)
+    fault = words_of(octets)
+    return Line(number, BAD if fault else FRAME, octets=octets, direction=direction_of(octets), note=fault, **line)

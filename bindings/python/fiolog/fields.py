@@ -27,9 +27,9 @@ FIELDS = {
     188: ['body'],
 }
 
-# What the bits of a message say when they are 1, by its type and the field: letter, value, meaning.
-BITS = {
-    (49, 'clear'): [
+# Fields of bits, each by the type of its message, and what their bits say when they are 1: letter, value, meaning.
+_ALIKE = [
+    ([(49, 'clear'), (177, 'flags')], [
         ('P', 128, 'the module was reset'),
         ('E', 64, 'status flag'),
         ('K', 32, 'status flag'),
@@ -38,30 +38,19 @@ BITS = {
         ('M', 4, 'status flag'),
         ('L', 2, 'status flag'),
         ('W', 1, 'status flag'),
-    ],
-    (177, 'flags'): [
-        ('P', 128, 'the module was reset'),
-        ('E', 64, 'status flag'),
-        ('K', 32, 'status flag'),
-        ('R', 16, 'status flag'),
-        ('T', 8, 'status flag'),
-        ('M', 4, 'status flag'),
-        ('L', 2, 'status flag'),
-        ('W', 1, 'status flag'),
-    ],
-    (178, 'status'): [
+    ]),
+    ([(178, 'status'), (179, 'status')], [
         ('S', 1, 'error'),
-    ],
-    (179, 'status'): [
-        ('S', 1, 'error'),
-    ],
-    (182, 'status'): [
+    ]),
+    ([(182, 'status')], [
         ('C', 8, 'more entries waited than a block takes'),
         ('F', 4, 'entries between the block before and this one were pushed out'),
         ('E', 2, 'the same block number was asked for again'),
         ('G', 1, 'the number is not the one before plus one'),
-    ],
-    (186, 'status'): [
+    ]),
+    ([(186, 'status')], [
         ('Y', 1, 'the watchdog had been set before'),
-    ],
-}
+    ]),
+]
+# The same by the field.
+BITS = {field: bits for fields, bits in _ALIKE for field in fields}

@@ -8,8 +8,8 @@ from fio2070.constants import LOG_DAMAGED, LOG_PASSED_OVER, LOG_POSSIBLE, LOG_SA
 from .batch import Batch, made_of
 from .doubts import Doubts
 from .events import BLANK, DAMAGED, DOUBTFUL, FRAME, PART, PASSED, PIECE, POSSIBLE, Line, frame_of, seconds_of
-from .judge import direction_of
 from .log_words import REASONS
+from .message import direction_of
 from .texts import Texts
 
 KINDS = {'blank': BLANK, 'part': PART, 'possible': POSSIBLE, 'damaged': DAMAGED, 'passed over': PASSED, 'frames': FRAME}

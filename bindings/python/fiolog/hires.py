@@ -6,13 +6,11 @@ later or earlier each transition was. Such a log has no row for what is missing,
 counter back, after which the times are not known."""
 
 import argparse
-import csv
-import datetime
 
 from .output import Refused, made
 from .protocol import INPUTS
 from .terminal import say
-from .waveform import Clock, ages_of, each_once
+from .waveform import Clock, each_once
 
 OFF, ON = 81, 82
 HEAD = ['TimeStamp', 'DeviceId', 'EventId', 'Parameter']
@@ -20,6 +18,7 @@ HEAD = ['TimeStamp', 'DeviceId', 'EventId', 'Parameter']
 
 def day_and_time(text):
     """A day and time, as `2026-03-01T07:00:00.250`; a zone is not kept, since such logs have local times."""
+    import datetime
     try:
         return datetime.datetime.fromisoformat(text).replace(tzinfo=None)
     except ValueError:
@@ -62,23 +61,23 @@ class Events:
     """Rows of events, block by block."""
 
     def __init__(self, out, option):
+        import csv
         self.option, self.clock, self.first, self.now = option, Clock(), None, 0
         self.rows, self.left_out, self.gaps = csv.writer(out, lineterminator='\n'), set(), 0
         self.rows.writerow(HEAD)
 
     def add(self, block):
         """Writes the transitions of a block that the CPU took."""
-        ages = ages_of(block)
-        is_back = self.clock.go_on(block.stamp, ages, self.now)
+        is_back, times = self.clock.go_on(block, self.now)
         if self.first is None:
             self.first = self.clock.time
         if is_back:
-            say('the counter went back before %s: times from there on are not known' % self.shown(self.clock.time - max(ages)))
+            say('the counter went back before %s: times from there on are not known' % self.shown(min(times)))
         if block.is_lost:
             self.gaps += 1
-            say('gap mark: transitions are missing before %s' % self.shown(self.clock.time - max(ages)))
-        for (number, state, _), age in zip(block.entries, ages):
-            self.row(number, state, self.clock.time - age)
+            say('gap mark: transitions are missing before %s' % self.shown(min(times)))
+        for (number, state, _), time in zip(block.entries, times):
+            self.row(number, state, time)
         self.now = self.clock.time
 
     def row(self, number, state, time):
@@ -91,6 +90,7 @@ class Events:
 
     def shown(self, time):
         """The time of day of a time of the counter."""
+        import datetime
         try:
             moment = self.option.start + datetime.timedelta(milliseconds=time - self.first)
         except OverflowError:

@@ -8,8 +8,8 @@ from fio2070.constants import WIRE_ADDRESS, WIRE_CONTROL
 
 from .batch import made_of
 from .events import DAMAGED, OTHER, Line, frame_of
-from .judge import direction_of
 from .log_words import LINE
+from .message import direction_of
 from .rules import WRONG_CHECK
 
 OCTETS, BITS, HIGH_FIRST = LINES = 'octets', 'bits', 'bits-high-first'

@@ -22,7 +22,6 @@ from .line import OCTETS
 from .options import number_in
 from .pcapng import Writer
 from .reader import Reader
-from .rules import Rules
 from .shown import fault_words
 from .waiting import Waiting
 
@@ -61,8 +60,7 @@ def add_arguments(parser):
     parser.add_argument('--pcapng', metavar='FILE', help='write it as pcapng; - for `| wireshark -k -i -`')
     parser.add_argument('--force', action='store_true', help='overwrite files that are there already')
     parser.add_argument('--at', choices=('auto', 'cpu', 'module', 'bus'), default='auto', help='where it is heard')
-    check.add_whole(parser)
-    check.add_limits(parser)
+    check.add_module(parser, parser)
     check.add_except(parser)
     check.add_late_answers(parser)
     parser.add_argument('--seconds', type=float, metavar='N', help='end after so long')
@@ -151,7 +149,7 @@ class Station:
         self.out = sys.stderr if option.pcapng == '-' else sys.stdout
         self.paint, self.status = terminal.painter('auto'), terminal.Status()
         self.line = Text(self._write, self.paint)
-        self.judgement = sides.Judgement(Rules(option.at, option.whole, option.limits, option.excepted, option.late_answers))
+        self.judgement = sides.Judgement(check.rules_for(option))
         self.transcript = output.recorded(option.transcript, option.force) if option.transcript else None
         self.capture = None
         if option.pcapng:

@@ -4,7 +4,7 @@ import os
 import sys
 from collections import Counter
 
-from . import merge, source
+from . import source
 from .batch import made_of
 from .events import BAD, FRAME, LOSSES, PASSED, PIECE, POSSIBLE
 from .log_words import CURES, REASONS
@@ -102,6 +102,7 @@ class Log:
 
     def _merged(self, readers):
         """The lines of all files as of one log, with the first reader in place of all readers."""
+        from . import merge
         self.name, self.reader = self.option.files[0], readers[0]
         files = [merge.File(name, (event for batch in self._of_file(name, reader) for event in batch.events()))
                  for name, reader in zip(self.option.files, readers)]

@@ -1,6 +1,5 @@
 """Many logs side by side: a row for each, the worst first, and one for all."""
 
-import json
 import sys
 from functools import partial, reduce
 from operator import add
@@ -67,10 +66,10 @@ def write_json(rows, faults, total, counts_alone):
         remarks = {'remarks': {sides.IN_SHORT[name]: count for name, count in one.verdicts.items()}} if one.verdicts else {}
         return {**numbers(one), **remarks, key.replace(' ', '_'): missing, 'rules': dict(one.broken)}
     for name, one in rows:
-        print(json.dumps({'file': shown(name), **object_of(one), 'first': one.first_breach}))
+        terminal.print_object({'file': shown(name), **object_of(one), 'first': one.first_breach})
     for name, words in faults:
-        print(json.dumps({'file': shown(name), 'fault': shown(words)}))
-    print(json.dumps({'summary': {'files': len(rows), **object_of(total)}}))
+        terminal.print_object({'file': shown(name), 'fault': shown(words)})
+    terminal.print_object({'summary': {'files': len(rows), **object_of(total)}})
 
 
 def run(option, counts_alone=False):

@@ -1,21 +1,19 @@
-"""A message as the library reads it: its fields by name, and the lines that `fio2070 show` writes of it. A link has few short
-messages, which come again and again: these are read once."""
+"""What libfio2070 says of octets: whether they spell a message, and of a message its fields by name and the lines that `fio2070 show`
+writes of it. A link has few short messages, which come again and again: these are read once."""
 
 import functools
 from typing import NamedTuple
 
 import fio2070
 from fio2070 import _library as c
-from fio2070.constants import BIT_AGAIN as AGAIN, BIT_LOST as LOST, BIT_MORE as MORE, BIT_OUT_OF_SEQUENCE as OUT_OF_SEQUENCE
-from fio2070.constants import TYPE_STATUS
+from fio2070.constants import BIT_AGAIN as AGAIN, BIT_LOST as LOST, BIT_MORE as MORE
 from fio2070.constants import TYPE_ANSWER, TYPE_CONFIGURE_INPUTS as CONFIGURATION, TYPE_POLL as POLL
 
-from . import judge
 from .fields import BITS, FIELDS
 
-BLOCK, MODULE_STATUS = POLL + TYPE_ANSWER, TYPE_STATUS + TYPE_ANSWER
+BLOCK = POLL + TYPE_ANSWER
 # The bits of a block's status.
-LETTERS = {'C': MORE, 'F': LOST, 'E': AGAIN, 'G': OUT_OF_SEQUENCE}
+LETTERS = {letter: bit for letter, bit, _ in BITS[BLOCK, 'status']}
 # What the row of a repeated block says.
 SENT_AGAIN = 'E: sent again'
 # The fields that are octets; all others are numbers.
@@ -25,7 +23,34 @@ SHORT = 8
 
 _BITS_OF = {code: [(name, BITS[code, name]) for name in names if (code, name) in BITS] for code, names in FIELDS.items()}
 _items, _entries = (c.CItem * c.MOST_ENTRIES)(), (c.CEntry * c.MOST_ENTRIES)()
-_widen = c.library.fio2070_widen
+_command, _answer = c.CCommand(), c.CAnswer()
+_decode_command, _decode_answer, _widen = c.library.fio2070_decode_command, c.library.fio2070_decode_answer, c.library.fio2070_widen
+
+
+def direction_of(octets):
+    """The direction of a frame by its type: `<` if the module sent it, else `>`."""
+    return '<' if octets and octets[0] >= TYPE_ANSWER else '>'
+
+
+def fault_of(octets):
+    """The library's fault; its kind is 0 if the octets spell a message."""
+    if octets and octets[0] >= TYPE_ANSWER:
+        return _decode_answer(octets, len(octets), _answer)
+    return _decode_command(octets, len(octets), _command)
+
+
+def spells(octets):
+    """Whether the octets spell a message."""
+    return fault_of(octets).kind == 0
+
+
+# The types whose messages may have any length: a cut is not seen.
+LOOSE = frozenset(octet for octet in range(256) if spells(bytes([octet])) and spells(bytes([octet, 0])))
+
+
+def words_of(octets):
+    """The words of the fault, as `show` writes them; empty if there is none."""
+    return fio2070.show(octets).rstrip('\n') if fault_of(octets).kind else ''
 
 
 class Message(NamedTuple):
@@ -88,9 +113,9 @@ def message_of(octets):
 
 
 def _message(octets):
-    if judge.fault_of(octets).kind:
-        raise ValueError(judge.words_of(octets))
-    read = judge.last_read(octets)
+    if fault_of(octets).kind:
+        raise ValueError(words_of(octets))
+    read = _answer if octets[0] >= TYPE_ANSWER else _command
     fields = {name: _digits(octets, read, name) if name in IN_DIGITS else getattr(read, name) for name in FIELDS[read.code]}
     return Message(octets, read.code, fields, _parts(octets, read.code, read.count, fields.get('stamp', 0)))
 

@@ -5,9 +5,9 @@ import argparse
 from fio2070.constants import WIRE_CONTROL
 
 from .fields import FIELDS
+from .message import BLOCK, LETTERS, POLL
 
-TYPES = {'poll': 54, 'block': 182}
-LETTERS = 'CFEG'
+TYPES = {'poll': POLL, 'block': BLOCK}
 
 
 def number_in(low, high):

@@ -5,9 +5,9 @@ import re
 
 from fio2070.constants import LOG_BLANK
 
-from . import judge
 from .batch import made_of
 from .events import DAMAGED, PASSED, PIECE
+from .message import spells
 
 # Hexadecimal octets at the end of a line, after no digit, letter or mark of a time. The line is read backwards, so a long line
 # takes linear time.
@@ -47,7 +47,7 @@ class Pieces:
         for place, (line, event) in enumerate(batch.others):
             found = octets_of(event.text) if event.kind in (DAMAGED, PASSED) else None
             is_below = above is not None and not batch.kinds[above + 1:line].strip(_BLANK)
-            if found and is_below and found[1] == octets[1] and judge.spells(octets[0] + found[0]):
+            if found and is_below and found[1] == octets[1] and spells(octets[0] + found[0]):
                 self._mark(batch, place_above)
                 self._mark(batch, place)
                 above = None

@@ -1,11 +1,10 @@
 """`fiolog plan`: the row of docs/PLANNING.md for a setting, and what an outage costs. Each number has its clause, or the
 words *computed, not proved*."""
 
-import json
-import sys
 
 from . import terminal
 from .options import counted, number_in
+from .output import Refused
 from .protocol import BLOCK_ENTRIES, INPUTS, MOST_WAITING, STANDARD_WAITING
 
 WAITING = {'standard': STANDARD_WAITING, 'largest': MOST_WAITING}
@@ -166,19 +165,15 @@ def outage(option, inputs, length, per_block, waiting, ridden_out):
 def run(option):
     """Writes the row."""
     if option.group and sum(count for count, _ in option.group) > INPUTS:
-        print('fiolog: the groups have more than %d inputs' % INPUTS, file=sys.stderr)
-        return 2
+        raise Refused('the groups have more than %d inputs' % INPUTS)
     if option.group and (option.inputs, option.filter, option.outage, option.every, option.lost) != (None, None, None, None, 0):
-        print('fiolog: --group goes with --limits, --block, --waiting and --json alone', file=sys.stderr)
-        return 2
+        raise Refused('--group goes with --limits, --block, --waiting and --json alone')
     if not option.group and (option.inputs is None or option.filter is None):
-        print('fiolog: plan wants --inputs and --filter, or --group', file=sys.stderr)
-        return 2
+        raise Refused('plan wants --inputs and --filter, or --group')
     waiting = option.waiting or WAITING[option.limits]
     rows = list((differing if option.group else row)(option, option.block, waiting))
     if option.json:
-        json.dump([{'what': what, 'number': number, 'from': source} for what, number, source in rows], sys.stdout, indent=1)
-        print()
+        terminal.print_object([{'what': what, 'number': number, 'from': source} for what, number, source in rows], indent=1)
     else:
         groups = option.group or [(option.inputs, option.filter)]
         opened = ', '.join('%d open inputs with filters of at least %d' % group for group in groups)

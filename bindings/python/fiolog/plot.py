@@ -5,7 +5,7 @@ from array import array
 
 from . import terminal
 from .output import made
-from .waveform import Clock, ages_of
+from .waveform import Clock
 
 # A lane for each input, in inches, and the most that are drawn as high as that.
 WIDTH, LANE, HEAD, HIGHEST = 10, 0.45, 1.2, 60
@@ -26,19 +26,18 @@ class Lanes:
 
     def add(self, block):
         """A block that the CPU took."""
-        ages, before = ages_of(block), self.now
-        self.clock.go_on(block.stamp, ages, self.now)
-        first = self.clock.time - ages[0]
+        before, (_, times) = self.now, self.clock.go_on(block, self.now)
+        first = times[0]
         if self.first is None:
             self.first = before = first
         if block.is_lost:
             self.gaps.append((min(before, first), first))
             for number in self.times:
                 self.put(number, before, NONE)
-        for place, ((number, state, _), age) in enumerate(zip(block.entries, ages)):
-            self.put(number, self.clock.time - age, state)
+        for place, ((number, state, _), time) in enumerate(zip(block.entries, times)):
+            self.put(number, time, state)
             if place == block.broken:
-                self.broken.append((number, self.clock.time - age, state))
+                self.broken.append((number, time, state))
         self.now = max(self.now, self.clock.time)
 
     def draw(self, axes):

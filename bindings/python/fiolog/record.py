@@ -1,18 +1,13 @@
 """`fiolog record`: what the CPU learned: the record of the proved CPU's end, which heard the answers of the log, each breach of a
 rule, and where the module restarted."""
 
-import csv
-import json
-import shutil
 import sys
-import tempfile
 from typing import NamedTuple, Sequence, Union
 
 import fio2070
 
-from . import hires, log, plot, sides, terminal, unjudged
+from . import hires, log, sides, terminal, unjudged
 from .check import add_place, judged
-from .decode import clock_of
 from .events import LOSSES, Line
 from .message import BLOCK, LOST, POLL, message_of
 from .rules import Breach, Restart
@@ -166,7 +161,7 @@ def write(record):
         if found:
             print(event.head + found.words(event.number))
         else:
-            print('%s%-6s %s' % (event.head, '%d:' % event.number, (clock_of(event) + ' ' if event.time is not None else '') + item_words(item)))
+            print(event.place + item_words(item))
 
 
 def write_json(record):
@@ -180,12 +175,13 @@ def write_json(record):
         else:
             fields = {'gap': True} if item.gap else {name: getattr(item, name) for name in COLUMNS[2:]}
         file = {'file': shown(event.file)} if event.file else {}
-        print(json.dumps({**file, 'line': event.number, 'time': event.time, **fields}))
+        terminal.print_object({**file, 'line': event.number, 'time': event.time, **fields})
 
 
 def write_csv(record):
     """A row for each item, each breach and each restart; a gap mark has `gap` in its last column, a breach its rule, a restart
     `restarted`."""
+    import csv
     rows = csv.writer(sys.stdout, lineterminator='\n')
     rows.writerow([*COLUMNS, 'mark'])
     for event, item, found in record.parts():
@@ -201,6 +197,8 @@ def write_csv(record):
 def write_text(record):
     """What `fio2070 record` writes: the items above the first breach of a rule on content, then that breach; where one of the
     rules of `check` is broken, the first such breach alone. A restart is as a breach of a rule on content."""
+    import shutil
+    import tempfile
     count, broken, verdict = 0, '', ''
     with tempfile.TemporaryFile('w+') as items:
         for event, item, found in record.parts():
@@ -230,6 +228,7 @@ def run(option):
             return 2
         hires.write(record.blocks(), option)
     elif option.plot:
+        from . import plot
         if not plot.write(record.blocks(), option.plot):
             return 3
     elif option.vcd:

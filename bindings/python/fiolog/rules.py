@@ -12,9 +12,8 @@ from fio2070.constants import TYPE_ANSWER, TYPE_WATCHDOG, WHY_ABOVE_COMMAND, WHY
 from fio2070.constants import WHY_PLACE_LOST, WHY_UNHEARD
 
 from .events import LOSSES, MISSING, PIECE
-from .judge import words_of
 from .log_words import BREACHES, LINE
-from .message import AGAIN, BLOCK, LOST, MORE, message_of
+from .message import AGAIN, BLOCK, LOST, MORE, message_of, words_of
 from .protocol import ADVANCE, CONTENT_RULES, INPUTS, RULES
 
 # The note of what is in the place of a frame, and is none.

@@ -1,7 +1,5 @@
 """`fiolog stats`: how much, how often, how fast. Repeated blocks are counted once."""
 
-import json
-import sys
 from collections import Counter
 
 from . import log, many, terminal, unjudged
@@ -59,8 +57,7 @@ def run(option):
     missing = counts.unjudged() + Counter(
         damaged_lines=read.damaged, pieces=read.kinds[PIECE], lines_passed_over=read.kinds[PASSED], frames_of_others=read.kinds[OTHER])
     if option.json:
-        json.dump({**numbers(counts), 'not_counted': unjudged.numbers(missing, unjudged.OF_LINES)}, sys.stdout, indent=1)
-        print()
+        terminal.print_object({**numbers(counts), 'not_counted': unjudged.numbers(missing, unjudged.OF_LINES)}, indent=1)
     else:
         terminal.table('Frames of %s' % ', '.join(option.files), ['what', 'number'], list(flat(numbers(counts))))
         words = unjudged.words(missing, read.reasons, unjudged.OF_LINES)

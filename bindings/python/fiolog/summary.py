@@ -39,11 +39,9 @@ class Summary:
 
     def __add__(self, other):
         both = Summary()
-        both.counts, both.broken = self.counts + other.counts, self.broken + other.broken
-        both.first_breach = self.first_breach or other.first_breach
-        both.restarted, both.first_restart = self.restarted + other.restarted, self.first_restart or other.first_restart
-        both.lines, both.unjudged = self.lines + other.lines, self.unjudged + other.unjudged
-        both.reasons, both.verdicts = self.reasons + other.reasons, self.verdicts + other.verdicts
+        for name, ours in vars(self).items():
+            theirs = getattr(other, name)
+            setattr(both, name, ours or theirs if name.startswith('first_') else ours + theirs)
         return both
 
     def add_breaches(self, broken):

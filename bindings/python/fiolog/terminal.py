@@ -6,11 +6,6 @@ import sys
 
 from .shown import shown
 
-try:
-    import rich
-except ImportError:
-    rich = None
-
 # Files of fewer octets need no bar.
 SHORT = 1 << 22
 COLOURS = {'sent': '36', 'heard': '32', 'fault': '31;1', 'mark': '33', 'dim': '2'}
@@ -48,9 +43,25 @@ def painter(wish):
     return lambda colour, text: text
 
 
+def has_rich(otherwise):
+    """Whether `rich` is installed; if not, says what is done without it."""
+    try:
+        import rich
+    except ImportError:
+        say_once('rich is not installed: %s (Debian package python3-rich)' % otherwise)
+        return False
+    return True
+
+
+def print_object(one, **form):
+    """Writes an object as JSON."""
+    import json
+    print(json.dumps(one, **form))
+
+
 def table(title, names, rows):
     """Writes a table: drawn on a terminal with `rich`, else in columns."""
-    if rich and sys.stdout.isatty():
+    if sys.stdout.isatty() and has_rich('plain tables'):
         from rich.console import Console
         from rich.table import Table
         from rich.text import Text
@@ -59,8 +70,6 @@ def table(title, names, rows):
             drawn.add_row(*(Text(shown(str(cell))) for cell in row))
         Console().print(drawn)
         return
-    if sys.stdout.isatty():
-        say_once('rich is not installed: plain tables (Debian package python3-rich)')
     cells = [list(map(str, names))] + [[shown(str(cell)) for cell in row] for row in rows]
     widths = [max(map(len, column)) for column in zip(*cells)]
     print(shown(title))
@@ -104,10 +113,8 @@ class Progress:
             size = os.fstat(descriptor).st_size
         except OSError:
             size = 0
-        if is_quiet or size < SHORT or not sys.stderr.isatty() or writes and sys.stdout.isatty():
-            return
-        if not rich:
-            say_once('rich is not installed: no progress bar (Debian package python3-rich)')
+        is_wanted = not is_quiet and size >= SHORT and sys.stderr.isatty() and not (writes and sys.stdout.isatty())
+        if not is_wanted or not has_rich('no progress bar'):
             return
         from rich.console import Console
         from rich.progress import Progress as Bar

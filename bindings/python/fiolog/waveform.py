@@ -6,8 +6,6 @@ one; `block`, the number of the block that carries the entries; `gap`, 1 ms at t
 1 ms at an entry that breaks a rule on content. Times are the wide ones, continued beyond 2^32. A block that is repeated is
 drawn once."""
 
-import shutil
-import tempfile
 from typing import NamedTuple
 
 TURN = 1 << 32
@@ -27,22 +25,18 @@ class Clock:
     def __init__(self):
         self.stamp = self.time = None
 
-    def go_on(self, stamp, ages, now):
-        """Sets the time of a block, whose entries are older by `ages`; `now` is the latest time so far. Returns whether the
-        counter went back. The stamp says of which turn of the counter an entry is, since no entry is a turn older."""
-        step = (stamp - (self.stamp or 0)) % TURN
+    def go_on(self, block, now):
+        """Goes on to a block; `now` is the latest time so far. Returns whether the counter went back, and the time of each entry, or that
+        of the block if it has none. The stamp says of which turn of the counter an entry is, since no entry is a turn older."""
+        ages = [(block.stamp - wide) % TURN for _, _, wide in block.entries] or [0]
+        step = (block.stamp - (self.stamp or 0)) % TURN
         is_back = self.stamp is not None and step >= TURN // 2
         if self.stamp is None:
-            self.time = stamp if ages[0] <= stamp else stamp + TURN
+            self.time = block.stamp if ages[0] <= block.stamp else block.stamp + TURN
         else:
             self.time = now + 1 + max(ages) if is_back else self.time + step
-        self.stamp = stamp
-        return is_back
-
-
-def ages_of(block):
-    """How much older than their block its entries are; one zero if there are none."""
-    return [(block.stamp - wide) % TURN for _, _, wide in block.entries] or [0]
+        self.stamp = block.stamp
+        return is_back, [self.time - age for age in ages]
 
 
 class Wave:
@@ -69,20 +63,18 @@ class Wave:
 
     def draw(self, block):
         """Draws the block and its entries, each at its time."""
-        ages = ages_of(block)
-        is_back = self.clock.go_on(block.stamp, ages, self.now)
-        time = self.clock.time
+        is_back, times = self.clock.go_on(block, self.now)
         if self.first is None:
-            self.first, self.now = time - ages[0], time - ages[0] - 1
-        self.go_to(time - ages[0])
+            self.first, self.now = times[0], times[0] - 1
+        self.go_to(times[0])
         if is_back:
             self.pulse('r')
         self.body.write(''.join('%dn%d\n' % (block.number >> bit & 1, bit) for bit in range(8)))
         if block.is_lost:
             self.pulse('g')
             self.body.write(''.join('xi%d\n' % number for number in sorted(self.inputs)))
-        for place, ((number, state, _), age) in enumerate(zip(block.entries, ages)):
-            self.go_to(time - age)
+        for place, ((number, state, _), time) in enumerate(zip(block.entries, times)):
+            self.go_to(time)
             if place == block.broken:
                 self.is_broken = True
                 self.pulse('b')
@@ -112,6 +104,8 @@ def each_once(blocks):
 
 def draw(blocks, out):
     """Draws blocks, as they come, into a file that is written at their end; a block that is repeated is drawn once."""
+    import shutil
+    import tempfile
     with tempfile.TemporaryFile('w+') as body:
         wave = Wave(body)
         for block in each_once(blocks):
