@@ -57,6 +57,8 @@ def check_decode(check):
     cut = 'TX 36 05\nTX 36 06\nRX B6 06 00 00 00 00 00 0\nTX 36 07\nRX B6 07 00 00 00 00 00 01\nTX 36 08\n'
     check.equal('polls without an answer: not above a damaged line', [1, 6],
                 [row['line'] for row in fiolog('decode', '--json', '--unanswered', text=cut).objects()])
+    check.equal('by order a line ends at a carriage return too', ['1:     > wrong length needed 2 got 1', '2:     > unknown type 110'],
+                fiolog('decode', '--format', 'frames', text='36\r6e\r# a remark\n').out.splitlines())
     check.holds('colours where they are asked for', '\x1b[' in fiolog('decode', '--color', 'always', text=LOG).out)
     check.holds('no colours in a pipe', '\x1b[' not in fiolog('decode', text=LOG).out)
 

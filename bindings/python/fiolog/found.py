@@ -50,7 +50,7 @@ class Found:
     """Makes batches of the octets of a log. `form` is auto, frames or transcript."""
 
     def __init__(self, form):
-        self.library, self.texts, self.doubts = fio2070.LogReader(form), Texts(form != 'auto'), Doubts()
+        self.library, self.texts, self.doubts = fio2070.LogReader(form), Texts(), Doubts()
         self.form, self.has_frames = form, False
         self.told = 0   # the last line with a verdict
 

@@ -1,12 +1,14 @@
 """The texts of lines, cut from the octets of a log where one is asked for."""
 
-import re
 from functools import cached_property
 
 from . import doubts
 from .events import LONGEST_TEXT
 
-_OWN_LINES = re.compile(rb'[^\n]*\n|[^\n]+')
+
+def split(text):
+    """The lines of a text: one ends at a line feed, at a carriage return, or at both."""
+    return text.splitlines(keepends=True)
 
 
 class Piece:
@@ -16,7 +18,7 @@ class Piece:
         self.first, self.text, self._lines = first, text, lines
         self.end = first + (text.count(b'\n') if lines is None else len(lines))
 
-    def lines(self, split):
+    def lines(self):
         """The lines."""
         if self._lines is None:
             self._lines = split(self.text)
@@ -29,18 +31,16 @@ class Piece:
 
 
 class Texts:
-    """The texts of the lines that have no verdict yet; a line ends at a line feed, at a carriage return, or at both, those of
-    the project's `own` texts at a line feed alone."""
+    """The texts of the lines that have no verdict yet."""
 
-    def __init__(self, is_own=False):
-        self.pieces, self.left, self.count, self.is_own = [], b'', 0, is_own
-        self.split = _OWN_LINES.findall if is_own else lambda text: text.splitlines(keepends=True)
+    def __init__(self):
+        self.pieces, self.left, self.count = [], b'', 0
 
     def add(self, octets):
         """Takes octets."""
         text = self.left + octets
-        if not self.is_own and b'\r' in text and text.count(b'\r') != text.count(b'\r\n'):
-            lines = self.split(text)
+        if b'\r' in text and text.count(b'\r') != text.count(b'\r\n'):
+            lines = split(text)
             # A line feed may follow a carriage return.
             self.left = lines.pop() if lines and not lines[-1].endswith(b'\n') else b''
             self._keep(b'', lines)
@@ -65,12 +65,12 @@ class Texts:
         """Returns a line; what came of it if its end was not seen yet: a line feed may follow its carriage return."""
         for piece in self.pieces:
             if number < piece.end:
-                return piece.lines(self.split)[number - piece.first]
+                return piece.lines()[number - piece.first]
         return self.left
 
     def below(self, number):
         """Returns the lines below this one."""
-        return [line for piece in self.pieces if piece.end > number + 1 for line in piece.lines(self.split)[max(number + 1 - piece.first, 0):]]
+        return [line for piece in self.pieces if piece.end > number + 1 for line in piece.lines()[max(number + 1 - piece.first, 0):]]
 
     def may_have_numbers(self, lines):
         """Whether octets may be written as numbers in a range of lines."""
