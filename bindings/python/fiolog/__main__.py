@@ -1,6 +1,7 @@
 """The command `fiolog`."""
 
 import argparse
+import functools
 import gc
 import importlib
 import os
@@ -41,12 +42,15 @@ class Parser(argparse.ArgumentParser):
 
 def arguments(words):
     """The command line."""
-    parser = Parser(prog='fiolog', description='Reads logs of the field I/O transition link.', epilog=BEGINNING)
+    # Only help is as wide as the terminal: to look how wide that is takes a part of the start, for each option.
+    has_help = any(word.startswith('-') and 'h' in word for word in words)
+    form = argparse.HelpFormatter if has_help else functools.partial(argparse.HelpFormatter, width=80)
+    parser = Parser(prog='fiolog', description='Reads logs of the field I/O transition link.', epilog=BEGINNING, formatter_class=form)
     choices = parser.add_subparsers(dest='command', metavar='COMMAND', required=True)
     wanted = [word for word in words[:1] if word in COMMANDS] or COMMANDS
     for name in COMMANDS:
         module = module_of(name) if name in wanted else None
-        one = choices.add_parser(name, help=COMMANDS[name], description=module.__doc__ if module else '')
+        one = choices.add_parser(name, help=COMMANDS[name], description=module.__doc__ if module else '', formatter_class=form)
         if module:
             module.add_arguments(one)
     if words and words[0] not in COMMANDS and os.path.exists(words[0]):

@@ -97,14 +97,12 @@ class Batch:
         return self.said.frame_count if self.is_plain else sum(
             frames for kind, frames in zip(self.kinds, self.said.frame_counts()) if kind == LOG_SAYS)
 
-    def timed(self, is_last=False):
-        """The first line, or the last, that gives frames and has a time; None if there is none."""
-        timed, kinds, line = self.said.timed, self.kinds, -1
-        step = (lambda: timed.rfind(1, 0, line if line >= 0 else None)) if is_last else (lambda: timed.find(1, line + 1))
-        line = step()
-        while line >= 0 and kinds[line] != LOG_SAYS:
-            line = step()
-        return None if line < 0 else line
+    def timed(self):
+        """The first line and the last that give frames and have a time; empty if there is none."""
+        timed, kinds = self.said.timed, self.kinds
+        lines = range(len(kinds)) if 1 in timed else ()
+        ends = [next((line for line in part if timed[line] and kinds[line] == LOG_SAYS), None) for part in (lines, reversed(lines))]
+        return () if None in ends else ends
 
     @property
     def is_judged(self):

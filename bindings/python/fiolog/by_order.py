@@ -11,11 +11,10 @@ from . import line as wire
 from .batch import made_of
 from .events import BLANK, DAMAGED, LONGEST_TEXT, PART, PASSED, Line, frame_of, seconds_of, text_of
 from .log_words import REASONS
+from .reader import CHECKED
 from .rules import WRONG_CHECK
 from .texts import Texts
 
-# Frames of SDLC with their checks, or without.
-CHECKED, UNCHECKED = 'checked', 'unchecked'
 FLAG, HEADER, CHECK = b'\x7e', 2, 2
 ANY = None, None
 # The time and the side of a text that says none.

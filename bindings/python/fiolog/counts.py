@@ -102,10 +102,9 @@ class Counts:
         self._note_times(batch)
 
     def _note_times(self, batch):
-        timed = [line for line in (batch.timed(), batch.timed(is_last=True)) if line is not None]
-        if timed:
-            first, self.last = (seconds_of(batch.said.told(line).time) for line in timed)
-            self.first = first if self.first is None else self.first
+        times = [seconds_of(batch.said.told(line).time) for line in batch.timed()]
+        if times:
+            self.first, self.last = times[0] if self.first is None else self.first, times[-1]
 
     @property
     def first_reset(self):

@@ -1,8 +1,6 @@
 """`fiolog decode`: what each frame says."""
 
-import argparse
 import functools
-import json
 import re
 import sys
 
@@ -149,7 +147,7 @@ class Text:
         self.write(''.join(rows))
 
 
-def as_json(write, takes_part):
+def as_json(takes_part):
     """Writes an object a line."""
     def line(name, event, message):
         one = {'file': shown(name), 'line': event.number, 'time': event.time, 'direction': event.direction,
@@ -168,14 +166,14 @@ def as_json(write, takes_part):
                 one['repeat'] = SENT_AGAIN
             if message.parts:
                 one['entries' if message.code == BLOCK else 'items'] = list(filter(takes_part, message.parts))
-        write(json.dumps(one) + '\n')
+        terminal.print_object(one)
     return line
 
 
-def as_csv(write, takes_part):
+def as_csv(takes_part):
     """Writes a row for each message without entries, and for each entry."""
     import csv
-    rows = csv.writer(argparse.Namespace(write=write), lineterminator='\n')
+    rows = csv.writer(sys.stdout, lineterminator='\n')
     rows.writerow(COLUMNS)
 
     def line(name, event, message):
@@ -213,11 +211,11 @@ def others(read, text):
 
 def run(option):
     """Decodes the logs; status 1 if a frame is damaged or there is none."""
-    write, taken = sys.stdout.write, Filter(option)
+    taken = Filter(option)
     if option.json or option.csv:
-        line = (as_json if option.json else as_csv)(write, taken.takes_part)
+        line = (as_json if option.json else as_csv)(taken.takes_part)
     else:
-        line = Text(write, terminal.painter(option.color), taken.takes_part)
+        line = Text(sys.stdout.write, terminal.painter(option.color), taken.takes_part)
     read = log.Log(option, sys.stdout.flush)
     is_whole = isinstance(line, Text) and taken.is_open
     for event in unanswered(read.events()) if option.unanswered else others(read, line) if is_whole else read.events():

@@ -6,7 +6,7 @@ import fio2070
 
 from .events import text_of
 from .log_words import DOUBTS
-from .message import LOOSE
+from .message import spells
 
 # Numbers in brackets, and octets of one digit.
 _NUMBERS = re.compile(r'[\[({<]+\s*-?\d+(?:\s*[,;]|\s+-?\d)')
@@ -57,8 +57,8 @@ class Doubts:
 
     @property
     def loose(self):
-        """How many frames are of types that have any length."""
-        return sum(count for code, count in self._counts.types.items() if code in LOOSE)
+        """How many frames are of types that have any length: a cut is not seen."""
+        return sum(count for code, count in self._counts.types.items() if spells(bytes([code])) and spells(bytes([code, 0])))
 
     def words(self):
         """What is said of them."""

@@ -1,6 +1,7 @@
 """What a line carried, as a file: its octets with octet stuffing, or its bits with bit stuffing. The library finds the frames
 (fio2070.Wire, fio2070.WireBits); here they become events, of which each is counted as a line of a log."""
 
+import functools
 import re
 
 import fio2070
@@ -30,8 +31,12 @@ _NO_BITS, _AS_TEXT = bytes(octet for octet in range(256) if octet not in b'01\0\
 _RUNS = re.compile(rb'0+|1+')
 # How many runs, without the first and the last, show how long a bit is; and one run in how many may be noise.
 LEAST_RUNS, MOST_SHORT = 16, 20
-# The bits of each octet as a text, in the order in which they came.
-_IN_ORDER = {form: [format(octet, '08b')[::step].encode() for octet in range(256)] for form, step in ((BITS, -1), (HIGH_FIRST, 1))}
+
+
+@functools.lru_cache(maxsize=None)
+def _in_order(form):
+    """The bits of each octet as a text, in the order in which they came."""
+    return [format(octet, '08b')[::1 if form == HIGH_FIRST else -1].encode() for octet in range(256)]
 
 
 def event_of(heard, number, **line):
@@ -119,7 +124,7 @@ class Raw:
             if len(self.held) < SURE and not is_all:
                 return b''
             self.is_text, octets = bool(_BITS.fullmatch(self.held[:SURE])), self.held
-        bits = octets.translate(_AS_TEXT, _NO_BITS) if self.is_text else b''.join(map(_IN_ORDER[self.form].__getitem__, octets))
+        bits = octets.translate(_AS_TEXT, _NO_BITS) if self.is_text else b''.join(map(_in_order(self.form).__getitem__, octets))
         self.sample += (bits if self.sample else bits.lstrip(bits[:1]))[:WINDOW - len(self.sample)]
         return bits
 

@@ -8,10 +8,9 @@ from . import source
 from .batch import made_of
 from .events import BAD, FRAME, LOSSES, PASSED, PIECE, POSSIBLE
 from .log_words import CURES, REASONS
-from .by_order import CHECKED, UNCHECKED
 from .line import LINES
 from .options import line_address
-from .reader import FORMS, Reader
+from .reader import CHECKED, FORMS, UNCHECKED, Reader
 from .terminal import Progress, say
 from .unjudged import reasons_in_words
 

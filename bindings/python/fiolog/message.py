@@ -44,10 +44,6 @@ def spells(octets):
     return fault_of(octets).kind == 0
 
 
-# The types whose messages may have any length: a cut is not seen.
-LOOSE = frozenset(octet for octet in range(256) if spells(bytes([octet])) and spells(bytes([octet, 0])))
-
-
 def words_of(octets):
     """The words of the fault, as `show` writes them; empty if there is none."""
     return fio2070.show(octets).rstrip('\n') if fault_of(octets).kind else ''

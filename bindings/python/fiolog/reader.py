@@ -3,13 +3,14 @@
 import re
 from collections import Counter
 
-from .by_order import CHECKED, ByOrder
 from .events import DAMAGED, OTHER, PASSED
 from .found import Found
 from .line import OWN, Beginning, Raw
 from .pieces import Pieces
 
 FORMS = 'auto', 'frames', 'transcript'
+# Frames of SDLC with their checks, or without.
+CHECKED, UNCHECKED = 'checked', 'unchecked'
 # How a frame of SDLC begins, with its flag.
 _FLAGGED = re.compile(rb'7[eE](?:[ ,:;|-]|0[xX]|\\x)*14(?:[ ,:;|-]|0[xX]|\\x)*83')
 
@@ -25,7 +26,11 @@ class Reader:
         self.flagged = 0            # lines with the beginning of a frame of SDLC that give no frame
         self.pieces, self.address = Pieces(), address
         self.as_said = form == 'transcript'     # whether the lines say themselves who sent a frame
-        self.text = ByOrder(pattern, framing, address) if pattern or framing else Found(form)
+        if pattern or framing:
+            from .by_order import ByOrder
+            self.text = ByOrder(pattern, framing, address)
+        else:
+            self.text = Found(form)
         may_be_line = form == 'auto' and not pattern and framing in ('', CHECKED)
         self.way = Raw(line, address or OWN) if line else None if may_be_line else self.text
         self.beginning = Beginning(address or OWN)
