@@ -94,16 +94,6 @@ class CContentBreach(ctypes.Structure):
     _fields_ = [('rule', c_uint8), ('input', c_uint8), ('items', c_uint16)]
 
 
-class CContentChecker(ctypes.Structure):
-    """The octets of struct fio2070_content_checker."""
-    _fields_ = [('words', c_uint64 * 87)]
-
-
-class CJudge(ctypes.Structure):
-    """The octets of struct fio2070_judge."""
-    _fields_ = [('words', c_uint64 * 91)]
-
-
 class CJudgeOutcome(ctypes.Structure):
     _fields_ = [('kind', c_uint8), ('why', c_uint8), ('rule', c_uint8), ('has_due', c_uint8), ('due', c_uint8),
                 ('got', c_uint8), ('input', c_uint8), ('reserved', c_uint8), ('items', c_uint16)]
@@ -124,19 +114,6 @@ class CLogBatch(ctypes.Structure):
                 20480), ('octets', c_uint8 * 65536)]
 
 
-class CLogReader(ctypes.Structure):
-    """The octets of struct fio2070_log_reader."""
-    _fields_ = [('words', c_uint64 * 65536)]
-
-
-class CLogJudge(ctypes.Structure):
-    """The octets of struct fio2070_log_judge."""
-    _fields_ = [('words', c_uint64 * 94)]
-
-
-class CLogSigns(ctypes.Structure):
-    """The octets of struct fio2070_log_signs."""
-    _fields_ = [('words', c_uint64 * 102)]
 class CLogCounts(ctypes.Structure):
     _fields_ = [('frames', c_uint64), ('polls', c_uint64), ('repeats', c_uint64), ('unanswered', c_uint64),
                 ('marks', c_uint64), ('entries', c_uint64), ('restarts', c_uint64), ('types', c_uint64 * 256), ('inputs', c_uint64
@@ -144,10 +121,6 @@ class CLogCounts(ctypes.Structure):
                 ('command', c_uint8), ('has_command', c_uint8), ('polled', c_uint8), ('has_polled', c_uint8), ('waits', c_uint8),
                 ('block', c_uint8), ('has_block', c_uint8), ('reset', c_uint8), ('first_reset', c_uint8),
                 ('has_reset', c_uint8), ('reserved', c_uint8 * 5)]
-
-
-class CFilters(ctypes.Structure):
-    _fields_ = [('words', c_uint64 * 27)]
 
 
 class COutputs(ctypes.Structure):
@@ -162,11 +135,6 @@ class CLimits(ctypes.Structure):
     _fields_ = [('waiting', c_uint16), ('per_block', c_uint8), ('reserved', c_uint8)]
 
 
-class CSizedModule(ctypes.Structure):
-    """The octets of struct fio2070_sized_module."""
-    _fields_ = [('words', c_uint64 * 132)]
-
-
 class CWire(ctypes.Structure):
     _fields_ = [('octets', c_uint8 * 777), ('phase', c_uint8), ('held', c_uint16), ('check', c_uint16),
                 ('address', c_uint16), ('control', c_uint16)]
@@ -176,6 +144,20 @@ class CWireBits(ctypes.Structure):
     _fields_ = [('octets', c_uint8 * 777), ('phase', c_uint8), ('ones', c_uint8), ('pending', c_uint8),
                 ('value', c_uint8), ('count', c_uint8), ('full', c_uint8), ('reserved', c_uint8), ('held', c_uint16),
                 ('check', c_uint16), ('address', c_uint16), ('control', c_uint16)]
+
+
+def _words(name: str, count: int) -> Any:
+    """A struct whose fields are the library's own, as words of 64 bits."""
+    return type(name, (ctypes.Structure,), {'_fields_': [('words', c_uint64 * count)]})
+
+
+CContentChecker = _words('CContentChecker', 87)
+CJudge = _words('CJudge', 91)
+CLogReader = _words('CLogReader', 65536)
+CLogJudge = _words('CLogJudge', 94)
+CLogSigns = _words('CLogSigns', 102)
+CFilters = _words('CFilters', 27)
+CSizedModule = _words('CSizedModule', 132)
 
 
 library = _load()

@@ -20,6 +20,11 @@ def _table(name: str, words: str) -> Any:
     return property(lambda self: _counted(getattr(self._counts, name)), doc=words)
 
 
+def _known(name: str, known: str, kind: Any, words: str) -> Any:
+    """A number of the library's struct that is known if another one is not 0."""
+    return property(lambda self: kind(getattr(self._counts, name)) if getattr(self._counts, known) else None, doc=words)
+
+
 def _counted(table: Any) -> 'Counter[int]':
     """What of a table of counts is not 0, by its place."""
     return collections.Counter({place: number for place, number in enumerate(table) if number})
@@ -39,6 +44,13 @@ class LogCounts:
     inputs: 'Counter[int]' = _table('inputs', 'The entries of each input.')
     fills: 'Counter[int]' = _table('fills', 'The blocks with each number of entries.')
 
+    command: Optional[int] = _known('command', 'has_command', int,
+                                    'The type of the latest command, until it is answered; None if there is none.')
+    polled: Optional[int] = _known('polled', 'has_polled', int, 'The number of the latest poll; None above it.')
+    first_reset: Optional[bool] = _known('first_reset', 'has_reset', bool,
+                                         'Whether the first status answer says that the module was reset; None above it.')
+    reset: Optional[bool] = _known('reset', 'has_reset', bool, 'Whether the latest one says so.')
+
     def __init__(self) -> None:
         self._counts, self._taken = c.CLogCounts(), ctypes.c_uint64()
         self._times: Any = None     # of the answers of a batch
@@ -55,26 +67,6 @@ class LogCounts:
     def waits(self) -> bool:
         """Whether the latest poll is not answered yet: a poll at the end of a log is not counted as unanswered."""
         return bool(self._counts.waits)
-
-    @property
-    def command(self) -> Optional[int]:
-        """The type of the latest command, until it is answered; None if there is none."""
-        return self._counts.command if self._counts.has_command else None
-
-    @property
-    def polled(self) -> Optional[int]:
-        """The number of the latest poll; None above it."""
-        return self._counts.polled if self._counts.has_polled else None
-
-    @property
-    def first_reset(self) -> Optional[bool]:
-        """Whether the first status answer says that the module was reset; None above it."""
-        return bool(self._counts.first_reset) if self._counts.has_reset else None
-
-    @property
-    def reset(self) -> Optional[bool]:
-        """Whether the latest one says so."""
-        return bool(self._counts.reset) if self._counts.has_reset else None
 
     def lose(self) -> None:
         """A frame may be lost here: whether the latest poll and command were answered is not known."""

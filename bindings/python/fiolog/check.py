@@ -78,24 +78,6 @@ def add_arguments(parser):
                         help='an object for each breach, with several logs for each log; and one for the summary')
 
 
-class Spans:
-    """How often each rule is broken, and the module restarted, from when to when."""
-
-    def __init__(self):
-        self.spans = {}
-
-    def add(self, rule, event):
-        """A breach of a rule, or a restart."""
-        first, _, count = self.spans.get(rule, (event, event, 0))
-        self.spans[rule] = first, event, count + 1
-
-    def words(self):
-        """A line for each."""
-        for rule, (first, last, count) in self.spans.items():
-            yield '%s: %s' % (rule, 'once, ' + _place(first) if count == 1 else
-                              '%d times, first %s, last %s' % (count, _place(first), _place(last)))
-
-
 def _place(event):
     """The line of a frame, and its time where it has one; a time of the day as the log writes it."""
     place = 'in %sline %d' % (event.head, event.number)
@@ -152,18 +134,26 @@ class Findings:
 
     def __init__(self, option, read):
         self.option, self.read, self.paint = option, read, terminal.painter('auto')
-        self.count, self.restarts, self.spans, self.has_late_answers = 0, 0, Spans(), False
+        self.count, self.restarts, self.has_late_answers = 0, 0, False
+        self.spans = {}     # of each rule that is broken, and of restarts: the first and the last frame, and how often
 
     def add(self, event, found):
         """A breach, or a restart."""
         self.count += not found.is_restart
         self.restarts += found.is_restart
-        self.spans.add(found.rule, event)
+        first, _, count = self.spans.get(found.rule, (event, event, 0))
+        self.spans[found.rule] = first, event, count + 1
         if self.option.json:
             kind = {'outcome': found.rule} if found.is_restart else {'rule': found.rule, **found.due}
             terminal.print_object({'file': shown(event.file or self.read.name), 'line': event.number, **kind, 'says': found.says})
         else:
             print('%sline %d: %s: %s' % (event.head, event.number, self.paint('fault', found.rule), found.says))
+
+    def words(self):
+        """A line for each rule that is broken, and for restarts: how often, from when to when."""
+        for rule, (first, last, count) in self.spans.items():
+            yield '%s: %s' % (rule, 'once, ' + _place(first) if count == 1 else
+                              '%d times, first %s, last %s' % (count, _place(first), _place(last)))
 
     def look_for_late(self, batch, broken, counts):
         """Notes whether an answer that was not due is to a command above, or a block of the latest number or the one before; `counts`
@@ -206,7 +196,7 @@ def run(option):
             findings.add(where, found)
     if not read.summary():
         return 1
-    for words in () if option.quiet else findings.spans.words():
+    for words in () if option.quiet else findings.words():
         terminal.say(words)
     return end(option, read, counts, judgement, findings)
 

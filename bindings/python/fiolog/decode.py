@@ -65,16 +65,14 @@ class Filter:
         self.option = option
         self.types = set(option.type or ())
         self.bits = sum(LETTERS[letter] for letter in set(option.status or ''))
-        first, last = option.lines or (1, None)
-        self.lines = range(first, sys.maxsize if last is None else last + 1) if option.lines else None
-        self.is_open = not any((self.types, self.bits, self.lines, option.direction, option.block is not None,
+        self.is_open = not any((self.types, self.bits, option.lines, option.direction, option.block is not None,
                                 option.input is not None))
 
     def takes(self, event, message):
         """Whether this message is asked for; a damaged one has None."""
         if self.is_open:
             return True
-        if self.lines is not None and event.number not in self.lines:
+        if self.option.lines is not None and event.number not in self.option.lines:
             return False
         if self.option.direction and event.direction != {'sent': '>', 'heard': '<'}[self.option.direction]:
             return False

@@ -1,6 +1,7 @@
 """Values of the command line: each function gives one that reads a word, or refuses it with its range."""
 
 import argparse
+import sys
 
 from fio2070.constants import WIRE_CONTROL
 
@@ -60,8 +61,8 @@ def status_letters(text):
 
 
 def line_range(text):
-    """Line numbers: `A`, `A-B`, or `A-` for all from A on, as the first and the last; the last may be None."""
+    """Line numbers: `A`, `A-B`, or `A-` for all from A on."""
     first, dash, last = text.partition('-')
     if not first.isdigit() or last and not last.isdigit() or last and int(last) < int(first):
         raise argparse.ArgumentTypeError('%r is no range of lines, such as 10-20 or 10-' % text)
-    return int(first), (int(last) if last else None) if dash else int(first)
+    return range(int(first), int(last or first) + 1 if last or not dash else sys.maxsize)

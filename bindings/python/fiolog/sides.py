@@ -18,10 +18,9 @@ COMMANDS, ANSWERS, NOT_WHOLE, SILENT, FEW = 'commands', 'answers', 'not whole', 
 ONE_SIDED = COMMANDS, ANSWERS, NOT_WHOLE
 _MERGE = ' (two files of one line: see --merge)'
 WORDS = {
+    **SIDES,
     COMMANDS: SIDES[COMMANDS] + _MERGE,
     ANSWERS: SIDES[ANSWERS] + _MERGE,
-    NOT_WHOLE: SIDES[NOT_WHOLE],
-    SILENT: SIDES[SILENT],
     FEW: 'fewer than half of the messages that this log may have were judged: {judged} of {said}',
 }
 # As a row of a table says it.

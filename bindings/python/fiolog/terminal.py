@@ -1,6 +1,7 @@
 """What is said on standard error, colours, tables and the progress bar. `rich` draws the last two, if it is installed."""
 
 import contextlib
+import functools
 import os
 import sys
 
@@ -9,7 +10,6 @@ from .shown import shown
 # Files of fewer octets need no bar.
 SHORT = 1 << 22
 COLOURS = {'sent': '36', 'heard': '32', 'fault': '31;1', 'mark': '33', 'dim': '2'}
-_said = set()
 
 
 def say(words, name='fiolog'):
@@ -22,11 +22,8 @@ def say(words, name='fiolog'):
         sys.stderr.flush()
 
 
-def say_once(words):
-    """A line on standard error, the first time alone."""
-    if words not in _said:
-        _said.add(words)
-        say(words)
+# The same, but a line that was written already.
+say_once = functools.lru_cache(maxsize=None)(say)
 
 
 def has_colours(wish):
