@@ -170,8 +170,9 @@ class _Options(ctypes.Structure):
                 ('excepted', c_uint64 * 2), ('stops', c_int), ('is_outside', c_int), ('kept', c_void_p)]
 
 
-def _options(seed: int, events: int, excepted: Sequence[str], goes_on: bool) -> _Options:
-    options = _Options(events=events, seed=seed, stops=not goes_on)
+def _options(seed: int, events: int, excepted: Sequence[str], goes_on: bool, **mixes: Optional[_Mixed]) -> _Options:
+    options = _Options(events=events, seed=seed, stops=not goes_on,
+                       **{name: ctypes.pointer(mix) for name, mix in mixes.items() if mix is not None})
     for name in excepted:
         rule = c.library.fio2070_tester_rule_named(name.encode('ascii'))
         if rule >= 128 or not c.library.fio2070_tester_is_own(rule):
@@ -208,9 +209,7 @@ def run(maker: Maker, *, seed: int = 1, events: int = 100_000, mix: Optional[Mix
     in the format of `fio2070 simulate`; such a report of each rule that differs, if it `goes_on`. The `excepted` rules of
     the own profile are not asked. What a call of the maker raises, this raises."""
     calls = _Calls()
-    options = _options(seed, events, excepted, goes_on)
-    if mix is not None:
-        options.mix = ctypes.pointer(mix)
+    options = _options(seed, events, excepted, goes_on, mix=mix)
     return _find(_Ends(module=ctypes.pointer(_raw(maker, calls))), calls, options)
 
 
@@ -218,7 +217,5 @@ def run_cpu(maker: CpuMaker, *, seed: int = 1, events: int = 100_000, mix: Optio
             excepted: Sequence[str] = (), goes_on: bool = False) -> Optional[str]:
     """None if all polls, records and numbers are the same; else such a report, with the transcript; otherwise like `run`."""
     calls = _Calls()
-    options = _options(seed, events, excepted, goes_on)
-    if mix is not None:
-        options.cpu_mix = ctypes.pointer(mix)
+    options = _options(seed, events, excepted, goes_on, cpu_mix=mix)
     return _find(_Ends(cpu=ctypes.pointer(_raw_cpu(maker, calls))), calls, options)

@@ -147,6 +147,8 @@ class Text:
 
 def as_json(takes_part):
     """Writes an object a line."""
+    from json import dumps
+
     def line(name, event, message):
         one = {'file': shown(name), 'line': event.number, 'time': event.time, 'direction': event.direction,
                'octets': event.octets.hex()}
@@ -164,7 +166,7 @@ def as_json(takes_part):
                 one['repeat'] = SENT_AGAIN
             if message.parts:
                 one['entries' if message.code == BLOCK else 'items'] = list(filter(takes_part, message.parts))
-        terminal.print_object(one)
+        sys.stdout.write(dumps(one) + '\n')
     return line
 
 
