@@ -582,14 +582,8 @@ class Signs(unittest.TestCase):
 
 
 class Messages(unittest.TestCase):
-    def test_commands(self):
-        command = fio2070.decode_command(bytes.fromhex('33020c0503830000'))
-        self.assertEqual(command.items, [(12, False, 5, 3), (3, True, 0, 0)])
+    def test_bodies(self):
         self.assertEqual(fio2070.decode_command(b'\x3b\0\2').body, b'\0\2')
-
-    def test_answers(self):
-        answer = fio2070.decode_answer(BLOCK)
-        self.assertEqual(answer.entries, [(12, 1, 999)])
 
     def test_faults(self):
         for call in [lambda: encode.poll(256), lambda: encode.set_outputs(b'', b''), lambda: fio2070.Module(per_block=0)]:

@@ -7,14 +7,9 @@ from ctypes import POINTER, c_char_p, c_size_t, c_uint8, c_uint16, c_uint32, c_u
 from typing import Any
 
 # With these the calls take their arrays.
-from .constants import LONGEST_FRAME as LONGEST_FRAME
-from .constants import LONGEST_TEXT as LONGEST_TEXT
-from .constants import MOST_ENTRIES as MOST_ENTRIES
-from .constants import MOST_RECORD_ITEMS as MOST_RECORD_ITEMS
-from .constants import MOST_WAITING as MOST_WAITING
-from .constants import NO_MESSAGE as NO_MESSAGE
+from .constants import LONGEST_FRAME as LONGEST_FRAME, LONGEST_TEXT as LONGEST_TEXT, MOST_ENTRIES as MOST_ENTRIES
+from .constants import MOST_RECORD_ITEMS as MOST_RECORD_ITEMS, MOST_WAITING as MOST_WAITING, NO_MESSAGE as NO_MESSAGE
 from .constants import STANDARD_WAITING as STANDARD_WAITING
-
 
 _NAME = {'win32': 'fio2070.dll', 'darwin': 'libfio2070.1.dylib'}.get(sys.platform, 'libfio2070.so.1')
 
