@@ -38,6 +38,7 @@ LINES = [
     ('fio2070 --ver\t', 'fio2070 1.'),
     ('fiolog deco\t-q capt\t', '> poll block 5'),
     ('fiolog convert --to fra\tcapt\t', '3605'),
+    ('fiolog stats --form\tfra\tcapt\t', 'answers lost'),
     ('fiolog pla\t--inp\t64 --fil\t5', 'inputs'),
     ('fio2070-test --self mod\t2000', 'no difference'),
 ]
