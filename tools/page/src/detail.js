@@ -2,7 +2,7 @@
 
 import { BITS } from './bits.js';
 import { dateOf, laterWords } from './clocks.js';
-import { element } from './dom.js';
+import { element, sentence } from './dom.js';
 import { fieldsOf, wordsIn } from './fields.js';
 import { hexText } from './hex.js';
 import { DIRECTION } from './messagelist.js';
@@ -62,7 +62,7 @@ export function detailOf(log, place, textOf) {
   const way = element('p', { class: 'soft' }, WAYS[log.directions[place]] + timesOf(log, place));
   const breach = log.breaches.get(place), doubt = log.reason(place) || doubtOf(log, place);
   const reason = breach ? element('p', { class: 'reason' }, `Breaks ${log.reason(place)}.`)
-    : doubt ? element('p', { class: 'doubt' }, `${doubt[0].toUpperCase()}${doubt.slice(1)}.`) : null;
+    : doubt ? element('p', { class: 'doubt' }, sentence(doubt)) : null;
   const explained = breach ? [element('details', {}, element('summary', {}, 'What this rule says'),
     ...ruleWords(breach).map((words) => element('p', { class: 'soft' }, words)))]
     : log.restarts.has(place) ? [element('p', { class: 'soft' }, RESTART_HELP)] : [];

@@ -18,10 +18,10 @@ export function labelled(text, control) {
   return element('label', {}, text, control);
 }
 
-export function select(label, options, onchange) {
-  const control = element('select', { 'aria-label': label, onchange: () => onchange(control.value) },
+// A choice of options, each with its value.
+export function select(label, options, onchange, id = false) {
+  return element('select', { 'aria-label': label, id, onchange: (event) => onchange(event.target.value) },
     ...options.map(([value, text]) => element('option', { value }, text)));
-  return control;
 }
 
 // Says a sentence to those who hear the page, once.
@@ -34,7 +34,17 @@ export function say(text) {
   place.textContent = text;
 }
 
+// Saves a text as a file.
+export function saveText(name, text) {
+  const link = element('a', { href: URL.createObjectURL(new Blob([text], { type: 'text/plain' })), download: name });
+  link.click();
+  setTimeout(() => URL.revokeObjectURL(link.href), 1000);
+}
+
 export const withCommas = (number) => String(number).replace(/\B(?=(\d{3})+$)/g, ',');
+
+// Words as a sentence.
+export const sentence = (words) => words === '' ? '' : `${words[0].toUpperCase()}${words.slice(1)}.`;
 
 // A number with its noun, as `1 gap mark`.
 export const counted = (number, noun, several = `${noun}s`) => `${withCommas(number)} ${number === 1 ? noun : several}`;

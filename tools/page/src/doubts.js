@@ -8,7 +8,7 @@ const SINGLE = /(?:^|[^0-9a-z])(?:0x)?[0-9a-f](?![0-9a-z])/i;
 
 // The first octets after which any number of octets may come.
 function looseTypes(library) {
-  const spells = (...octets) => library.decode(library.place(Uint8Array.from(octets)), octets.length).fault === null;
+  const spells = (...octets) => library.spells(Uint8Array.from(octets));
   return new Set(Array.from({ length: 256 }, (_, octet) => octet).filter((octet) => spells(octet) && spells(octet, 0)));
 }
 

@@ -1,8 +1,7 @@
 // The view Inputs: the record of the log that is open as waveforms, moved by wheel, keys and touch.
 
-import { counted, element, say } from './dom.js';
+import { counted, element, saveText, say } from './dom.js';
 import { contentLine, recordLines } from './record.js';
-import { saveText } from './save.js';
 import { Waves } from './waves.js';
 
 const HELP = 'The wheel or + and − zoom; dragging or ← → move; ↑ ↓ choose an input; . and , go to its next and last transition; Enter goes to its message; 0 shows all.';

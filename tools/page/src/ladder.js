@@ -2,7 +2,6 @@
 
 import { statusNotes } from './notes.js';
 import { counted } from './dom.js';
-import { wordsOf } from './words.js';
 
 const SPACE = 'http://www.w3.org/2000/svg';
 const ROW = 38, TOP = 46, EDGE = 30, LETTER = 6.7;
@@ -94,7 +93,7 @@ function shape(name, attributes, text = '') {
 
 // The words of a message and what the bits of its status say, in at most `most` letters if that can be.
 function labelOf(library, octets, most) {
-  const address = library.place(octets), [words] = wordsOf(library, address, octets.length), message = library.decode(address, octets.length);
+  const [words] = library.showOctets(octets), message = library.decode(library.place(octets), octets.length);
   const notes = statusNotes(message.code, message.isAnswer ? message.status : 0), [short] = /^\D*\d*/.exec(words);
   const ways = [[words, ...notes], [short, ...notes], [short, ...notes.map((note) => note.split(':')[0])]].map((way) => way.join(', '));
   return ways.find((way) => way.length <= most) || ways[2];

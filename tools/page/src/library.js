@@ -24,6 +24,7 @@ export class Library {
     this.message = machine.reserve(Math.max(SIZE.command, SIZE.answer));
     this.frame = machine.reserve(LONGEST_FRAME + 1);
     this.out = machine.reserve(LONGEST_FRAME);
+    this.room = [BigInt(this.out), BigInt(LONGEST_FRAME)];
     this.elements = machine.reserve(MOST_RECORD_ITEMS * SIZE.recordItem);
     this.text = machine.reserve(TEXT_ROOM);
     this.decoder = new TextDecoder('latin1');
@@ -35,48 +36,39 @@ export class Library {
     return this.frame;
   }
 
-  faultAt(address) {
-    const { data } = this.machine;
-    return { kind: data.getUint8(address + AT.fault.kind), code: data.getUint8(address + AT.fault.code),
-      needed: data.getUint16(address + AT.fault.needed, true), got: Number(data.getBigUint64(address + AT.fault.got, true)) };
-  }
-
-  // Reads a message as a command or, where no command has its type, as an answer: its fields, or its fault.
+  // Reads a message as a command or, where no command has its type, as an answer: its fields; null where it is neither.
   decode(address, length) {
-    const command = this.faultOf('fio2070_decode_command', address, length);
-    if (command === null) return this.command();
-    if (command.kind !== FAULTS.unknownType) return { fault: command };
-    const answer = this.faultOf('fio2070_decode_answer', address, length);
-    return answer === null ? this.answer() : { fault: answer };
-  }
-
-  faultOf(call, address, length) {
-    this.calls[call](BigInt(this.result), BigInt(address), BigInt(length), BigInt(this.message));
-    return this.machine.all[this.result] === FAULTS.none ? null : this.faultAt(this.result);
-  }
-
-  command() {
-    const { all } = this.machine, at = this.message, place = AT.command;
-    return { fault: null, isAnswer: false, code: all[at + place.code], block: all[at + place.block] };
-  }
-
-  answer() {
-    const { data, all } = this.machine, at = this.message, place = AT.answer;
-    return { fault: null, isAnswer: true, code: all[at + place.code], status: all[at + place.status], block: all[at + place.block],
+    const fault = this.faultOf('fio2070_decode_command', address, length), { data, all } = this.machine, at = this.message;
+    if (fault === FAULTS.none) return { isAnswer: false, code: all[at + AT.command.code], block: all[at + AT.command.block] };
+    if (fault !== FAULTS.unknownType || this.faultOf('fio2070_decode_answer', address, length) !== FAULTS.none) return null;
+    const place = AT.answer;
+    return { isAnswer: true, code: all[at + place.code], status: all[at + place.status], block: all[at + place.block],
       count: all[at + place.count], stamp: data.getUint32(at + place.stamp, true) };
   }
 
-  faultText(fault) {
-    const { data } = this.machine, at = this.result;
-    data.setUint8(at + AT.fault.kind, fault.kind);
-    data.setUint8(at + AT.fault.code, fault.code);
-    data.setUint16(at + AT.fault.needed, fault.needed, true);
-    data.setBigUint64(at + AT.fault.got, BigInt(fault.got), true);
-    const length = Number(this.calls.fio2070_fault_text(BigInt(this.result), BigInt(this.text), BigInt(LONGEST_TEXT)));
-    return this.decoder.decode(this.machine.octets(this.text, length));
+  // The kind of the fault that a call finds in octets.
+  faultOf(call, address, length) {
+    this.calls[call](BigInt(this.result), BigInt(address), BigInt(length), BigInt(this.message));
+    return this.machine.all[this.result + AT.fault.kind];
   }
 
-  // What a call wrote to the longest room, which returned this count: none where there is no such message, whose count is -1 as
+  // Whether octets are a message.
+  spells(octets) {
+    return this.decode(this.place(octets), octets.length) !== null;
+  }
+
+  // The words of the fault of octets that spell no command, or null.
+  commandFault(octets) {
+    if (this.faultOf('fio2070_decode_command', this.place(octets), octets.length) === FAULTS.none) return null;
+    return this.textOf(this.calls.fio2070_fault_text(BigInt(this.result), BigInt(this.text), BigInt(LONGEST_TEXT)));
+  }
+
+  // The text of this length that a call wrote.
+  textOf(length) {
+    return this.decoder.decode(this.machine.octets(this.text, Number(length)));
+  }
+
+  // What a call wrote to `room`, which returned this count: none where there is no such message, whose count is -1 as
   // a signed number.
   written(count) {
     return this.machine.octets(this.out, Math.max(Number(count), 0)).slice();
@@ -89,47 +81,31 @@ export class Library {
       const at = this.elements + index * SIZE.configurationItem;
       for (const [name, place] of Object.entries(AT.configurationItem)) all[at + place] = item[name];
     }
-    return this.written(this.calls.fio2070_encode_configure_inputs(BigInt(this.elements), BigInt(items.length), BigInt(this.out),
-      BigInt(LONGEST_FRAME)));
+    return this.written(this.calls.fio2070_encode_configure_inputs(BigInt(this.elements), BigInt(items.length), ...this.room));
   }
 
-  // The text that `show` writes of a message, or the words of its fault.
+  // The lines that `show` writes of a message, or the words of its fault.
   show(address, length) {
-    const size = Number(this.calls.fio2070_show(BigInt(address), BigInt(length), BigInt(this.text), BigInt(TEXT_ROOM)));
-    return this.decoder.decode(this.machine.octets(this.text, size));
+    const size = this.calls.fio2070_show(BigInt(address), BigInt(length), BigInt(this.text), BigInt(TEXT_ROOM));
+    return this.textOf(size).replace(/\n$/, '').split('\n');
   }
 
-  // A CPU's end that polls next for the block with this number.
-  poller(number) {
-    return new Poller(this, number);
+  // The same of octets.
+  showOctets(octets) {
+    return this.show(this.place(octets), octets.length);
   }
 
-  // A module as it starts; null where it may have no block of `perBlock` entries.
-  module(id, perBlock) {
-    const module = new Module(this);
-    return module.start(id, perBlock) ? module : null;
-  }
-
-  // What judges a log.
-  logJudge() {
-    return new LogJudge(this);
-  }
-
-  // What counts the frames of a log, to tell what kind of log it looks like.
-  logSigns() {
-    return new LogSigns(this);
-  }
-
-  // The address of the limits of a module, until the next call.
-  limits(waiting, perBlock) {
+  // The address of the limits of a module in which the standard number of entries may wait, until the next call.
+  limits(perBlock) {
     const { all, data } = this.machine, at = this.result;
-    data.setUint16(at + AT.limits.waiting, waiting, true);
+    data.setUint16(at + AT.limits.waiting, STANDARD_WAITING, true);
     all[at + AT.limits.per_block] = perBlock;
-    return at;
+    return BigInt(at);
   }
 }
 
-class Poller {
+// A CPU's end that polls next for the block with this number.
+export class Poller {
   constructor(library, number) {
     this.library = library;
     this.address = library.machine.reserve(SIZE.poller);
@@ -147,7 +123,7 @@ class Poller {
   // The octets of a poll.
   poll() {
     const { library } = this;
-    return library.written(library.calls.fio2070_poller_poll(BigInt(this.address), BigInt(library.out), BigInt(LONGEST_FRAME)));
+    return library.written(library.calls.fio2070_poller_poll(BigInt(this.address), ...library.room));
   }
 
   // What a frame was, and how many items it added to the record: `recordItem` has them until the next call.
@@ -159,7 +135,6 @@ class Poller {
     return {
       kind, code: all[at + place.code], number: all[at + place.number], status: all[at + place.status],
       entries: all[at + place.entries], items: kind === HEARD.taken ? data.getUint16(at + place.items, true) : 0,
-      fault: kind === HEARD.unreadable ? library.faultAt(at + place.fault) : null,
     };
   }
 
@@ -172,7 +147,8 @@ class Poller {
   }
 }
 
-class Module {
+// A module, which has to be started.
+export class Module {
   constructor(library) {
     this.library = library;
     this.at = BigInt(library.machine.reserve(SIZE.sizedModule));
@@ -181,8 +157,7 @@ class Module {
   }
 
   start(id, perBlock) {
-    const { library } = this;
-    return library.calls.fio2070_sized_module_start(this.at, id, BigInt(library.limits(STANDARD_WAITING, perBlock))) === 0;
+    this.library.calls.fio2070_sized_module_start(this.at, id, this.library.limits(perBlock));
   }
 
   scan(levels) {
@@ -203,10 +178,8 @@ class Module {
 
   // The octets of the answer to a frame; none where there is no answer, and where the octets spell no command.
   receive(octets) {
-    const { library } = this;
-    const address = library.place(octets);
-    return library.written(library.calls.fio2070_sized_module_receive(this.at, ...this.ring, BigInt(address),
-      BigInt(octets.length), BigInt(library.out), BigInt(LONGEST_FRAME)));
+    const { library } = this, frame = [BigInt(library.place(octets)), BigInt(octets.length)];
+    return library.written(library.calls.fio2070_sized_module_receive(this.at, ...this.ring, ...frame, ...library.room));
   }
 
   get counter() {
@@ -222,7 +195,8 @@ class Module {
   }
 }
 
-class LogJudge {
+// What judges a log.
+export class LogJudge {
   constructor(library) {
     this.library = library;
     this.at = BigInt(library.machine.reserve(SIZE.logJudge));
@@ -231,8 +205,7 @@ class LogJudge {
 
   // Starts above the first line of a log that begins anywhere, taken where one of LOG_TAKEN says. The module has the standard limits.
   start(taken) {
-    const { calls } = this.library, limits = this.library.limits(STANDARD_WAITING, BLOCK_ENTRIES);
-    calls.fio2070_log_judge_start(this.at, BigInt(limits), taken, LOG_BEGINS.anywhere);
+    this.library.calls.fio2070_log_judge_start(this.at, this.library.limits(BLOCK_ENTRIES), taken, LOG_BEGINS.anywhere);
   }
 
   // Takes a line that may have held a message.
@@ -262,7 +235,8 @@ class LogJudge {
   }
 }
 
-class LogSigns {
+// What counts the frames of a log, to tell what kind of log it looks like.
+export class LogSigns {
   constructor(library) {
     this.calls = library.calls;
     this.at = BigInt(library.machine.reserve(SIZE.logSigns));

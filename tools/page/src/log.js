@@ -8,34 +8,30 @@ import { DIRECTION } from './messagelist.js';
 import { recordOf } from './record.js';
 import { breachWords, restartWords, ruleOf } from './rules.js';
 import { isOfOneSide, sidesOf } from './sides.js';
-import { signOf } from './signs.js';
 import { verdictOf } from './verdict.js';
-import { wordsOf } from './words.js';
 
 export class Log {
   // `read` is what readLog gives. `end` says where the log was taken: what was sent there is what the CPU sent or heard. If it is
   // `auto`, most directions say which end it was.
   constructor(library, arena, name, read, end) {
     const { messages, form, passed, doubts, inTwoLines, isReversed } = read;
-    Object.assign(this, { library, name, form, passed, doubts, inTwoLines, isReversed, hasTimes: messages.clocks.some((clock) => clock !== '') });
-    this.hasDirections = messages.sides.some((it) => it !== DIRECTION.none);
-    Object.assign(this, { count: messages.count, starts: messages.starts, lengths: messages.lengths, lines: messages.lines,
-      times: messages.times, clocks: messages.clocks, sides: messages.sides, isPossible: messages.isPossible,
-      marks: messages.marks, damaged: messages.damaged, others: messages.others });
-    this.arena = arena.hold(messages.octets.subarray(0, messages.end));
+    const { octets, end: after, ...columns } = messages;
+    Object.assign(this, { library, name, form, passed, doubts, inTwoLines, isReversed, ...columns });
+    this.hasTimes = this.clocks.some((clock) => clock !== '');
+    this.hasDirections = this.sides.some((it) => it !== DIRECTION.none);
+    this.arena = arena.hold(octets.subarray(0, after));
     this.poller = arena.poller;
-    this.codes = new Uint8Array(this.count);
-    this.blocks = new Uint8Array(this.count);
-    this.status = new Uint8Array(this.count);
-    this.entries = new Uint8Array(this.count);
+    for (const name of ['codes', 'blocks', 'status', 'entries', 'isFaulty']) this[name] = new Uint8Array(this.count);
     this.stamps = new Uint32Array(this.count);
-    this.isFaulty = new Uint8Array(this.count);
     this.decodeAll();
     this.end = !this.hasDirections ? ENDS.bus : end !== ENDS.auto ? end : isReversed && form !== LOG_FORMS.transcript ? ENDS.module : ENDS.cpu;
     this.directions = this.directionsOf();
     this.logged = sidesOf(this);
     this.sign = signOf(this, arena.signs);
     this.judging = new Judging();
+    // By the places of their messages.
+    this.breaches = this.judging.breaches;
+    this.restarts = this.judging.restarts;
     if (!isOfOneSide(this.logged)) this.judging.judgeAll(this, arena.judge, end);
     this.record = recordOf(this);
     this.summary = summaryOf(this);
@@ -57,7 +53,7 @@ export class Log {
   // The lines that `show` writes of a message.
   words(place) {
     if (this.isBadLine(place)) return ['bad line'];
-    return wordsOf(this.library, this.address(place), this.lengths[place]);
+    return this.library.show(this.address(place), this.lengths[place]);
   }
 
   // What is written of a message: its lines, or the text of a damaged line or of a frame with another address.
@@ -71,7 +67,7 @@ export class Log {
     for (let place = 0; place < this.count; place++) {
       if (this.isPossible[place] || this.others.has(place)) continue;
       const message = this.isBadLine(place) ? null : this.library.decode(this.address(place), this.lengths[place]);
-      if (message === null || message.fault) {
+      if (message === null) {
         this.isFaulty[place] = 1;
         continue;
       }
@@ -90,15 +86,6 @@ export class Log {
 
   wayByType(place) {
     return this.octets(place)[0] < FIRST_ANSWER ? DIRECTION.sent : DIRECTION.heard;
-  }
-
-  // The breaches and the restarts, by the places of their messages.
-  get breaches() {
-    return this.judging.breaches;
-  }
-
-  get restarts() {
-    return this.judging.restarts;
   }
 
   // Whether the CPU sent or heard a message, as it is judged: by its first octet if nothing says it.
@@ -138,9 +125,9 @@ export class Log {
     return (breach ? `${ruleOf(breach)}: ` : '') + this.meaning(place);
   }
 
-  // Whether a message breaks a rule.
-  isBroken(place) {
-    return this.breaches.has(place);
+  // Whether a message is a block whose status has a bit.
+  hasBit(place, bit) {
+    return this.codes[place] === BLOCK && (this.status[place] & bit) !== 0;
   }
 
   // Whether an answer is not directly below its command.
@@ -171,24 +158,36 @@ export class Log {
   }
 }
 
+// What is counted: its name, its noun, the test of the messages that it filters by, and its colour.
+export const FACTS = [
+  ['messages', 'message', () => true],
+  ['broken', 'breach', (log, place) => log.breaches.has(place), 'bad'],
+  ['restarts', 'restart', (log, place) => log.restarts.has(place), 'warn'],
+  ['faults', 'faulty line', (log, place) => log.isFaulty[place] === 1, 'bad'],
+  ['possible', 'possible message', (log, place) => log.isPossible[place] === 1, 'warn'],
+  ['others', 'other frame', (log, place) => log.others.has(place), 'warn'],
+  ['gaps', 'gap mark', (log, place) => log.hasBit(place, STATUS_BITS.lost), 'bad'],
+  ['repeats', 'repeated block', (log, place) => log.hasBit(place, STATUS_BITS.again), 'warn'],
+  ['unanswered', 'lost answer', (log, place) => log.isUnanswered(place), 'warn'],
+  ['polls', 'poll', (log, place) => log.codes[place] === POLL],
+  ['blocks', 'block', (log, place) => log.codes[place] === BLOCK],
+  ['entries', 'entry', (log, place) => log.entries[place] > 0],
+];
+
+// How many messages each fact holds for; of entries how many there are, and no frame with another address is a message.
 function summaryOf(log) {
-  const others = log.others.size, counts = { messages: log.count - others, others, badLines: -others, possible: 0, faults: 0, polls: 0, unanswered: 0, blocks: 0,
-    entries: 0, repeats: 0, gaps: 0 };
+  const places = Array.from({ length: log.count }, (_, place) => place), { size } = log.others;
+  const counts = Object.fromEntries(FACTS.map(([name, , test]) => [name, places.filter((place) => test(log, place)).length]));
+  return { ...counts, messages: log.count - size, badLines: places.filter((place) => log.isBadLine(place)).length - size,
+    entries: log.entries.reduce((sum, count) => sum + count, 0) };
+}
+
+// What kind of log it looks like, if it is not the log of one link in order: the number of its sign, by which SIGNS has the words.
+function signOf(log, signs) {
+  signs.start();
   for (let place = 0; place < log.count; place++) {
-    const code = log.codes[place];
-    counts.badLines += log.isBadLine(place) ? 1 : 0;
-    counts.faults += log.isFaulty[place];
-    counts.possible += log.isPossible[place];
-    if (code === POLL) {
-      counts.polls += 1;
-      counts.unanswered += log.isUnanswered(place) ? 1 : 0;
-    }
-    if (code === BLOCK) {
-      counts.blocks += 1;
-      counts.entries += log.entries[place];
-      counts.repeats += log.status[place] & STATUS_BITS.again ? 1 : 0;
-      counts.gaps += log.status[place] & STATUS_BITS.lost ? 1 : 0;
-    }
+    if (log.isPossible[place] || log.isBadLine(place)) continue;
+    signs.frame(log.judgedWay(place) === DIRECTION.sent, log.sides[place], log.address(place), log.lengths[place]);
   }
-  return { ...counts, broken: log.breaches.size, restarts: log.restarts.size };
+  return signs.sign;
 }

@@ -2,7 +2,7 @@
 
 import { byId } from './dom.js';
 import { InputsView } from './inputs.js';
-import { Library } from './library.js';
+import { Library, LogJudge, LogSigns, Poller } from './library.js';
 import { readAny } from './line.js';
 import { Log } from './log.js';
 import { LogReader } from './log_reader.js';
@@ -12,12 +12,11 @@ import { OpenView } from './open.js';
 import { PlanView } from './plan.js';
 import { PlayView } from './play.js';
 import { Tabs } from './tabs.js';
-import { wordsOf } from './words.js';
 
 // What the log that is open needs in the machine's memory: its octets, a poller, what judges it, and what counts its messages.
 class Arena {
   constructor(library) {
-    Object.assign(this, { machine: library.machine, address: 0, size: 0, poller: library.poller(0), judge: library.logJudge(), signs: library.logSigns() });
+    Object.assign(this, { machine: library.machine, address: 0, size: 0, poller: new Poller(library, 0), judge: new LogJudge(library), signs: new LogSigns(library) });
   }
 
   hold(octets) {
@@ -53,12 +52,12 @@ function useTheme() {
 function startViews(library) {
   const arena = new Arena(library), logReader = new LogReader(library);
   const tabs = new Tabs();
-  const messages = new MessagesView(byId('view-messages'), (octets) => wordsOf(library, library.place(octets), octets.length),
-    () => tabs.show('open'));
+  const back = () => tabs.show('open');
+  const messages = new MessagesView(byId('view-messages'), (octets) => library.showOctets(octets), back);
   const inputs = new InputsView(byId('view-inputs'), (place) => {
     tabs.show('messages');
     messages.goTo(place);
-  }, () => tabs.show('open'));
+  }, back);
   tabs.whenShown((name) => name === 'inputs' && inputs.draw());
   const open = (name, octets, end, form, own) => {
     trouble('');

@@ -1,16 +1,16 @@
 // The view Messages: the verdict, what was counted, a search, the table, and the message that is selected.
 
 import { LOG_FORMS, LOG_REASONS } from './constants.js';
-import { counted, element, say, select, withCommas } from './dom.js';
+import { counted, element, saveText, say, select, sentence, withCommas } from './dom.js';
 import { detailOf } from './detail.js';
 import { kindOf, CAN_READ } from './foreign.js';
 import { hexText } from './hex.js';
 import { ENDS } from './judging.js';
-import { BLOCK, POLL, STATUS_BITS } from './library.js';
+import { STATUS_BITS } from './library.js';
+import { FACTS } from './log.js';
 import { REASONS } from './log_words.js';
 import { DIRECTION } from './messagelist.js';
 import { hasNotes, noteOf } from './notes.js';
-import { saveText } from './save.js';
 import { Sheet } from './sheet.js';
 import { VirtualTable } from './table.js';
 import { VERDICTS } from './verdict.js';
@@ -18,32 +18,15 @@ import { VERDICTS } from './verdict.js';
 const ARROWS = { [DIRECTION.none]: '', [DIRECTION.sent]: '→ module', [DIRECTION.heard]: '← CPU' };
 const SHOWN_OCTETS = 40;
 
-// What each fact of the summary counts, and the test of a message that it filters by.
-const FACTS = [
-  ['messages', 'message', () => true],
-  ['broken', 'breach', (log, place) => log.isBroken(place), 'bad'],
-  ['restarts', 'restart', (log, place) => log.restarts.has(place), 'warn'],
-  ['faults', 'faulty line', (log, place) => log.isFaulty[place] === 1, 'bad'],
-  ['possible', 'possible message', (log, place) => log.isPossible[place] === 1, 'warn'],
-  ['others', 'other frame', (log, place) => log.others.has(place), 'warn'],
-  ['gaps', 'gap mark', (log, place) => hasBit(log, place, STATUS_BITS.lost), 'bad'],
-  ['repeats', 'repeated block', (log, place) => hasBit(log, place, STATUS_BITS.again), 'warn'],
-  ['unanswered', 'lost answer', (log, place) => log.isUnanswered(place), 'warn'],
-  ['polls', 'poll', (log, place) => log.codes[place] === POLL],
-  ['blocks', 'block', (log, place) => log.codes[place] === BLOCK],
-  ['entries', 'entry', (log, place) => log.entries[place] > 0],
-];
-
 const pluralOf = (noun) => noun.endsWith('y') ? noun.slice(0, -1) + 'ies' : noun.endsWith('h') ? noun + 'es' : noun + 's';
 // The noun of a fact. What may be no message is a row too.
 function nounOf(log, name, words) {
-  const { messages, badLines, possible } = log.summary, noun = name === 'messages' && badLines + possible > 0 ? 'row' : words;
-  return (name === 'messages' ? messages : log.summary[name]) === 1 ? noun : pluralOf(noun);
+  const { badLines, possible } = log.summary, noun = name === 'messages' && badLines + possible > 0 ? 'row' : words;
+  return log.summary[name] === 1 ? noun : pluralOf(noun);
 }
 // What is said of a log by its form, after its name.
 const FORMS = ['', ', read as frames', ', read as a transcript'];
 const SYMBOLS = { good: '✓', partly: '✓', unjudged: '?', restarted: '!', broken: '✗', none: '?' };
-const hasBit = (log, place, bit) => log.codes[place] === BLOCK && (log.status[place] & bit) !== 0;
 
 // What helps, by the reason why lines are skipped.
 const CURES = {
@@ -62,7 +45,7 @@ function passedWords(passed) {
 }
 
 // What stays doubtful, a sentence each.
-const doubtWords = (log) => log.doubts.map((words) => ` ${words[0].toUpperCase()}${words.slice(1)}.`).join('');
+const doubtWords = (log) => log.doubts.map((words) => ' ' + sentence(words)).join('');
 
 export class MessagesView {
   // `textOf(octets)` gives the lines of a message, `back()` shows the view Open.
@@ -216,10 +199,10 @@ export class MessagesView {
     const kinds = [];
     if (log.directions[place] === DIRECTION.sent) kinds.push('sent');
     if (log.isPossible[place] || log.others.has(place)) kinds.push('possible');
-    else if (log.isBroken(place)) kinds.push('broken');
+    else if (log.breaches.has(place)) kinds.push('broken');
     else if (log.restarts.has(place)) kinds.push('restarted');
     else if (log.isFaulty[place]) kinds.push('faulty');
-    else if (hasBit(log, place, STATUS_BITS.lost)) kinds.push('marked');
+    else if (log.hasBit(place, STATUS_BITS.lost)) kinds.push('marked');
     return kinds;
   }
 

@@ -67,16 +67,14 @@ export class OpenView {
     const file = element('input', { type: 'file', id: 'file', class: 'unseen', tabindex: '-1', 'aria-label': 'A log as a file',
       onchange: () => this.chosen(file) });
     const ends = select('Where the log was taken', [[ENDS.auto, 'Take it from the directions'], [ENDS.cpu, 'At the CPU'],
-      [ENDS.module, 'At the module'], [ENDS.bus, 'Elsewhere on the bus']], (end) => { this.end = end; });
-    ends.id = 'end';
+      [ENDS.module, 'At the module'], [ENDS.bus, 'Elsewhere on the bus']], (end) => { this.end = end; }, 'end');
     const forms = select('How the log is written', [['auto', 'Take it from the lines'], ['frames', 'Frames, as fio2070 show reads them'],
       ['transcript', 'A transcript, as fio2070 check reads it'], ...Object.entries(REWRITINGS).map(([way, [words]]) => [way, words]), ...Object.entries(LINE_WAYS)],
     (form) => {
       this.form = form;
       pattern.hidden = form !== 'pattern';
       address.hidden = !(form in LINE_WAYS);
-    });
-    forms.id = 'form';
+    }, 'form');
     this.pattern = element('input', { id: 'pattern', size: '36', spellcheck: 'false', 'aria-label': 'An expression', placeholder: '(?<time>[\\d.]+) (?<dir>\\w+) (?<octets>.*)$' });
     const pattern = labelled('An expression with the groups octets, and perhaps time and dir', this.pattern);
     this.address = element('input', { id: 'address', size: '5', maxlength: '4', spellcheck: 'false', 'aria-label': 'An address', value: '14', pattern: 'any|(?:[0-9A-Fa-f]{2}){1,2}' });

@@ -1,12 +1,11 @@
 // The view Play: both ends and a bus. What is done is a script for `simulate`, which a link in the address holds.
 
-import { BLOCK_ENTRIES, INPUTS, STANDARD_WAITING } from './constants.js';
-import { element, say, select, withCommas } from './dom.js';
+import { INPUTS, STANDARD_WAITING } from './constants.js';
+import { element, saveText, say, select, withCommas } from './dom.js';
 import { hexText } from './hex.js';
 import { ladderOf } from './ladder.js';
-import { saveText } from './save.js';
+import { Module, Poller } from './library.js';
 import { headerOf, itemText, levelsText, readScript, Run } from './script.js';
-import { wordsOf } from './words.js';
 
 const FIRST = 'fio2070 script 2 2 0';
 const FILTER = 2;
@@ -31,7 +30,7 @@ const PLAYED_STORIES = [['lost-poll.script', 'A poll is lost'], ['lost-answer.sc
 
 export class PlayView {
   constructor(root, library, examples) {
-    Object.assign(this, { library, examples, module: library.module(0, BLOCK_ENTRIES), poller: library.poller(0), levels: ALL_ONES, lost: new Set() });
+    Object.assign(this, { library, examples, module: new Module(library), poller: new Poller(library, 0), levels: ALL_ONES, lost: new Set() });
     const buttons = Array.from({ length: INPUTS }, (_, input) => this.levelButton(input));
     this.grid = element('div', { role: 'group', 'aria-label': `Levels of the ${INPUTS} inputs` }, element('div', { class: 'levels' }, ...buttons.slice(0, SEEN_INPUTS)),
       element('details', {}, element('summary', {}, `${INPUTS - SEEN_INPUTS} more inputs`), element('div', { class: 'levels' }, ...buttons.slice(SEEN_INPUTS))));
@@ -110,8 +109,7 @@ export class PlayView {
 
   scriptSide() {
     const names = Object.keys(this.examples).filter((name) => name.endsWith('.script'));
-    const choice = select('Example', [['', 'Another example…'], ...names.map((name) => [name, name])], (name) => name && this.show(name));
-    choice.id = 'play-example';
+    const choice = select('Example', [['', 'Another example…'], ...names.map((name) => [name, name])], (name) => name && this.show(name), 'play-example');
     return element('div', { class: 'play-script' }, element('h2', {}, 'The run as a script'), this.script,
       element('div', { class: 'row' }, this.button('Run this script', () => this.read(this.script.value), 'run-script'), choice,
         this.button('Link to this run', () => this.link(), 'link'),
@@ -225,8 +223,7 @@ export class PlayView {
   }
 
   frameItem(octets, number, direction, event) {
-    const isDone = number === direction.highest;
-    const words = wordsOf(this.library, this.library.place(octets), octets.length)[0];
+    const isDone = number === direction.highest, [words] = this.library.showOctets(octets);
     const deliver = element('button', { onclick: () => this.act(`${event} ${number}`) }, isDone ? 'Repeat' : 'Deliver');
     const lose = element('button', { onclick: () => {
       this.lost.add(event + number);

@@ -6,17 +6,19 @@ import { fromHex, hexText } from './hex.js';
 import { HEARD, POLL } from './library.js';
 
 const MOST_EVENTS = 10_000;
-const B = '(\\d{1,9})';
-const HEADERS = {
-  1: new RegExp(`^fio2070 script 1 ${B} ${B}$`),
-  2: new RegExp(`^fio2070 script 2 ${B} ${B}$`),
-  3: new RegExp(`^fio2070 script 3 ${B} ${B} ${B} ${B}$`),
-};
+// The numbers that a header has, by the version: the module's identity, the poller's number and, in version 3, the limits.
+const HEADER_NUMBERS = { 1: 2, 2: 2, 3: 4 };
+// The events: how what is given with one is written, and what a run does.
 const EVENTS = {
-  scan: /^scan ([0-9a-f]{16})$/i, sync: /^sync$/, raise: /^raise ([0-9a-f]{2})$/i, poll: /^poll$/, send: /^send ((?:[0-9a-f]{2})+)$/i,
-  'to-module': /^to-module (\d{1,9})$/, 'to-cpu': /^to-cpu (\d{1,9})$/, restart: /^restart$/,
+  scan: [/^[0-9a-f]{16}$/i, (run, levels) => run.module.scan(levelsOf(levels))],
+  sync: [/^$/, (run) => run.module.lineSync()],
+  raise: [/^[0-9a-f]{2}$/i, (run, mask) => run.module.raise(parseInt(mask, 16))],
+  poll: [/^$/, (run) => run.toModule.send(run.poller.poll())],
+  send: [/^(?:[0-9a-f]{2})+$/i, (run, digits) => run.sent(fromHex(digits))],
+  'to-module': [/^\d{1,9}$/, (run, number) => run.atModule(Number(number))],
+  'to-cpu': [/^\d{1,9}$/, (run, number) => run.atCpu(Number(number))],
+  restart: [/^$/, (run) => run.module.restart()],
 };
-
 
 // Levels as eight octets, input 0 in the lowest bit of the first.
 export const levelsText = (levels) => hexText(Array.from({ length: 8 }, (_, place) => Number((levels >> BigInt(8 * place)) & 255n)));
@@ -24,23 +26,18 @@ const levelsOf = (digits) => fromHex(digits).reduce((word, octet, place) => word
 
 // The header of a script; null where the line is none or its numbers are out of range.
 export function headerOf(line) {
-  for (const version of [1, 2, 3]) {
-    const found = HEADERS[version].exec(line);
-    if (!found) continue;
-    const [id, number, perBlock = BLOCK_ENTRIES, waiting = STANDARD_WAITING] = found.slice(1).map(Number);
-    const isInRange = id <= 255 && number <= 255 && perBlock >= 1 && perBlock <= BLOCK_ENTRIES
-      && waiting >= STANDARD_WAITING && waiting <= MOST_WAITING;
-    return isInRange ? { version, id, number, perBlock, waiting, line } : null;
-  }
-  return null;
+  const [, version, given] = /^fio2070 script ([123])((?: \d{1,9})+)$/.exec(line) || [], numbers = given ? given.trim().split(' ').map(Number) : [];
+  if (numbers.length !== HEADER_NUMBERS[version]) return null;
+  const [id, number, perBlock = BLOCK_ENTRIES, waiting = STANDARD_WAITING] = numbers;
+  const isInRange = id <= 255 && number <= 255 && perBlock >= 1 && perBlock <= BLOCK_ENTRIES
+    && waiting >= STANDARD_WAITING && waiting <= MOST_WAITING;
+  return isInRange ? { version: Number(version), id, number, perBlock, waiting, line } : null;
 }
 
+// The name of an event and what is given with it; null where a line is none.
 function eventOf(line, version) {
-  for (const [name, pattern] of Object.entries(EVENTS)) {
-    const found = pattern.exec(line);
-    if (found && (name !== 'restart' || version > 1)) return { name, given: found[1] };
-  }
-  return null;
+  const [, name, given = ''] = /^([a-z-]+)(?: (.+))?$/.exec(line) || [];
+  return Object.hasOwn(EVENTS, name) && EVENTS[name][0].test(given) && (name !== 'restart' || version > 1) ? { name, given } : null;
 }
 
 // Reads a script: its header and its events, or the line of its first fault.
@@ -54,17 +51,11 @@ export function readScript(text, library) {
     if (events.length === MOST_EVENTS) return { fault: `line ${place + 1}: too many events` };
     const event = eventOf(line, header.version);
     if (!event) return { fault: `line ${place + 1}: bad line` };
-    const fault = event.name === 'send' ? commandFault(fromHex(event.given), library) : null;
+    const fault = event.name === 'send' ? library.commandFault(fromHex(event.given)) : null;
     if (fault) return { fault: `line ${place + 1}: bad frame ${fault}` };
     events.push(line);
   }
   return { header, events };
-}
-
-// The words of the fault of octets that spell no command, or null.
-function commandFault(octets, library) {
-  const fault = library.faultOf('fio2070_decode_command', library.place(octets), octets.length);
-  return fault && library.faultText(fault);
 }
 
 // Frames of one direction, numbered from 1, and the highest number that was delivered.
@@ -109,26 +100,12 @@ export class Run {
   do(line) {
     if (this.isRefused) return;
     const { name, given } = eventOf(line, this.header.version);
-    const outcome = this.outcome(name, given);
+    const outcome = EVENTS[name][1](this, given) || 'quiet';
     this.isRefused = outcome.startsWith('refused');
     this.events.push(line);
     this.lines.push(`${this.events.length} ${outcome}`);
     this.waits.push(this.module.waiting);
     this.recorded.push(this.record.length);
-  }
-
-  outcome(name, given) {
-    const acts = {
-      scan: () => this.module.scan(levelsOf(given)),
-      sync: () => this.module.lineSync(),
-      raise: () => this.module.raise(parseInt(given, 16)),
-      restart: () => this.module.restart(),
-      poll: () => this.toModule.send(this.poller.poll()),
-      send: () => this.sent(fromHex(given)),
-      'to-module': () => this.atModule(Number(given)),
-      'to-cpu': () => this.atCpu(Number(given)),
-    };
-    return acts[name]() || 'quiet';
   }
 
   sent(octets) {
@@ -149,7 +126,7 @@ export class Run {
     const octets = this.toCpu.deliver(number);
     const heard = this.poller.hear(this.library.place(octets), octets.length);
     for (let place = 0; place < heard.items; place++) this.record.push(this.poller.recordItem(place));
-    return outcomeOf(heard);
+    return heard.kind in HEARD_WORDS ? HEARD_WORDS[heard.kind](heard) : 'unreadable';
   }
 
   // Whether a message was sent, by its direction and its number, as `to-cpu3`.
@@ -171,13 +148,11 @@ export class Run {
   }
 }
 
-function outcomeOf(heard) {
-  switch (heard.kind) {
-    case HEARD.taken: return `block entries ${heard.entries} status ${hexText([heard.status])}`;
-    case HEARD.stale: return `stale ${heard.number}`;
-    case HEARD.other: return `other ${heard.code}`;
-    default: return 'unreadable';
-  }
-}
+// What a report says of a message that was heard, by what it was.
+const HEARD_WORDS = {
+  [HEARD.taken]: ({ entries, status }) => `block entries ${entries} status ${hexText([status])}`,
+  [HEARD.stale]: ({ number }) => `stale ${number}`,
+  [HEARD.other]: ({ code }) => `other ${code}`,
+};
 
 export const itemText = (item) => item.isGap ? 'gap' : `input ${item.input} state ${item.state} stamp ${item.stamp} wide ${item.wide}`;

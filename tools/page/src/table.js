@@ -2,6 +2,7 @@
 // the wheel, by touch and by the keys of a list. The style says how high a row is: on a narrow screen it is a card.
 
 import { element } from './dom.js';
+import { lowerBound } from './waves.js';
 
 // Browsers lay out no box of more than some 17 million pixels: a longer table moves by more than a row a pixel.
 const MOST_PIXELS = 8_000_000;
@@ -141,13 +142,7 @@ export class VirtualTable {
 
   // Selects the row of a place, or the nearest one above, and opens it.
   selectPlace(place) {
-    let low = 0, high = this.places.length;
-    while (low < high) {
-      const middle = (low + high) >> 1;
-      if (this.places[middle] <= place) low = middle + 1;
-      else high = middle;
-    }
-    this.select(low - 1, true);
+    this.select(lowerBound(this.places, place + 1) - 1, true);
   }
 
   scrollTo(index) {

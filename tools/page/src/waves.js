@@ -18,7 +18,7 @@ export function lowerBound(sorted, value) {
 }
 
 // The transitions of each input that has some, by its number: times, states and the indexes in the record.
-export function lanesOf(record) {
+function lanesOf(record) {
   const lanes = new Map();
   for (let index = 0; index < record.times.length; index++) {
     const input = record.inputs[index];
