@@ -2,7 +2,7 @@
 // reason.
 
 import { WHY } from './constants.js';
-import { counted, withCommas } from './dom.js';
+import { counted, sentence, withCommas } from './dom.js';
 import { CAUSES, ENDS } from './judging.js';
 import { POLL } from './library.js';
 import { SIDES, SIGNS } from './log_words.js';
@@ -21,9 +21,9 @@ export function verdictOf(log) {
   const { messages, broken, restarts, possible, badLines } = log.summary, readable = messages - badLines - possible;
   const judged = readable - log.judging.leftOut;
   const notJudged = sentencesOf(log, readable > 0);
-  const said = { more: '', first: -1, looksLike: sentenceOf(SIGNS[log.sign]), notJudged };
+  const said = { more: '', first: -1, looksLike: sentence(SIGNS[log.sign]), notJudged };
   if (readable === 0) return { ...said, kind: VERDICTS.none, text: possible > 0 ? 'No message is sure, so none is judged.' : 'No message was found.' };
-  if (isOfOneSide(log.logged)) return { ...said, kind: VERDICTS.unjudged, text: sentenceOf(SIDES[log.logged]) };
+  if (isOfOneSide(log.logged)) return { ...said, kind: VERDICTS.unjudged, text: sentence(SIDES[log.logged]) };
   if (broken > 0) {
     const [place, breach] = log.breaches.entries().next().value;
     const rule = `line ${log.lines[place]} breaks the rule ${ruleOf(breach)}`, restarted = restarts > 0 ? ` ${restartsIn(log)}. ${RESTART_HELP}` : '';
@@ -56,42 +56,36 @@ function restartsIn(log) {
 
 // What was not judged, and why.
 function sentencesOf(log, isJudged) {
-  const { inTwoLines, hasDirections, end, summary: { possible, badLines }, judging: { unjudged, losses, causes } } = log, said = [];
-  const { [WHY.aboveCommand]: aboveCommand, [WHY.unheard]: unheard, [WHY.load]: belowLoads, [WHY.placeLost]: atLostPlaces } = unjudged;
-  const [first] = log.breaches.keys(), poll = log.codes.indexOf(POLL);
-  const unread = badLines - 2 * inTwoLines;
-  if (unread > 0) said.push(`${counted(unread, 'line')} could not be read as a message and ${are(unread)} not judged.`);
-  if (inTwoLines > 0) said.push(`${counted(inTwoLines, 'message')} split over two lines ${are(inTwoLines)} not read.`);
-  if (possible > 0) {
-    said.push(`${counted(possible, 'message')} ${are(possible)} possible and not judged: nothing in the log makes sure that the octets are a message.`);
-  }
-  if (log.others.size > 0) said.push(`${counted(log.others.size, 'frame')} with another address ${are(log.others.size)} not judged.`);
-  if (log.logged !== '' && !isOfOneSide(log.logged)) said.push(sentenceOf(SIDES[log.logged]));
-  if (aboveCommand > 0) {
-    said.push(`${counted(aboveCommand, 'message')} above the first command ${are(aboveCommand)} not judged: what was asked is not in the log.`);
-  }
-  if (unheard > 0) {
-    said.push(`${counted(unheard, 'message')} ${are(unheard)} not judged, since this log was not taken at the CPU: whether the CPU heard the `
-      + 'answer above is not known, and to ask for the same block again is right if it did not.');
-  }
-  if (belowLoads > 0) {
-    said.push(`${counted(belowLoads, 'message')} ${are(belowLoads)} not judged, since a load of the counter may explain ${belowLoads === 1 ? 'its stamp' : 'the stamps'}: `
-      + 'one that was sent, or that a lost line may have been.');
-  }
-  if (losses > 0) {
-    const places = Object.keys(LOST_AT).filter((cause) => causes.has(cause)).map((cause) => LOST_AT[cause]).join(' or ');
-    said.push(`${counted(losses, 'loss', 'losses')} of sync, at ${places}${atLostPlaces === 0 ? ': no message from there to the next poll was left out'
-      : `: ${counted(atLostPlaces, 'message')} from there to the next poll ${are(atLostPlaces)} not judged`}.`);
-  }
-  if ([...log.restarts].some((place) => log.isUndue(place)) || [...log.breaches].some(([place, breach]) => ruleOf(breach) === 'pair' && log.answersAbove(place))) {
-    said.push('Answers may have come late or twice: fiolog check --late-answers leaves these out.');
-  }
-  if (first !== undefined && poll < 0) said.push('The log has no poll, so it is of the middle of traffic: what breaks a rule here may be right.');
-  else if (first < poll) said.push('The log begins in the middle of traffic: what breaks a rule above the first poll may be right.');
-  if (isJudged && !hasDirections) said.push('The log does not say who sent a message: each is judged as sent by the end that its type belongs to.');
-  else if (isJudged && end === ENDS.bus) said.push('On the bus a message may be logged that the other end did not receive, so less can be judged than at the CPU.');
-  return said;
+  const { inTwoLines, hasDirections, end, summary: { possible, badLines }, judging: { unjudged, losses } } = log;
+  const { [WHY.aboveCommand]: aboveCommand, [WHY.unheard]: unheard, [WHY.load]: belowLoads } = unjudged;
+  const [first] = log.breaches.keys(), poll = log.codes.indexOf(POLL), unread = badLines - 2 * inTwoLines;
+  // How many, with the verb; nothing of what the log has none of.
+  const said = (count, noun, words) => count > 0 && `${counted(count, noun)} ${words.replace(/\bare\b/, count === 1 ? 'is' : 'are')}.`;
+  return [
+    said(unread, 'line', 'could not be read as a message and are not judged'),
+    said(inTwoLines, 'message', 'split over two lines are not read'),
+    said(possible, 'message', 'are possible and not judged: nothing in the log makes sure that the octets are a message'),
+    said(log.others.size, 'frame', 'with another address are not judged'),
+    !isOfOneSide(log.logged) && sentence(SIDES[log.logged] || ''),
+    said(aboveCommand, 'message', 'above the first command are not judged: what was asked is not in the log'),
+    said(unheard, 'message', 'are not judged, since this log was not taken at the CPU: whether the CPU heard the answer above is not known, '
+      + 'and to ask for the same block again is right if it did not'),
+    said(belowLoads, 'message', `are not judged, since a load of the counter may explain ${belowLoads === 1 ? 'its stamp' : 'the stamps'}: `
+      + 'one that was sent, or that a lost line may have been'),
+    losses > 0 && lossesOf(log.judging),
+    ([...log.restarts].some((place) => log.isUndue(place)) || [...log.breaches].some(([place, breach]) => ruleOf(breach) === 'pair' && log.answersAbove(place)))
+      && 'Answers may have come late or twice: fiolog check --late-answers leaves these out.',
+    first !== undefined && poll < 0 ? 'The log has no poll, so it is of the middle of traffic: what breaks a rule here may be right.'
+      : first < poll && 'The log begins in the middle of traffic: what breaks a rule above the first poll may be right.',
+    isJudged && !hasDirections ? 'The log does not say who sent a message: each is judged as sent by the end that its type belongs to.'
+      : isJudged && end === ENDS.bus && 'On the bus a message may be logged that the other end did not receive, so less can be judged than at the CPU.',
+  ].filter(Boolean);
 }
 
-const sentenceOf = (words) => words === '' ? '' : `${words[0].toUpperCase()}${words.slice(1)}.`;
-const are = (count) => count === 1 ? 'is' : 'are';
+// Where sync was lost, and what was not judged for it.
+function lossesOf({ unjudged: { [WHY.placeLost]: count }, losses, causes }) {
+  const places = Object.keys(LOST_AT).filter((cause) => causes.has(cause)).map((cause) => LOST_AT[cause]).join(' or ');
+  const left = count === 0 ? 'no message from there to the next poll was left out'
+    : `${counted(count, 'message')} from there to the next poll ${count === 1 ? 'is' : 'are'} not judged`;
+  return `${counted(losses, 'loss', 'losses')} of sync, at ${places}: ${left}.`;
+}
