@@ -111,8 +111,7 @@ export class InputsView {
       canvas.setPointerCapture(event.pointerId);
     });
     canvas.addEventListener('pointermove', (event) => this.drag(event, waves));
-    ['pointerup', 'pointercancel'].forEach((name) =>
-      canvas.addEventListener(name, (event) => this.pointers.delete(event.pointerId)));
+    for (const name of ['pointerup', 'pointercancel']) canvas.addEventListener(name, (event) => this.pointers.delete(event.pointerId));
   }
 
   wheel(event) {
@@ -139,22 +138,19 @@ export class InputsView {
   }
 
   click(event) {
-    if (this.moved > 4) return;
-    const found = this.waves.nearest(event.offsetX, event.offsetY);
+    const found = this.moved > 4 ? null : this.waves.nearest(event.offsetX, event.offsetY);
     if (found) this.select(found);
   }
 
   select(found) {
-    const { waves } = this;
+    const { waves, log } = this, { input, times, states, indexes } = waves.lanes[found.lane];
     waves.selected = found;
-    const lane = waves.lanes[found.lane];
-    const time = lane.times[found.index];
+    const time = times[found.index], state = states[found.index], place = log.record.places[indexes[found.index]];
     if (time < waves.from || time > waves.to) waves.pan((time - (waves.from + waves.to) / 2) / (waves.to - waves.from));
-    const place = this.log.record.places[lane.indexes[found.index]];
-    const broken = this.log.record.broken.includes(lane.indexes[found.index]) ? `breaks ${this.log.reason(place).split(':')[0]} ` : '';
-    this.reading.replaceChildren(`input ${lane.input} state ${lane.states[found.index]} at ${time} ms ${broken}`,
-      element('button', { id: 'to-message', onclick: () => this.goTo(place) }, `Line ${this.log.lines[place]}`));
-    say(`input ${lane.input} becomes ${lane.states[found.index]} at ${time} milliseconds ${broken}`);
+    const broken = log.record.broken.includes(indexes[found.index]) ? `breaks ${log.reason(place).split(':')[0]} ` : '';
+    this.reading.replaceChildren(`input ${input} state ${state} at ${time} ms ${broken}`,
+      element('button', { id: 'to-message', onclick: () => this.goTo(place) }, `Line ${log.lines[place]}`));
+    say(`input ${input} becomes ${state} at ${time} milliseconds ${broken}`);
     this.draw();
   }
 

@@ -104,15 +104,15 @@ class Heard {
   add(one, line, said = LOG_SIDES.noSide, time = null) {
     const { messages } = this.found;
     if (one.kind === SAYS.other) messages.addOther(line, { why: this.others.note(one), text: hexText(one.message) });
-    else if (one.kind === SAYS.damaged) this.addBad(line);
+    else if (one.kind === SAYS.damaged) this.addDamaged(line);
     else {
       this.frames += 1;
       this.found.addFrames({ line, kind: LOG_KINDS.says, said, time, frames: [one.message], places: [] });
     }
   }
 
-  addBad(line) {
-    this.found.messages.addBad(line, { why: `damaged: ${LINE.damaged}`, text: this.found.textOf(line).slice(0, 100), hasWrongCheck: true });
+  addDamaged(line) {
+    this.found.addDamaged(line, `damaged: ${LINE.damaged}`, true);
   }
 
   // As readLog returns it, with why no frame was found.
@@ -203,7 +203,7 @@ function readDigits(library, logReader, file, own) {
       continue;
     }
     const says = sides[before.said || 0].read(fromHex(digits), head === null);
-    if (says === null && head !== null) heard.addBad(line);
+    if (says === null && head !== null) heard.addDamaged(line);
     for (const one of says || []) heard.add(one, line, before.said, before.time);
   }
   return heard;

@@ -51,14 +51,13 @@ function useTheme() {
 
 function startViews(library) {
   const arena = new Arena(library), logReader = new LogReader(library);
-  const tabs = new Tabs();
+  const tabs = new Tabs((name) => name === 'inputs' && inputs.draw());
   const back = () => tabs.show('open');
   const messages = new MessagesView(byId('view-messages'), (octets) => library.showOctets(octets), back);
   const inputs = new InputsView(byId('view-inputs'), (place) => {
     tabs.show('messages');
     messages.goTo(place);
   }, back);
-  tabs.whenShown((name) => name === 'inputs' && inputs.draw());
   const open = (name, octets, end, form, own) => {
     trouble('');
     const log = new Log(library, arena, name, readAny(library, logReader, name, octets, form, own), end);

@@ -5,38 +5,29 @@ export const DIRECTION = { none: 0, sent: 1, heard: 2 };
 // What skipped lines say above a message: that frames may be lost, or that another part of the log begins.
 export const MARKS = { loss: 1, heading: 2 };
 
-// Twice as much room.
-function widened(column) {
-  const wide = new column.constructor(column.length * 2);
-  wide.set(column);
-  return wide;
-}
+// The columns: `sides` has what the log says of the side that sent each; `marks` the MARKS of the lines directly above each, and those
+// above the end of the log in the place after the last.
+const COLUMN_OF = { starts: Uint32Array, lengths: Uint32Array, lines: Uint32Array, sides: Uint8Array, isPossible: Uint8Array,
+  marks: Uint8Array, times: Float64Array };
 
 export class MessageList {
   // Room for the messages of this number of lines, which together have at most `octets` octets. A line may have several.
   constructor(lines, octets) {
-    const room = lines + 1;
-    this.octets = new Uint8Array(octets + 1);
-    this.end = 0;
-    this.count = 0;
-    this.starts = new Uint32Array(room);
-    this.lengths = new Uint32Array(room);
-    this.lines = new Uint32Array(room);
-    // What the log says of the side that sent each.
-    this.sides = new Uint8Array(room);
-    this.isPossible = new Uint8Array(room);
-    // The MARKS of the lines directly above each; those above the end of the log are in the place after the last.
-    this.marks = new Uint8Array(room);
-    this.times = new Float64Array(room);
-    this.clocks = [];
+    Object.assign(this, { octets: new Uint8Array(octets + 1), end: 0, count: 0, clocks: [] });
+    for (const [name, column] of Object.entries(COLUMN_OF)) this[name] = new column(lines + 1);
     // Why lines that may have held a frame gave none, their texts, and whether it is by their check, by the places of their rows.
     this.damaged = new Map();
     // What is said of frames with another address, and their octets, likewise.
     this.others = new Map();
   }
 
+  // Makes twice as much room.
   widen() {
-    for (const name of ['starts', 'lengths', 'lines', 'sides', 'isPossible', 'marks', 'times']) this[name] = widened(this[name]);
+    for (const [name, column] of Object.entries(COLUMN_OF)) {
+      const narrow = this[name];
+      this[name] = new column(narrow.length * 2);
+      this[name].set(narrow);
+    }
   }
 
   add({ line, side, octets, isPossible, time, clock }) {

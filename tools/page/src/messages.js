@@ -17,6 +17,9 @@ import { VERDICTS } from './verdict.js';
 
 const ARROWS = { [DIRECTION.none]: '', [DIRECTION.sent]: '→ module', [DIRECTION.heard]: '← CPU' };
 const SHOWN_OCTETS = 40;
+// The columns of the table: a head, a width and a kind.
+const COLUMNS = [['Line', '3.6rem', 'number'], ['Time', 'var(--time)', 'time'], ['Direction', '5.2rem', 'way'],
+  ['Message', 'var(--words)', 'words'], ['Note', 'var(--rule)', 'rule'], ['Octets', 'var(--octets)', 'octets']];
 
 const pluralOf = (noun) => noun.endsWith('y') ? noun.slice(0, -1) + 'ies' : noun.endsWith('h') ? noun + 'es' : noun + 's';
 // The noun of a fact. What may be no message is a row too.
@@ -61,11 +64,12 @@ export class MessagesView {
       (way) => this.narrow({ way }));
     this.count = element('span', { class: 'soft', role: 'status' });
     this.sheet = new Sheet((by) => this.table.select(this.table.selected + by, true));
-    this.table = new VirtualTable('Messages', this.columns(), (place) => this.draw(place), (place, isOpened) => this.choose(place, isOpened));
+    this.table = new VirtualTable('Messages', COLUMNS, (place) => this.draw(place), (place, isOpened) => this.choose(place, isOpened));
     this.none = element('div', { class: 'none', id: 'no-log' });
     this.both = element('div', { class: 'messages' }, this.table.root, this.sheet.root);
     this.parts = [this.verdict, this.facts, this.note,
-      element('div', { class: 'row controls' }, this.search, this.way, this.count, this.textButton()), this.both];
+      element('div', { class: 'row controls' }, this.search, this.way, this.count, element('button', { id: 'save',
+        onclick: () => this.log && saveText(this.log.name + '.shown', this.log.showText()) }, 'Save the messages as text')), this.both];
     root.append(...this.parts, this.none);
     this.showNone(element('h2', {}, 'No log is open'), element('p', {}, 'Here each message of a log has a row: its words, its octets, and the rule that it breaks.'));
   }
@@ -78,25 +82,14 @@ export class MessagesView {
       element('p', {}, element('button', { class: 'main', onclick: () => this.back() }, 'Open a log or an example')), ...more);
   }
 
-  columns() {
-    return [{ head: 'Line', width: '3.6rem', kind: 'number' }, { head: 'Time', width: 'var(--time)', kind: 'time' },
-      { head: 'Direction', width: '5.2rem', kind: 'way' }, { head: 'Message', width: 'var(--words)', kind: 'words' },
-      { head: 'Note', width: 'var(--rule)', kind: 'rule' }, { head: 'Octets', width: 'var(--octets)', kind: 'octets' }];
-  }
-
-  empty() {
-    this.sheet.show(element('p', { class: 'none' }, 'Select a message to see its octets and fields.'), false);
-  }
-
   // Shows a log; `file` are its octets, and `readAsAny()` reads them as those of any log.
   open(log, file, readAsAny) {
     this.log = log;
     this.search.value = this.way.value = '';
     this.filter = { fact: 'messages', way: '', text: '' };
-    this.table.root.classList.toggle('has-times', log.hasTimes);
-    this.table.root.classList.toggle('has-notes', hasNotes(log));
-    this.table.root.classList.toggle('has-rules', log.breaches.size + log.restarts.size > 0);
-    this.table.root.classList.toggle('has-doubts', log.damaged.size + log.others.size + log.summary.possible > 0);
+    const has = { times: log.hasTimes, notes: hasNotes(log), rules: log.breaches.size + log.restarts.size > 0,
+      doubts: log.damaged.size + log.others.size + log.summary.possible > 0 };
+    for (const [what, isSo] of Object.entries(has)) this.table.root.classList.toggle('has-' + what, isSo);
     this.parts.forEach((part) => { part.hidden = false; });
     this.none.hidden = true;
     this.drawVerdict();
@@ -135,8 +128,7 @@ export class MessagesView {
   }
 
   drawFacts() {
-    const { log } = this;
-    const facts = FACTS.filter(([name]) => log.summary[name] > 0 || name === 'messages').map(([name, words, , kind]) =>
+    const { log } = this, facts = FACTS.filter(([name]) => log.summary[name] > 0 || name === 'messages').map(([name, words, , kind]) =>
       element('li', {}, element('button', { class: kind || false, 'data-fact': name,
         'aria-pressed': String(this.filter.fact === name), onclick: () => this.narrow({ fact: name }) },
       element('b', {}, withCommas(log.summary[name])), ' ' + nounOf(log, name, words))));
@@ -157,7 +149,7 @@ export class MessagesView {
     this.facts.querySelectorAll('button').forEach((it) =>
       it.setAttribute('aria-pressed', String(it.dataset.fact === this.filter.fact)));
     this.table.show(places);
-    this.empty();
+    this.sheet.show(element('p', { class: 'none' }, 'Select a message to see its octets and fields.'), false);
     this.none.hidden = places.length > 0;
     this.both.hidden = places.length === 0;
     if (places.length === 0 && this.log.count > 0) this.none.replaceChildren(element('p', {}, 'No message of this log is like that.'));
@@ -195,9 +187,7 @@ export class MessagesView {
   }
 
   kindsOf(place) {
-    const { log } = this;
-    const kinds = [];
-    if (log.directions[place] === DIRECTION.sent) kinds.push('sent');
+    const { log } = this, kinds = log.directions[place] === DIRECTION.sent ? ['sent'] : [];
     if (log.isPossible[place] || log.others.has(place)) kinds.push('possible');
     else if (log.breaches.has(place)) kinds.push('broken');
     else if (log.restarts.has(place)) kinds.push('restarted');
@@ -217,11 +207,5 @@ export class MessagesView {
     this.search.value = this.way.value = '';
     this.narrow({ fact: 'messages', way: '', text: '' });
     this.table.selectPlace(place);
-  }
-
-  // Saves the text that `show` writes.
-  textButton() {
-    return element('button', { id: 'save', onclick: () => this.log && saveText(this.log.name + '.shown', this.log.showText()) },
-      'Save the messages as text');
   }
 }

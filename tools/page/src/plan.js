@@ -40,23 +40,18 @@ export class PlanView {
   // A slider with the number beside it, which can be typed too.
   slider(name, words, least, most, first) {
     this.chosen[name] = first;
-    const range = element('input', { type: 'range', id: 'plan-' + name, min: String(least), max: String(most), value: String(first),
-      'aria-label': words });
-    const number = element('input', { type: 'number', min: String(least), max: String(most), value: String(first),
-      'aria-label': words + ', as a number' });
+    const limits = { min: String(least), max: String(most), value: String(first) };
+    const range = element('input', { type: 'range', id: 'plan-' + name, ...limits, 'aria-label': words });
+    const number = element('input', { type: 'number', ...limits, 'aria-label': words + ', as a number' });
     const take = (control, other) => control.addEventListener('input', () => {
       const value = Math.min(most, Math.max(least, Math.round(Number(control.value) || 0)));
       other.value = String(value);
-      this.choose(name, value);
+      this.chosen[name] = value;
+      this.draw();
     });
     take(range, number);
     take(number, range);
     return element('div', { class: 'slider' }, element('span', {}, words), range, number);
-  }
-
-  choose(name, value) {
-    this.chosen[name] = value;
-    this.draw();
   }
 
   draw() {

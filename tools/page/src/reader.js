@@ -2,7 +2,7 @@
 // say.
 
 import { clockOf } from './clocks.js';
-import { LOG_FORMS, LOG_KINDS, LOG_REASONS, LOG_SIDES } from './constants.js';
+import { LOG_FORMS, LOG_KINDS, LOG_REASONS } from './constants.js';
 import { Doubts } from './doubts.js';
 import { fromHex } from './hex.js';
 import { FIRST_ANSWER } from './library.js';
@@ -17,8 +17,6 @@ const LONGEST_SHOWN = 100;
 // What is no character of a line.
 const UNSEEN = /\x1b\[[^A-Za-z]*[A-Za-z]?|[\0\ufeff]/g;
 const BYTE_ORDER_MARKS = { 0xfffe: 'utf-16le', 0xfeff: 'utf-16be' };
-// The direction that a line says, by the number of the side that sent.
-const DIRECTIONS = { [LOG_SIDES.noSide]: DIRECTION.none, [LOG_SIDES.fromCpu]: DIRECTION.sent, [LOG_SIDES.fromModule]: DIRECTION.heard };
 
 // The form in which a file is read: the one that is asked for or, if that is `auto`, that of the project's own texts if it is named as
 // one, else that of `any` log.
@@ -74,20 +72,22 @@ export class Found {
     const { line, kind, reason } = verdict;
     if (kind === LOG_KINDS.says || kind === LOG_KINDS.possible) this.addFrames(verdict);
     else if (this.form !== LOG_FORMS.auto && reason === LOG_REASONS.noMessage) this.addFaulty(verdict);
-    else if (kind === LOG_KINDS.damaged) this.messages.addBad(line, { why: `damaged: ${REASONS[reason]}`, text: this.textOf(line).slice(0, LONGEST_SHOWN) });
+    else if (kind === LOG_KINDS.damaged) this.addDamaged(line, `damaged: ${REASONS[reason]}`);
     else if (kind === LOG_KINDS.passedOver && this.form !== LOG_FORMS.auto) this.messages.addBad(line);
-    else if (kind === LOG_KINDS.passedOver) this.passOver(reason);
+    else if (kind === LOG_KINDS.passedOver) {
+      this.passed[reason] += 1;
+      this.messages.mark(MARK_OF[reason] || 0);
+    }
   }
 
-  passOver(reason) {
-    this.passed[reason] += 1;
-    this.messages.mark(MARK_OF[reason] || 0);
+  addDamaged(line, why, hasWrongCheck = false) {
+    this.messages.addBad(line, { why, text: this.textOf(line).slice(0, LONGEST_SHOWN), hasWrongCheck });
   }
 
   // Two lines in which one message stands.
   addTwo(verdicts) {
     this.inTwoLines += 1;
-    for (const { line } of verdicts) this.messages.addBad(line, { why: IN_TWO_LINES, text: this.textOf(line).slice(0, LONGEST_SHOWN) });
+    for (const { line } of verdicts) this.addDamaged(line, IN_TWO_LINES);
   }
 
   // A line that is a frame by order, and spells no message.
@@ -96,9 +96,10 @@ export class Found {
     this.addFrames({ line, kind: LOG_KINDS.says, said, time: null, frames: [fromHex(digits)], places: [] });
   }
 
-  addFrames({ line, kind, said, time, frames, places }) {
+  // The numbers of the sides are those of directions.
+  addFrames({ line, kind, said: side, time, frames, places }) {
     const text = this.textOf(line), isPossible = kind === LOG_KINDS.possible, inTime = time < END_OF_TIME ? time : null;
-    const side = DIRECTIONS[said], clock = inTime === null ? '' : clockOf([text, this.textOf(line - 1)], inTime);
+    const clock = inTime === null ? '' : clockOf([text, this.textOf(line - 1)], inTime);
     if (!isPossible) frames.forEach((octets) => this.noteSide(side, octets[0]));
     for (const octets of frames) {
       this.messages.add({ line, side, octets, isPossible, time: inTime, clock });

@@ -12,21 +12,12 @@ const NO_INPUT = 255;
 
 class Record {
   constructor() {
-    // One array for each field of a transition: its time, its input, its state, and the message that carried it.
-    this.times = [];
-    this.inputs = [];
-    this.states = [];
-    this.places = [];
-    // The indexes of the transitions that break a rule on content.
-    this.broken = [];
+    // One array for each field of a transition: its time, its input, its state, and the message that carried it; and the indexes of
+    // those that break a rule on content.
+    Object.assign(this, { times: [], inputs: [], states: [], places: [], broken: [] });
     // Stretches with entries missing, the blocks taken, polls without an answer, polls that left a block out, and restarts.
-    this.gaps = [];
-    this.blocks = [];
-    this.lostPolls = [];
-    this.skips = [];
-    this.restarts = [];
-    this.offset = 0;
-    this.latest = 0;
+    Object.assign(this, { gaps: [], blocks: [], lostPolls: [], skips: [], restarts: [] });
+    Object.assign(this, { offset: 0, latest: 0 });
   }
 
   // Follows the counter to the stamp of a block. A step back of more than half its range is a wrap; after any other, the

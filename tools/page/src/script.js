@@ -15,8 +15,8 @@ const EVENTS = {
   raise: [/^[0-9a-f]{2}$/i, (run, mask) => run.module.raise(parseInt(mask, 16))],
   poll: [/^$/, (run) => run.toModule.send(run.poller.poll())],
   send: [/^(?:[0-9a-f]{2})+$/i, (run, digits) => run.sent(fromHex(digits))],
-  'to-module': [/^\d{1,9}$/, (run, number) => run.atModule(Number(number))],
-  'to-cpu': [/^\d{1,9}$/, (run, number) => run.atCpu(Number(number))],
+  'to-module': [/^\d{1,9}$/, (run, number) => run.toModule.deliver(Number(number), (octets) => run.atModule(octets))],
+  'to-cpu': [/^\d{1,9}$/, (run, number) => run.toCpu.deliver(Number(number), (octets) => run.atCpu(octets))],
   restart: [/^$/, (run) => run.module.restart()],
 };
 
@@ -70,15 +70,12 @@ class Direction {
     return `sent ${this.frames.length} ${hexText(octets)}`;
   }
 
-  // Why the bus does not deliver a frame, or null.
-  refusal(number) {
+  // Delivers a frame, and returns what `hear` says of its octets; or why the bus does not deliver it.
+  deliver(number, hear) {
     if (number < 1 || number > this.frames.length) return `refused not sent ${number}`;
-    return number < this.highest ? `refused out of order ${number} after ${this.highest}` : null;
-  }
-
-  deliver(number) {
+    if (number < this.highest) return `refused out of order ${number} after ${this.highest}`;
     this.highest = number;
-    return this.frames[number - 1];
+    return hear(this.frames[number - 1]);
   }
 }
 
@@ -113,17 +110,12 @@ export class Run {
     return message.code === POLL ? 'refused poll is ours' : this.toModule.send(octets);
   }
 
-  atModule(number) {
-    const refusal = this.toModule.refusal(number);
-    if (refusal) return refusal;
-    const answer = this.module.receive(this.toModule.deliver(number));
+  atModule(octets) {
+    const answer = this.module.receive(octets);
     return answer.length > 0 ? this.toCpu.send(answer) : 'quiet';
   }
 
-  atCpu(number) {
-    const refusal = this.toCpu.refusal(number);
-    if (refusal) return refusal;
-    const octets = this.toCpu.deliver(number);
+  atCpu(octets) {
     const heard = this.poller.hear(this.library.place(octets), octets.length);
     for (let place = 0; place < heard.items; place++) this.record.push(this.poller.recordItem(place));
     return heard.kind in HEARD_WORDS ? HEARD_WORDS[heard.kind](heard) : 'unreadable';

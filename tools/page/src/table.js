@@ -16,14 +16,13 @@ export class VirtualTable {
   // its cells; `choose(place, isOpened)` is called when a row is selected, and opened if it was by a tap or a key.
   constructor(label, columns, draw, choose) {
     Object.assign(this, { draw, choose, places: [], selected: -1, drawn: new Map(), free: [], height: 0 });
-    this.kinds = columns.map((column) => column.kind);
-    const widths = columns.map((column) => column.width).join(' ');
-    const heads = columns.map((column) => element('span', { role: 'columnheader', class: column.kind }, column.head));
+    this.kinds = columns.map(([, , kind]) => kind);
+    const heads = columns.map(([head, , kind]) => element('span', { role: 'columnheader', class: kind }, head));
     this.canvas = element('div', { class: 'canvas', role: 'presentation' });
     this.heads = element('div', { class: 'heads', role: 'row', 'aria-rowindex': '1' }, ...heads);
     this.rows = element('div', { class: 'rows', tabindex: '0', role: 'grid', 'aria-label': label }, this.heads, this.canvas);
     this.root = element('div', { class: 'table' }, this.rows);
-    this.root.style.setProperty('--columns', widths);
+    this.root.style.setProperty('--columns', columns.map(([, width]) => width).join(' '));
     this.rows.addEventListener('scroll', () => this.later());
     this.rows.addEventListener('keydown', (event) => this.key(event));
     this.rows.addEventListener('copy', (event) => this.copy(event));

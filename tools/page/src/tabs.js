@@ -3,18 +3,14 @@
 import { byId } from './dom.js';
 
 export class Tabs {
-  constructor() {
+  // `whenShown(name)` is called for each view that is shown.
+  constructor(whenShown) {
+    this.whenShown = whenShown;
     this.tabs = [...document.querySelectorAll('[role="tab"]')];
-    this.listeners = [];
     this.tabs.forEach((tab) => {
       tab.addEventListener('click', () => this.choose(tab));
       tab.addEventListener('keydown', (event) => this.key(event, tab));
     });
-  }
-
-  // Calls a function with the name of each view that is shown.
-  whenShown(listener) {
-    this.listeners.push(listener);
   }
 
   // Shows a view. The focus goes to its tab if it was in the view before.
@@ -30,7 +26,7 @@ export class Tabs {
       tab.tabIndex = tab === chosen ? 0 : -1;
       byId(tab.getAttribute('aria-controls')).hidden = tab !== chosen;
     });
-    this.listeners.forEach((listener) => listener(chosen.id.replace('tab-', '')));
+    this.whenShown(chosen.id.replace('tab-', ''));
   }
 
   key(event, tab) {

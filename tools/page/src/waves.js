@@ -43,18 +43,15 @@ const timeWords = (ms) => ms < 10 ? `${Number(ms.toPrecision(2))} ms` : ms < 10_
 export class Waves {
   // The axis and what stands between lanes are drawn on `head`, which stays in view; the lanes on `canvas`.
   constructor(head, canvas) {
-    this.head = head;
-    this.canvas = canvas;
-    this.lanes = [];
-    this.selected = { lane: 0, index: -1 };
+    Object.assign(this, { head, canvas, lanes: [], selected: { lane: 0, index: -1 } });
   }
 
   open(record) {
     this.record = record;
     this.lanes = lanesOf(record);
     this.rows = new Map(this.lanes.map((lane, row) => [lane.input, row]));
-    this.first = Math.min(record.times[0] ?? 0, record.blocks.length ? record.blocks[0].time : 0);
-    this.last = record.blocks.length ? record.blocks[record.blocks.length - 1].time : 1;
+    this.first = Math.min(record.times[0] ?? 0, record.blocks[0]?.time ?? 0);
+    this.last = record.blocks.at(-1)?.time ?? 1;
     this.selected = { lane: 0, index: -1 };
     this.head.style.height = HEAD + 'px';
     this.canvas.style.height = this.lanes.length * LANE + 8 + 'px';
@@ -96,10 +93,6 @@ export class Waves {
 
   timeAt(x) {
     return this.from + (x - LEFT) / (this.width - LEFT) * (this.to - this.from);
-  }
-
-  laneAt(y) {
-    return Math.floor(y / LANE);
   }
 
   draw() {
@@ -255,15 +248,20 @@ export class Waves {
     paint.lineWidth = 1;
   }
 
-  drawBlocks(head) {
+  // Where the marks of a list are seen that are at least so many pixels from the one before.
+  *placesOf(marks, apart, shift = 0) {
     let drawn = -Infinity;
-    head.fillStyle = this.colour('soft');
-    for (const block of this.record.blocks) {
-      const x = this.xOf(block.time);
-      if (x < LEFT || x > this.width || x - drawn < 2) continue;
-      head.fillRect(x, HEAD - 17, 1, 10);
+    for (const { time } of marks) {
+      const x = this.xOf(time) + shift;
+      if (x < LEFT || x > this.width || x - drawn < apart) continue;
+      yield x;
       drawn = x;
     }
+  }
+
+  drawBlocks(head) {
+    head.fillStyle = this.colour('soft');
+    for (const x of this.placesOf(this.record.blocks, 2)) head.fillRect(x, HEAD - 17, 1, 10);
   }
 
   // A sign for each poll of a list, behind the block above it.
@@ -271,13 +269,7 @@ export class Waves {
     head.fillStyle = this.colour(colour);
     head.textAlign = 'center';
     head.font = 'bold 15px sans-serif';
-    let drawn = -Infinity;
-    for (const mark of marks) {
-      const x = this.xOf(mark.time) + 7;
-      if (x < LEFT || x > this.width || x - drawn < 8) continue;
-      head.fillText(sign, x, HEAD - 7);
-      drawn = x;
-    }
+    for (const x of this.placesOf(marks, 8, 7)) head.fillText(sign, x, HEAD - 7);
   }
 
   drawSelected(paint) {
@@ -292,9 +284,8 @@ export class Waves {
 
   // The transition nearest to a point, or null: its lane's row and its index there.
   nearest(x, y) {
-    const row = this.laneAt(y), lane = this.lanes[row];
+    const row = Math.floor(y / LANE), lane = this.lanes[row], time = this.timeAt(x);
     if (!lane) return null;
-    const time = this.timeAt(x);
     const right = Math.min(lowerBound(lane.times, time), lane.times.length - 1);
     const left = Math.max(right - 1, 0);
     const index = Math.abs(lane.times[left] - time) < Math.abs(lane.times[right] - time) ? left : right;
