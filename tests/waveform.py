@@ -23,19 +23,17 @@ TURN = 1 << 32
 ENTRY = re.compile(r' *input (\d+) state ([01]) stamp \d+ wide (\d+)')
 HEAD = re.compile(r'block (\d+) entries \d+ status ([0-9a-f]{2}) stamp (\d+)')
 
-# What is written for examples/lost-answer.frames.
+
+def bits(form, places=range(8)):
+    """A line for each bit of the number of a block."""
+    return ''.join(form.format(place) + '\n' for place in places)
+
+
+# What is written for examples/lost-answer.frames: block 255, then block 0.
 LOST_ANSWER = '''$version fio2070 waveform $end
 $timescale 1 ms $end
 $scope module fio2070 $end
-$var wire 1 n7 block [7] $end
-$var wire 1 n6 block [6] $end
-$var wire 1 n5 block [5] $end
-$var wire 1 n4 block [4] $end
-$var wire 1 n3 block [3] $end
-$var wire 1 n2 block [2] $end
-$var wire 1 n1 block [1] $end
-$var wire 1 n0 block [0] $end
-$var wire 1 g gap $end
+%s$var wire 1 g gap $end
 $var wire 1 r back $end
 $var wire 1 i0 input_0 $end
 $upscope $end
@@ -44,38 +42,14 @@ $enddefinitions $end
 $dumpvars
 0g
 0r
-xn0
-xn1
-xn2
-xn3
-xn4
-xn5
-xn6
-xn7
-xi0
+%sxi0
 $end
 #1
-1n0
-1n1
-1n2
-1n3
-1n4
-1n5
-1n6
-1n7
-0i0
+%s0i0
 #2
-0n0
-0n1
-0n2
-0n3
-0n4
-0n5
-0n6
-0n7
-1i0
+%s1i0
 #3
-'''
+''' % (bits('$var wire 1 n{0} block [{0}] $end', reversed(range(8))), bits('xn{}'), bits('1n{}'), bits('0n{}'))
 
 # Texts that belong to something else.
 NOT_DRAWN = {
