@@ -30,7 +30,7 @@ WRONG_DISSECTORS = (
     ('octets after the last field passed over', 'if got ~= needed', 'if got < needed', 'SDLC'),
     ('type 188 unknown', '  [188] = { "other 188 body", "body" },\n', '', 'SDLC'),
     ('unknown type before too long',
-     'if got > LONGEST_FRAME then', 'if got > LONGEST_FRAME and messages[tvb(0, 1):uint()] then', 'labels'),
+     'if got > LONGEST_FRAME then', 'if got > LONGEST_FRAME and layouts[tvb(0, 1):uint()] then', 'labels'),
     ('the last entry left out', 'for place = 1, range:len() - 3, 3', 'for place = 1, range:len() - 4, 3',
      'nested entries'),
     ('hexadecimal in upper case', ':tohex(true)', ':tohex(false)', 'SDLC'),

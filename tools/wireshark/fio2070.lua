@@ -158,25 +158,24 @@ declare_notice("repeated_answer", "SEQUENCE", "NOTE", "further answer to one com
 declare_notice("unasked", "SEQUENCE", "NOTE", "no command in this capture asks for this answer")
 declare_notice("gap", "SEQUENCE", "WARN", "a block was skipped")
 
----------------------------------------------------------------- parts of messages
---
--- A part has two functions: `size` finds the number of its octets, `read` adds
--- it to the tree and returns its text.
+---------------------------------------------------------------- fields of messages
 
-local parts = {}        -- by the name of the field
+local read, lists = {}, {}      -- by the name of the field: what adds it to the tree and returns its text; whether it counts elements
 
-local function always(size)
-  return function() return size end
+-- The number of octets of a field: that of the table, a count and three octets for each element, or all the rest.
+local function size_of(name, tvb, offset)
+  if octets_of[name] then return octets_of[name] end
+  if not lists[name] then return tvb:len() - offset end
+  return 1 + 3 * (offset < tvb:len() and tvb(offset, 1):uint() or 0)
 end
 
 -- A number, most significant octet first, written in decimal.
 local function number(name, label)
-  local size = octets_of[name]
-  local made = declare("uint" .. 8 * size, name, label, base.DEC)
-  parts[name] = { size = always(size), read = function(range, tree)
+  local made = declare("uint" .. 8 * octets_of[name], name, label, base.DEC)
+  read[name] = function(range, tree)
     tree:add(made, range)
     return ("%d"):format(range:uint())
-  end }
+  end
 end
 
 -- One octet of flags, written in hexadecimal. A bit that gives an expert info
@@ -189,7 +188,7 @@ local function flags(name, label, infos)
     flag[k] = declare("bool", name .. "." .. bit[1]:lower(), bit[1] .. ", " .. bit[3], 8, nil, bit[2])
     if info then declare_notice(info[1], "SEQUENCE", info[2], bit[1] .. ": " .. bit[3]) end
   end
-  parts[name] = { size = always(octets_of[name]), read = function(range, tree)
+  read[name] = function(range, tree)
     local value, branch = range:uint(), tree:add(made, range)
     for k, bit in ipairs(bits) do
       local leaf = branch:add(flag[k], range)
@@ -197,30 +196,28 @@ local function flags(name, label, infos)
       if info and math.floor(value / bit[2]) % 2 == 1 then leaf:add_proto_expert_info(notice[info[1]]) end
     end
     return ("%02x"):format(value)
-  end }
+  end
 end
 
--- Octets kept as they come, written in hexadecimal: the number in the table, or all the rest.
+-- Octets kept as they come, written in hexadecimal.
 local function octets(name, label)
-  local size, made = octets_of[name], declare("bytes", name, label)
-  local function rest(tvb, offset) return tvb:len() - offset end
-  parts[name] = { size = size and always(size) or rest, read = function(range, tree)
+  local made = declare("bytes", name, label)
+  read[name] = function(range, tree)
     if range:len() == 0 then return "-" end
     tree:add(made, range)
     return range:bytes():tohex(true)
-  end }
+  end
 end
 
 -- A count and that many elements of three octets, each read by `read_element`.
 local function list(name, label, read_element)
   local count = declare("uint8", name, label, base.DEC)
-  parts[name] = { size = function(tvb, offset)
-    return 1 + 3 * (offset < tvb:len() and tvb(offset, 1):uint() or 0)
-  end, read = function(range, tree, tvb)
+  lists[name] = true
+  read[name] = function(range, tree, tvb)
     tree:add(count, range(0, 1))
     for place = 1, range:len() - 3, 3 do read_element(range(place, 3), tree, tvb) end
     return ("%d"):format(range(0, 1):uint())
-  end }
+  end
 end
 
 -- A function that adds an element of three octets with its text to the tree.
@@ -269,9 +266,6 @@ local function read_entry(range, tree, tvb)
 end
 
 ---------------------------------------------------------------- messages
---
--- The parts of a message are in the order in which they are in the frame,
--- with the words of the text between them.
 
 flags("clear", "Flags to clear", {})
 flags("flags", "Flags that remain", { P = { "reset", "NOTE" } })
@@ -293,12 +287,6 @@ number("watchdog.timeout", "Timeout in milliseconds")
 flags("watchdog.status", "Status", {})
 octets("body", "Body")
 
-local messages = {}     -- by type: words and parts, in the order of the frame
-for code, layout in pairs(layouts) do
-  messages[code] = {}
-  for k, word in ipairs(layout) do messages[code][k] = k % 2 == 1 and word or parts[word] end
-end
-
 declare("uint8", "type", "Type", base.DEC, type_names)
 declare("bool", "type.answer", "Direction", 8, { "answer of the module", "command of the CPU" }, FIRST_ANSWER)
 declare("bytes", "octets", "Octets of the frame")
@@ -316,26 +304,21 @@ local function fault_of(tvb)
   local got = tvb:len()
   if got == 0 then return "fault.empty", "empty" end
   if got > LONGEST_FRAME then return "fault.too_long", ("too long got %d"):format(got) end
-  local code = tvb(0, 1):uint()
-  if not messages[code] then return "fault.unknown_type", ("unknown type %d"):format(code) end
-  local needed = 1
-  for _, part in ipairs(messages[code]) do
-    if type(part) == "table" then needed = needed + part.size(tvb, needed) end
-  end
+  local code, needed = tvb(0, 1):uint(), 1
+  local layout = layouts[code]
+  if not layout then return "fault.unknown_type", ("unknown type %d"):format(code) end
+  for k = 2, #layout, 2 do needed = needed + size_of(layout[k], tvb, needed) end
   if got ~= needed then return "fault.wrong_length", ("wrong length needed %d got %d"):format(needed, got) end
 end
 
--- Adds the parts of a message without fault and returns its text.
+-- Adds the fields of a message without fault and returns its text.
 local function read_message(tvb, tree)
-  local words, offset = {}, 1
-  for k, part in ipairs(messages[tvb(0, 1):uint()]) do
-    if type(part) == "string" then
-      words[k] = part
-    else
-      local size = part.size(tvb, offset)
-      words[k] = part.read(tvb(offset, size), tree, tvb)
-      offset = offset + size
-    end
+  local words, offset = { table.unpack(layouts[tvb(0, 1):uint()]) }, 1
+  for k = 2, #words, 2 do
+    local name = words[k]
+    local size = size_of(name, tvb, offset)
+    words[k] = read[name](tvb(offset, size), tree, tvb)
+    offset = offset + size
   end
   return table.concat(words, " ")
 end
