@@ -6,7 +6,6 @@ passed, M failed`."""
 
 import os
 import shutil
-import subprocess
 import sys
 import tempfile
 
@@ -14,8 +13,7 @@ sys.dont_write_bytecode = True
 
 from support.browsers import ELEMENT, browsers, running
 from support.check import Check
-from support.opened import PAGE, address, started
-from support.tables import TOP
+from support.opened import PAGE, address, make_page, started
 
 VIEWS = ('open', 'messages', 'inputs', 'plan', 'play')
 CONTROLS = 'button, input, select, textarea, summary, a[href], [tabindex="0"]'
@@ -113,26 +111,31 @@ NO_NUMBERS_64 = '''{ const real = WebAssembly.instantiate; WebAssembly.instantia
   return { instance: { exports } }; }; }'''
 SEEN = 'const it = document.getElementById("trouble"); return it.offsetHeight > 0 ? it.textContent.replace(/\\s+/g, " ") : ""'
 VERSIONS = ('too old', 'Chromium', '97', 'Firefox', '113', 'Safari', '16.4')
+BEGIN = "<script>\n'use strict';"
+# Browsers in which the page never starts: what the script begins with there.
+NEVER = {'a script that it cannot read': BEGIN + ' let of the = future;', 'no scripts': BEGIN.replace('<script>', '<script type="text/none">')}
 
 
-def older(browser, folder, script, query=''):
-    """The page in a browser that this script makes older: the text of its trouble, after it has tried to start."""
+def older(browser, folder, begin, query='', starts=True):
+    """The page in a browser that another begin of the script makes older: the text of its trouble, after it has tried to start."""
     with open(PAGE, encoding='utf-8') as file:
         page = file.read()
-    begin = "<script>\n'use strict';"
     path = os.path.join(folder, 'older.html')
     with open(path, 'w', encoding='utf-8') as file:
-        file.write(page.replace(begin, '<script>%s</script>' % script + begin))
+        file.write(page.replace(BEGIN, begin))
     browser.open('file://' + path + query)
-    browser.wait('return document.documentElement.dataset.bits || document.getElementById("trouble").textContent.includes("(")')
+    if starts:
+        browser.wait('return document.documentElement.dataset.bits || document.getElementById("trouble").textContent.includes("(")')
     return browser.run(SEEN)
 
 
 def check_older(check, browser, kind, folder):
     """What works, and what is said, in older browsers."""
-    is_lowered = shutil.which('wasm-opt') is not None
-    seen = older(browser, folder, NO_MEMORY_64)
-    if is_lowered:
+    def without(script, query=''):
+        return older(browser, folder, '<script>%s</script>' % script + BEGIN, query)
+
+    seen = without(NO_MEMORY_64)
+    if shutil.which('wasm-opt'):
         check.equal('without memory of 64 bits the other build runs in %s' % kind, ('32', ''),
                     (browser.run('return document.documentElement.dataset.bits'), seen))
         check.holds('and the footer says so in %s' % kind, 'wasm-opt' in browser.run('return document.getElementById("proved").textContent'))
@@ -140,10 +143,13 @@ def check_older(check, browser, kind, folder):
         check.equal('and judges in %s' % kind, 1, browser.run('return document.querySelectorAll(".line.broken").length'))
     else:
         check.skip('the other build in %s' % kind, 'no wasm-opt here (Debian package binaryen)')
-    seen = older(browser, folder, NO_MEMORY_64, '?bits=64')
-    check.holds('where no build runs the page says it in %s' % kind, all(word in seen for word in (*VERSIONS, 'no memory of 64 bits')), seen)
-    seen = older(browser, folder, NO_NUMBERS_64)
-    check.holds('without numbers of 64 bits too in %s' % kind, all(word in seen for word in (*VERSIONS, 'cannot pass a BigInt')), seen)
+    tried = {'no memory of 64 bits': without(NO_MEMORY_64, '?bits=64'), 'cannot pass a BigInt': without(NO_NUMBERS_64),
+             'WebAssembly': without('delete window.WebAssembly;')}
+    for why, seen in tried.items():
+        check.holds('where no build runs the page says %s in %s' % (why, kind), all(word in seen for word in (*VERSIONS, why)), seen)
+    for title, begin in NEVER.items():
+        seen = older(browser, folder, begin, starts=False)
+        check.holds('%s in %s' % (title, kind), all(word in seen for word in VERSIONS), seen)
 
 
 # A phone's width and height, as those of a frame in a page: a browser's window is never so narrow.
@@ -200,9 +206,8 @@ def check_phone(check, browser, kind, folder):
 
 def main():
     check = Check()
-    made = subprocess.run(['make', '-s', '-C', TOP, 'page'], stdout=subprocess.PIPE, stderr=subprocess.STDOUT)
-    check.equal('make page', 0, made.returncode)
-    for kind in browsers(check) if made.returncode == 0 else ():
+    make_page(check)
+    for kind in browsers(check):
         with tempfile.TemporaryDirectory() as folder, running(kind) as browser:
             opened(browser)
             check_roles(check, browser, kind.name)

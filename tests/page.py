@@ -19,7 +19,7 @@ sys.dont_write_bytecode = True
 from support import page_judged, page_lines, page_logs, page_views
 from support.browsers import KEYS, Chromium, browsers, running
 from support.check import Check
-from support.opened import CELLS, PAGE, RANGE, TROUBLE, address, example, opened, saved, started, text_of
+from support.opened import CELLS, PAGE, RANGE, TROUBLE, address, example, make_page, opened, saved, started, text_of
 from support.tables import TOP, output_of
 
 PICTURES = os.path.join(TOP, 'tools', 'page')
@@ -276,23 +276,6 @@ def check_print(check, browser, name, folder):
     browser.run('document.documentElement.dataset.theme = "light"')
 
 
-def check_old(check, browser, name, folder):
-    """A browser without WebAssembly, one that does not read the script, and one without scripts: words with the versions."""
-    with open(PAGE, encoding='utf-8') as file:
-        page = file.read()
-    begin = "<script>\n'use strict';"
-    check.holds('where the script begins', page.count(begin) == 1)
-    for title, new in [('no WebAssembly', '<script>delete window.WebAssembly;</script>' + begin),
-                       ('a script that it cannot read', begin + ' let of the = future;'),
-                       ('no scripts', begin.replace('<script>', '<script type="text/none">'))]:
-        path = os.path.join(folder, 'old.html')
-        with open(path, 'w', encoding='utf-8') as file:
-            file.write(page.replace(begin, new))
-        browser.open('file://' + path)
-        seen = browser.run('const it = document.getElementById("trouble"); return it.offsetHeight > 0 ? it.textContent.replace(/\\s+/g, " ") : ""')
-        check.holds('%s in %s' % (title, name), all(word in seen for word in ('too old', 'Chromium', '97', 'Firefox', '113', 'Safari', '16.4')), seen)
-
-
 def check_plan(check, browser, name):
     """The rows of docs/PLANNING.md; and how often to poll 8 inputs with filters of 5, if few entries may wait."""
     browser.click('#tab-plan')
@@ -368,7 +351,6 @@ def check_browser(check, kind, folder):
         page_views.rows(check, browser, kind.name, folder)
         page_judged.rows(check, browser, kind.name)
         page_lines.check_lines(check, browser, kind.name, folder)
-        check_old(check, browser, kind.name, folder)
     print('%s: %.0f s' % (kind.name, time.monotonic() - begun))
 
 
@@ -398,11 +380,7 @@ def take_pictures(folder):
 
 def main():
     check = Check(pictures=False)
-    made = subprocess.run(['make', '-s', '-C', TOP, 'page'], stdout=subprocess.PIPE, stderr=subprocess.STDOUT)
-    check.equal('make page', 0, made.returncode)
-    if made.returncode:
-        print(made.stdout.decode())
-        check.end()
+    make_page(check)
     check_file(check)
     if not shutil.which('wasm-opt'):
         check.skip('32-bit addresses', 'no wasm-opt here (Debian package binaryen)')

@@ -2,6 +2,7 @@
 
 import os
 import re
+import subprocess
 
 from support.tables import CAN_PROVE, TOP
 
@@ -30,6 +31,25 @@ document.querySelector(".drop").dispatchEvent(new DragEvent("drop", { bubbles: t
 ARROWS = {'>': '→ module', '<': '← CPU'}
 # The first and the last millisecond that are seen.
 RANGE = 'return document.getElementById("range").textContent.match(/-?\\d+/g).slice(0, 2).map(Number)'
+
+
+# Chooses, by the identifiers of controls, how the next log is written, or where it was taken.
+CHOOSE = '''for (const [id, value] of Object.entries(arguments[0])) {
+    const it = document.getElementById(id); it.value = value; it.dispatchEvent(new Event("change")); }'''
+
+
+def make_page(check):
+    """Makes the page of the present sources, or ends the check."""
+    made = subprocess.run(['make', '-s', '-C', TOP, 'page'], stdout=subprocess.PIPE, stderr=subprocess.STDOUT)
+    check.equal('make page', 0, made.returncode)
+    if made.returncode:
+        print(made.stdout.decode())
+        check.end()
+
+
+def choose(browser, **values):
+    """Chooses how the next log is written, or where it was taken."""
+    browser.run(CHOOSE, values)
 
 
 def address(query=''):

@@ -16,11 +16,11 @@ from support.tables import TOP
 # The kind of the verdict, all that it says, and what is not judged.
 SAID = '''const it = document.getElementById("not-judged");
 return [document.getElementById("verdict").dataset.kind, document.getElementById("verdict-text").textContent, it ? it.textContent : ""]'''
-# The breaches and the restarts in the rows, each with its line, and what is not judged.
+# The breaches and the restarts in the rows, each with its line; what is not judged; and what the verdict says.
 FOUND = '''const it = document.getElementById("not-judged"), rule = (row) => row.children[4].textContent.split(":")[0];
 const found = [...document.querySelectorAll(".line.broken, .line.restarted")].map((row) =>
     [Number(row.children[0].textContent), row.matches(".broken") ? rule(row) : "restarted"]);
-return [found, it ? it.textContent : ""]'''
+return [found, it ? it.textContent : "", document.getElementById("verdict-text")?.textContent]'''
 # How the page says each count that `fiolog check --json` has by this name.
 COUNTS = {
     'frames_above_a_command': r'([\d,]+) messages? above the first command',
@@ -58,6 +58,24 @@ LOGS = [
     ('the same at the module', AGAIN % tuple('<>' * 2), 'partly', ['in the 3 messages that'], {'frames_not_at_the_cpu': 1}),
     ('two damaged lines, one below the other', '> 3605\n< b6050\n< b6050\n' + STATUS + '> 3606\n< b606000000000002\n> 3607\n< b607000000000003\n', 'partly', ['in the 5 messages that'],
      {'lost_places': 1, 'frames_at_lost_places': 2}),
+    ('a log without directions', '36ff\nb6ff010000010200000001\n', 'good', ['does not say who sent'], {}),
+    ('a log with a bad line', '> 36ff\n> 36f\n< b6ff010000010200000001\n> 3600\n< b600000000000002\n', 'partly',
+     ['1 line could not be read as a message and is not judged'], {'lost_places': 1, 'frames_at_lost_places': 1}),
+    ('a log of the bus', '3605\nb605000000000001\n3605\n', 'partly', ['1 message is not judged, since this log was not taken at the CPU'], {'frames_not_at_the_cpu': 1}),
+    ('answers below a breach', '> 36ff\n< b605000000000001\n< b605000000000001\n', 'broken',
+     ['1 loss of sync, at a breach: 1 message from there to the next poll is not judged'], {'lost_places': 1, 'frames_at_lost_places': 1}),
+    ('an answer alone', 'b605018c4121000000416a\n', 'unjudged', ['1 message above the first command is not judged'], {'frames_above_a_command': 1}),
+    ('a log that begins with an answer', '< b605000000000001\n> 3606\n< b606000000000002\n', 'partly', ['1 message above the first command is not judged'],
+     {'frames_above_a_command': 1}),
+    ('a breach above the first poll', '> 34\n< b605000000000001\n> 3606\n< b606000000000002\n', 'broken', ['in the middle of traffic'], {'lost_places': 1}),
+    ('one poll, over and over', '> 3605\n' * 4, 'partly', ['No answer came: the module is silent, or its direction was not logged'], {}),
+    ('an answer in two lines', 'TX 36 05\nRX B6 05 00 00\nRX 00 00 00 01\nTX 36 05\nRX B6 05 00 02 00 00 00 01\nTX 36 06\n', 'partly',
+     ['1 message split over two lines is not read'], {'lost_places': 1}),
+    ('a log of which less than half is judged', '> 3605\n' + '> 36f\n' * 3 + '< b605000000000001\n', 'unjudged', ['3 lines could not be read'],
+     {'lost_places': 1, 'frames_at_lost_places': 1}),
+    ('a log of the other end', '07:15:02.100 RX 36 05\n07:15:02.106 TX B6 05 00 00 00 00 00 01\n', 'good', [], {}),
+    ('commands alone', ''.join('> 36%02x\n' % number for number in range(5)), 'unjudged', ['This log has the commands alone'], {}),
+    ('answers alone', ''.join('< b6%02x000000000001\n' % number for number in range(5)), 'unjudged', ['This log has the answers alone'], {}),
 ]
 
 
@@ -110,9 +128,8 @@ MARKS = [
 ]
 
 
-# Lines that say so, and whether the reader knows them.
+# Lines that say so.
 WORDS = {'loss': '3 frames lost\n', 'heading': '---- part 2 ----\n'}
-HAS_WORDS = "'loss': " in text_of('../bindings/python/fiolog/log_words.py')
 
 
 def check_marks(check, browser, name):
@@ -123,11 +140,11 @@ def check_marks(check, browser, name):
         check.equal('%s in %s' % (title, name), [broken, losses, count], found[:3])
         check.equal('%s is said in %s' % (title, name), {key: number for key, number in (('lost_places', losses), ('frames_at_lost_places', count)) if number and losses},
                     counts_in(found[3]))
-        if not marks or not HAS_WORDS:
+        if not marks:
             continue
         [(place, mark)], lines = marks, text.splitlines(True)
         pasted(browser, ''.join([*lines[:place], WORDS[mark], *lines[place:]]))
-        seen, not_judged = browser.run(FOUND)
+        seen, not_judged, _ = browser.run(FOUND)
         check.equal('%s, as a line in %s' % (title, name), ([line + (line > place) for line in broken], counts_in(found[3])),
                     ([line for line, _ in seen], counts_in(not_judged)))
 
@@ -142,15 +159,15 @@ def check_kinds(check, browser, name):
 
 
 def by_fiolog(text):
-    """The same by `fiolog check`: breaches, restarts, and the counts that the page has too."""
+    """The same by `fiolog check`: breaches, restarts, the counts that the page has too, and its words for the first breach."""
     lines = [json.loads(line) for line in fiolog('check', '--json', text=text).out.splitlines()]
     counts = lines[-1].get('summary', {}).get('not_judged', {}) if lines else {}
     return ([[line['line'], line.get('rule') or line['outcome']] for line in lines if 'line' in line],
-            {name: counts[name] for name in COUNTS if counts.get(name)})
+            {name: counts[name] for name in COUNTS if counts.get(name)}, lines[0].get('says') if lines else None)
 
 
 def check_as_fiolog(check, browser, name):
-    """The breaches, the restarts and what is not judged of each log are those of `fiolog check`."""
+    """The breaches, the restarts and what is not judged of each log are those of `fiolog check`, and the first breach is in its words."""
     if not os.path.exists(LIBRARY):
         check.skip('what fiolog finds in %s' % name, 'no libfio2070.so here (make library)')
         return
@@ -160,21 +177,11 @@ def check_as_fiolog(check, browser, name):
     texts += [(title, text) for title, text, *_ in READ[:40] + DAMAGED + LOGS]
     browser.run(OPEN_ALL.replace(CELLS, FOUND), [text for _, text in texts])
     browser.wait('return window.tables !== null')
-    for (title, text), (found, not_judged) in zip(texts, browser.run('return window.tables')):
-        check.equal('%s as fiolog judges it in %s' % (title, name), by_fiolog(text), (found, counts_in(not_judged)))
-
-
-def check_words(check, browser, name):
-    """The first breach of each example is said in the words of `fiolog check`."""
-    if not os.path.exists(LIBRARY):
-        return
-    for path in sorted(glob.glob(os.path.join(TOP, 'examples', '*.transcript'))):
-        text = text_of(os.path.basename(path))
-        first = json.loads((fiolog('check', '--json', text=text).out.splitlines() or ['{}'])[0])
-        if 'says' in first:
-            pasted(browser, text)
-            said = browser.run('return document.getElementById("verdict-text").textContent')
-            check.holds('%s in the words of fiolog in %s' % (os.path.basename(path), name), first['says'] in said, said)
+    for (title, text), (found, not_judged, said) in zip(texts, browser.run('return window.tables')):
+        *judged, words = by_fiolog(text)
+        check.equal('%s as fiolog judges it in %s' % (title, name), judged, [found, counts_in(not_judged)])
+        if words:
+            check.holds('%s in the words of fiolog in %s' % (title, name), words in said, said)
 
 
 def rows(check, browser, name):
@@ -184,4 +191,3 @@ def rows(check, browser, name):
     check_marks(check, browser, name)
     check_kinds(check, browser, name)
     check_as_fiolog(check, browser, name)
-    check_words(check, browser, name)

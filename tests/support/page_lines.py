@@ -5,13 +5,11 @@ import os
 
 from support import line_model as model
 from support.loggers import hexdump, pairs, xxd
-from support.opened import ARROWS, CELLS, opened, pasted
+from support.opened import ARROWS, CELLS, choose, opened, pasted
 
 MESSAGES = [bytes.fromhex(digits) for digits in ('3605', 'b605018c03e700000003e8', '367e', 'b67e0000000003e9', '3607', 'b6070000000003ea')]
 ANSWER = bytes(5) + b'\1'
 SEEN = 'return document.getElementById(arguments[0]).textContent'
-CHOOSE = '''for (const [id, value] of Object.entries(arguments[0])) {
-    const it = document.getElementById(id); it.value = value; it.dispatchEvent(new Event("change")); }'''
 LINE = model.line_of(MESSAGES[0]) + b''.join(model.line_of(one)[1:] for one in MESSAGES[1:])
 BITS = '0' + '1' * 20 + ''.join(model.bit_line_of(one) + '1' * 9 for one in MESSAGES)
 BITS += '1' * (-len(BITS) % 8)
@@ -47,10 +45,10 @@ def check_files(check, browser, name, folder):
     for title, way, file in FILES:
         with open(path, 'wb') as out:
             out.write(file)
-        browser.run(CHOOSE, {'form': way})
+        choose(browser, form=way)
         opened(browser, path)
         check.equal('%s of a line in %s' % (title, name), DUE, [row[:2] for row in rows(browser)])
-    browser.run(CHOOSE, {'form': 'auto'})
+    choose(browser, form='auto')
     with open(path, 'wb') as out:
         out.write(''.join(bit * 5 for bit in BITS).encode())
     opened(browser, path)
@@ -75,17 +73,17 @@ def check_damage(check, browser, name, folder):
     check.holds('what of it is not judged in %s' % name, '1 frame with another address is not judged' in said and browser.run(
         'return document.getElementById("verdict").dataset.kind') != 'broken', said)
     for address, count in (('15', 1), ('1583', 1), ('1593', 0), ('any', 4)):
-        browser.run(CHOOSE, {'form': 'line', 'address': address})
+        choose(browser, form='line', address=address)
         opened(browser, path)
         got = [row for row in rows(browser) if row[1]]
         check.equal('the messages of the address %s in %s' % (address, name), count, len(got))
     with open(path, 'wb') as out:
         out.write(b''.join(map(model.line_of, (MESSAGES[0], b'\xb6\x05' + ANSWER, b'\x36\x06'))) + model.line_of(b'\xb6\x06' + ANSWER)[:-2] + b'\0\x7e' + model.line_of(b'\x36\x07'))
     for end, kind in (('auto', 'partly'), ('cpu', 'broken')):
-        browser.run(CHOOSE, {'form': 'line', 'address': '14', 'end': end})
+        choose(browser, form='line', address='14', end=end)
         opened(browser, path)
         check.equal('the CPU goes on below a wrong check, taken at %s in %s' % (end, name), kind, browser.run('return document.getElementById("verdict").dataset.kind'))
-    browser.run(CHOOSE, {'form': 'auto', 'end': 'auto'})
+    choose(browser, form='auto', end='auto')
 
 
 def check_lines(check, browser, name, folder):

@@ -8,7 +8,7 @@ import re
 from support.damage import DAMAGED
 from support.log_model import LogReader
 from support.loggers import LOGGERS
-from support.opened import ARROWS, CELLS, OPEN_ALL, dropped, example, pasted, saved
+from support.opened import ARROWS, CELLS, OPEN_ALL, choose, dropped, example, pasted, saved
 from support.sessions import SESSION, timed
 from support.strangers import BLOCK, DUMP, PASSED, READ
 from support.tables import TOP, output_of
@@ -121,10 +121,6 @@ def check_unsure(check, browser, name):
     check.holds('a breach below is found in %s' % name, kind == 'broken' and 'Line 10' in says, (kind, says))
 
 
-# Chooses how the next log is written.
-CHOOSE_FORM = 'const it = document.getElementById("form"); it.value = arguments[0]; it.dispatchEvent(new Event("change"))'
-
-
 def check_dump(check, browser, name):
     """The frame of a dump is read, however the dump comes; as frames by order each line is what `show` says of it."""
     ways = {'pasted': pasted, 'dropped as text': dropped, 'dropped as a file': lambda *given: dropped(*given, 'dump.txt')}
@@ -132,10 +128,10 @@ def check_dump(check, browser, name):
         give(browser, DUMP)
         check.equal('a dump of one frame that is %s in %s' % (way, name), [[1, False, ARROWS['<'], False, BLOCK]],
                     by_page({'rows': browser.run(CELLS), 'note': ''})[0])
-    browser.run(CHOOSE_FORM, 'frames')
+    choose(browser, form='frames')
     pasted(browser, DUMP)
     check.equal('a dump of one frame as frames by order in %s' % name, output_of('show', DUMP)[0], saved(browser))
-    browser.run(CHOOSE_FORM, 'auto')
+    choose(browser, form='auto')
     browser.click('#as-any')
     check.equal('and as any log by a button in %s' % name, [BLOCK], [row[5] for row in browser.run(CELLS)])
 
@@ -148,7 +144,7 @@ AS_TRANSCRIPT = ['poll block 5', 'wrong length needed 2 got 1', 'x', 'block 5 en
 def check_order(check, browser, name):
     """A log is read as `check` reads it by order, or if it is named as a transcript; else by the definition."""
     for form, words in (('transcript', AS_TRANSCRIPT), ('frames', BY_ORDER.splitlines()), ('auto', None)):
-        browser.run(CHOOSE_FORM, form)
+        choose(browser, form=form)
         pasted(browser, BY_ORDER)
         rows = browser.run(CELLS)
         if words:

@@ -6,44 +6,19 @@ import re
 from xml.etree import ElementTree
 
 from support.browsers import KEYS
-from support.opened import CELLS, RANGE, example, is_message, opened, pasted, saved, started, text_of
+from support.opened import CELLS, RANGE, choose, example, is_message, opened, pasted, saved, started, text_of
 from support.tables import TOP
 
-# The breaches in the rows: the line, and the rule.
-BROKEN = 'return [...document.querySelectorAll(".line.broken")].map((row) => [Number(row.children[0].textContent), row.children[4].textContent.split(":")[0]])'
 SEEN_TEXT = 'const it = document.querySelector(arguments[0]); return it && it.checkVisibility() ? it.textContent : ""'
 
 
 def check_verdict(check, browser, name):
-    """One verdict, by the rules and the words of `fiolog check`; and what was not judged, with the reason."""
+    """One verdict, what helps, and which of the limits is broken."""
     example(browser, 'doubled-entry.transcript')
     seen = browser.run('return [...document.querySelectorAll("#view-messages .good, #view-messages .verdict")].map((it) => it.dataset.kind || it.textContent)')
     check.equal('a doubled entry has one verdict in %s' % name, ['broken'], seen)
     browser.click('#first-breach')
     check.equal('which goes to the line in %s' % name, 'Line 10', browser.run('return document.querySelector(".detail h2").textContent'))
-    for title, text, kind, words in [
-            ('a log without directions', '36ff\nb6ff010000010200000001\n', 'good', 'does not say who sent'),
-            ('a log with a bad line', '> 36ff\n> 36f\n< b6ff010000010200000001\n> 3600\n< b600000000000002\n', 'partly', '1 line could not be read as a message and is not judged'),
-            ('a log of the bus', '3605\nb605000000000001\n3605\n', 'partly', '1 message is not judged, since this log was not taken at the CPU'),
-            ('answers below a breach', '> 36ff\n< b605000000000001\n< b605000000000001\n', 'broken',
-             '1 loss of sync, at a breach: 1 message from there to the next poll is not judged'),
-            ('an answer alone', 'b605018c4121000000416a\n', 'unjudged', '1 message above the first command is not judged'),
-            ('a log that begins with an answer', '< b605000000000001\n> 3606\n< b606000000000002\n', 'partly', '1 message above the first command is not judged'),
-            ('a breach above the first poll', '> 34\n< b605000000000001\n> 3606\n< b606000000000002\n', 'broken', 'in the middle of traffic'),
-            ('one poll, over and over', '> 3605\n' * 4, 'partly', 'No answer came: the module is silent, or its direction was not logged'),
-            ('an answer in two lines', 'TX 36 05\nRX B6 05 00 00\nRX 00 00 00 01\nTX 36 05\nRX B6 05 00 02 00 00 00 01\nTX 36 06\n', 'partly',
-             '1 message split over two lines is not read'),
-            ('a log of which less than half is judged', '> 3605\n' + '> 36f\n' * 3 + '< b605000000000001\n', 'unjudged', '3 lines could not be read'),
-            ('a log of the other end', '07:15:02.100 RX 36 05\n07:15:02.106 TX B6 05 00 00 00 00 00 01\n', 'good', '')]:
-        pasted(browser, text)
-        got = browser.run('const it = document.getElementById("not-judged"); return [document.getElementById("verdict").dataset.kind, it ? it.textContent : ""]')
-        check.equal('the verdict on %s in %s' % (title, name), (kind, True), (got[0], words in got[1]))
-    for missing, text in [('commands', ''.join('> 36%02x\n' % number for number in range(5))),
-                          ('answers', ''.join('< b6%02x000000000001\n' % number for number in range(5)))]:
-        pasted(browser, text)
-        got = browser.run('return [document.getElementById("verdict").dataset.kind, document.getElementById("verdict-text").textContent]')
-        check.equal('the verdict on a log of the %s alone in %s' % (missing, name), ('unjudged', True, []),
-                    (got[0], 'this log has the %s alone' % missing in got[1].lower(), browser.run(BROKEN)))
     pasted(browser, ''.join('10.%d RX 14 83 B6 05 00 00 00 00 00 0%d\n' % (number, number) for number in range(4)))
     check.holds('a reason names the choice that helps in %s' % name, 'choose SDLC frames, without their check' in browser.run(SEEN_TEXT, '#no-log-passed'))
     pasted(browser, 'poll 36 05 now\n')
@@ -69,11 +44,10 @@ def check_ways(check, browser, name, folder):
     for way, expression, octets, words in WAYS:
         with open(path, 'wb') as file:
             file.write(octets)
-        browser.run("""for (const [id, value] of [["form", arguments[0]], ["pattern", arguments[1]]]) {
-            const it = document.getElementById(id); it.value = value; it.dispatchEvent(new Event("change")); }""", way, expression)
+        choose(browser, form=way, pattern=expression)
         opened(browser, path)
         check.equal('a log that is read as %s in %s' % (way, name), words, [row[3] for row in browser.run(CELLS) if is_message(row)])
-    browser.run('const it = document.getElementById("form"); it.value = "auto"; it.dispatchEvent(new Event("change"))')
+    choose(browser, form='auto')
 
 
 def check_order(check, browser, name, folder):
