@@ -4,7 +4,6 @@ runs and where it does not; in a copy the library, a program in C, the tester, `
 also `./test` in the copy, a library for Windows and for ARM, packages, and the same in a new Debian system that first only has git,
 and then gcc, make and python3 too, without a network. Last line: `N passed, M failed`."""
 
-import glob
 import os
 import random
 import re
@@ -13,13 +12,14 @@ import subprocess
 import sys
 import tempfile
 import time
+from pathlib import Path
 
 sys.dont_write_bytecode = True
 
 from support import roots
 from support.browsers import browsers, running
 from support.check import Check
-from support.opened import started
+from support.opened import CELLS, example, started, words_in
 from support.tables import TOP, can_simulate, program_of
 
 PATH = '/usr/bin:/bin'
@@ -34,15 +34,18 @@ int main(void) {
 '''
 LOG = '07:15:02.100 TX 36 05\n07:15:02.108 RX B6 05 00 00 00 00 03 E8\n'
 check = Check()
-room = tempfile.mkdtemp()
-clone = os.path.join(room, 'clone')
+room = Path(tempfile.mkdtemp())
+clone = room / 'clone'
+EXAMPLES = Path(TOP, 'examples')
+# What the compiled program does too.
+TOOLS = ('show', 'check', 'record')
 # The packages of Debian whose commands `./fio2070` needs, and git.
 FEW = ['coreutils', 'findutils', 'sed', 'diffutils', 'git']
 
 
 def environment(**more):
     """Without the kit, and without the settings of a make or of the caller's compiler."""
-    return {'PATH': PATH, 'HOME': room, 'LC_ALL': 'C.UTF-8', 'PYTHONDONTWRITEBYTECODE': '1', **more}
+    return {'PATH': PATH, 'HOME': str(room), 'LC_ALL': 'C.UTF-8', 'PYTHONDONTWRITEBYTECODE': '1', **more}
 
 
 def run(*words, text='', seconds=MOST_SECONDS, folder=clone, **more):
@@ -57,31 +60,33 @@ def fault(*words, **settings):
     return 'status %d: %s' % (done.returncode, (done.stdout + done.stderr)[-600:]) if done.returncode else None
 
 
+def works(name, command, **settings):
+    """A row: the shell runs a command in the copy, which succeeds."""
+    check.fault(name, lambda: fault('sh', '-c', command, **settings))
+
+
 def copy_sources():
     """The files that git has or would add."""
     listed = subprocess.run(['git', 'ls-files', '-co', '--exclude-standard', '-z'], cwd=TOP, stdout=subprocess.PIPE, check=True)
     for name in filter(None, listed.stdout.decode().split('\0')):
-        path = os.path.join(clone, name)
         if os.path.lexists(os.path.join(TOP, name)):
-            os.makedirs(os.path.dirname(path), exist_ok=True)
-            shutil.copy2(os.path.join(TOP, name), path, follow_symlinks=False)
+            (clone / name).parent.mkdir(parents=True, exist_ok=True)
+            shutil.copy2(os.path.join(TOP, name), clone / name, follow_symlinks=False)
 
 
 def list_sources():
     """tests/release-files.sh checks that dist/ is of the present sources; here its list is made of the sources of the copy."""
-    done = run('packaging/program', '--sources')
-    with open(os.path.join(clone, 'dist/fio2070-x86_64-linux-gnu.sources'), 'w', encoding='utf-8') as file:
-        file.write(done.stdout)
+    (clone / 'dist/fio2070-x86_64-linux-gnu.sources').write_text(run('packaging/program', '--sources').stdout, encoding='utf-8')
 
 
 def few_commands():
     """A folder with the commands of few packages."""
-    folder = os.path.join(room, 'few')
-    os.makedirs(folder)
+    folder = room / 'few'
+    folder.mkdir()
     listed = subprocess.run(['dpkg', '-L', *FEW], stdout=subprocess.PIPE, text=True, check=True).stdout
     for path in re.findall('^(?:/usr)?/bin/[^/]+$', listed, re.M):
-        os.symlink(path, os.path.join(folder, os.path.basename(path)))
-    return folder
+        (folder / os.path.basename(path)).symlink_to(path)
+    return str(folder)
 
 
 def as_repository():
@@ -105,7 +110,7 @@ def with_few_commands():
     if not shutil.which('dpkg'):
         check.skip('a clone with few commands', 'no dpkg here, which lists the commands of a package')
         return
-    few = {'PATH': few_commands(), 'folder': os.path.join(room, 'cloned')}
+    few = {'PATH': few_commands(), 'folder': room / 'cloned'}
     check.equal('git clone', None, fault('git', 'clone', '-q', clone, few['folder'], PATH=few['PATH'], folder=room))
     for command, wanted in ANSWERS:
         begun = time.monotonic()
@@ -115,42 +120,37 @@ def with_few_commands():
     done = run('./fio2070', '--version', **few)
     check.equal('which program it is', (True, True, 1), (done.stdout.startswith('fio2070 '), 'of dist/, made of these sources' in done.stderr,
                                                          done.stderr.count('\n')))
-    changed, added = (os.path.join(few['folder'], 'crates', name) for name in ('fio_message/src/lib.rt', 'fio_cpu/specs/Added.antt'))
-    with open(changed, encoding='utf-8') as file:
-        text = file.read()
-    for name, path, before, after in (('a changed source', changed, text, text + '\n'), ('an added source', added, None, '')):
-        with open(path, 'w', encoding='utf-8') as file:
-            file.write(after)
+    changed, added = (few['folder'] / 'crates' / name for name in ('fio_message/src/lib.rt', 'fio_cpu/specs/Added.antt'))
+    text = changed.read_text(encoding='utf-8')
+    for name, path, other in (('a changed source', changed, text + '\n'), ('an added source', added, '')):
+        path.write_text(other, encoding='utf-8')
         done = run('./fio2070', 'show', text='3605\n', **few)
         check.equal(name + ' is reported', ('poll block 5\n', True, 1), (done.stdout, 'made of other sources' in done.stderr, done.stderr.count('\n')))
-        if before is None:
-            os.remove(path)
-        else:
-            with open(path, 'w', encoding='utf-8') as file:
-                file.write(before)
+        changed.write_text(text, encoding='utf-8')
+        added.unlink(missing_ok=True)
     done = run('./fio2070', 'show', text='3605\n', **few)
     check.equal('sources as they were', ('poll block 5\n', ''), (done.stdout, done.stderr))
 
 
 def elsewhere():
     """The program that is compiled where that of dist/ does not run, as on another processor."""
-    os.makedirs(os.path.join(room, 'elsewhere'))
-    with open(os.path.join(room, 'elsewhere/uname'), 'w', encoding='ascii') as script:
-        script.write('#!/bin/sh\necho Linux riscv64\n')
-    os.chmod(os.path.join(room, 'elsewhere/uname'), 0o755)
-    there = {'PATH': os.path.join(room, 'elsewhere') + ':' + PATH}
+    script = room / 'elsewhere/uname'
+    script.parent.mkdir()
+    script.write_text('#!/bin/sh\necho Linux riscv64\n', encoding='ascii')
+    script.chmod(0o755)
+    there = {'PATH': '%s:%s' % (script.parent, PATH)}
     first, second = run('./fio2070', 'show', text='3605\n', **there), run('./fio2070', 'show', text='3605\n', **there)
     check.equal('the first call', ('poll block 5\n', 0), (first.stdout, first.returncode))
     check.holds('the first call says what answers', 'does not run on this machine' in first.stderr and 'dist/fio2070.c' in first.stderr, first.stderr)
     check.equal('the second call says nothing', ('poll block 5\n', ''), (second.stdout, second.stderr))
-    check.equal('everyone can run it', 0o755, os.stat(os.path.join(clone, 'out/fio2070')).st_mode & 0o777)
+    check.equal('everyone can run it', 0o755, (clone / 'out/fio2070').stat().st_mode & 0o777)
     simulated = run('./fio2070', 'simulate', text='fio2070 script 1 2 0\n', **there)
     check.equal('simulate says what is missing', ('', 125, True),
                 (simulated.stdout, simulated.returncode, re.match('[^\n]*no simulate[^\n]* Play ', simulated.stderr) is not None))
     check.equal('no subcommand', ('fio2070: no subcommand\n', 2), (lambda it: (it.stdout, it.returncode))(run('./fio2070', **there)))
     said = run('./fio2070', '--version', **there)
     check.equal('which program it is there', (True, True, 1), (said.stdout.startswith('fio2070 '), 'compiled' in said.stderr, said.stderr.count('\n')))
-    lacking = run('./fio2070', 'show', text='3605\n', CC='no-such-compiler', FIO2070_OUT=os.path.join(room, 'lacking'), **there)
+    lacking = run('./fio2070', 'show', text='3605\n', CC='no-such-compiler', FIO2070_OUT=str(room / 'lacking'), **there)
     check.equal('without a compiler', (125, 2), (lacking.returncode, lacking.stderr.count('\n')))
 
 
@@ -171,30 +171,30 @@ def answers(path, tool, octets):
 
 def alike():
     """The compiled program writes exactly what the proved one does: for the checks of texts, the examples, and changed ones."""
-    stand_in = os.path.join(clone, 'out/fio2070')
+    stand_in = str(clone / 'out/fio2070')
     longer = ('random-inputs.py', 'records.py') if can_simulate() and check.whole('texts of random-inputs.py and records.py') else ()
     for name in ('shows.py', 'transcripts.py', 'examples.sh', *longer):
         if check.wants('texts of ' + name):
             done = subprocess.run([os.path.join(TOP, 'tests', name)], env={**os.environ, 'FIO2070_PROGRAM': stand_in}, capture_output=True,
                                   text=True, check=False)
             check.holds('texts of ' + name, re.search(r'^[1-9]\d* passed, 0 failed$', done.stdout, re.M), done.stdout[-600:])
-    draw, folder = random.Random(59), os.path.join(TOP, 'examples')
-    for name in sorted(os.listdir(folder)) if can_simulate() else ():
-        if os.path.isfile(os.path.join(folder, name)):
-            with open(os.path.join(folder, name), 'rb') as file:
-                whole = file.read()
-            for tool in ('show', 'check', 'record'):
-                texts = [whole] + [mutated(whole, draw) for _ in range(20 if check.given.all else 2)]
-                wrong = [text for text in texts if answers(stand_in, tool, text) != answers(program_of('simulate'), tool, text)]
-                check.equal('%s of %s and of changed ones' % (tool, name), [], wrong)
+    if not can_simulate():
+        return
+    draw, proved = random.Random(59), program_of('simulate')
+    for path in sorted(filter(Path.is_file, EXAMPLES.iterdir())):
+        whole = path.read_bytes()
+        for tool in TOOLS:
+            texts = [whole] + [mutated(whole, draw) for _ in range(20 if check.given.all else 2)]
+            wrong = [text for text in texts if answers(stand_in, tool, text) != answers(proved, tool, text)]
+            check.equal('%s of %s and of changed ones' % (tool, path.name), [], wrong)
     for text in (b'', b'36' * (1 << 19), b'36' * (1 << 19) + b'0', b'#' * (1 << 20) + b'\n', b'> 36' + b'00' * 3000):
-        for tool in ('show', 'check', 'record') if can_simulate() else ():
-            check.equal('%s of %d octets' % (tool, len(text)), answers(program_of('simulate'), tool, text), answers(stand_in, tool, text))
+        for tool in TOOLS:
+            check.equal('%s of %d octets' % (tool, len(text)), answers(proved, tool, text), answers(stand_in, tool, text))
 
 
 def faults():
     """A read or a write of the compiled program that fails."""
-    for tool in ('show', 'check', 'record'):
+    for tool in TOOLS:
         with open('/dev/full', 'w', encoding='ascii') as full:
             done = subprocess.run(['out/fio2070', tool], cwd=clone, env=environment(), input=b'3605\n', stdout=full, check=False)
         check.equal('a failing write of ' + tool, 3, done.returncode)
@@ -209,36 +209,31 @@ def library():
     bare = run('tools/fiolog', '--help')
     check.equal('fiolog without its library', (3, 1), (bare.returncode, bare.stderr.count('\n')))
     check.holds('it says what to do', 'make library' in bare.stderr and 'Traceback' not in bare.stderr, bare.stderr)
-    check.fault('make library', fault, 'make', '-s', 'library')
-    with open(os.path.join(clone, 'program.c'), 'w', encoding='utf-8') as file:
-        file.write(PROGRAM)
+    works('make library', 'make -s library')
+    (clone / 'program.c').write_text(PROGRAM, encoding='utf-8')
     for name in ('dist', 'include'):
-        check.fault('a program with the header of ' + name, lambda: fault('cc', '-I', name, 'program.c', 'libfio2070.a', '-o', 'program')
-                    or fault('./program'))
-    check.fault('a program with the files of C alone', lambda: fault('cc', '-I', 'dist', 'program.c', 'dist/fio2070.c', '-o', 'program')
-                or fault('./program'))
+        works('a program with the header of ' + name, 'cc -I %s program.c libfio2070.a -o program && ./program' % name)
+    works('a program with the files of C alone', 'cc -I dist program.c dist/fio2070.c -o program && ./program')
     for end in ('module', 'cpu'):
-        check.fault('the tester of a ' + end, fault, './fio2070-test', '--self', end, '20000')
-    check.fault('a device that is tested', lambda: fault('./fio2070-test', '--command', 'tools/conformance/adapters/adapter.py', '2000',
-                                                         PYTHONPATH='bindings/python'))
+        works('the tester of a ' + end, './fio2070-test --self %s 20000' % end)
+    works('a device that is tested', 'PYTHONPATH=bindings/python ./fio2070-test --command tools/conformance/adapters/adapter.py 2000')
     log = run('tools/fiolog', 'decode', '-q', text=LOG)
     check.holds('a log is decoded', '> poll block 5' in log.stdout, log.stdout + log.stderr)
     check.equal('a log is checked', 0, run('tools/fiolog', 'check', text=LOG).returncode)
-    check.fault('the tests of the Python binding', lambda: fault('python3', 'test.py', folder=os.path.join(clone, 'bindings/python')))
-    if shutil.which('cargo'):
-        settings = {'PATH': os.path.dirname(shutil.which('cargo')) + ':' + PATH, 'HOME': os.environ.get('HOME', room),
-                    'CARGO_TARGET_DIR': os.path.join(room, 'target'), 'folder': os.path.join(clone, 'bindings/rust/fio2070')}
-        check.fault('the tests of the Rust crate', lambda: fault('cargo', 'test', '--offline', '--quiet', **settings))
+    works('the tests of the Python binding', 'python3 test.py', folder=clone / 'bindings/python')
+    cargo = shutil.which('cargo')
+    if cargo:
+        works('the tests of the Rust crate', 'cargo test --offline --quiet', folder=clone / 'bindings/rust/fio2070',
+              PATH=os.path.dirname(cargo) + ':' + PATH, HOME=os.environ.get('HOME', str(room)), CARGO_TARGET_DIR=str(room / 'target'))
     else:
         check.skip('the tests of the Rust crate', 'no cargo here')
-    with open(os.path.join(clone, 'dist/fio2070.html'), encoding='utf-8') as page:
-        check.holds('the page is a page', '<!DOCTYPE html>' in page.read(100))
+    check.holds('the page is a page', '<!DOCTYPE html>' in (clone / 'dist/fio2070.html').read_text(encoding='utf-8')[:100])
 
 
 def flags():
     """The contents of CFLAGS and LDFLAGS reach the compiler."""
-    os.makedirs(os.path.join(room, 'flags'), exist_ok=True)
-    done = run('make', '-n', 'library', 'OUT=' + os.path.join(room, 'flags'), 'CFLAGS=-O1 -DGIVEN', 'LDFLAGS=-Wl,--given')
+    (room / 'flags').mkdir(exist_ok=True)
+    done = run('make', '-n', 'library', 'OUT=%s/flags' % room, 'CFLAGS=-O1 -DGIVEN', 'LDFLAGS=-Wl,--given')
     lines = [line for line in done.stdout.splitlines() if line.startswith('cc ')]
     check.holds('CFLAGS', lines and all('-O1 -DGIVEN' in line for line in lines), done.stdout)
     check.holds('LDFLAGS', sum('-Wl,--given' in line for line in lines) == 2, done.stdout)
@@ -246,41 +241,40 @@ def flags():
 
 def pip():
     """The Python package is compiled when it is installed; without a compiler it is not installed."""
-    done = run('python3', '-m', 'venv', os.path.join(room, 'python'))
-    if done.returncode:
+    python, bare = room / 'python', room / 'bare'
+    if run('python3', '-m', 'venv', python).returncode:
         check.skip('pip install', 'python3 has no module venv here (Debian package python3-venv)')
         return
-    shutil.rmtree(os.path.join(room, 'bare'), ignore_errors=True)
-    shutil.copytree(clone, os.path.join(room, 'bare'), symlinks=True, ignore=shutil.ignore_patterns('libfio2070*', 'out'))
-    install = [os.path.join(room, 'python/bin/pip'), 'install', '--quiet', '--no-index', os.path.join(room, 'bare/bindings/python')]
-    lacking = run(*install, PATH=os.path.join(room, 'python/bin'))
+    shutil.rmtree(bare, ignore_errors=True)
+    shutil.copytree(clone, bare, symlinks=True, ignore=shutil.ignore_patterns('libfio2070*', 'out'))
+    install = [python / 'bin/pip', 'install', '--quiet', '--no-index', bare / 'bindings/python']
+    lacking = run(*install, PATH=str(python / 'bin'))
     check.holds('pip install without a compiler fails', lacking.returncode != 0 and 'no C compiler' in lacking.stdout + lacking.stderr,
                 (lacking.stdout + lacking.stderr)[-600:])
-    check.holds('and puts no fiolog in place', not os.path.exists(os.path.join(room, 'python/bin/fiolog')))
+    check.holds('and puts no fiolog in place', not (python / 'bin/fiolog').exists())
     check.fault('pip install', fault, *install)
-    log = run(os.path.join(room, 'python/bin/fiolog'), 'decode', '-q', text=LOG, folder='/')
+    log = run(python / 'bin/fiolog', 'decode', '-q', text=LOG, folder='/')
     if shutil.which('readelf') and 'now' in run('packaging/hardening', '--link', 'cc').stdout:
-        (library,) = glob.glob(os.path.join(room, 'python/lib/python*/site-packages/fio2070/libfio2070.so.1'))
+        (library,) = python.glob('lib/python*/site-packages/fio2070/libfio2070.so.1')
         check.holds('the installed library is hardened', 'NOW' in run('readelf', '-d', library).stdout)
     check.holds('the installed fiolog', '> poll block 5' in log.stdout, log.stdout + log.stderr)
 
 
 def installing():
     """What `make install` puts in place runs, and `make uninstall` leaves nothing."""
-    prefix = os.path.join(room, 'installed')
-    check.fault('make install', fault, 'make', '-s', 'install', 'PREFIX=' + prefix)
-    log = run(os.path.join(prefix, 'bin/fiolog'), 'check', text=LOG, folder='/')
+    prefix = room / 'installed'
+    works('make install', 'make -s install PREFIX=%s' % prefix)
+    log = run(prefix / 'bin/fiolog', 'check', text=LOG, folder='/')
     check.equal('the installed fiolog checks', 0, log.returncode)
-    shown = run(os.path.join(prefix, 'bin/fio2070'), 'simulate', text='fio2070 script 1 2 0\n', folder='/')
+    shown = run(prefix / 'bin/fio2070', 'simulate', text='fio2070 script 1 2 0\n', folder='/')
     check.equal('the installed program simulates', ('counter 0', 0), (shown.stdout.partition('\n')[0], shown.returncode))
-    check.fault('make uninstall', fault, 'make', '-s', 'uninstall', 'PREFIX=' + prefix)
-    left = [name for _, _, names in os.walk(prefix) for name in names]
-    check.equal('nothing is left', [], left)
+    works('make uninstall', 'make -s uninstall PREFIX=%s' % prefix)
+    check.equal('nothing is left', [], [name for _, _, names in os.walk(prefix) for name in names])
 
 
 def own_test():
     """`./test` in the copy runs what can run, and says what it could not run."""
-    done = run('./test', seconds=3000, HOME=os.environ.get('HOME', room))
+    done = run('./test', seconds=3000, HOME=os.environ.get('HOME', str(room)))
     last = done.stdout.rstrip().rpartition('\n')[2]
     check.holds('./test without the kit', re.fullmatch(r'\d\d+ passed, 0 failed', last) and 'proofs\n' in done.stdout,
                 '\n'.join(re.findall('^FAILED.*\n.*\n.*', done.stdout, re.M))[:1500] + last)
@@ -292,25 +286,23 @@ def windows():
     if not shutil.which(compiler):
         check.skip('a library for Windows', 'no %s here (Debian package gcc-mingw-w64-x86-64)' % compiler)
         return
-    out = os.path.join(room, 'windows')
-    check.fault('a library for Windows', fault, 'make', '-s', 'library', 'OUT=' + out, 'CC=' + compiler, 'AR=x86_64-w64-mingw32-ar')
-    check.fault('a program for Windows', fault, compiler, '-I', 'dist', 'program.c', os.path.join(out, 'libfio2070.a'), '-o',
-                os.path.join(out, 'program.exe'))
-    check.fault('fio2070.exe', fault, compiler, '-O2', '-Wall', '-Wextra', '-I', 'dist', 'tools/without-kit/main.c', 'dist/fio2070.c', '-o',
-                os.path.join(out, 'fio2070.exe'))
+    out = room / 'windows'
+    works('a library for Windows', 'make -s library OUT=%s CC=%s AR=x86_64-w64-mingw32-ar' % (out, compiler))
+    works('a program for Windows', '%s -I dist program.c %s/libfio2070.a -o %s/program.exe' % (compiler, out, out))
+    works('fio2070.exe', '%s -O2 -Wall -Wextra -I dist tools/without-kit/main.c dist/fio2070.c -o %s/fio2070.exe' % (compiler, out))
     headers = '/usr/share/mingw-w64/include'
     if shutil.which('clang') and os.path.isdir(headers):
-        check.fault('no warning in the dialect of MSVC', fault, 'clang', '--target=x86_64-pc-windows-msvc', '-fms-extensions', '-std=c11',
-                    '-fms-compatibility-version=19.30', '-Wall', '-Werror', '-fsyntax-only', '-isystem', headers, 'dist/fio2070.c')
+        works('no warning in the dialect of MSVC', 'clang --target=x86_64-pc-windows-msvc -fms-extensions -std=c11 '
+              '-fms-compatibility-version=19.30 -Wall -Werror -fsyntax-only -isystem %s dist/fio2070.c' % headers)
     else:
         check.skip('no warning in the dialect of MSVC', 'no clang here, or no headers (Debian package mingw-w64-x86-64-dev)')
     wine = shutil.which('wine64') or shutil.which('wine') or shutil.which('/usr/lib/wine/wine64')
     if not wine:
         check.skip('programs for Windows run', 'no wine here (Debian package wine64)')
         return
-    settings = {'WINEDEBUG': '-all', 'WINEPREFIX': os.path.join(room, 'wine'), 'seconds': 300}
-    check.fault('a program for Windows runs', lambda: fault(wine, os.path.join(out, 'program.exe'), **settings))
-    shown = run(wine, os.path.join(out, 'fio2070.exe'), 'show', text='3605\nzz\n', **settings)
+    settings = {'WINEDEBUG': '-all', 'WINEPREFIX': str(room / 'wine'), 'seconds': 300}
+    check.fault('a program for Windows runs', lambda: fault(wine, out / 'program.exe', **settings))
+    shown = run(wine, out / 'fio2070.exe', 'show', text='3605\nzz\n', **settings)
     check.equal('fio2070.exe runs', ('poll block 5\nline 2: bad line\n', 1), (shown.stdout, shown.returncode))
 
 
@@ -321,17 +313,15 @@ def processors():
         if not shutil.which(prefix + 'gcc') or not shutil.which(qemu):
             check.skip('the library on ' + name, 'no %sgcc or no %s here (Debian packages gcc-%s, qemu-user)' % (prefix, qemu, name))
             continue
-        out = os.path.join(room, name)
-        check.fault('make library for ' + name, fault, 'make', '-s', 'library', 'OUT=' + out, 'CC=%sgcc' % prefix, 'AR=%sar' % prefix,
-                    'LDFLAGS=-static-libgcc')
-        built = fault(prefix + 'gcc', '-O1', '-static', '-I', 'dist', 'tools/without-kit/main.c', 'dist/fio2070.c', '-o', out + '/fio2070')
+        out = room / name
+        works('make library for ' + name, 'make -s library OUT=%s CC=%sgcc AR=%sar LDFLAGS=-static-libgcc' % (out, prefix, prefix))
+        built = fault(prefix + 'gcc', '-O1', '-static', '-I', 'dist', 'tools/without-kit/main.c', 'dist/fio2070.c', '-o', out / 'fio2070')
         check.equal('the program for ' + name, None, built)
-        for file in sorted(os.listdir(os.path.join(TOP, 'examples'))):
-            tool, end = {'.frames': ('show', '.shown'), '.transcript': ('check', '.verdict')}.get(os.path.splitext(file)[1], ('', ''))
-            if tool and not built:
-                with open(os.path.join(TOP, 'examples', file), encoding='latin-1') as source, \
-                        open(os.path.join(TOP, 'examples', os.path.splitext(file)[0] + end), encoding='latin-1') as due:
-                    check.equal('%s on %s' % (file, name), due.read(), run(qemu, out + '/fio2070', tool, text=source.read()).stdout)
+        for path in sorted(EXAMPLES.iterdir()) if not built else ():
+            tool, end = {'.frames': ('show', '.shown'), '.transcript': ('check', '.verdict')}.get(path.suffix, ('', ''))
+            if tool:
+                text, due = (one.read_text(encoding='latin-1') for one in (path, path.with_suffix(end)))
+                check.equal('%s on %s' % (path.name, name), due, run(qemu, out / 'fio2070', tool, text=text).stdout)
 
 
 # What a user does in a new system, each within a minute of processor time, and what has to be in the text.
@@ -353,13 +343,10 @@ def page_fault(kind, path):
     begun = time.monotonic()
     with running(kind) as browser:
         started(browser, 'file://' + path)
-        browser.run('document.getElementById("more-examples").open = true')
-        browser.click('[data-example="lost-answer.frames"]')
-        browser.wait('return document.documentElement.dataset.opened === "lost-answer.frames"')
-        trouble = browser.run('return document.getElementById("trouble").textContent')
-        shown = browser.run('return [...document.querySelectorAll(".line:not([hidden])")].map((row) => row.textContent).join(" ")')
+        example(browser, 'lost-answer.frames')
+        trouble, rows = words_in(browser, '#trouble'), browser.run(CELLS)
     print('%s opens dist/fio2070.html and an example in it [%.1f s]' % (kind.name, time.monotonic() - begun))
-    return trouble or ('poll block 255' not in shown and shown)
+    return trouble or ('poll block 255' not in [row[3] for row in rows] and repr(rows))
 
 
 # The same of packages that are made without the kit, in a system that has not even git.
@@ -389,7 +376,7 @@ def in_new_system():
     if why:
         check.skip('a new Debian system', why)
         return
-    root = roots.made(room, ['git'])
+    root = roots.made(str(room), ['git'])
     if not root:
         check.skip('a new Debian system', 'debootstrap could not make one, as without a network')
         return
@@ -399,8 +386,7 @@ def in_new_system():
     if not os.environ.get('FIO2070_ROOT') and not roots.install(root, *roots.USUAL):
         check.skip('gcc, make and python3 in a new Debian system', 'apt-get could not install them, as without a network')
         return
-    with open(os.path.join(root, 'clone/program.c'), 'w', encoding='utf-8') as file:
-        file.write(PROGRAM)
+    Path(root, 'clone/program.c').write_text(PROGRAM, encoding='utf-8')
     session(root, '/clone', SESSION)
     session(root, '/clone', [('make -s deb DIST=/used/packages 2>&1', '/used/packages/python3-fio2070_'), ('make -s uninstall PREFIX=/usr/local', '')])
     shutil.copy(os.path.join(root, 'clone/program.c'), os.path.join(root, 'used'))
