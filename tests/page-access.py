@@ -13,8 +13,10 @@ sys.dont_write_bytecode = True
 
 from support.browsers import ELEMENT, browsers, running
 from support.check import Check
-from support.opened import PAGE, address, make_page, started
+from support.opened import PAGE, example, make_page, started, words_in
 
+# An example that breaks a rule.
+NEAR_ENTRIES = 'near-entries.transcript'
 VIEWS = ('open', 'messages', 'inputs', 'plan', 'play')
 CONTROLS = 'button, input, select, textarea, summary, a[href], [tabindex="0"]'
 # The role of a control, by its element and type, if it has no role of its own. Firefox has no name for that of a summary.
@@ -32,20 +34,6 @@ document.querySelector("[data-stop]").focus(); return count'''
 FOCUS = '''const it = document.activeElement, style = getComputedStyle(it);
 return [it.dataset.stop === undefined ? -1 : Number(it.dataset.stop), style.outlineStyle !== "none" && parseFloat(style.outlineWidth) > 0]'''
 UNNUMBERED = 'return [...document.querySelectorAll("[data-stop]")].filter((it) => !arguments[0].includes(Number(it.dataset.stop))).map((it) => it.outerHTML.slice(0, 100))'
-
-
-def opened(browser, query=''):
-    """The page with an example that breaks a rule, and a message of it that is selected."""
-    started(browser, address(query))
-    show_near_entries(browser)
-    browser.click('#row-5')
-
-
-def show_near_entries(browser):
-    """Opens an example that breaks a rule."""
-    browser.run('document.getElementById("more-examples").open = true')
-    browser.click('[data-example="near-entries.transcript"]')
-    browser.wait('return document.documentElement.dataset.opened')
 
 
 def fault_of_control(browser, found):
@@ -109,7 +97,6 @@ NO_NUMBERS_64 = '''{ const real = WebAssembly.instantiate; WebAssembly.instantia
   const refuse = (call) => (...words) => { if (words.some((it) => typeof it === 'bigint')) throw new TypeError('cannot pass a BigInt'); return call(...words); };
   for (const [name, it] of Object.entries(made.instance.exports)) exports[name] = typeof it === 'function' ? refuse(it) : it;
   return { instance: { exports } }; }; }'''
-SEEN = 'const it = document.getElementById("trouble"); return it.offsetHeight > 0 ? it.textContent.replace(/\\s+/g, " ") : ""'
 VERSIONS = ('too old', 'Chromium', '97', 'Firefox', '113', 'Safari', '16.4')
 BEGIN = "<script>\n'use strict';"
 # Browsers in which the page never starts: what the script begins with there.
@@ -126,7 +113,7 @@ def older(browser, folder, begin, query='', starts=True):
     browser.open('file://' + path + query)
     if starts:
         browser.wait('return document.documentElement.dataset.bits || document.getElementById("trouble").textContent.includes("(")')
-    return browser.run(SEEN)
+    return words_in(browser, '#trouble')
 
 
 def check_older(check, browser, kind, folder):
@@ -138,8 +125,8 @@ def check_older(check, browser, kind, folder):
     if shutil.which('wasm-opt'):
         check.equal('without memory of 64 bits the other build runs in %s' % kind, ('32', ''),
                     (browser.run('return document.documentElement.dataset.bits'), seen))
-        check.holds('and the footer says so in %s' % kind, 'wasm-opt' in browser.run('return document.getElementById("proved").textContent'))
-        show_near_entries(browser)
+        check.holds('and the footer says so in %s' % kind, 'wasm-opt' in words_in(browser, '#proved'))
+        example(browser, NEAR_ENTRIES)
         check.equal('and judges in %s' % kind, 1, browser.run('return document.querySelectorAll(".line.broken").length'))
     else:
         check.skip('the other build in %s' % kind, 'no wasm-opt here (Debian package binaryen)')
@@ -180,18 +167,18 @@ def check_phone(check, browser, kind, folder):
     check.equal('the width of a phone in %s' % kind, 360, browser.run('return innerWidth'))
     footer = browser.run('return document.querySelector("footer").offsetHeight')
     check.holds('the footer takes less than a fifteenth of a phone in %s' % kind, footer * 15 < 740, footer)
-    show_near_entries(browser)
+    example(browser, NEAR_ENTRIES)
     check.equal('a message is a card in %s' % kind, [True] * 4, browser.run(CARD, '#row-5'))
     check.equal('no sheet is over the list at first in %s' % kind, [False, False], browser.run(SHEET)[:2])
     browser.run('document.querySelector("#row-5").scrollIntoView({ block: "center" })')
     browser.click('#row-5')
     check.equal('a tap shows the detail over the list in %s' % kind, [True] * 3, browser.run(SHEET))
-    says = browser.run('return document.querySelector(".detail").textContent')
+    says = words_in(browser, '.detail')
     check.holds('which says the rule in %s' % kind, 'Breaks apart: input 12' in says, says)
     check.holds('and what it means in %s' % kind, all(words in says for words in (
         'In a right link: An entry of an input follows the one before', 'clear: a block is clear', 'late: a block is late')), says)
     browser.click('#sheet-before')
-    check.equal('a button goes to the message above in %s' % kind, 'Line 6', browser.run('return document.querySelector(".detail h2").textContent'))
+    check.equal('a button goes to the message above in %s' % kind, 'Line 6', words_in(browser, '.detail h2'))
     browser.press('escape')
     check.equal('a key closes it in %s' % kind, [False, 'grid'], browser.run('return [document.querySelector(".detail").open, document.activeElement.getAttribute("role")]'))
     browser.press('enter')
@@ -209,7 +196,9 @@ def main():
     make_page(check)
     for kind in browsers(check):
         with tempfile.TemporaryDirectory() as folder, running(kind) as browser:
-            opened(browser)
+            started(browser)
+            example(browser, NEAR_ENTRIES)
+            browser.click('#row-5')
             check_roles(check, browser, kind.name)
             check_keys(check, browser, kind.name)
             check_phone(check, browser, kind.name, folder)

@@ -4,7 +4,6 @@
 change nothing but the table; the views follow pointer and keys; the planning table is that of docs/PLANNING.md. With
 `--pictures` the pictures of tools/page/, and that of *Play* in docs/pictures/, are taken again. Last line: `N passed, M failed`."""
 
-import glob
 import os
 import random
 import re
@@ -19,7 +18,7 @@ sys.dont_write_bytecode = True
 from support import page_judged, page_lines, page_logs, page_views
 from support.browsers import KEYS, Chromium, browsers, running
 from support.check import Check
-from support.opened import CELLS, PAGE, RANGE, TROUBLE, address, example, make_page, opened, saved, started, text_of
+from support.opened import CELLS, PAGE, RANGE, address, example, make_page, opened, saved, started, text_of, words_in
 from support.tables import TOP, output_of
 
 PICTURES = os.path.join(TOP, 'tools', 'page')
@@ -88,12 +87,11 @@ def expected_verdict(base, recorded):
 
 def check_examples(check, browser, name):
     """Each frames file, transcript and capture says what `show` and `check` say; each script reports as `simulate`."""
-    for path in sorted(glob.glob(os.path.join(TOP, 'examples', '*.frames')) + glob.glob(os.path.join(TOP, 'examples', '*.transcript'))):
-        base = os.path.basename(path)
+    names = sorted(os.listdir(os.path.join(TOP, 'examples')))
+    for base in [one for one in names if one.endswith(('.frames', '.transcript'))]:
         example(browser, base)
         shown = os.path.splitext(base)[0] + '.shown'
-        has_shown = base.endswith('.frames') and os.path.exists(os.path.join(TOP, 'examples', shown))
-        expected = text_of(shown) if has_shown else output_of('show', frames_of(text_of(base)))[0]
+        expected = text_of(shown) if base.endswith('.frames') and shown in names else output_of('show', frames_of(text_of(base)))[0]
         check.equal('%s in %s' % (base, name), expected, saved(browser))
         if base.endswith('.transcript'):
             # What breaks these rules is a restart to the page.
@@ -103,14 +101,11 @@ def check_examples(check, browser, name):
             check.equal('the record of %s in %s' % (base, name), recorded, saved(browser, 'save-record'))
             browser.click('#show-record')
             browser.wait('return document.getElementById("record-text").textContent !== ""')
-            check.equal('the record of %s as it is seen in %s' % (base, name), recorded,
-                        browser.run('return document.getElementById("record-text").textContent'))
+            check.equal('the record of %s as it is seen in %s' % (base, name), recorded, words_in(browser, '#record-text'))
     browser.click('#tab-play')
-    for path in sorted(glob.glob(os.path.join(TOP, 'examples', '*.script'))):
-        base = os.path.basename(path)
+    for base in [one for one in names if one.endswith('.script')]:
         browser.run('const it = document.getElementById("play-example"); it.value = arguments[0]; it.dispatchEvent(new Event("change"))', base)
-        check.equal('%s in %s' % (base, name), text_of(os.path.splitext(base)[0] + '.report'),
-                    browser.run('return document.getElementById("report").textContent'))
+        check.equal('%s in %s' % (base, name), text_of(os.path.splitext(base)[0] + '.report'), words_in(browser, '#report'))
 
 
 def check_fields(check, browser, name):
@@ -123,7 +118,7 @@ def check_fields(check, browser, name):
         check.equal('octet %d under the pointer in %s' % (octet, name), expected, browser.run(marked))
     browser.click('.rows')
     browser.type('.rows', KEYS['home'] + KEYS['down'])
-    check.equal('the keys select a row in %s' % name, 'Line 3', browser.run('return document.querySelector(".detail h2").textContent'))
+    check.equal('the keys select a row in %s' % name, 'Line 3', words_in(browser, '.detail h2'))
     browser.type('#search', 'block 0')
     browser.wait('return document.querySelectorAll(".line").length === 2')
     check.equal('the search in %s' % name, ['5', '6'], [row[0] for row in browser.run(CELLS)])
@@ -180,7 +175,7 @@ def check_many(check, browser, name, folder):
     seconds = browser.run('return (window.painted - window.begun) / 1000')
     print('%s: %d messages open in %.2f s' % (name, MANY, seconds))
     check.holds('%d messages open within %d s in %s' % (MANY, MOST_SECONDS, name), seconds < MOST_SECONDS, seconds)
-    check.equal('their number in %s' % name, '100,000 messages', browser.run('return document.querySelector("[data-fact=messages]").textContent'))
+    check.equal('their number in %s' % name, '100,000 messages', words_in(browser, '[data-fact=messages]'))
     check.equal('their verdict in %s' % name, 'good', browser.run('return document.getElementById("verdict").dataset.kind'))
     passes = scrolled(browser)
     work, step, _ = min(passes)
@@ -192,13 +187,13 @@ def check_many(check, browser, name, folder):
     browser.click('#tab-inputs')
     browser.turn_wheel('#waves', -800)
     browser.click('#waves')
-    reading = browser.run('return document.getElementById("reading").textContent')
+    reading = words_in(browser, '#reading')
     check.holds('a click reads a transition in %s' % name, re.fullmatch(r'input \d+ state [01] at \d+ ms Line \d+', reading), reading)
     browser.click('#to-message')
-    line = browser.run('return document.querySelector(".detail h2").textContent')
+    line = words_in(browser, '.detail h2')
     check.equal('and goes to its message in %s' % name, reading.rpartition('ms ')[2], line)
     wide = re.sub(r'input (\d+) state (\d) at (\d+) .*', r'  input \1 state \2 stamp ', reading)
-    check.holds('which has the transition in %s' % name, wide.strip() in browser.run('return document.querySelector(".detail ol").textContent'), wide)
+    check.holds('which has the transition in %s' % name, wide.strip() in words_in(browser, '.detail ol'), wide)
 
 
 def hostile_files():
@@ -223,7 +218,7 @@ def check_hostile(check, browser, name, folder):
             file.write(octets)
         opened(browser, path)
         state = browser.run('return [window.broken === undefined, document.querySelectorAll("main script, main img, main b:not(button b)").length]')
-        check.equal('%s in %s' % (title, name), ([True, 0], ''), (state, browser.run(TROUBLE)))
+        check.equal('%s in %s' % (title, name), ([True, 0], ''), (state, words_in(browser, '#trouble')))
     example(browser, 'good.transcript')
     check.equal('after these an example opens in %s' % name, 5, len(browser.run(CELLS)))
 
@@ -245,7 +240,7 @@ def check_touch(check, browser, name, folder):
     low, high = browser.run(RANGE)
     check.holds('two fingers that close widen the times in %s' % name, high - low > (other - moved) * 2, (moved, other, low, high))
     browser.touch('.wave-box', [(60, 0)])
-    reading = browser.run('return document.getElementById("reading").textContent')
+    reading = words_in(browser, '#reading')
     check.holds('a touch reads a transition in %s' % name, re.match(r'input \d+ state [01] at \d+ ms Line \d+', reading), reading)
     browser.size(1280, 900)
 
@@ -307,7 +302,7 @@ def check_play(check, browser, name):
     for selector in ('[data-input="5"]', '#scan', '#scan', '#poll', '#to-module li:first-child button:last-child', '#poll',
                      '#to-module li:first-child button', '#to-cpu li:first-child button', '#to-cpu li:first-child button'):
         browser.click(selector)
-    lines = browser.run('return document.getElementById("report").textContent').splitlines()
+    lines = words_in(browser, '#report').splitlines()
     expected = ['%d %s' % (number, line) for number, line in enumerate(PLAYED, 4)] + PLAYED_END
     check.equal('what clicks do in %s' % name, expected, lines[3:])
     script = browser.run('return document.getElementById("script").value')
@@ -321,7 +316,7 @@ def check_play(check, browser, name):
               'fio2070 script 1 2 0\n' + 'poll\n' * 10_001: 'line 10002: too many events'}
     for text, fault in faulty.items():
         browser.run('document.getElementById("script").value = arguments[0]; document.getElementById("run-script").click()', text)
-        check.equal('%s in %s' % (fault, name), fault, browser.run('return document.getElementById("script-trouble").textContent'))
+        check.equal('%s in %s' % (fault, name), fault, words_in(browser, '#script-trouble'))
 
 
 def check_access(check, browser, name):
@@ -336,7 +331,7 @@ def check_browser(check, kind, folder):
         for bits in (32, 64) if shutil.which('wasm-opt') else (64,):
             browser.open(address('?bits=%d' % bits))
             used = browser.wait('return document.documentElement.dataset.bits')
-            check.equal('%d-bit addresses in %s' % (bits, kind.name), (str(bits), ''), (used, browser.run(TROUBLE)))
+            check.equal('%d-bit addresses in %s' % (bits, kind.name), (str(bits), ''), (used, words_in(browser, '#trouble')))
             page_logs.check_captures(check, browser, '%s with %d bits' % (kind.name, bits))
         check_examples(check, browser, kind.name)
         page_logs.rows(check, browser, kind.name)

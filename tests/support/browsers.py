@@ -115,6 +115,18 @@ def free_port():
         return free.getsockname()[1]
 
 
+def as_soon_as_it_listens(call, *given, **more):
+    """What a call to a browser gives that has just been started."""
+    end = time.monotonic() + STARTED_IN
+    while True:
+        try:
+            return call(*given, **more)
+        except OSError:
+            if time.monotonic() > end:
+                raise
+            time.sleep(0.1)
+
+
 class Chromium(Browser):
     """Chromium, over HTTP."""
 
@@ -131,18 +143,8 @@ class Chromium(Browser):
         if os.geteuid() == 0:
             options.append('--no-sandbox')
         wanted = {'browserName': 'chrome', 'goog:chromeOptions': {'binary': shutil.which('chromium'), 'args': options}}
-        self.base += '/' + self.begun({'capabilities': {'alwaysMatch': wanted}})
-
-    def begun(self, wanted):
-        """The session, as soon as the driver listens."""
-        end = time.monotonic() + STARTED_IN
-        while True:
-            try:
-                return self.sent('POST', self.base, wanted)['sessionId']
-            except urllib.error.URLError as fault:
-                if time.monotonic() > end or isinstance(fault, urllib.error.HTTPError):
-                    raise
-                time.sleep(0.1)
+        begun = as_soon_as_it_listens(self.sent, 'POST', self.base, {'capabilities': {'alwaysMatch': wanted}})
+        self.base += '/' + begun['sessionId']
 
     @staticmethod
     def sent(method, address, given):
@@ -182,21 +184,10 @@ class Firefox(Browser):
             ['firefox-esr', '--headless', '--marionette', '--no-remote', '--profile', profile, '--width', '1280',
              '--height', '900'], env=dict(os.environ, HOME=room, MOZ_HEADLESS='1'), stdout=subprocess.DEVNULL,
             stderr=subprocess.DEVNULL)
-        self.socket = self.connected(port)
+        self.socket = as_soon_as_it_listens(socket.create_connection, ('127.0.0.1', port), timeout=120)
         self.stream = self.socket.makefile('rb')
         self.message()
         self.ask(None, None, 'WebDriver:NewSession', {})
-
-    @staticmethod
-    def connected(port):
-        end = time.monotonic() + STARTED_IN
-        while True:
-            try:
-                return socket.create_connection(('127.0.0.1', port), timeout=120)
-            except OSError:
-                if time.monotonic() > end:
-                    raise
-                time.sleep(0.1)
 
     def message(self):
         length = b''

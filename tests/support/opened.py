@@ -7,7 +7,7 @@ import subprocess
 from support.tables import CAN_PROVE, TOP
 
 PAGE = os.path.join(TOP, 'fio2070.html' if CAN_PROVE else 'dist/fio2070.html')
-TROUBLE = 'return document.getElementById("trouble").textContent'
+SEEN_TEXT = 'const it = document.querySelector(arguments[0]); return it && it.checkVisibility() ? it.textContent : ""'
 CLOSE = 'delete document.documentElement.dataset.opened'
 OPENED = 'return document.documentElement.dataset.opened === arguments[0]'
 # The text that the button saves, caught on its way to a file.
@@ -60,6 +60,11 @@ def started(browser, at=''):
     """Opens the page, or this address of it, and waits until it has started."""
     browser.open(at or address())
     browser.wait('return document.documentElement.dataset.bits')
+
+
+def words_in(browser, selector):
+    """The text of an element; empty if it is not seen."""
+    return browser.run(SEEN_TEXT, selector)
 
 
 def text_of(name):

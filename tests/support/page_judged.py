@@ -9,7 +9,7 @@ import re
 from support.damage import DAMAGED
 from support.fiolog import LIBRARY, fiolog
 from support.kinds import KINDS, SIGNS
-from support.opened import CELLS, OPEN_ALL, pasted, text_of
+from support.opened import CELLS, OPEN_ALL, pasted, text_of, words_in
 from support.strangers import READ
 from support.tables import TOP
 
@@ -97,17 +97,16 @@ def check_logs(check, browser, name):
 def check_restart(check, browser, name):
     """A restart is marked at its message, which says what to do, and can be chosen among the messages."""
     pasted(browser, BACK)
-    check.equal('the row of a restart in %s' % name, [[[4, 'restarted']], RESTARTED], [browser.run(FOUND)[0], browser.run(
-        'return document.querySelector(".line.restarted .rule").textContent')])
+    check.equal('the row of a restart in %s' % name, [[[4, 'restarted']], RESTARTED], [browser.run(FOUND)[0], words_in(browser, '.line.restarted .rule')])
     browser.click('#first-breach')
-    detail = browser.run('return document.querySelector(".detail").textContent')
+    detail = words_in(browser, '.detail')
     check.holds('and its message in %s' % name, all(words in detail for words in ('Line 4', 'T' + RESTARTED[1:] + '.', 'has P', 'configure its inputs')), detail)
     browser.click('[data-fact="restarts"]')
     check.equal('restarts alone in %s' % name, ['1 restart', 1], browser.run(
         'return [document.querySelector("[data-fact=restarts]").textContent, document.querySelectorAll(".line").length]'))
     pasted(browser, BACK.replace('b60000', 'b600018c0014'))
     browser.click('#tab-inputs')
-    check.holds('the record says it in %s' % name, 'The first restart: line 4.' in browser.run('return document.getElementById("record-note").textContent'))
+    check.holds('the record says it in %s' % name, 'The first restart: line 4.' in words_in(browser, '#record-note'))
 
 
 # Judges a text with these marks above its messages, by the calls: the lines of breaches, and the counts of messages without a judgement.

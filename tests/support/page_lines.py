@@ -5,11 +5,10 @@ import os
 
 from support import line_model as model
 from support.loggers import hexdump, pairs, xxd
-from support.opened import ARROWS, CELLS, choose, opened, pasted
+from support.opened import ARROWS, CELLS, choose, opened, pasted, words_in
 
 MESSAGES = [bytes.fromhex(digits) for digits in ('3605', 'b605018c03e700000003e8', '367e', 'b67e0000000003e9', '3607', 'b6070000000003ea')]
 ANSWER = bytes(5) + b'\1'
-SEEN = 'return document.getElementById(arguments[0]).textContent'
 LINE = model.line_of(MESSAGES[0]) + b''.join(model.line_of(one)[1:] for one in MESSAGES[1:])
 BITS = '0' + '1' * 20 + ''.join(model.bit_line_of(one) + '1' * 9 for one in MESSAGES)
 BITS += '1' * (-len(BITS) % 8)
@@ -52,7 +51,7 @@ def check_files(check, browser, name, folder):
     with open(path, 'wb') as out:
         out.write(''.join(bit * 5 for bit in BITS).encode())
     opened(browser, path)
-    check.holds('bits of five samples are reported in %s' % name, 'nearly all bits last 5 samples' in browser.run(SEEN, 'no-log-passed'))
+    check.holds('bits of five samples are reported in %s' % name, 'nearly all bits last 5 samples' in words_in(browser, '#no-log-passed'))
     pasted(browser, 'TX 3605\nRX b605000000000001\n')
     check.equal('a log is none of these in %s' % name, ['3605', 'b605000000000001'], [row[1] for row in rows(browser)])
 
@@ -69,7 +68,7 @@ def check_damage(check, browser, name, folder):
     check.equal('what a damaged line says in %s' % name, [
         ('poll block 5', ''), ('3663', 'of address 15, control octet 83: not judged'), ('block 5 entries 1 status 00 stamp 1000', ''),
         ('', 'damaged: no frame with a right check'), ('block 6 entries 1 status 00 stamp 1000', '')], shown)
-    said = browser.run(SEEN, 'not-judged')
+    said = words_in(browser, '#not-judged')
     check.holds('what of it is not judged in %s' % name, '1 frame with another address is not judged' in said and browser.run(
         'return document.getElementById("verdict").dataset.kind') != 'broken', said)
     for address, count in (('15', 1), ('1583', 1), ('1593', 0), ('any', 4)):

@@ -6,10 +6,9 @@ import re
 from xml.etree import ElementTree
 
 from support.browsers import KEYS
-from support.opened import CELLS, RANGE, choose, example, is_message, opened, pasted, saved, started, text_of
+from support.opened import CELLS, RANGE, choose, example, is_message, opened, pasted, saved, started, text_of, words_in
 from support.tables import TOP
 
-SEEN_TEXT = 'const it = document.querySelector(arguments[0]); return it && it.checkVisibility() ? it.textContent : ""'
 
 
 def check_verdict(check, browser, name):
@@ -18,12 +17,12 @@ def check_verdict(check, browser, name):
     seen = browser.run('return [...document.querySelectorAll("#view-messages .good, #view-messages .verdict")].map((it) => it.dataset.kind || it.textContent)')
     check.equal('a doubled entry has one verdict in %s' % name, ['broken'], seen)
     browser.click('#first-breach')
-    check.equal('which goes to the line in %s' % name, 'Line 10', browser.run('return document.querySelector(".detail h2").textContent'))
+    check.equal('which goes to the line in %s' % name, 'Line 10', words_in(browser, '.detail h2'))
     pasted(browser, ''.join('10.%d RX 14 83 B6 05 00 00 00 00 00 0%d\n' % (number, number) for number in range(4)))
-    check.holds('a reason names the choice that helps in %s' % name, 'choose SDLC frames, without their check' in browser.run(SEEN_TEXT, '#no-log-passed'))
+    check.holds('a reason names the choice that helps in %s' % name, 'choose SDLC frames, without their check' in words_in(browser, '#no-log-passed'))
     pasted(browser, 'poll 36 05 now\n')
     check.equal('if nothing is judged the page does not say how in %s' % name, '1 message is possible and not judged: nothing in the log makes '
-                'sure that the octets are a message.', browser.run('return document.getElementById("not-judged").textContent'))
+                'sure that the octets are a message.', words_in(browser, '#not-judged'))
     pasted(browser, '> 3605\n< b60501400001' + '0000000001\n')
     note = browser.run('return [...document.querySelectorAll(".line.broken .rule")].map((it) => it.textContent)')
     check.holds('a breach of the limits says which in %s' % name, any('an entry is of input 64, above 63' in words for words in note), note)
@@ -84,12 +83,12 @@ def check_no_log(check, browser, name, folder):
         with open(path, 'wb') as file:
             file.write(octets)
         opened(browser, path)
-        seen = browser.run(SEEN_TEXT, '#no-log')
+        seen = words_in(browser, '#no-log')
         check.equal('%s is no log in %s' % (title, name), (True, True, True),
-                    ('No message was found in %s.file' % title in seen, words in browser.run(SEEN_TEXT, '#no-log-kind'), 'What can be read' in seen))
-        check.equal('of %s no table is shown in %s' % (title, name), '', browser.run(SEEN_TEXT, '.table'))
+                    ('No message was found in %s.file' % title in seen, words in words_in(browser, '#no-log-kind'), 'What can be read' in seen))
+        check.equal('of %s no table is shown in %s' % (title, name), '', words_in(browser, '.table'))
     opened(browser, os.path.join(TOP, 'examples', 'captures', 'udp.pcap'))
-    check.holds('a capture of packets is known in %s' % name, 'pcap' in browser.run(SEEN_TEXT, '#no-log-kind'))
+    check.holds('a capture of packets is known in %s' % name, 'pcap' in words_in(browser, '#no-log-kind'))
     forms = browser.run('return [...document.querySelectorAll(".readable pre")].map((it) => it.textContent)')
     check.holds('forms are named in %s' % name, len(forms) > 3, forms)
     for form in forms:
@@ -163,7 +162,7 @@ def check_inputs(check, browser, name, folder):
     quarter = len(heights) // 4
     sparse, dense = max(heights[quarter // 2:quarter]), max(heights[-quarter:-quarter // 2])
     check.holds('five times as many transitions are drawn higher in %s' % name, 0 < sparse * 3 <= dense, (sparse, dense))
-    check.holds('and the scale is said in %s' % name, 'a full bar is' in browser.run('return document.getElementById("range").textContent'))
+    check.holds('and the scale is said in %s' % name, 'a full bar is' in words_in(browser, '#range'))
     few = browser.run(COLUMNS, 1)
     check.holds('an input with few transitions has its line in %s' % name, few.count(1) + few.count(2) > len(few) // 3, few[:40])
 
@@ -183,7 +182,7 @@ def check_times(check, browser, name):
     for title, text, _ in TIMES[1:3] + [('', '12:00:01 TX 36 05\n12:00:00 RX B6 05 00 00 00 00 00 01\n', [])]:
         pasted(browser, text)
         browser.click('#row-1')
-        after[title] = browser.run('return document.querySelector(".detail .soft").textContent')
+        after[title] = words_in(browser, '.detail .soft')
     check.holds('an answer after midnight in %s' % name, '2.000 ms after the command' in after['midnight'], after)
     check.holds('an answer whose command has no time in %s' % name, 'after the command' not in after['a time after the year 9999'], after)
     check.holds('an answer with an earlier time than its command in %s' % name, 'before that of the command' in after[''], after)
@@ -200,7 +199,7 @@ def check_ladder(check, browser, name):
     check.equal('the messages of an answer that is lost in %s' % name, [6, 2, 1], drawn[:3])
     for words in ('block 255 entries 1 status 02 stamp 1, E: sent again', 'waits for another block: records nothing', 'records 1 change', '1 scan: 1 change waits'):
         check.holds('the picture says %s in %s' % (words, name), words in drawn, drawn)
-    check.holds('the story is shown in %s' % name, 'The answer to the first poll 255 is lost.' in browser.run('return document.getElementById("play-story").textContent'))
+    check.holds('the story is shown in %s' % name, 'The answer to the first poll 255 is lost.' in words_in(browser, '#play-story'))
     root = ElementTree.fromstring(saved(browser, 'save-ladder'))
     check.equal('the picture that is saved in %s' % name, '{http://www.w3.org/2000/svg}svg', root.tag)
     browser.click('[data-story="restart.script"]')
