@@ -6,8 +6,9 @@ import { DIRECTION, MARKS } from './messagelist.js';
 
 // Where a log may have been taken.
 export const ENDS = { auto: 'auto', cpu: 'cpu', module: 'module', bus: 'bus' };
-// What loses sync.
-export const CAUSES = { breach: 'breach', restart: 'restart', heading: 'heading', load: 'load', line: 'line' };
+// What loses sync, in words.
+export const CAUSES = { breach: 'a breach', restart: 'a restart', heading: 'a heading', load: 'a stamp that a load may explain',
+  line: 'a line that may have held a message' };
 const TAKEN = { [ENDS.auto]: LOG_TAKEN.auto, [ENDS.cpu]: LOG_TAKEN.atCpu, [ENDS.module]: LOG_TAKEN.atModule, [ENDS.bus]: LOG_TAKEN.onBus };
 
 export class Judging {
@@ -33,7 +34,10 @@ export class Judging {
     for (let place = 0; place < log.count; place++) {
       this.takeMarks(log.marks[place]);
       // At the CPU, what has a wrong check was not heard.
-      if (log.damaged.has(place) && !(taken === ENDS.cpu && log.damaged.get(place).hasWrongCheck)) this.lose(CAUSES.line);
+      if (log.damaged.has(place) && !(taken === ENDS.cpu && log.damaged.get(place).hasWrongCheck)) {
+        this.judge.call('lose');
+        this.noteLoss(CAUSES.line);
+      }
       if (log.isPossible[place]) this.takePossible(CAUSES.line);
       else if (!log.isBadLine(place)) this.takeMessage(place);
     }
@@ -41,18 +45,13 @@ export class Judging {
   }
 
   takeMarks(marks) {
-    if (marks & MARKS.loss) this.judge.miss();
+    if (marks & MARKS.loss) this.judge.call('miss');
     if (marks & MARKS.heading) this.takePossible(CAUSES.heading);
-  }
-
-  lose(cause) {
-    this.judge.lose();
-    this.noteLoss(cause);
   }
 
   // Below a message that is sure, a possible one may have been one, and a heading begins another part of the log.
   takePossible(cause) {
-    this.judge.possible();
+    this.judge.call('possible');
     if (this.isBegun) this.noteLoss(cause);
   }
 

@@ -104,32 +104,41 @@ export class Library {
   }
 }
 
+// What the library keeps in the machine's memory, with the calls that have its name: the last word of each is enough.
+class Kept {
+  constructor(library, name, size) {
+    Object.assign(this, { library, name, at: BigInt(library.machine.reserve(size)) });
+  }
+
+  call(word, ...given) {
+    return this.library.calls[`fio2070_${this.name}_${word}`](this.at, ...given);
+  }
+}
+
 // A CPU's end that polls next for the block with this number.
-export class Poller {
+export class Poller extends Kept {
   constructor(library, number) {
-    this.library = library;
-    this.address = library.machine.reserve(SIZE.poller);
+    super(library, 'poller', SIZE.poller);
     this.number = number;
   }
 
   get number() {
-    return this.library.machine.all[this.address + AT.poller.number];
+    return this.library.machine.all[Number(this.at) + AT.poller.number];
   }
 
   set number(number) {
-    this.library.calls.fio2070_poller_start(BigInt(this.address), number);
+    this.call('start', number);
   }
 
   // The octets of a poll.
   poll() {
-    const { library } = this;
-    return library.written(library.calls.fio2070_poller_poll(BigInt(this.address), ...library.room));
+    return this.library.written(this.call('poll', ...this.library.room));
   }
 
   // What a frame was, and how many items it added to the record: `recordItem` has them until the next call.
   hear(address, length) {
     const { library } = this, { all, data } = library.machine, at = library.result;
-    library.calls.fio2070_poller_hear(BigInt(at), BigInt(this.address), BigInt(address), BigInt(length),
+    library.calls.fio2070_poller_hear(BigInt(at), this.at, BigInt(address), BigInt(length),
       BigInt(library.elements), BigInt(MOST_RECORD_ITEMS));
     const place = AT.heard, kind = all[at + place.kind];
     return {
@@ -148,85 +157,57 @@ export class Poller {
 }
 
 // A module, which has to be started.
-export class Module {
+export class Module extends Kept {
   constructor(library) {
-    this.library = library;
-    this.at = BigInt(library.machine.reserve(SIZE.sizedModule));
+    super(library, 'sized_module', SIZE.sizedModule);
     // Three octets for each entry that may wait.
     this.ring = [BigInt(library.machine.reserve(3 * STANDARD_WAITING)), BigInt(STANDARD_WAITING)];
   }
 
   start(id, perBlock) {
-    this.library.calls.fio2070_sized_module_start(this.at, id, this.library.limits(perBlock));
+    this.call('start', id, this.library.limits(perBlock));
   }
 
   scan(levels) {
-    this.library.calls.fio2070_sized_module_scan(this.at, ...this.ring, BigInt.asIntN(64, levels));
-  }
-
-  lineSync() {
-    this.library.calls.fio2070_sized_module_line_sync(this.at);
-  }
-
-  raise(mask) {
-    this.library.calls.fio2070_sized_module_raise(this.at, mask);
-  }
-
-  restart() {
-    this.library.calls.fio2070_sized_module_restart(this.at);
+    this.call('scan', ...this.ring, BigInt.asIntN(64, levels));
   }
 
   // The octets of the answer to a frame; none where there is no answer, and where the octets spell no command.
   receive(octets) {
     const { library } = this, frame = [BigInt(library.place(octets)), BigInt(octets.length)];
-    return library.written(library.calls.fio2070_sized_module_receive(this.at, ...this.ring, ...frame, ...library.room));
+    return library.written(this.call('receive', ...this.ring, ...frame, ...library.room));
   }
 
   get counter() {
-    return this.library.calls.fio2070_sized_module_counter(this.at) >>> 0;
+    return this.call('counter') >>> 0;
   }
 
   get waiting() {
-    return Number(this.library.calls.fio2070_sized_module_waiting(this.at));
+    return Number(this.call('waiting'));
   }
 
   get filtered() {
-    return BigInt.asUintN(64, this.library.calls.fio2070_sized_module_filtered(this.at));
+    return BigInt.asUintN(64, this.call('filtered'));
   }
 }
 
-// What judges a log.
-export class LogJudge {
+// What judges a log. Of a line that may have held a message it is told by `lose`; with a message that is only possible, or a heading,
+// by `possible`; that speaks of loss, by `miss`.
+export class LogJudge extends Kept {
   constructor(library) {
-    this.library = library;
-    this.at = BigInt(library.machine.reserve(SIZE.logJudge));
+    super(library, 'log_judge', SIZE.logJudge);
     this.outcome = library.machine.reserve(SIZE.judgeOutcome);
   }
 
   // Starts above the first line of a log that begins anywhere, taken where one of LOG_TAKEN says. The module has the standard limits.
   start(taken) {
-    this.library.calls.fio2070_log_judge_start(this.at, this.library.limits(BLOCK_ENTRIES), taken, LOG_BEGINS.anywhere);
-  }
-
-  // Takes a line that may have held a message.
-  lose() {
-    this.library.calls.fio2070_log_judge_lose(this.at);
-  }
-
-  // Takes a line with a message that is only possible, or a heading.
-  possible() {
-    this.library.calls.fio2070_log_judge_possible(this.at);
-  }
-
-  // Takes a line that speaks of loss.
-  miss() {
-    this.library.calls.fio2070_log_judge_miss(this.at);
+    this.call('start', this.library.limits(BLOCK_ENTRIES), taken, LOG_BEGINS.anywhere);
   }
 
   // Takes a message that the CPU sent or heard; `said` is one of LOG_SIDES. What it is, if it is not kept; else null.
   frame(isSent, said, address, length) {
-    const { calls, machine: { all } } = this.library, at = this.outcome, place = AT.judgeOutcome;
-    const kind = calls.fio2070_log_judge_frame(this.at, isSent ? 1 : 0, said, BigInt(address), BigInt(length), BigInt(at));
+    const { all } = this.library.machine, at = this.outcome, place = AT.judgeOutcome;
+    const kind = this.call('frame', isSent ? 1 : 0, said, BigInt(address), BigInt(length), BigInt(at));
     if (kind === OUTCOMES.kept) return null;
     return {
       kind, why: all[at + place.why], rule: all[at + place.rule], hasDue: all[at + place.has_due] !== 0, due: all[at + place.due],
@@ -236,24 +217,13 @@ export class LogJudge {
 }
 
 // What counts the frames of a log, to tell what kind of log it looks like.
-export class LogSigns {
+export class LogSigns extends Kept {
   constructor(library) {
-    this.calls = library.calls;
-    this.at = BigInt(library.machine.reserve(SIZE.logSigns));
-  }
-
-  // Starts above the first message of a log.
-  start() {
-    this.calls.fio2070_log_signs_start(this.at);
+    super(library, 'log_signs', SIZE.logSigns);
   }
 
   // Takes a message that the CPU sent or heard; `said` is one of LOG_SIDES.
   frame(isSent, said, address, length) {
-    this.calls.fio2070_log_signs_frame(this.at, isSent ? 1 : 0, said, BigInt(address), BigInt(length));
-  }
-
-  // The number of the sign that holds; 0 if none does.
-  get sign() {
-    return this.calls.fio2070_log_signs_sign(this.at);
+    this.call('frame', isSent ? 1 : 0, said, BigInt(address), BigInt(length));
   }
 }

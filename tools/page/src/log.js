@@ -184,10 +184,10 @@ function summaryOf(log) {
 
 // What kind of log it looks like, if it is not the log of one link in order: the number of its sign, by which SIGNS has the words.
 function signOf(log, signs) {
-  signs.start();
+  signs.call('start');
   for (let place = 0; place < log.count; place++) {
     if (log.isPossible[place] || log.isBadLine(place)) continue;
     signs.frame(log.judgedWay(place) === DIRECTION.sent, log.sides[place], log.address(place), log.lengths[place]);
   }
-  return signs.sign;
+  return signs.call('sign');
 }

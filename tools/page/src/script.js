@@ -11,13 +11,13 @@ const HEADER_NUMBERS = { 1: 2, 2: 2, 3: 4 };
 // The events: how what is given with one is written, and what a run does.
 const EVENTS = {
   scan: [/^[0-9a-f]{16}$/i, (run, levels) => run.module.scan(levelsOf(levels))],
-  sync: [/^$/, (run) => run.module.lineSync()],
-  raise: [/^[0-9a-f]{2}$/i, (run, mask) => run.module.raise(parseInt(mask, 16))],
+  sync: [/^$/, (run) => run.module.call('line_sync')],
+  raise: [/^[0-9a-f]{2}$/i, (run, mask) => run.module.call('raise', parseInt(mask, 16))],
   poll: [/^$/, (run) => run.toModule.send(run.poller.poll())],
   send: [/^(?:[0-9a-f]{2})+$/i, (run, digits) => run.sent(fromHex(digits))],
   'to-module': [/^\d{1,9}$/, (run, number) => run.toModule.deliver(Number(number), (octets) => run.atModule(octets))],
   'to-cpu': [/^\d{1,9}$/, (run, number) => run.toCpu.deliver(Number(number), (octets) => run.atCpu(octets))],
-  restart: [/^$/, (run) => run.module.restart()],
+  restart: [/^$/, (run) => run.module.call('restart')],
 };
 
 // Levels as eight octets, input 0 in the lowest bit of the first.

@@ -9,10 +9,6 @@ import { SIDES, SIGNS } from './log_words.js';
 import { RESTART_HELP, ruleOf } from './rules.js';
 import { isOfOneSide } from './sides.js';
 
-// Where sync is lost, by what loses it.
-const LOST_AT = { [CAUSES.breach]: 'a breach', [CAUSES.restart]: 'a restart', [CAUSES.heading]: 'a heading',
-  [CAUSES.load]: 'a stamp that a load may explain', [CAUSES.line]: 'a line that may have held a message' };
-
 export const VERDICTS = { good: 'good', partly: 'partly', unjudged: 'unjudged', restarted: 'restarted', broken: 'broken', none: 'none' };
 
 // The kind of a verdict, its sentence, more on it, the place of the first breach or restart (-1 if there is none), what kind of log it
@@ -84,7 +80,7 @@ function sentencesOf(log, isJudged) {
 
 // Where sync was lost, and what was not judged for it.
 function lossesOf({ unjudged: { [WHY.placeLost]: count }, losses, causes }) {
-  const places = Object.keys(LOST_AT).filter((cause) => causes.has(cause)).map((cause) => LOST_AT[cause]).join(' or ');
+  const places = Object.values(CAUSES).filter((cause) => causes.has(cause)).join(' or ');
   const left = count === 0 ? 'no message from there to the next poll was left out'
     : `${counted(count, 'message')} from there to the next poll ${count === 1 ? 'is' : 'are'} not judged`;
   return `${counted(losses, 'loss', 'losses')} of sync, at ${places}: ${left}.`;
