@@ -195,13 +195,9 @@ def alike():
 def faults():
     """A read or a write of the compiled program that fails."""
     for tool in TOOLS:
-        with open('/dev/full', 'w', encoding='ascii') as full:
-            done = subprocess.run(['out/fio2070', tool], cwd=clone, env=environment(), input=b'3605\n', stdout=full, check=False)
-        check.equal('a failing write of ' + tool, 3, done.returncode)
-        folder = os.open('/', os.O_RDONLY)
-        done = subprocess.run(['out/fio2070', tool], cwd=clone, env=environment(), stdin=folder, stdout=subprocess.PIPE, check=False)
-        os.close(folder)
-        check.equal('a failing read of ' + tool, (b'fio2070: read fault\n', 3), (done.stdout, done.returncode))
+        check.equal('a failing write of ' + tool, 3, run('sh', '-c', 'echo 3605 | out/fio2070 %s >/dev/full' % tool).returncode)
+        done = run('sh', '-c', 'out/fio2070 %s </' % tool)
+        check.equal('a failing read of ' + tool, ('fio2070: read fault\n', 3), (done.stdout, done.returncode))
 
 
 def library():

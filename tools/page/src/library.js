@@ -104,7 +104,8 @@ export class Library {
   }
 }
 
-// What the library keeps in the machine's memory, with the calls that have its name: the last word of each is enough.
+// What the library keeps in the machine's memory, with the calls that have its name: the last word of each is enough. Those for each
+// message of a log are called directly, which is faster.
 class Kept {
   constructor(library, name, size) {
     Object.assign(this, { library, name, at: BigInt(library.machine.reserve(size)) });
@@ -206,8 +207,8 @@ export class LogJudge extends Kept {
 
   // Takes a message that the CPU sent or heard; `said` is one of LOG_SIDES. What it is, if it is not kept; else null.
   frame(isSent, said, address, length) {
-    const { all } = this.library.machine, at = this.outcome, place = AT.judgeOutcome;
-    const kind = this.call('frame', isSent ? 1 : 0, said, BigInt(address), BigInt(length), BigInt(at));
+    const { calls, machine: { all } } = this.library, at = this.outcome, place = AT.judgeOutcome;
+    const kind = calls.fio2070_log_judge_frame(this.at, isSent ? 1 : 0, said, BigInt(address), BigInt(length), BigInt(at));
     if (kind === OUTCOMES.kept) return null;
     return {
       kind, why: all[at + place.why], rule: all[at + place.rule], hasDue: all[at + place.has_due] !== 0, due: all[at + place.due],
@@ -224,6 +225,6 @@ export class LogSigns extends Kept {
 
   // Takes a message that the CPU sent or heard; `said` is one of LOG_SIDES.
   frame(isSent, said, address, length) {
-    this.call('frame', isSent ? 1 : 0, said, BigInt(address), BigInt(length));
+    this.library.calls.fio2070_log_signs_frame(this.at, isSent ? 1 : 0, said, BigInt(address), BigInt(length));
   }
 }

@@ -2,12 +2,11 @@
 // counts of what was found.
 
 import { LOG_FORMS } from './constants.js';
-import { ENDS, Judging } from './judging.js';
+import { ENDS, isOfOneSide, Judging, sidesOf } from './judging.js';
 import { BLOCK, FIRST_ANSWER, POLL, STATUS_BITS } from './library.js';
 import { DIRECTION } from './messagelist.js';
 import { recordOf } from './record.js';
 import { breachWords, restartWords, ruleOf } from './rules.js';
-import { isOfOneSide, sidesOf } from './sides.js';
 import { verdictOf } from './verdict.js';
 
 export class Log {
@@ -176,10 +175,13 @@ export const FACTS = [
 
 // How many messages each fact holds for; of entries how many there are, and no frame with another address is a message.
 function summaryOf(log) {
-  const places = Array.from({ length: log.count }, (_, place) => place), { size } = log.others;
-  const counts = Object.fromEntries(FACTS.map(([name, , test]) => [name, places.filter((place) => test(log, place)).length]));
-  return { ...counts, messages: log.count - size, badLines: places.filter((place) => log.isBadLine(place)).length - size,
-    entries: log.entries.reduce((sum, count) => sum + count, 0) };
+  const { size } = log.others, count = (test) => {
+    let found = 0;
+    for (let place = 0; place < log.count; place++) found += test(log, place) ? 1 : 0;
+    return found;
+  };
+  return { ...Object.fromEntries(FACTS.map(([name, , test]) => [name, count(test)])), messages: log.count - size,
+    badLines: count((_, place) => log.isBadLine(place)) - size, entries: log.entries.reduce((sum, entries) => sum + entries, 0) };
 }
 
 // What kind of log it looks like, if it is not the log of one link in order: the number of its sign, by which SIGNS has the words.

@@ -41,39 +41,42 @@ export class LogReader {
 
   // The verdicts of the batch, each with copies of its frames.
   verdicts() {
-    const { data } = this.machine, { logBatch, logVerdict } = AT;
+    const { data } = this.machine, { logBatch, logVerdict } = AT, found = [];
+    const count = data.getUint32(this.batch + logBatch.verdict_count, true);
     // How many frames, octets and places are those of verdicts above.
     const above = { frames: 0, octets: 0, places: 0 };
-    return Array.from({ length: data.getUint32(this.batch + logBatch.verdict_count, true) }, (_, index) => {
-      const at = this.batch + logBatch.verdicts + index * SIZE.logVerdict;
-      return {
+    for (let index = 0, at = this.batch + logBatch.verdicts; index < count; index++, at += SIZE.logVerdict) {
+      found.push({
         line: Number(data.getBigUint64(at + logVerdict.line, true)), kind: data.getUint8(at + logVerdict.kind),
         reason: data.getUint8(at + logVerdict.reason), said: data.getUint8(at + logVerdict.said),
         // In seconds.
         time: data.getUint8(at + logVerdict.has_time) === 1 ? Number(data.getBigUint64(at + logVerdict.time, true)) / 1e6 : null,
         frames: this.frames(above, data.getUint32(at + logVerdict.frames, true)),
         places: this.places(above, data.getUint32(at + logVerdict.places, true)),
-      };
-    });
+      });
+    }
+    return found;
   }
 
   // The next frames of the batch.
   frames(above, count) {
-    const { data, all } = this.machine, { logBatch } = AT;
-    return Array.from({ length: count }, () => {
+    const { data } = this.machine, { logBatch } = AT, found = [];
+    for (let index = 0; index < count; index++) {
       const length = data.getUint16(this.batch + logBatch.lengths + 2 * above.frames++, true), start = this.batch + logBatch.octets + above.octets;
+      found.push(this.machine.all.slice(start, start + length));
       above.octets += length;
-      return all.slice(start, start + length);
-    });
+    }
+    return found;
   }
 
   // Where the octets of the next frames are written: a line, and the indexes of its first character and of the one after the last.
   places(above, count) {
-    const { data } = this.machine, { logBatch, logPlace } = AT;
-    return Array.from({ length: count }, () => {
+    const { data } = this.machine, { logBatch, logPlace } = AT, found = [];
+    for (let index = 0; index < count; index++) {
       const at = this.batch + logBatch.places + SIZE.logPlace * above.places++;
-      return { line: Number(data.getBigUint64(at + logPlace.line, true)), start: data.getUint32(at + logPlace.start, true),
-        end: data.getUint32(at + logPlace.end, true) };
-    });
+      found.push({ line: Number(data.getBigUint64(at + logPlace.line, true)), start: data.getUint32(at + logPlace.start, true),
+        end: data.getUint32(at + logPlace.end, true) });
+    }
+    return found;
   }
 }

@@ -3,11 +3,10 @@
 
 import { WHY } from './constants.js';
 import { counted, sentence, withCommas } from './dom.js';
-import { CAUSES, ENDS } from './judging.js';
+import { CAUSES, ENDS, isOfOneSide } from './judging.js';
 import { POLL } from './library.js';
 import { SIDES, SIGNS } from './log_words.js';
 import { RESTART_HELP, ruleOf } from './rules.js';
-import { isOfOneSide } from './sides.js';
 
 export const VERDICTS = { good: 'good', partly: 'partly', unjudged: 'unjudged', restarted: 'restarted', broken: 'broken', none: 'none' };
 
