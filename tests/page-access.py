@@ -13,7 +13,7 @@ sys.dont_write_bytecode = True
 
 from support.browsers import ELEMENT, browsers, running
 from support.check import Check
-from support.opened import PAGE, example, make_page, started, words_in
+from support.opened import PAGE, InBrowser, example, make_page, started, words_in
 
 # An example that breaks a rule.
 NEAR_ENTRIES = 'near-entries.transcript'
@@ -46,21 +46,21 @@ def fault_of_control(browser, found):
     return None if role in expected and name.strip() else 'role %r name %r: %s' % (role, name, text)
 
 
-def check_roles(check, browser, kind):
+def check_roles(check, browser, _):
     """The role and the name of each control."""
     for view in VIEWS:
         browser.click('#tab-' + view)
         faults = [fault_of_control(browser, found) for found in browser.find_all(CONTROLS)]
-        check.holds('the view %s has controls in %s' % (view, kind), len(faults) > 6, len(faults))
-        check.equal('roles and names in the view %s in %s' % (view, kind), [], [fault for fault in faults if fault])
+        check.holds('the view %s has controls' % view, len(faults) > 6, len(faults))
+        check.equal('roles and names in the view %s' % view, [], [fault for fault in faults if fault])
     browser.click('#tab-messages')
     octet = browser.find('.detail .grid span:nth-child(4)')
-    check.equal('an octet and what it is in %s' % kind, '0c input 12, state 0', browser.label(octet))
+    check.equal('an octet and what it is', '0c input 12, state 0', browser.label(octet))
     row = browser.label(browser.find('#row-5'))
-    check.holds('a row says the rule that it breaks in %s' % kind, 'apart: input 12' in row, row)
+    check.holds('a row says the rule that it breaks', 'apart: input 12' in row, row)
 
 
-def check_keys(check, browser, kind):
+def check_keys(check, browser, _):
     """The key Tab goes to each control of a view, with a mark around it, and goes on."""
     for view in VIEWS:
         browser.click('#tab-' + view)
@@ -71,25 +71,22 @@ def check_keys(check, browser, kind):
             number, is_marked = browser.run(FOCUS)
             reached.append(number)
             unmarked += [] if is_marked or number < 0 else [number]
-        check.equal('controls that Tab does not reach in the view %s in %s' % (view, kind), [], browser.run(UNNUMBERED, reached))
-        check.equal('controls without a mark in the view %s in %s' % (view, kind), [], unmarked)
+        check.equal('controls that Tab does not reach in the view %s' % view, [], browser.run(UNNUMBERED, reached))
+        check.equal('controls without a mark in the view %s' % view, [], unmarked)
     browser.click('#tab-open')
     browser.run('document.querySelector("[data-example]").focus()')
     browser.press('enter')
-    check.equal('an example that a key opens takes the focus to its view in %s' % kind, 'tab-messages', browser.run('return document.activeElement.id'))
+    check.equal('an example that a key opens takes the focus to its view', 'tab-messages', browser.run('return document.activeElement.id'))
     browser.click('#tab-play')
     browser.run('document.querySelector("[data-input=\'5\']").focus()')
     browser.press('enter')
-    check.equal('a key changes an input in %s' % kind, 'false',
+    check.equal('a key changes an input', 'false',
                 browser.run('return document.querySelector("[data-input=\'5\']").getAttribute("aria-pressed")'))
 
 
-# A browser that has no memories of 64 bits: the section of memories, number 5, has their flags.
-NO_MEMORY_64 = '''{ const real = WebAssembly.instantiate;
-const isWide = (octets) => { let at = 8; const number = () => { let value = 0, by = 0, octet; do { octet = octets[at++];
-  value |= (octet & 127) << by; by += 7; } while (octet > 127); return value; };
-  while (at < octets.length) { const kind = octets[at++], size = number(); if (kind === 5) { number(); return (octets[at] & 4) !== 0; } at += size; } return false; };
-WebAssembly.instantiate = (octets, given) => isWide(octets) ? Promise.reject(new WebAssembly.CompileError('no memory of 64 bits'))
+# A browser that has no memory of 64 bits, which the first build of the library needs.
+NO_MEMORY_64 = '''{ const real = WebAssembly.instantiate; let tried = 0;
+WebAssembly.instantiate = (octets, given) => tried++ === 0 ? Promise.reject(new WebAssembly.CompileError('no memory of 64 bits'))
   : real.call(WebAssembly, octets, given); }'''
 # A browser that passes no numbers of 64 bits to WebAssembly.
 NO_NUMBERS_64 = '''{ const real = WebAssembly.instantiate; WebAssembly.instantiate = async (octets, given) => {
@@ -116,27 +113,27 @@ def older(browser, folder, begin, query='', starts=True):
     return words_in(browser, '#trouble')
 
 
-def check_older(check, browser, kind, folder):
+def check_older(check, browser, folder):
     """What works, and what is said, in older browsers."""
     def without(script, query=''):
         return older(browser, folder, '<script>%s</script>' % script + BEGIN, query)
 
     seen = without(NO_MEMORY_64)
     if shutil.which('wasm-opt'):
-        check.equal('without memory of 64 bits the other build runs in %s' % kind, ('32', ''),
+        check.equal('without memory of 64 bits the other build runs', ('32', ''),
                     (browser.run('return document.documentElement.dataset.bits'), seen))
-        check.holds('and the footer says so in %s' % kind, 'wasm-opt' in words_in(browser, '#proved'))
+        check.holds('and the footer says so', 'wasm-opt' in words_in(browser, '#proved'))
         example(browser, NEAR_ENTRIES)
-        check.equal('and judges in %s' % kind, 1, browser.run('return document.querySelectorAll(".line.broken").length'))
+        check.equal('and judges', 1, browser.run('return document.querySelectorAll(".line.broken").length'))
     else:
-        check.skip('the other build in %s' % kind, 'no wasm-opt here (Debian package binaryen)')
+        check.skip('the other build', 'no wasm-opt here (Debian package binaryen)')
     tried = {'no memory of 64 bits': without(NO_MEMORY_64, '?bits=64'), 'cannot pass a BigInt': without(NO_NUMBERS_64),
              'WebAssembly': without('delete window.WebAssembly;')}
     for why, seen in tried.items():
-        check.holds('where no build runs the page says %s in %s' % (why, kind), all(word in seen for word in (*VERSIONS, why)), seen)
+        check.holds('where no build runs the page says %s' % why, all(word in seen for word in (*VERSIONS, why)), seen)
     for title, begin in NEVER.items():
         seen = older(browser, folder, begin, starts=False)
-        check.holds('%s in %s' % (title, kind), all(word in seen for word in VERSIONS), seen)
+        check.holds(title, all(word in seen for word in VERSIONS), seen)
 
 
 # A phone's width and height, as those of a frame in a page: a browser's window is never so narrow.
@@ -160,34 +157,34 @@ def on_phone(browser, folder):
     browser.wait('return document.documentElement.dataset.bits')
 
 
-def check_phone(check, browser, kind, folder):
+def check_phone(check, browser, folder):
     """On a phone a message is a card; a tap shows the detail over the list, a key and a button close it; the footer is small."""
     browser.size(800, 900)
     on_phone(browser, folder)
-    check.equal('the width of a phone in %s' % kind, 360, browser.run('return innerWidth'))
+    check.equal('the width of a phone', 360, browser.run('return innerWidth'))
     footer = browser.run('return document.querySelector("footer").offsetHeight')
-    check.holds('the footer takes less than a fifteenth of a phone in %s' % kind, footer * 15 < 740, footer)
+    check.holds('the footer takes less than a fifteenth of a phone', footer * 15 < 740, footer)
     example(browser, NEAR_ENTRIES)
-    check.equal('a message is a card in %s' % kind, [True] * 4, browser.run(CARD, '#row-5'))
-    check.equal('no sheet is over the list at first in %s' % kind, [False, False], browser.run(SHEET)[:2])
+    check.equal('a message is a card', [True] * 4, browser.run(CARD, '#row-5'))
+    check.equal('no sheet is over the list at first', [False, False], browser.run(SHEET)[:2])
     browser.run('document.querySelector("#row-5").scrollIntoView({ block: "center" })')
     browser.click('#row-5')
-    check.equal('a tap shows the detail over the list in %s' % kind, [True] * 3, browser.run(SHEET))
+    check.equal('a tap shows the detail over the list', [True] * 3, browser.run(SHEET))
     says = words_in(browser, '.detail')
-    check.holds('which says the rule in %s' % kind, 'Breaks apart: input 12' in says, says)
-    check.holds('and what it means in %s' % kind, all(words in says for words in (
+    check.holds('which says the rule', 'Breaks apart: input 12' in says, says)
+    check.holds('and what it means', all(words in says for words in (
         'In a right link: An entry of an input follows the one before', 'clear: a block is clear', 'late: a block is late')), says)
     browser.click('#sheet-before')
-    check.equal('a button goes to the message above in %s' % kind, 'Line 6', words_in(browser, '.detail h2'))
+    check.equal('a button goes to the message above', 'Line 6', words_in(browser, '.detail h2'))
     browser.press('escape')
-    check.equal('a key closes it in %s' % kind, [False, 'grid'], browser.run('return [document.querySelector(".detail").open, document.activeElement.getAttribute("role")]'))
+    check.equal('a key closes it', [False, 'grid'], browser.run('return [document.querySelector(".detail").open, document.activeElement.getAttribute("role")]'))
     browser.press('enter')
-    check.equal('a key opens it in %s' % kind, True, browser.run(SHEET)[0])
+    check.equal('a key opens it', True, browser.run(SHEET)[0])
     browser.click('#sheet-close')
-    check.equal('and a button closes it in %s' % kind, False, browser.run(SHEET)[0])
+    check.equal('and a button closes it', False, browser.run(SHEET)[0])
     for view in VIEWS:
         browser.click('#tab-' + view)
-        check.holds('the view %s fits a phone in %s' % (view, kind), browser.run(FITS) <= 0, browser.run(FITS))
+        check.holds('the view %s fits a phone' % view, browser.run(FITS) <= 0, browser.run(FITS))
     browser.size(1280, 900)
 
 
@@ -199,10 +196,8 @@ def main():
             started(browser)
             example(browser, NEAR_ENTRIES)
             browser.click('#row-5')
-            check_roles(check, browser, kind.name)
-            check_keys(check, browser, kind.name)
-            check_phone(check, browser, kind.name, folder)
-            check_older(check, browser, kind.name, folder)
+            for one in (check_roles, check_keys, check_phone, check_older):
+                one(InBrowser(check, kind.name), browser, folder)
     check.end()
 
 

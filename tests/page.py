@@ -18,7 +18,7 @@ sys.dont_write_bytecode = True
 from support import page_judged, page_lines, page_logs, page_views
 from support.browsers import KEYS, Chromium, browsers, running
 from support.check import Check
-from support.opened import CELLS, PAGE, RANGE, address, example, make_page, opened, saved, started, text_of, words_in
+from support.opened import CELLS, PAGE, RANGE, InBrowser, address, example, make_page, opened, saved, started, text_of, words_in
 from support.tables import TOP, output_of
 
 PICTURES = os.path.join(TOP, 'tools', 'page')
@@ -85,45 +85,45 @@ def expected_verdict(base, recorded):
     return ['broken', *found.groups()] if found else ['good' if verdict.startswith('good') else 'partly', None, None]
 
 
-def check_examples(check, browser, name):
+def check_examples(check, browser, _):
     """Each frames file, transcript and capture says what `show` and `check` say; each script reports as `simulate`."""
     names = sorted(os.listdir(os.path.join(TOP, 'examples')))
     for base in [one for one in names if one.endswith(('.frames', '.transcript'))]:
         example(browser, base)
         shown = os.path.splitext(base)[0] + '.shown'
         expected = text_of(shown) if base.endswith('.frames') and shown in names else output_of('show', frames_of(text_of(base)))[0]
-        check.equal('%s in %s' % (base, name), expected, saved(browser))
+        check.equal(base, expected, saved(browser))
         if base.endswith('.transcript'):
             # What breaks these rules is a restart to the page.
             recorded = re.sub('breaks (?:clock|watchdog)$', 'restarted', output_of('record', text_of(base))[0], flags=re.M)
-            check.equal('the verdict on %s in %s' % (base, name), expected_verdict(base, recorded), browser.run(VERDICT))
+            check.equal('the verdict on %s' % base, expected_verdict(base, recorded), browser.run(VERDICT))
             browser.click('#tab-inputs')
-            check.equal('the record of %s in %s' % (base, name), recorded, saved(browser, 'save-record'))
+            check.equal('the record of %s' % base, recorded, saved(browser, 'save-record'))
             browser.click('#show-record')
             browser.wait('return document.getElementById("record-text").textContent !== ""')
-            check.equal('the record of %s as it is seen in %s' % (base, name), recorded, words_in(browser, '#record-text'))
+            check.equal('the record of %s as it is seen' % base, recorded, words_in(browser, '#record-text'))
     browser.click('#tab-play')
     for base in [one for one in names if one.endswith('.script')]:
         browser.run('const it = document.getElementById("play-example"); it.value = arguments[0]; it.dispatchEvent(new Event("change"))', base)
-        check.equal('%s in %s' % (base, name), text_of(os.path.splitext(base)[0] + '.report'), words_in(browser, '#report'))
+        check.equal(base, text_of(os.path.splitext(base)[0] + '.report'), words_in(browser, '#report'))
 
 
-def check_fields(check, browser, name):
+def check_fields(check, browser, _):
     """What the pointer and the keys mark."""
     example(browser, 'lost-answer.transcript')
     browser.click('#row-2')
     marked = 'return [".grid", "ol"].map((it) => [...document.querySelectorAll(`.detail ${it} .is-marked`)].map((one) => one.textContent))'
     for octet, expected in {2: [['ff'], ['255']], 4: [['00'], ['0', '0']], 5: [['00', '01'], ['1']], 8: [['00', '00', '00', '01'], ['1']]}.items():
         browser.point('.detail .grid span:nth-child(%d)' % octet)
-        check.equal('octet %d under the pointer in %s' % (octet, name), expected, browser.run(marked))
+        check.equal('octet %d under the pointer' % octet, expected, browser.run(marked))
     browser.click('.rows')
     browser.type('.rows', KEYS['home'] + KEYS['down'])
-    check.equal('the keys select a row in %s' % name, 'Line 3', words_in(browser, '.detail h2'))
+    check.equal('the keys select a row', 'Line 3', words_in(browser, '.detail h2'))
     browser.type('#search', 'block 0')
     browser.wait('return document.querySelectorAll(".line").length === 2')
-    check.equal('the search in %s' % name, ['5', '6'], [row[0] for row in browser.run(CELLS)])
+    check.equal('the search', ['5', '6'], [row[0] for row in browser.run(CELLS)])
     browser.type('#tab-messages', KEYS['right'])
-    check.equal('a key goes to the next view in %s' % name, 'tab-inputs', browser.run('return document.activeElement.id'))
+    check.equal('a key goes to the next view', 'tab-inputs', browser.run('return document.activeElement.id'))
 
 
 def many_messages(path):
@@ -162,7 +162,7 @@ def scrolled(browser):
     return longest
 
 
-def check_many(check, browser, name, folder):
+def check_many(check, browser, folder):
     """Many messages open soon, and scroll without a frame over 100 ms."""
     path = os.path.join(folder, 'many.transcript')
     many_messages(path)
@@ -173,27 +173,27 @@ def check_many(check, browser, name, folder):
     browser.type('#file', path)
     browser.wait('return window.painted > 0')
     seconds = browser.run('return (window.painted - window.begun) / 1000')
-    print('%s: %d messages open in %.2f s' % (name, MANY, seconds))
-    check.holds('%d messages open within %d s in %s' % (MANY, MOST_SECONDS, name), seconds < MOST_SECONDS, seconds)
-    check.equal('their number in %s' % name, '100,000 messages', words_in(browser, '[data-fact=messages]'))
-    check.equal('their verdict in %s' % name, 'good', browser.run('return document.getElementById("verdict").dataset.kind'))
+    print('%s: %d messages open in %.2f s' % (check.name, MANY, seconds))
+    check.holds('%d messages open within %d s' % (MANY, MOST_SECONDS), seconds < MOST_SECONDS, seconds)
+    check.equal('their number', '100,000 messages', words_in(browser, '[data-fact=messages]'))
+    check.equal('their verdict', 'good', browser.run('return document.getElementById("verdict").dataset.kind'))
     passes = scrolled(browser)
     work, step, _ = min(passes)
-    print('%s: the longest frame of a pass over all rows has %.1f ms of work, and takes %.1f ms' % (name, work, step))
-    check.holds('scrolling through all rows has no frame over 100 ms of work in %s' % name, work < LONG_FRAME_MS, passes)
-    check.holds('its frames draw rows in %s' % name, min(count for _, _, count in passes) > 50, passes)
+    print('%s: the longest frame of a pass over all rows has %.1f ms of work, and takes %.1f ms' % (check.name, work, step))
+    check.holds('scrolling through all rows has no frame over 100 ms of work', work < LONG_FRAME_MS, passes)
+    check.holds('its frames draw rows', min(count for _, _, count in passes) > 50, passes)
     browser.type('.rows', KEYS['end'])
-    check.equal('the last row in %s' % name, '100000', browser.run(CELLS)[-1][0])
+    check.equal('the last row', '100000', browser.run(CELLS)[-1][0])
     browser.click('#tab-inputs')
     browser.turn_wheel('#waves', -800)
     browser.click('#waves')
     reading = words_in(browser, '#reading')
-    check.holds('a click reads a transition in %s' % name, re.fullmatch(r'input \d+ state [01] at \d+ ms Line \d+', reading), reading)
+    check.holds('a click reads a transition', re.fullmatch(r'input \d+ state [01] at \d+ ms Line \d+', reading), reading)
     browser.click('#to-message')
     line = words_in(browser, '.detail h2')
-    check.equal('and goes to its message in %s' % name, reading.rpartition('ms ')[2], line)
+    check.equal('and goes to its message', reading.rpartition('ms ')[2], line)
     wide = re.sub(r'input (\d+) state (\d) at (\d+) .*', r'  input \1 state \2 stamp ', reading)
-    check.holds('which has the transition in %s' % name, wide.strip() in words_in(browser, '.detail ol'), wide)
+    check.holds('which has the transition', wide.strip() in words_in(browser, '.detail ol'), wide)
 
 
 def hostile_files():
@@ -210,7 +210,7 @@ def hostile_files():
     }
 
 
-def check_hostile(check, browser, name, folder):
+def check_hostile(check, browser, folder):
     """Each opens, or says why not, and runs nothing."""
     for title, octets in hostile_files().items():
         path = os.path.join(folder, title)
@@ -218,12 +218,12 @@ def check_hostile(check, browser, name, folder):
             file.write(octets)
         opened(browser, path)
         state = browser.run('return [window.broken === undefined, document.querySelectorAll("main script, main img, main b:not(button b)").length]')
-        check.equal('%s in %s' % (title, name), ([True, 0], ''), (state, words_in(browser, '#trouble')))
+        check.equal(title, ([True, 0], ''), (state, words_in(browser, '#trouble')))
     example(browser, 'good.transcript')
-    check.equal('after these an example opens in %s' % name, 5, len(browser.run(CELLS)))
+    check.equal('after these an example opens', 5, len(browser.run(CELLS)))
 
 
-def check_touch(check, browser, name, folder):
+def check_touch(check, browser, folder):
     """Fingers on the waveforms: one moves the times, two widen them and narrow them, a touch reads a transition."""
     browser.size(520, 800)
     opened(browser, os.path.join(folder, 'many.transcript'))
@@ -232,16 +232,16 @@ def check_touch(check, browser, name, folder):
     start, end = browser.run(RANGE)
     browser.touch('.wave-box', [(-40, 0), (-60, 0), (-120, 0)], [(40, 0), (60, 0), (120, 0)])
     near, far = browser.run(RANGE)
-    check.holds('two fingers that part narrow the times in %s' % name, (far - near) * 2 < end - start, (start, end, near, far))
+    check.holds('two fingers that part narrow the times', (far - near) * 2 < end - start, (start, end, near, far))
     browser.touch('.wave-box', [(100, 0), (60, 0), (0, 0)])
     moved, other = browser.run(RANGE)
-    check.holds('a finger moves the times in %s' % name, moved > near and abs((other - moved) - (far - near)) <= 2, (near, far, moved, other))
+    check.holds('a finger moves the times', moved > near and abs((other - moved) - (far - near)) <= 2, (near, far, moved, other))
     browser.touch('.wave-box', [(-120, 0), (-90, 0), (-40, 0)], [(120, 0), (90, 0), (40, 0)])
     low, high = browser.run(RANGE)
-    check.holds('two fingers that close widen the times in %s' % name, high - low > (other - moved) * 2, (moved, other, low, high))
+    check.holds('two fingers that close widen the times', high - low > (other - moved) * 2, (moved, other, low, high))
     browser.touch('.wave-box', [(60, 0)])
     reading = words_in(browser, '#reading')
-    check.holds('a touch reads a transition in %s' % name, re.match(r'input \d+ state [01] at \d+ ms Line \d+', reading), reading)
+    check.holds('a touch reads a transition', re.match(r'input \d+ state [01] at \d+ ms Line \d+', reading), reading)
     browser.size(1280, 900)
 
 
@@ -249,7 +249,7 @@ LISTEN = '''window.printed = []; addEventListener("beforeprint", () => window.pr
 document.documentElement.dataset.theme = "dark";'''
 
 
-def check_print(check, browser, name, folder):
+def check_print(check, browser, folder):
     """On paper: light, with the table's rows, and the waveforms."""
     example(browser, 'every-type.frames')
     browser.run(LISTEN)
@@ -259,19 +259,19 @@ def check_print(check, browser, name, folder):
         path = os.path.join(folder, '%s.pdf' % view)
         with open(path, 'wb') as file:
             file.write(paper)
-        check.holds('the view %s on paper in %s' % (view, name), paper.startswith(b'%PDF') and len(paper) > 5000, len(paper))
+        check.holds('the view %s on paper' % view, paper.startswith(b'%PDF') and len(paper) > 5000, len(paper))
         if view == 'messages' and shutil.which('pdftotext'):
             text = re.sub(r'\s+', ' ', subprocess.run(['pdftotext', '-layout', path, '-'], stdout=subprocess.PIPE).stdout.decode())
             missing = [line for line in text_of('every-type.shown').splitlines() if not line.startswith(' ') and line[:16] not in text]
-            check.equal('the rows on paper in %s' % name, [], missing)
+            check.equal('the rows on paper', [], missing)
         elif view == 'messages':
-            check.skip('the rows on paper in %s' % name, 'no pdftotext here (Debian package poppler-utils)')
-    check.equal('paper is light in %s' % name, {'light'}, set(browser.run('return window.printed')))
-    check.equal('and the page dark again in %s' % name, 'dark', browser.run('return document.documentElement.dataset.theme'))
+            check.skip('the rows on paper', 'no pdftotext here (Debian package poppler-utils)')
+    check.equal('paper is light', {'light'}, set(browser.run('return window.printed')))
+    check.equal('and the page dark again', 'dark', browser.run('return document.documentElement.dataset.theme'))
     browser.run('document.documentElement.dataset.theme = "light"')
 
 
-def check_plan(check, browser, name):
+def check_plan(check, browser, _):
     """The rows of docs/PLANNING.md; and how often to poll 8 inputs with filters of 5, if few entries may wait."""
     browser.click('#tab-plan')
     with open(os.path.join(TOP, 'docs', 'PLANNING.md'), encoding='utf-8') as page:
@@ -281,11 +281,10 @@ def check_plan(check, browser, name):
         it.value = arguments[0][place] ?? it.value; it.dispatchEvent(new Event("input")); });
         return [...document.querySelectorAll(arguments[1])].map((it) => it.textContent)'''
     for row in rows:
-        check.equal('the row of %s inputs with filters of %s in %s' % (row[0], row[1], name), row,
-                    browser.run(move, row[:2], '#plan-row td'))
+        check.equal('the row of %s inputs with filters of %s' % (row[0], row[1]), row, browser.run(move, row[:2], '#plan-row td'))
     check.equal('the number of rows', 24, len(rows))
     for waiting, lost, every in ((1024, 0, 159), (71, 0, 40), (70, 0, 39), (71, 1, 10), (7, 0, 0)):
-        check.equal('the pace if %d may wait, with %d lost, in %s' % (waiting, lost, name), '%d ms' % every,
+        check.equal('the pace if %d may wait, with %d lost' % (waiting, lost), '%d ms' % every,
                     browser.run(move, [8, 5, waiting, lost], '.answers td.mono')[0])
 
 
@@ -295,7 +294,7 @@ PLAYED = ['quiet', 'quiet', 'sent 2 3600', 'sent 3 3600', 'sent 2 b6000105000200
 PLAYED_END = ['counter 2', 'number 1', 'waiting 0', 'record 1', 'input 5 state 0 stamp 2 wide 2']
 
 
-def check_play(check, browser, name):
+def check_play(check, browser, _):
     """Both ends by clicks, and the link to the run."""
     started(browser)
     browser.click('#tab-play')
@@ -304,24 +303,28 @@ def check_play(check, browser, name):
         browser.click(selector)
     lines = words_in(browser, '#report').splitlines()
     expected = ['%d %s' % (number, line) for number, line in enumerate(PLAYED, 4)] + PLAYED_END
-    check.equal('what clicks do in %s' % name, expected, lines[3:])
+    check.equal('what clicks do', expected, lines[3:])
     script = browser.run('return document.getElementById("script").value')
     browser.click('#link')
     link = browser.run('return location.href')
     browser.open('about:blank')
     started(browser, link)
-    check.equal('the link holds the run in %s' % name, script, browser.run('return document.getElementById("script").value'))
+    check.equal('the link holds the run', script, browser.run('return document.getElementById("script").value'))
     faulty = {'fio2070 script 9 2 0\n': 'line 1: bad header', 'fio2070 script 1 2 0\nrestart\n': 'line 2: bad line',
               'fio2070 script 1 2 0\nsend 33\n': 'line 2: bad frame wrong length needed 2 got 1',
               'fio2070 script 1 2 0\n' + 'poll\n' * 10_001: 'line 10002: too many events'}
     for text, fault in faulty.items():
         browser.run('document.getElementById("script").value = arguments[0]; document.getElementById("run-script").click()', text)
-        check.equal('%s in %s' % (fault, name), fault, words_in(browser, '#script-trouble'))
+        check.equal(fault, fault, words_in(browser, '#script-trouble'))
 
 
-def check_access(check, browser, name):
+def check_access(check, browser, _):
     """Names of what can be used."""
-    check.equal('each control has a name in %s' % name, [], browser.run(NAMES))
+    check.equal('each control has a name', [], browser.run(NAMES))
+
+
+CHECKS = (check_examples, *page_logs.CHECKS, check_fields, check_many, check_touch, check_hostile, check_print, check_plan, check_play, check_access,
+          *page_views.CHECKS, *page_judged.CHECKS, *page_lines.CHECKS)
 
 
 def check_browser(check, kind, folder):
@@ -332,20 +335,9 @@ def check_browser(check, kind, folder):
             browser.open(address('?bits=%d' % bits))
             used = browser.wait('return document.documentElement.dataset.bits')
             check.equal('%d-bit addresses in %s' % (bits, kind.name), (str(bits), ''), (used, words_in(browser, '#trouble')))
-            page_logs.check_captures(check, browser, '%s with %d bits' % (kind.name, bits))
-        check_examples(check, browser, kind.name)
-        page_logs.rows(check, browser, kind.name)
-        check_fields(check, browser, kind.name)
-        check_many(check, browser, kind.name, folder)
-        check_touch(check, browser, kind.name, folder)
-        check_hostile(check, browser, kind.name, folder)
-        check_print(check, browser, kind.name, folder)
-        check_plan(check, browser, kind.name)
-        check_play(check, browser, kind.name)
-        check_access(check, browser, kind.name)
-        page_views.rows(check, browser, kind.name, folder)
-        page_judged.rows(check, browser, kind.name)
-        page_lines.check_lines(check, browser, kind.name, folder)
+            page_logs.check_captures(InBrowser(check, '%s with %d bits' % (kind.name, bits)), browser, folder)
+        for one in CHECKS:
+            one(InBrowser(check, kind.name), browser, folder)
     print('%s: %.0f s' % (kind.name, time.monotonic() - begun))
 
 

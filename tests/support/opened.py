@@ -38,6 +38,16 @@ CHOOSE = '''for (const [id, value] of Object.entries(arguments[0])) {
     const it = document.getElementById(id); it.value = value; it.dispatchEvent(new Event("change")); }'''
 
 
+class InBrowser:
+    """A check in one browser, with which the names of its rows end."""
+
+    def __init__(self, check, name):
+        self.check, self.name = check, name
+
+    def __getattr__(self, method):
+        return lambda title, *given: getattr(self.check, method)('%s in %s' % (title, self.name), *given)
+
+
 def make_page(check):
     """Makes the page of the present sources, or ends the check."""
     made = subprocess.run(['make', '-s', '-C', TOP, 'page'], stdout=subprocess.PIPE, stderr=subprocess.STDOUT)

@@ -85,28 +85,28 @@ def counts_in(words):
     return {name: int(one[1].replace(',', '')) for name, one in found.items() if one}
 
 
-def check_logs(check, browser, name):
+def check_logs(check, browser, _):
     """The verdict on each of these logs, and what is not judged."""
     for title, text, kind, says, counts in LOGS:
         pasted(browser, text)
         got, verdict, not_judged = browser.run(SAID)
-        check.equal('%s: the verdict in %s' % (title, name), (kind, []), (got, [words for words in says if words not in verdict + not_judged]))
-        check.equal('%s: what is not judged in %s' % (title, name), counts, counts_in(not_judged))
+        check.equal('%s: the verdict' % title, (kind, []), (got, [words for words in says if words not in verdict + not_judged]))
+        check.equal('%s: what is not judged' % title, counts, counts_in(not_judged))
 
 
-def check_restart(check, browser, name):
+def check_restart(check, browser, _):
     """A restart is marked at its message, which says what to do, and can be chosen among the messages."""
     pasted(browser, BACK)
-    check.equal('the row of a restart in %s' % name, [[[4, 'restarted']], RESTARTED], [browser.run(FOUND)[0], words_in(browser, '.line.restarted .rule')])
+    check.equal('the row of a restart', [[[4, 'restarted']], RESTARTED], [browser.run(FOUND)[0], words_in(browser, '.line.restarted .rule')])
     browser.click('#first-breach')
     detail = words_in(browser, '.detail')
-    check.holds('and its message in %s' % name, all(words in detail for words in ('Line 4', 'T' + RESTARTED[1:] + '.', 'has P', 'configure its inputs')), detail)
+    check.holds('and its message', all(words in detail for words in ('Line 4', 'T' + RESTARTED[1:] + '.', 'has P', 'configure its inputs')), detail)
     browser.click('[data-fact="restarts"]')
-    check.equal('restarts alone in %s' % name, ['1 restart', 1], browser.run(
+    check.equal('restarts alone', ['1 restart', 1], browser.run(
         'return [document.querySelector("[data-fact=restarts]").textContent, document.querySelectorAll(".line").length]'))
     pasted(browser, BACK.replace('b60000', 'b600018c0014'))
     browser.click('#tab-inputs')
-    check.holds('the record says it in %s' % name, 'The first restart: line 4.' in words_in(browser, '#record-note'))
+    check.holds('the record says it', 'The first restart: line 4.' in words_in(browser, '#record-note'))
 
 
 # Judges a text with these marks above its messages, by the calls: the lines of breaches, and the counts of messages without a judgement.
@@ -131,29 +131,29 @@ MARKS = [
 WORDS = {'loss': '3 frames lost\n', 'heading': '---- part 2 ----\n'}
 
 
-def check_marks(check, browser, name):
+def check_marks(check, browser, _):
     """What remarks of loss and headings do, which lines without octets say: by the calls, and in a log."""
     for title, text, marks, broken, losses, count in MARKS:
         browser.run(MARKED, text, marks)
         found = browser.wait('return window.found')
-        check.equal('%s in %s' % (title, name), [broken, losses, count], found[:3])
-        check.equal('%s is said in %s' % (title, name), {key: number for key, number in (('lost_places', losses), ('frames_at_lost_places', count)) if number and losses},
+        check.equal(title, [broken, losses, count], found[:3])
+        check.equal('%s is said' % title, {key: number for key, number in (('lost_places', losses), ('frames_at_lost_places', count)) if number and losses},
                     counts_in(found[3]))
         if not marks:
             continue
         [(place, mark)], lines = marks, text.splitlines(True)
         pasted(browser, ''.join([*lines[:place], WORDS[mark], *lines[place:]]))
         seen, not_judged, _ = browser.run(FOUND)
-        check.equal('%s, as a line in %s' % (title, name), ([line + (line > place) for line in broken], counts_in(found[3])),
+        check.equal('%s, as a line' % title, ([line + (line > place) for line in broken], counts_in(found[3])),
                     ([line for line, _ in seen], counts_in(not_judged)))
 
 
-def check_kinds(check, browser, name):
+def check_kinds(check, browser, _):
     """What a log looks like is said in the verdict, in the words of `fiolog check`, and of a log of one link nothing."""
     for title, (lines, sign) in KINDS.items():
         pasted(browser, ''.join(lines))
         words = SIGNS.get(sign, '')
-        check.equal('%s: what it looks like in %s' % (title, name), words and words[0].upper() + words[1:] + '.',
+        check.equal('%s: what it looks like' % title, words and words[0].upper() + words[1:] + '.',
                     browser.run('const it = document.getElementById("looks-like"); return it ? it.textContent : ""'))
 
 
@@ -165,10 +165,10 @@ def by_fiolog(text):
             {name: counts[name] for name in COUNTS if counts.get(name)}, lines[0].get('says') if lines else None)
 
 
-def check_as_fiolog(check, browser, name):
+def check_as_fiolog(check, browser, _):
     """The breaches, the restarts and what is not judged of each log are those of `fiolog check`, and the first breach is in its words."""
     if not os.path.exists(LIBRARY):
-        check.skip('what fiolog finds in %s' % name, 'no libfio2070.so here (make library)')
+        check.skip('what fiolog finds', 'no libfio2070.so here (make library)')
         return
     texts = [(os.path.basename(path), text_of(os.path.relpath(path, os.path.join(TOP, 'examples'))))
              for ending in ('*.frames', '*.transcript', 'captures/*.txt') for path in sorted(glob.glob(os.path.join(TOP, 'examples', ending)))]
@@ -178,15 +178,9 @@ def check_as_fiolog(check, browser, name):
     browser.wait('return window.tables !== null')
     for (title, text), (found, not_judged, said) in zip(texts, browser.run('return window.tables')):
         *judged, words = by_fiolog(text)
-        check.equal('%s as fiolog judges it in %s' % (title, name), judged, [found, counts_in(not_judged)])
+        check.equal('%s as fiolog judges it' % title, judged, [found, counts_in(not_judged)])
         if words:
-            check.holds('%s in the words of fiolog in %s' % (title, name), words in said, said)
+            check.holds('%s in the words of fiolog' % title, words in said, said)
 
 
-def rows(check, browser, name):
-    """Each of these checks."""
-    check_logs(check, browser, name)
-    check_restart(check, browser, name)
-    check_marks(check, browser, name)
-    check_kinds(check, browser, name)
-    check_as_fiolog(check, browser, name)
+CHECKS = (check_logs, check_restart, check_marks, check_kinds, check_as_fiolog)

@@ -38,7 +38,7 @@ FILES = [
 ]
 
 
-def check_files(check, browser, name, folder):
+def check_files(check, browser, folder):
     """Each file has the messages, in order."""
     path = os.path.join(folder, 'line.bin')
     for title, way, file in FILES:
@@ -46,17 +46,17 @@ def check_files(check, browser, name, folder):
             out.write(file)
         choose(browser, form=way)
         opened(browser, path)
-        check.equal('%s of a line in %s' % (title, name), DUE, [row[:2] for row in rows(browser)])
+        check.equal('%s of a line' % title, DUE, [row[:2] for row in rows(browser)])
     choose(browser, form='auto')
     with open(path, 'wb') as out:
         out.write(''.join(bit * 5 for bit in BITS).encode())
     opened(browser, path)
-    check.holds('bits of five samples are reported in %s' % name, 'nearly all bits last 5 samples' in words_in(browser, '#no-log-passed'))
+    check.holds('bits of five samples are reported', 'nearly all bits last 5 samples' in words_in(browser, '#no-log-passed'))
     pasted(browser, 'TX 3605\nRX b605000000000001\n')
-    check.equal('a log is none of these in %s' % name, ['3605', 'b605000000000001'], [row[1] for row in rows(browser)])
+    check.equal('a log is none of these', ['3605', 'b605000000000001'], [row[1] for row in rows(browser)])
 
 
-def check_damage(check, browser, name, folder):
+def check_damage(check, browser, folder):
     """Damage is shown, and below it nobody is accused; frames of another address are shown, and not judged."""
     path = os.path.join(folder, 'damage.bin')
     poll, block = MESSAGES[:2]
@@ -65,27 +65,24 @@ def check_damage(check, browser, name, folder):
                   + model.line_of(b'\xb6\x06' + block[2:]))
     opened(browser, path)
     shown = [(row[3], row[4]) for row in browser.run(CELLS)]
-    check.equal('what a damaged line says in %s' % name, [
+    check.equal('what a damaged line says', [
         ('poll block 5', ''), ('3663', 'of address 15, control octet 83: not judged'), ('block 5 entries 1 status 00 stamp 1000', ''),
         ('', 'damaged: no frame with a right check'), ('block 6 entries 1 status 00 stamp 1000', '')], shown)
     said = words_in(browser, '#not-judged')
-    check.holds('what of it is not judged in %s' % name, '1 frame with another address is not judged' in said and browser.run(
+    check.holds('what of it is not judged', '1 frame with another address is not judged' in said and browser.run(
         'return document.getElementById("verdict").dataset.kind') != 'broken', said)
     for address, count in (('15', 1), ('1583', 1), ('1593', 0), ('any', 4)):
         choose(browser, form='line', address=address)
         opened(browser, path)
         got = [row for row in rows(browser) if row[1]]
-        check.equal('the messages of the address %s in %s' % (address, name), count, len(got))
+        check.equal('the messages of the address %s' % address, count, len(got))
     with open(path, 'wb') as out:
         out.write(b''.join(map(model.line_of, (MESSAGES[0], b'\xb6\x05' + ANSWER, b'\x36\x06'))) + model.line_of(b'\xb6\x06' + ANSWER)[:-2] + b'\0\x7e' + model.line_of(b'\x36\x07'))
     for end, kind in (('auto', 'partly'), ('cpu', 'broken')):
         choose(browser, form='line', address='14', end=end)
         opened(browser, path)
-        check.equal('the CPU goes on below a wrong check, taken at %s in %s' % (end, name), kind, browser.run('return document.getElementById("verdict").dataset.kind'))
+        check.equal('the CPU goes on below a wrong check, taken at %s' % end, kind, browser.run('return document.getElementById("verdict").dataset.kind'))
     choose(browser, form='auto', end='auto')
 
 
-def check_lines(check, browser, name, folder):
-    """All of it."""
-    check_files(check, browser, name, folder)
-    check_damage(check, browser, name, folder)
+CHECKS = (check_files, check_damage)

@@ -31,16 +31,16 @@ CAPTURES = {
 }
 
 
-def check_captures(check, browser, name):
+def check_captures(check, browser, _):
     """Logs of other tools give their messages, with directions and times."""
     for capture, words in CAPTURES.items():
         example(browser, capture)
         rows = [row for row in browser.run(CELLS) if row[5] != ''][:len(words)]
-        check.equal('%s in %s' % (capture, name), words, [row[3] for row in rows])
+        check.equal(capture, words, [row[3] for row in rows])
         if capture != 'octets.txt':
             arrows = [ARROWS['>' if word.startswith('poll') else '<'] for word in words]
-            check.equal('the directions of %s in %s' % (capture, name), arrows, [row[2] for row in rows])
-    check.equal('a time of powershell.txt in %s' % name, '07:15:02.108', rows[1][1])
+            check.equal('the directions of %s' % capture, arrows, [row[2] for row in rows])
+    check.equal('a time of powershell.txt', '07:15:02.108', rows[1][1])
 
 
 def logs():
@@ -85,13 +85,13 @@ def by_page(seen):
             int(passed[1].replace(',', '')) if passed else 0)
 
 
-def check_lines(check, browser, name):
+def check_lines(check, browser, _):
     """Each log of another tool: the page shows what the definition finds."""
-    wanted = [log for log in logs() if check.wants('the log %s in %s' % (log[0], name))]
+    wanted = [log for log in logs() if check.wants('the log %s' % log[0])]
     browser.run(OPEN_ALL.replace(CELLS, SEEN), [text for _, text in wanted])
     browser.wait('return window.tables !== null')
     for (title, text), seen in zip(wanted, browser.run('return window.tables')):
-        check.equal('the log %s in %s' % (title, name), by_model(text, parts_in(seen)), by_page(seen))
+        check.equal('the log %s' % title, by_model(text, parts_in(seen)), by_page(seen))
 
 
 def verdict_on(browser, text):
@@ -104,36 +104,36 @@ def verdict_on(browser, text):
 ROUNDS = ['> 36%02x\n< b6%02x0000%08x\n' % (number, number, number) for number in range(1, 9)]
 
 
-def check_unsure(check, browser, name):
+def check_unsure(check, browser, _):
     """A possible message is shown, and not judged; a damaged line is shown as it is written, and accuses nobody up to the next poll;
     a breach below is found."""
     kind, says = verdict_on(browser, 'poll 36 05 now\n')
-    check.equal('a short message alone in %s' % name, [[1, False, ARROWS['>'], True, '3605']], by_page({'rows': browser.run(CELLS), 'note': ''})[0])
-    check.holds('it is not judged in %s' % name, kind == 'none' and 'possible and not judged' in says, (kind, says))
+    check.equal('a short message alone', [[1, False, ARROWS['>'], True, '3605']], by_page({'rows': browser.run(CELLS), 'note': ''})[0])
+    check.holds('it is not judged', kind == 'none' and 'possible and not judged' in says, (kind, says))
     poll, answer = ROUNDS[3].splitlines()
     for size in range(len('< b6'), len(answer)):
         # The module answers; the log has a part of it. The CPU goes on.
         kind, says = verdict_on(browser, ''.join(ROUNDS[:3]) + poll + '\n' + answer[:size] + '\n' + ''.join(ROUNDS[4:]))
-        check.equal('an answer that is cut to %d characters accuses nobody in %s' % (size, name), 'partly', kind)
+        check.equal('an answer that is cut to %d characters accuses nobody' % size, 'partly', kind)
     seen = [row[3:5] for row in browser.run(CELLS) if row[5] == '']
-    check.equal('a damaged line is shown as it is written in %s' % name, [[answer[:-1], 'damaged: no octets']], seen)
+    check.equal('a damaged line is shown as it is written', [[answer[:-1], 'damaged: no octets']], seen)
     kind, says = verdict_on(browser, ''.join(ROUNDS[:3]) + poll + '\n' + answer[:9] + '\n' + ROUNDS[4].replace('< b605', '< b607') + ''.join(ROUNDS[5:]))
-    check.holds('a breach below is found in %s' % name, kind == 'broken' and 'Line 10' in says, (kind, says))
+    check.holds('a breach below is found', kind == 'broken' and 'Line 10' in says, (kind, says))
 
 
-def check_dump(check, browser, name):
+def check_dump(check, browser, _):
     """The frame of a dump is read, however the dump comes; as frames by order each line is what `show` says of it."""
     ways = {'pasted': pasted, 'dropped as text': dropped, 'dropped as a file': lambda *given: dropped(*given, 'dump.txt')}
     for way, give in ways.items():
         give(browser, DUMP)
-        check.equal('a dump of one frame that is %s in %s' % (way, name), [[1, False, ARROWS['<'], False, BLOCK]],
+        check.equal('a dump of one frame that is %s' % way, [[1, False, ARROWS['<'], False, BLOCK]],
                     by_page({'rows': browser.run(CELLS), 'note': ''})[0])
     choose(browser, form='frames')
     pasted(browser, DUMP)
-    check.equal('a dump of one frame as frames by order in %s' % name, output_of('show', DUMP)[0], saved(browser))
+    check.equal('a dump of one frame as frames by order', output_of('show', DUMP)[0], saved(browser))
     choose(browser, form='auto')
     browser.click('#as-any')
-    check.equal('and as any log by a button in %s' % name, [BLOCK], [row[5] for row in browser.run(CELLS)])
+    check.equal('and as any log by a button', [BLOCK], [row[5] for row in browser.run(CELLS)])
 
 
 # A text, and the cell of words of each line by the form in which it is read; a bad line is shown as it is written.
@@ -141,22 +141,17 @@ BY_ORDER = '> 3605\n> 33\nx\n< b605000000000001\n'
 AS_TRANSCRIPT = ['poll block 5', 'wrong length needed 2 got 1', 'x', 'block 5 entries 0 status 00 stamp 1']
 
 
-def check_order(check, browser, name):
+def check_order(check, browser, _):
     """A log is read as `check` reads it by order, or if it is named as a transcript; else by the definition."""
     for form, words in (('transcript', AS_TRANSCRIPT), ('frames', BY_ORDER.splitlines()), ('auto', None)):
         choose(browser, form=form)
         pasted(browser, BY_ORDER)
         rows = browser.run(CELLS)
         if words:
-            check.equal('a text by order as %s in %s' % (form, name), words, [row[3] for row in rows])
-            check.equal('its bad lines in %s' % name, [BAD_LINE] * (1 if form == 'transcript' else 4), [row[4] for row in rows if row[5] == ''])
+            check.equal('a text by order as %s' % form, words, [row[3] for row in rows])
+            check.equal('its bad lines', [BAD_LINE] * (1 if form == 'transcript' else 4), [row[4] for row in rows if row[5] == ''])
         else:
-            check.equal('and again as any log in %s' % name, by_model(BY_ORDER)[0], by_page({'rows': rows, 'note': ''})[0])
+            check.equal('and again as any log', by_model(BY_ORDER)[0], by_page({'rows': rows, 'note': ''})[0])
 
 
-def rows(check, browser, name):
-    """Each of these checks but those of captures."""
-    check_lines(check, browser, name)
-    check_dump(check, browser, name)
-    check_order(check, browser, name)
-    check_unsure(check, browser, name)
+CHECKS = (check_lines, check_dump, check_order, check_unsure)

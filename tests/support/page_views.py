@@ -11,21 +11,21 @@ from support.tables import TOP
 
 
 
-def check_verdict(check, browser, name):
+def check_verdict(check, browser, _):
     """One verdict, what helps, and which of the limits is broken."""
     example(browser, 'doubled-entry.transcript')
     seen = browser.run('return [...document.querySelectorAll("#view-messages .good, #view-messages .verdict")].map((it) => it.dataset.kind || it.textContent)')
-    check.equal('a doubled entry has one verdict in %s' % name, ['broken'], seen)
+    check.equal('a doubled entry has one verdict', ['broken'], seen)
     browser.click('#first-breach')
-    check.equal('which goes to the line in %s' % name, 'Line 10', words_in(browser, '.detail h2'))
+    check.equal('which goes to the line', 'Line 10', words_in(browser, '.detail h2'))
     pasted(browser, ''.join('10.%d RX 14 83 B6 05 00 00 00 00 00 0%d\n' % (number, number) for number in range(4)))
-    check.holds('a reason names the choice that helps in %s' % name, 'choose SDLC frames, without their check' in words_in(browser, '#no-log-passed'))
+    check.holds('a reason names the choice that helps', 'choose SDLC frames, without their check' in words_in(browser, '#no-log-passed'))
     pasted(browser, 'poll 36 05 now\n')
-    check.equal('if nothing is judged the page does not say how in %s' % name, '1 message is possible and not judged: nothing in the log makes '
+    check.equal('if nothing is judged the page does not say how', '1 message is possible and not judged: nothing in the log makes '
                 'sure that the octets are a message.', words_in(browser, '#not-judged'))
     pasted(browser, '> 3605\n< b60501400001' + '0000000001\n')
     note = browser.run('return [...document.querySelectorAll(".line.broken .rule")].map((it) => it.textContent)')
-    check.holds('a breach of the limits says which in %s' % name, any('an entry is of input 64, above 63' in words for words in note), note)
+    check.holds('a breach of the limits says which', any('an entry is of input 64, above 63' in words for words in note), note)
 
 
 # Logs of which the reader says how they are written: how, an expression, the log, and its messages.
@@ -37,7 +37,7 @@ WAYS = [
 ]
 
 
-def check_ways(check, browser, name, folder):
+def check_ways(check, browser, folder):
     """A log is read in the way that is chosen."""
     path = os.path.join(folder, 'chosen.bin')
     for way, expression, octets, words in WAYS:
@@ -45,20 +45,20 @@ def check_ways(check, browser, name, folder):
             file.write(octets)
         choose(browser, form=way, pattern=expression)
         opened(browser, path)
-        check.equal('a log that is read as %s in %s' % (way, name), words, [row[3] for row in browser.run(CELLS) if is_message(row)])
+        check.equal('a log that is read as %s' % way, words, [row[3] for row in browser.run(CELLS) if is_message(row)])
     choose(browser, form='auto')
 
 
-def check_order(check, browser, name, folder):
+def check_order(check, browser, folder):
     """Rows are in the document in their order, all of a short log; a copy has them as lines; a repeat says so."""
     example(browser, 'serial-log.txt')
-    check.equal('a repeat says so in its row in %s' % name, ['no answer', '', 'E: sent again', '', '', 'advance: block 1 was due, 0 came: the CPU asks again', 'E: sent again'],
+    check.equal('a repeat says so in its row', ['no answer', '', 'E: sent again', '', '', 'advance: block 1 was due, 0 came: the CPU asks again', 'E: sent again'],
                 [row[4].split(' for a block')[0] for row in browser.run(CELLS)])
     copied = browser.run("""const rows = document.querySelector(".rows"), data = new DataTransfer();
         getSelection().selectAllChildren(rows.querySelector(".canvas"));
         rows.dispatchEvent(Object.defineProperty(new Event("copy", { bubbles: true, cancelable: true }), "clipboardData", { value: data }));
         getSelection().removeAllRanges(); return data.getData("text/plain")""")
-    check.equal('the rows as they are copied in %s' % name, ['%d' % line for line in range(2, 9)],
+    check.equal('the rows as they are copied', ['%d' % line for line in range(2, 9)],
                 [line.split('\t')[0] for line in copied.splitlines()])
     opened(browser, os.path.join(folder, 'many.transcript'))
     order = 'return [...document.querySelector(".rows .canvas").children].map((row) => Number(row.ariaRowIndex))'
@@ -66,13 +66,13 @@ def check_order(check, browser, name, folder):
         if keys:
             browser.type('.rows', KEYS[keys])
         rows = browser.run(order)
-        check.holds('rows in the document after %s in %s' % (keys or 'opening', name), len(rows) > 10 and rows == list(range(rows[0], rows[0] + len(rows))), rows)
+        check.holds('rows in the document after %s' % (keys or 'opening'), len(rows) > 10 and rows == list(range(rows[0], rows[0] + len(rows))), rows)
     example(browser, 'lost-answer.frames')
     frames = [line for line in text_of('lost-answer.frames').splitlines() if line and not line.startswith('#')]
-    check.equal('a short log is in the document whole in %s' % name, len(frames), len(browser.run(order)))
+    check.equal('a short log is in the document whole', len(frames), len(browser.run(order)))
 
 
-def check_no_log(check, browser, name, folder):
+def check_no_log(check, browser, folder):
     """A text that is no log says so, what it is, and what can be read; each form that is named can be."""
     for title, octets, words in [
             ('prose', b'Dear all,\nthe meeting is on Tuesday.\n', 'text without octets'), ('nothing', b'', 'empty'), ('blanks', b'  \n', 'empty'),
@@ -84,28 +84,28 @@ def check_no_log(check, browser, name, folder):
             file.write(octets)
         opened(browser, path)
         seen = words_in(browser, '#no-log')
-        check.equal('%s is no log in %s' % (title, name), (True, True, True),
+        check.equal('%s is no log' % title, (True, True, True),
                     ('No message was found in %s.file' % title in seen, words in words_in(browser, '#no-log-kind'), 'What can be read' in seen))
-        check.equal('of %s no table is shown in %s' % (title, name), '', words_in(browser, '.table'))
+        check.equal('of %s no table is shown' % title, '', words_in(browser, '.table'))
     opened(browser, os.path.join(TOP, 'examples', 'captures', 'udp.pcap'))
-    check.holds('a capture of packets is known in %s' % name, 'pcap' in words_in(browser, '#no-log-kind'))
+    check.holds('a capture of packets is known', 'pcap' in words_in(browser, '#no-log-kind'))
     forms = browser.run('return [...document.querySelectorAll(".readable pre")].map((it) => it.textContent)')
-    check.holds('forms are named in %s' % name, len(forms) > 3, forms)
+    check.holds('forms are named', len(forms) > 3, forms)
     for form in forms:
         pasted(browser, form + '\n')
-        check.holds('%r can be read in %s' % (form, name), any(is_message(row) for row in browser.run(CELLS)))
+        check.holds('%r can be read' % form, any(is_message(row) for row in browser.run(CELLS)))
 
 
-def check_stories(check, browser, name):
+def check_stories(check, browser, _):
     """Three examples with a story are seen; the others are folded; each has a sentence."""
     started(browser)
     seen = 'return [...document.querySelectorAll("[data-example]")].filter((it) => it.checkVisibility()).map((it) => it.querySelector("span").textContent)'
     stories = browser.run(seen)
-    check.equal('examples that are seen first in %s' % name, 3, len(stories))
-    check.holds('each tells a story in %s' % name, all(len(words) > 60 and words.endswith('.') for words in stories), stories)
+    check.equal('examples that are seen first', 3, len(stories))
+    check.holds('each tells a story', all(len(words) > 60 and words.endswith('.') for words in stories), stories)
     browser.click('#more-examples summary')
     others = browser.run(seen)
-    check.holds('each other one has a sentence in %s' % name, len(others) > 20 and all(re.fullmatch(r'[A-Z].*\.', words) for words in others), others)
+    check.holds('each other one has a sentence', len(others) > 20 and all(re.fullmatch(r'[A-Z].*\.', words) for words in others), others)
 
 
 # Labels that are seen: of controls, of rows, and what is beside a control.
@@ -113,11 +113,11 @@ LABELS = """return [...document.querySelectorAll("main label, main th, main summ
 .filter((it) => !it.closest(".line, .heads, .detail .grid, [data-example], #play-example, .levels")).map((it) => it.textContent.trim()).filter((it) => it !== "")"""
 
 
-def check_labels(check, browser, name):
+def check_labels(check, browser, _):
     """Labels begin as sentences do."""
     example(browser, 'near-entries.transcript')
     low = [words for words in browser.run(LABELS) if words[0].islower()]
-    check.equal('labels that begin small in %s' % name, [], low)
+    check.equal('labels that begin small', [], low)
 
 
 # The pixels of the waveforms that have the colour of lines, in each column of a lane: the lane's top is at 22 times its number.
@@ -146,7 +146,7 @@ def dense_log():
     return ''.join(lines)
 
 
-def check_inputs(check, browser, name, folder):
+def check_inputs(check, browser, folder):
     """No time is below 0; many transitions are drawn as density."""
     browser.size(1280, 900)
     opened(browser, os.path.join(folder, 'many.transcript'))
@@ -155,16 +155,16 @@ def check_inputs(check, browser, name, folder):
     for keys in ('-', '-', KEYS['left'], KEYS['left'], '0'):
         browser.type('#waves', keys)
         starts.append(browser.run(RANGE)[0])
-    check.holds('the times that are seen begin at 0 or later in %s' % name, min(starts) >= 0, starts)
+    check.holds('the times that are seen begin at 0 or later', min(starts) >= 0, starts)
     pasted(browser, dense_log())
     browser.click('#tab-inputs')
     heights = browser.run(COLUMNS, 0)
     quarter = len(heights) // 4
     sparse, dense = max(heights[quarter // 2:quarter]), max(heights[-quarter:-quarter // 2])
-    check.holds('five times as many transitions are drawn higher in %s' % name, 0 < sparse * 3 <= dense, (sparse, dense))
-    check.holds('and the scale is said in %s' % name, 'a full bar is' in words_in(browser, '#range'))
+    check.holds('five times as many transitions are drawn higher', 0 < sparse * 3 <= dense, (sparse, dense))
+    check.holds('and the scale is said', 'a full bar is' in words_in(browser, '#range'))
     few = browser.run(COLUMNS, 1)
-    check.holds('an input with few transitions has its line in %s' % name, few.count(1) + few.count(2) > len(few) // 3, few[:40])
+    check.holds('an input with few transitions has its line', few.count(1) + few.count(2) > len(few) // 3, few[:40])
 
 
 TIMES = [('an epoch', '{"ts": 1795331702.108, "data": "3605"}\n{"ts": 1795331702.120, "data": "b605000000000001"}\n', ['07:15:02.108', '07:15:02.120']),
@@ -173,22 +173,22 @@ TIMES = [('an epoch', '{"ts": 1795331702.108, "data": "3605"}\n{"ts": 1795331702
          ('seconds', '(1795331702.108) TX 36 05\n(1795331702.110) RX B6 05 00 00 00 00 00 01\n', ['07:15:02.108', '07:15:02.110'])]
 
 
-def check_times(check, browser, name):
+def check_times(check, browser, _):
     """The times of odd logs, and how long after its command an answer came."""
     for title, text, expected in TIMES:
         pasted(browser, text)
-        check.equal('%s in %s' % (title, name), expected, [row[1] for row in browser.run(CELLS)])
+        check.equal(title, expected, [row[1] for row in browser.run(CELLS)])
     after = {}
     for title, text, _ in TIMES[1:3] + [('', '12:00:01 TX 36 05\n12:00:00 RX B6 05 00 00 00 00 00 01\n', [])]:
         pasted(browser, text)
         browser.click('#row-1')
         after[title] = words_in(browser, '.detail .soft')
-    check.holds('an answer after midnight in %s' % name, '2.000 ms after the command' in after['midnight'], after)
-    check.holds('an answer whose command has no time in %s' % name, 'after the command' not in after['a time after the year 9999'], after)
-    check.holds('an answer with an earlier time than its command in %s' % name, 'before that of the command' in after[''], after)
+    check.holds('an answer after midnight', '2.000 ms after the command' in after['midnight'], after)
+    check.holds('an answer whose command has no time', 'after the command' not in after['a time after the year 9999'], after)
+    check.holds('an answer with an earlier time than its command', 'before that of the command' in after[''], after)
 
 
-def check_ladder(check, browser, name):
+def check_ladder(check, browser, _):
     """The run as a picture: which messages are lost, and what each end does; saved as a file of its own."""
     started(browser)
     browser.click('#tab-play')
@@ -196,29 +196,19 @@ def check_ladder(check, browser, name):
     drawn = browser.run("""return [".lad-whole", ".lad-lost", ".lad-again"].map((it) => document.querySelectorAll("#ladder line" + it).length)
         .concat([...document.querySelectorAll("#ladder text")].map((it) => it.textContent))""")
     # By the comments of the script: four commands and two answers arrive, two answers never do, and one arrives once more.
-    check.equal('the messages of an answer that is lost in %s' % name, [6, 2, 1], drawn[:3])
+    check.equal('the messages of an answer that is lost', [6, 2, 1], drawn[:3])
     for words in ('block 255 entries 1 status 02 stamp 1, E: sent again', 'waits for another block: records nothing', 'records 1 change', '1 scan: 1 change waits'):
-        check.holds('the picture says %s in %s' % (words, name), words in drawn, drawn)
-    check.holds('the story is shown in %s' % name, 'The answer to the first poll 255 is lost.' in words_in(browser, '#play-story'))
+        check.holds('the picture says %s' % words, words in drawn, drawn)
+    check.holds('the story is shown', 'The answer to the first poll 255 is lost.' in words_in(browser, '#play-story'))
     root = ElementTree.fromstring(saved(browser, 'save-ladder'))
-    check.equal('the picture that is saved in %s' % name, '{http://www.w3.org/2000/svg}svg', root.tag)
+    check.equal('the picture that is saved', '{http://www.w3.org/2000/svg}svg', root.tag)
     browser.click('[data-story="restart.script"]')
     texts = browser.run('return [...document.querySelectorAll("#ladder text")].map((it) => it.textContent)')
-    check.holds('a poll that comes again has its number in %s' % name, 'poll block 0 once more' in texts, texts)
+    check.holds('a poll that comes again has its number', 'poll block 0 once more' in texts, texts)
     browser.click('#play-anew')
     browser.click('#poll')
     browser.click('#to-module li:first-child button:last-child')
-    check.equal('what is lost is marked in %s' % name, 1, browser.run('return document.querySelectorAll("#ladder line.lad-lost").length'))
+    check.equal('what is lost is marked', 1, browser.run('return document.querySelectorAll("#ladder line.lad-lost").length'))
 
 
-def rows(check, browser, name, folder):
-    """Each of these rows."""
-    check_verdict(check, browser, name)
-    check_order(check, browser, name, folder)
-    check_no_log(check, browser, name, folder)
-    check_ways(check, browser, name, folder)
-    check_stories(check, browser, name)
-    check_labels(check, browser, name)
-    check_inputs(check, browser, name, folder)
-    check_times(check, browser, name)
-    check_ladder(check, browser, name)
+CHECKS = (check_verdict, check_order, check_no_log, check_ways, check_stories, check_labels, check_inputs, check_times, check_ladder)
