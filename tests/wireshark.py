@@ -16,8 +16,7 @@ import tempfile
 sys.dont_write_bytecode = True
 
 from support.check import Check
-from support.dissected_lines import fault_of_hostile_lines
-from support.dissection import ENTRY, ITEM, fault_of_frame, fault_of_links, shown, spelled_element, values
+from support.dissection import ENTRY, ITEM, fault_of_frame, fault_of_hostile_lines, fault_of_links, shown, spelled_element, values
 from support.fiolog import may_use_library
 from support.frames import example_transcripts, random_frames, random_transcripts, table_frames
 from support.line_model import frame_check

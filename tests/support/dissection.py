@@ -1,16 +1,23 @@
 """What the Wireshark dissector should say about frames: the lines that `show` writes for each, and the links between
-commands and answers as a search through the whole transcript finds them."""
+commands and answers as a search through the whole transcript finds them; and about hostile lines what the library says of what is
+between two flags, without octet stuffing, as a capture of SDLC carries it."""
 
+import random
 import re
 
+from support.hostile_lines import hostile_line
+from support.line_model import FLAG, LOST, line_of, unstuffed
 from support.messages import FIRST_LINES
 from support.tables import output_of
-from support.tshark import FIELDS
+from support.tshark import BARE, FIELDS
 
 FAULT = re.compile(r'empty|too long got \d+|unknown type \d+|wrong length needed \d+ got \d+')
 ITEM = ('input', 'ignore', 'leading', 'trailing')
 ENTRY = ('input', 'state', 'stamp', 'wide')
 LARGEST_INPUT = 1_000_000
+# What is compared of a part of a hostile line, and the least share that frames have of the parts, and others too.
+NAMES = ('fio2070_sdlc.address', 'fio2070_sdlc.control', 'fio2070.octets', '_ws.expert.message', '_ws.col.Info')
+LEAST_SHARE = 0.1
 
 
 def shown(frames):
@@ -124,29 +131,22 @@ def fault_of_frame(octets, lines, row):
     return None
 
 
-def kinds_of(frames, shows):
-    """The type of each frame, or None if it spells no message."""
-    return [None if FAULT.fullmatch(lines[0]) else octets[0] for octets, lines in zip(frames, shows)]
-
-
 def commands_of(frames, kinds):
     """For each answer that was asked for, the index of its command: the last before it of its type and, for a block answer,
     with its number."""
-    found = {}
-    for place, octets in enumerate(frames):
-        if kinds[place] is None or kinds[place] < 128:
-            continue
-        asked = [above for above in range(place) if kinds[above] == kinds[place] - 128
-                 and (kinds[place] != 182 or frames[above][1] == octets[1])]
-        if asked:
-            found[place] = asked[-1]
-    return found
+    def asks(above, place):
+        return kinds[above] == kinds[place] - 128 and (kinds[place] != 182 or frames[above][1] == frames[place][1])
+
+    answers = [place for place, kind in enumerate(kinds) if kind >= 128]
+    asked = {place: [above for above in range(place) if asks(above, place)] for place in answers}
+    return {place: found[-1] for place, found in asked.items() if found}
 
 
 def expected_links(frames, shows):
     """For each frame: the index of its first answer, of its command, and of the poll that it repeats; whether it skips a
     block, was not asked for, or is a further answer."""
-    kinds = kinds_of(frames, shows)
+    # The type of each frame, or 0 if it spells no message.
+    kinds = [0 if FAULT.fullmatch(lines[0]) else octets[0] for octets, lines in zip(frames, shows)]
     commands = commands_of(frames, kinds)
     links, last_poll = [], None
     for place, octets in enumerate(frames):
@@ -160,7 +160,7 @@ def expected_links(frames, shows):
                 skips = (octets[1] - frames[last_poll][1]) % 256 != 1 or not answered
             last_poll = place
         command = commands.get(place)
-        unasked = kinds[place] is not None and kinds[place] >= 128 and command is None
+        unasked = kinds[place] >= 128 and command is None
         further = command is not None and any(commands[answer] == command for answer in commands if answer < place)
         links.append((answers[0] if answers else None, command, repeated, skips, unasked, further))
     return links
@@ -189,3 +189,35 @@ def fault_of_links(frames, shows, rows):
         if expected[1] is not None and round(float(row['fio2070.time']) * 1000) != place - expected[1]:
             return 'time of frame %d: %s' % (place + 1, row['fio2070.time'])
     return None
+
+
+def hostile_parts(count):
+    """What the library says of each part of hostile lines, and the part without stuffing; of one that ends with an escape None."""
+    import fio2070
+    dice = random.Random(6)
+    for _ in range(count):
+        long = [*line_of(bytes(dice.choice((773, 774, 900))))] if dice.random() < 0.02 else []
+        line = [octet for octet in hostile_line(dice) + long if octet is not LOST]
+        parts = filter(None, bytes(line).split(bytes([FLAG]))[1:-1])
+        yield from zip(fio2070.Wire().read(bytes(line)), map(unstuffed, map(list, parts)), strict=True)
+
+
+def heard_of(address, control, octets, experts, info):
+    """What the dissector says of a part, in the library's words: the frame, or that it is damaged."""
+    if not octets or any(words.startswith('frame check ') for words in experts.split('|')) or info.startswith('too long '):
+        return 'damaged', None, None, b''
+    return 'message', int(address, 16), int(control, 16), bytes.fromhex(octets.replace(':', ''))
+
+
+def fault_of_hostile_lines(tshark, count):
+    """The first part of which the dissector and the library say different things, or None."""
+    found = list(hostile_parts(count))
+    if any(octets is None and heard.kind != 'damaged' for heard, octets in found):
+        return 'an open part is a frame'
+    found = [(heard, octets) for heard, octets in found if octets is not None]
+    frames = sum(heard.kind == 'message' for heard, _ in found) / len(found)
+    if not LEAST_SHARE < frames < 1 - LEAST_SHARE:
+        return 'the lines are one-sided: %d of 100 parts are frames' % (100 * frames)
+    rows = tshark.columns(tshark.capture(BARE, [octets for _, octets in found]), ['-o', 'fio2070_sdlc.user:0'], NAMES)
+    return next(('%s: the library hears %s, the dissector %s' % (octets.hex()[:40], heard, row)
+                 for (heard, octets), row in zip(found, rows, strict=True) if heard_of(*row) != heard), None)
