@@ -13,25 +13,17 @@ const WAYS = { [DIRECTION.none]: 'No direction', [DIRECTION.sent]: 'Sent by the 
 const LONGEST = 4096;
 
 // Marks the words and the octets of the same field.
-class Fields {
-  constructor(octets, words, fields) {
-    Object.assign(this, { octets, words, fields });
-    octets.forEach((it, place) => this.follow(it, () => this.mark(fields[place])));
-    words.forEach((it, place) => this.follow(it, () => this.mark([place])));
-  }
-
-  follow(it, mark) {
-    it.addEventListener('pointerenter', mark);
-    it.addEventListener('focus', mark);
-    it.addEventListener('pointerleave', () => this.mark([]));
-    it.addEventListener('blur', () => this.mark([]));
-  }
-
-  mark(places) {
-    this.words.forEach((it, place) => it.classList.toggle('is-marked', places.includes(place)));
-    this.octets.forEach((it, place) =>
-      it.classList.toggle('is-marked', this.fields[place].some((field) => places.includes(field))));
-  }
+function markTogether(octets, words, fields) {
+  const mark = (places) => {
+    words.forEach((it, place) => it.classList.toggle('is-marked', places.includes(place)));
+    octets.forEach((it, place) => it.classList.toggle('is-marked', fields[place].some((field) => places.includes(field))));
+  };
+  const follow = (it, places) => {
+    for (const name of ['pointerenter', 'focus']) it.addEventListener(name, () => mark(places));
+    for (const name of ['pointerleave', 'blur']) it.addEventListener(name, () => mark([]));
+  };
+  octets.forEach((it, place) => follow(it, fields[place]));
+  words.forEach((it, place) => follow(it, [place]));
 }
 
 // The name of a word: the word before it, as in `block 5`.
@@ -72,7 +64,7 @@ export function detailOf(log, place, textOf) {
   const fields = isMessage ? fieldsOf(octets, lines, textOf) : Array.from(octets, () => []);
   const wordSpans = all.map((it) => element('span', {}, it.word));
   const octetSpans = Array.from(octets, (octet, index) => octetSpan(octet, index, fields[index].map((field) => nameOf(all, field))));
-  if (isMessage) new Fields(octetSpans, wordSpans, fields);
+  if (isMessage) markTogether(octetSpans, wordSpans, fields);
   const grid = element('div', { class: 'grid', role: 'group', 'aria-label': 'Octets', onkeydown: (event) => step(event, octetSpans) },
     ...octetSpans.flatMap((it) => [it, '\u200b']));
   const content = log.content(place);

@@ -23,11 +23,6 @@ export class Judging {
     this.causes = new Set();
   }
 
-  // How many messages no rule judges.
-  get leftOut() {
-    return this.unjudged.reduce((sum, count) => sum + count, 0);
-  }
-
   // Judges each message that is sure; `taken` is one of ENDS. Nobody is accused for what a line that gave none may have held.
   judgeAll(log, judge, taken) {
     Object.assign(this, { log, judge, isLost: false, isBegun: false });

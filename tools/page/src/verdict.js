@@ -14,7 +14,7 @@ export const VERDICTS = { good: 'good', partly: 'partly', unjudged: 'unjudged', 
 // looks like if it is not the log of one link in order, and sentences on what was not judged.
 export function verdictOf(log) {
   const { messages, broken, restarts, possible, badLines } = log.summary, readable = messages - badLines - possible;
-  const judged = readable - log.judging.leftOut;
+  const judged = log.judging.unjudged.reduce((rest, count) => rest - count, readable);
   const notJudged = sentencesOf(log, readable > 0);
   const said = { more: '', first: -1, looksLike: sentence(SIGNS[log.sign]), notJudged };
   if (readable === 0) return { ...said, kind: VERDICTS.none, text: possible > 0 ? 'No message is sure, so none is judged.' : 'No message was found.' };
