@@ -38,11 +38,6 @@ NAMES = '''return [...document.querySelectorAll("button, input, select, textarea
 || ["presentation", "status", "alert"].includes(it.getAttribute("role")))).map((it) => it.outerHTML)'''
 
 
-def frames_of(text):
-    """The lines of a transcript as those of frames."""
-    return re.sub(r'^[<>] ', '', text, flags=re.M)
-
-
 def check_file(check):
     """The page is one file of its size, which asks for nothing."""
     with open(PAGE, encoding='utf-8') as file:
@@ -91,7 +86,8 @@ def check_examples(check, browser, _):
     for base in [one for one in names if one.endswith(('.frames', '.transcript'))]:
         example(browser, base)
         shown = os.path.splitext(base)[0] + '.shown'
-        expected = text_of(shown) if base.endswith('.frames') and shown in names else output_of('show', frames_of(text_of(base)))[0]
+        frames = re.sub(r'^[<>] ', '', text_of(base), flags=re.M)
+        expected = text_of(shown) if base.endswith('.frames') and shown in names else output_of('show', frames)[0]
         check.equal(base, expected, saved(browser))
         if base.endswith('.transcript'):
             # What breaks these rules is a restart to the page.

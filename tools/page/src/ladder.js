@@ -139,13 +139,9 @@ class Picture {
     const isPart = arrow.kind === 'lost' || arrow.kind === 'waiting';
     const x = isPart ? start + (end - start) * (arrow.kind === 'lost' ? 0.72 : 0.6) : end, from = this.y(arrow.from), to = this.y(arrow.to);
     this.root.append(shape('line', { x1: start, y1: from, x2: x, y2: to, class: `lad-arrow lad-${arrow.kind || 'whole'}` }));
-    if (arrow.kind === 'lost') this.cross(x, to);
+    if (arrow.kind === 'lost') this.root.append(shape('path', { d: `M${x - 6} ${to - 6}l12 12m0 -12l-12 12`, class: 'lad-cross' }));
     else if (!isPart) this.tip(x, to, isDown ? -1 : 1, (to - from) / (x - start));
     this.text(arrow, start, x, from, to);
-  }
-
-  cross(x, y) {
-    this.root.append(shape('path', { d: `M${x - 6} ${y - 6}l12 12m0 -12l-12 12`, class: 'lad-cross' }));
   }
 
   tip(x, y, way, slope) {

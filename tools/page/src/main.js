@@ -16,7 +16,8 @@ import { Tabs } from './tabs.js';
 // What the log that is open needs in the machine's memory: its octets, a poller, what judges it, and what counts its messages.
 class Arena {
   constructor(library) {
-    Object.assign(this, { machine: library.machine, address: 0, size: 0, poller: new Poller(library, 0), judge: new LogJudge(library), signs: new LogSigns(library) });
+    Object.assign(this, { machine: library.machine, address: 0, size: 0 });
+    Object.assign(this, { poller: new Poller(library, 0), judge: new LogJudge(library), signs: new LogSigns(library) });
   }
 
   hold(octets) {

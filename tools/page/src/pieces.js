@@ -17,28 +17,28 @@ function partOf(text) {
   return { digits: line.slice(start).replace(/0x|[^0-9a-f]/gi, ''), head: line.slice(0, start).replace(/[1-9]/g, '0') };
 }
 
-// Holds a line that gives no message until the one below shows whether both are one. `spells(octets)` says whether octets are a
-// message; `give(verdict)` takes each verdict in order, and `giveTwo` those of two such lines.
+// Holds a line that gives no message until the one below shows whether both are one. `found` takes each verdict in order, and those of
+// two such lines together.
 export class Pieces {
-  constructor(spells, textOf, give, giveTwo) {
-    Object.assign(this, { spells, textOf, give, giveTwo, held: null, part: null });
+  constructor(library, found) {
+    Object.assign(this, { library, found, held: null, part: null });
   }
 
   // Takes a verdict; `mayBePart` if it is of a line that gives no message.
   add(verdict, mayBePart) {
-    const part = mayBePart ? partOf(this.textOf(verdict.line)) : null;
-    if (part && this.held && part.head === this.part.head && this.spells(fromHex(this.part.digits + part.digits))) {
-      this.giveTwo([this.held, verdict]);
+    const part = mayBePart ? partOf(this.found.textOf(verdict.line)) : null;
+    if (part && this.held && part.head === this.part.head && this.library.spells(fromHex(this.part.digits + part.digits))) {
+      this.found.addTwo([this.held, verdict]);
       this.held = null;
       return;
     }
     this.end();
     if (part) Object.assign(this, { held: verdict, part });
-    else this.give(verdict);
+    else this.found.add(verdict);
   }
 
   end() {
-    if (this.held) this.give(this.held);
+    if (this.held) this.found.add(this.held);
     this.held = null;
   }
 }

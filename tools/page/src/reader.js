@@ -44,7 +44,7 @@ const WITHOUT_MESSAGE = [LOG_KINDS.damaged, LOG_KINDS.passedOver];
 export function readLog(library, logReader, file, form) {
   const octets = octetsOf(file), lines = linesOf(octets, form);
   const found = new Found(lines, form, new MessageList(lines.length, octets.length), new Doubts(library));
-  const pieces = new Pieces((message) => library.spells(message), (line) => found.textOf(line), (verdict) => found.add(verdict), (two) => found.addTwo(two));
+  const pieces = new Pieces(library, found);
   for (const verdict of logReader.read(octets, form)) {
     if (verdict.kind !== LOG_KINDS.blank) pieces.add(verdict, form === LOG_FORMS.auto && WITHOUT_MESSAGE.includes(verdict.kind));
   }

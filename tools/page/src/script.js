@@ -26,7 +26,8 @@ const levelsOf = (digits) => fromHex(digits).reduce((word, octet, place) => word
 
 // The header of a script; null where the line is none or its numbers are out of range.
 export function headerOf(line) {
-  const [, version, given] = /^fio2070 script ([123])((?: \d{1,9})+)$/.exec(line) || [], numbers = given ? given.trim().split(' ').map(Number) : [];
+  const [, version, given = ''] = /^fio2070 script ([123])((?: \d{1,9})+)$/.exec(line) || [];
+  const numbers = given.split(' ').slice(1).map(Number);
   if (numbers.length !== HEADER_NUMBERS[version]) return null;
   const [id, number, perBlock = BLOCK_ENTRIES, waiting = STANDARD_WAITING] = numbers;
   const isInRange = id <= 255 && number <= 255 && perBlock >= 1 && perBlock <= BLOCK_ENTRIES

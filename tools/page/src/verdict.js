@@ -68,7 +68,8 @@ function sentencesOf(log, isJudged) {
     said(belowLoads, 'message', `are not judged, since a load of the counter may explain ${belowLoads === 1 ? 'its stamp' : 'the stamps'}: `
       + 'one that was sent, or that a lost line may have been'),
     losses > 0 && lossesOf(log.judging),
-    ([...log.restarts].some((place) => log.isUndue(place)) || [...log.breaches].some(([place, breach]) => ruleOf(breach) === 'pair' && log.answersAbove(place)))
+    ([...log.restarts].some((place) => log.isUndue(place))
+      || [...log.breaches].some(([place, breach]) => ruleOf(breach) === 'pair' && log.answersAbove(place)))
       && 'Answers may have come late or twice: fiolog check --late-answers leaves these out.',
     first !== undefined && poll < 0 ? 'The log has no poll, so it is of the middle of traffic: what breaks a rule here may be right.'
       : first < poll && 'The log begins in the middle of traffic: what breaks a rule above the first poll may be right.',
