@@ -1,5 +1,5 @@
-"""Wrong bodies (functions with a planted bug) and wrong statements, as they are written: in `wrong-bodies/CRATE.edits`, in
-stanzas with a blank line between them, and in `crates/CRATE/must-fail/*.edit`, one in each file.
+"""Wrong bodies (functions with a planted bug) and wrong statements, as they are written in `wrong-bodies/CRATE.edits`, in
+stanzas with a blank line between them.
 
     file: src/poller.rt
 
@@ -8,13 +8,12 @@ stanzas with a blank line between them, and in `crates/CRATE/must-fail/*.edit`, 
     new: the text that replaces it
     refused-by: Poller::hear_block, taken
 
-A line `file:` between blank lines holds for the stanzas below it, up to the next one. One in a stanza, as in each of
-`must-fail/`, holds for the texts below it there. Successive lines `old:` or `new:` are one text of several lines. Lines
+A line `file:` between blank lines holds for the stanzas below it, up to the next one. One in a stanza holds for the texts below
+it there. A stanza without texts has those of `crates/CRATE/must-fail/PLAIN-NAME.edit`, which `rt ci` tries too. Successive lines `old:` or `new:` are one text of several lines. Lines
 `control:` have the new text of what goes with a wrong statement or body and must be proved: the right statement, or the same
 edit of the body without the bug; a text without them is the same in both."""
 
 import copy
-import glob
 import os
 
 from support.functions import TOP, crate_names, read
@@ -23,23 +22,30 @@ from support.functions import TOP, crate_names, read
 class Stanza:
     """A wrong body or a wrong statement: its crate, its name, what it changes, and what refuses it."""
 
-    def __init__(self, crate, path, name, lines, file=None):
-        self.crate, self.path, self.name, self.lines = crate, path, name, lines
+    def __init__(self, crate, name, lines, file=None):
+        self.crate, self.name, self.lines = crate, name, lines
         self.changes, self.refused_by, self.is_control = [], None, False
+        self.is_of_gate = not any(line.startswith('old:') for line in lines)
         word = None
-        for line in lines:
+        for line in self.texts_of_gate() if self.is_of_gate else lines:
             before, (word, _, rest) = word, line.partition(':')
             rest = rest[1:]
             if word == 'file':
                 file = rest
-            elif word == 'refused-by':
-                self.refused_by = rest
             elif word in ('old', 'new', 'control'):
                 place = ('old', 'new', 'control').index(word)
                 if word == 'old' and before != 'old':
                     self.changes.append([file, None, None, None])
                 texts = self.changes[-1]
                 texts[place + 1] = rest if texts[place + 1] is None else texts[place + 1] + '\n' + rest
+        for line in lines:
+            if line.startswith('refused-by: '):
+                self.refused_by = line.partition(': ')[2]
+
+    def texts_of_gate(self):
+        """The lines of the file of `must-fail/` that has its texts; none if there is no such file."""
+        path = os.path.join(TOP, 'crates', self.crate, 'must-fail', self.name.replace(' ', '-') + '.edit')
+        return read(path).splitlines() if os.path.exists(path) else []
 
     def files(self):
         """The files that it changes, below its crate."""
@@ -76,27 +82,21 @@ def texts_of(crate, files):
 
 
 def edits_of(crate):
-    """The files that have the stanzas of a crate: those of `must-fail/`, and the one of `wrong-bodies/` if there is one."""
-    return [*sorted(glob.glob(os.path.join(TOP, 'crates', crate, 'must-fail', '*.edit'))),
-            *glob.glob(os.path.join(TOP, 'wrong-bodies', crate + '.edits'))]
+    """The file that has the stanzas of a crate."""
+    return os.path.join(TOP, 'wrong-bodies', crate + '.edits')
 
 
 def stanzas_of(crate):
-    """The stanzas of a crate, those of `must-fail/` first."""
-    for path in edits_of(crate):
-        name, ending = os.path.splitext(os.path.basename(path))
-        if ending == '.edit':
-            yield Stanza(crate, path, name.replace('-', ' '), read(path).splitlines())
-            continue
-        changed = None
-        for block in read(path).strip('\n').split('\n\n'):
-            head, *lines = block.split('\n')
-            if lines:
-                yield Stanza(crate, path, head.removeprefix('# '), [head, *lines], changed)
-            else:
-                changed = head.removeprefix('file: ')
+    """The stanzas of a crate, each with the file that the lines between stanzas name."""
+    changed = None
+    for block in read(edits_of(crate)).strip('\n').split('\n\n'):
+        head, *lines = block.split('\n')
+        if lines:
+            yield Stanza(crate, head.removeprefix('# '), [head, *lines], changed)
+        else:
+            changed = head.removeprefix('file: ')
 
 
 def crates_with_stanzas():
     """The crates that have stanzas, in the order of `crates.txt`."""
-    return [name for name in crate_names() if edits_of(name)]
+    return [name for name in crate_names() if os.path.exists(edits_of(name))]

@@ -19,7 +19,8 @@ def files_of(crate):
     folders = [os.path.join(TOP, 'crates', name, part) for name in [*crates_below(crate), crate]
                for part in ('src', 'specs', 'proofs')]
     paths = [path for folder in folders for path in glob.glob(os.path.join(folder, '**', '*.*'), recursive=True)]
-    return sorted(path for path in [*paths, *edits_of(crate)] if os.path.isfile(path))
+    paths += glob.glob(os.path.join(TOP, 'crates', crate, 'must-fail', '*.edit')) + [edits_of(crate)]
+    return sorted(path for path in paths if os.path.isfile(path))
 
 
 def checksum(crate):

@@ -2,7 +2,9 @@
 it, as the table of docs/PROMISES.md does. Each function of that table has its wrong body in a folder `must-fail`, for `rt
 ci`, and no other has. `wrong-bodies/try` tries whether the prover refuses them."""
 
-from support.pages import text_of
+import os
+
+from support.pages import files, text_of
 from support.stanzas import crates_with_stanzas, stanzas_of, texts_of
 from support.texts.claims import cells
 
@@ -32,12 +34,14 @@ def rows(check):
         for stanza in stanzas:
             check.fault('%s: %s' % (crate, stanza.name), fault_of, stanza, names)
             lines.setdefault(stanza.name, []).append(stanza.refused_by)
-        of_gate += [stanza for stanza in stanzas if stanza.path.endswith('.edit')]
+        of_gate += [stanza for stanza in stanzas if stanza.is_of_gate]
     table = shown()
     for name, refused_by in table:
         check.holds('PROMISES: ' + name, refused_by in lines.get(name, []), 'refused by %s' % lines.get(name))
     of_page = {name for name, refused_by in table if not refused_by.startswith('law ')}
-    differ = of_page ^ {stanza.name for stanza in of_gate}
-    check.holds('must-fail: the bodies that PROMISES shows', not differ, 'not in both: %s' % ', '.join(sorted(differ)))
+    of_kit = {os.path.basename(path)[:-len('.edit')].replace('-', ' ') for path in files('crates/*/must-fail/*.edit')}
+    for what, names in (('PROMISES', of_page), ('the stanzas without texts', {stanza.name for stanza in of_gate})):
+        differ = names ^ of_kit
+        check.holds('must-fail: the bodies of ' + what, not differ, 'not in both: %s' % ', '.join(sorted(differ)))
     for stanza in of_gate:
         check.holds('must-fail: %s: one change' % stanza.name, len(stanza.changes) == 1, '%d' % len(stanza.changes))
