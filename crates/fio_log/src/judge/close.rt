@@ -92,11 +92,12 @@ impl Judge {
 }
 
 impl Join {
-    /// Returns whether rows of one octet may be several messages: they are one of any length, and the last of its octets are a
-    /// message too.
+    /// Returns whether rows of one octet may be several messages: no times show where one ends, they are one of any length, and
+    /// the last of its octets are a message too.
     fn may_be_several(&self) -> bool {
         let octets = self.lines.chain.octets();
         self.joining == Joining::Octets
+            && self.time.is_none()
             && matches!(octets, [code, ..] if has_open_length(*code))
             && (1..octets.len()).any(|start| octets.get(start..).is_some_and(is_closed))
     }
