@@ -9,7 +9,7 @@ PARTS = {'Y': '(?P<Y>[0-9]{4})', 'N': '(?P<N>(?ai:%s))' % '|'.join(MONTHS), '_':
          'F': r'(?P<F>[0-9]{1,9})(?=\.[0-9])', **{sign: '(?P<%s>[0-9]{1,2})' % sign for sign in 'MDh'},
          **{sign: '(?P<%s>[0-9]{2})' % sign for sign in 'ms'}}
 # A fraction, what may not follow, and the half of the day.
-END = r'(?:[.,](?P<f>[0-9]{1,9})(?![0-9]|\.[0-9])|(?![.,][0-9]))(?!(?!Z)\w|:[0-9A-Fa-f]| [mun\u00b5\u03bc]s(?!\w))(?: *(?P<half>[AaPp][Mm])(?!\w))?'
+END = r'(?:(?:[.,](?=[0-9]{1,18}(?![0-9]))|:(?=[0-9]{3}(?![0-9])))(?P<f>[0-9]{1,18})(?!\.[0-9])|(?![.,][0-9]))(?!(?!Z)\w|:[0-9A-Fa-f]| [mun\u00b5\u03bc]s(?!\w))(?: *(?P<half>[AaPp][Mm])(?!\w))?'
 FORMS = [re.compile(''.join(PARTS.get(sign, re.escape(sign)) for sign in form) + END) for form in (
     'Y-M-D_h:m:s', 'Y/M/D_h:m:s', 'Y.M.D_h:m:s', 'D.M.Y_h:m:s', 'M/D/Y_h:m:s', 'N_D_h:m:s', 'h:m:s', 'E', 'F')]
 BEGIN = re.compile(r'(?<![\w.:/-])[^\W_]')

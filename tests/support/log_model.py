@@ -166,6 +166,12 @@ class Line:
         self.time = None if any(len(one.octets) > 1 and one.run.start < place for one in self.said) else self.time
 
 
+def ends_with_another(octets):
+    """Whether octets that begin with a type of any length end with a message of known length."""
+    ends = [octets[start:] for start in range(1, len(octets))]
+    return length_of(octets) == -1 and any(length_of(end) == len(end) for end in ends)
+
+
 # 2. The reader ------------------------------------------------------------------------------------------------------------
 
 class Entry:
@@ -390,6 +396,8 @@ class Reader:
             self.filled.add(one.run.mark)
         if join.same and one.sure and not join.bad:
             self.widths[one.shape[:2]] = join.width
+        if not join.bad and join.way == 'burst' and join.time is None and ends_with_another(join.octets):
+            join.bad, entry.fits = 'may be longer', []
         if join.bad:
             entry.settle('passed over', join.bad)
         else:

@@ -206,8 +206,12 @@ def pause_in(lines, found):
 
 
 def column_entry(lines, found):
-    """Lines of one octet each, or rows, which give messages if all of their octets are messages, one after another."""
-    told = stream_of(found)
+    """Lines of one octet each, or rows, which give messages if all of their octets are messages, one after another. Where no times
+    show where a message of any length ends, and a message of known length ends there, it may be several."""
+    told, octets = stream_of(found), b''.join(run.octets for run in found)
+    if len(found[0].octets) == 1 and None in [line.time() for line in lines] and octets[0] in ANY_LENGTH and any(
+            said(octets[start:]) and octets[start] not in ANY_LENGTH for start in range(1, len(octets))):
+        return [Entry([line], reason='may be longer') for line in lines]
     return [Entry(lines, found, messages=told)] if told else [Entry([line], reason='no message') for line in lines]
 
 

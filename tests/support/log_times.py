@@ -5,13 +5,13 @@ import calendar
 import re
 
 MONTHS = 'jan feb mar apr may jun jul aug sep oct nov dec'.split()
-_CLOCK = (r'(?P<hour>\d{1,2}):(?P<minute>[0-5]\d):(?P<second>[0-5]\d|60)(?:[.,](?P<part>\d{1,9}))?(?![:\d])'
+_CLOCK = (r'(?P<hour>\d{1,2}):(?P<minute>[0-5]\d):(?P<second>[0-5]\d|60)(?:[.,](?P<part>\d{1,18})|:(?P<thousandths>\d{3}))?(?![:\d])'
           r'(?: (?P<half>[ap]m)\b)?(?:Z\b| ?[+-]\d\d:?\d\d\b)?')
 _DATES = [r'(?P<year>\d{4})([-/.])(?P<month>\d{1,2})\2(?P<day>\d{1,2})', r'(?P<day>\d{1,2})\.(?P<month>\d{1,2})\.(?P<year>\d{4})',
           r'(?P<month>\d{1,2})/(?P<day>\d{1,2})/(?P<year>\d{4})', r'(?P<name>%s)[a-z]* {1,2}(?P<day>\d{1,2})' % '|'.join(MONTHS)]
 _TIMES = [re.compile(r'(?<![\w.:/-])' + form, re.IGNORECASE)
           for form in [date + r'(?:[T_]|,? +)' + _CLOCK for date in _DATES] + [_CLOCK]]
-_SECONDS = re.compile(r'(?<![\w.:/-])(\d+)\.(\d{1,9})(?!\w|\.\d| [mun\u00b5\u03bc]s\b)')
+_SECONDS = re.compile(r'(?<![\w.:/-])(\d+)\.(\d{1,18})(?!\w|\.\d| [mun\u00b5\u03bc]s\b)')
 _SINCE_1970 = re.compile(r'(?<![\w.:/-])([12]\d{9})(\d{3})?(?![\w.:/])')
 
 
@@ -23,7 +23,7 @@ def clock_of(one):
     hour = int(one['hour'])
     if one['half']:
         hour = hour % 12 + (12 if one['half'].lower() == 'pm' else 0)
-    return 1_000_000 * (3600 * hour + 60 * int(one['minute']) + int(one['second'] or 0)) + micros(one['part'])
+    return 1_000_000 * (3600 * hour + 60 * int(one['minute']) + int(one['second'] or 0)) + micros(one['part'] or one['thousandths'])
 
 
 def dated(one):

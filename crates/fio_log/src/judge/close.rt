@@ -51,13 +51,8 @@ impl Judge {
         ensures { (log : Log) → IsJudgeOf log self.old → IsJudgeOf log self.new }
     {
         if self.join.is_bad || self.join.may_be_several() {
-            let kind = if self.join.is_bad {
-                Kind::PassedOver
-            } else {
-                Kind::Damaged
-            };
             self.decider
-                .settle(slot, State::Passed(kind, Reason::MayBeLonger));
+                .settle(slot, State::Passed(Kind::PassedOver, Reason::MayBeLonger));
             return;
         }
         let around = self.join.surroundings();
