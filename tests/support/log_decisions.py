@@ -76,7 +76,7 @@ class Decisions:
         for place in range(len(entry.numbers)):
             values = [numbers[place] for numbers, _ in said if len(numbers) > place]
             if len(set(values)) <= VALUES and len(values) >= 2 * len(set(values)) and any(
-                    numbers[place] != str(length) for numbers, length in said if len(numbers) > place):
+                    numbers[place].rstrip('Bb') != str(length) for numbers, length in said if len(numbers) > place):
                 found.append(place)
         return found
 
@@ -200,6 +200,8 @@ class Decisions:
     def may_have_held(self, entry):
         """Whether a line that gives no frame may have held one."""
         line = entry.lines[0]
+        if self.headed and self.headed < line.number and line.times and not any(is_begun_alike(line, frame) for frame in self.found):
+            return False
         for frame in self.found:
             for run in line.written:
                 if len(run.octets) == 1 and run.marks[:1] == ('',) and run not in line.runs:
@@ -219,6 +221,7 @@ class Decisions:
             elif entry.messages:
                 entry.known = self.horizon(place)
         self.found = [frame for frame in self.frames if not frame.is_alone]
+        self.headed = headed([line for entry in self.entries for line in entry.lines if not line.is_blank])
         first = self.frames[0].lines[0].number if self.frames else 0
         above = self.entries.index(self.frames[0]) if self.frames else len(self.entries)
         for entry in self.entries:
@@ -236,7 +239,7 @@ class Decisions:
             return 'blank'
         if line.is_long or self.is_of_others(entry):
             return 'passed over'
-        is_above = line.number < first and not line.saying
+        is_above = line.number < first and (not line.saying or entry.reason == 'may be longer')
         return 'damaged' if self.found and not is_above and self.may_have_held(entry) else 'passed over'
 
     def is_of_others(self, entry):
@@ -247,6 +250,18 @@ class Decisions:
             return not self.is_of_frames(entry, self.frames) and self.is_other_side(entry)
         one = next((Entry([line], [run], messages=[(run.octets, False)]) for run in line.runs if run.octets), None)
         return one is not None and not self.is_of_frames(one, self.frames, entry)
+
+
+def headed(lines):
+    """The first line with octets and without a time that is below a line with a time and without octets; 0 if there is none."""
+    return next((line.number for above, line in zip(lines, lines[1:])
+                 if above.times and not above.runs and line.runs and not line.times), 0)
+
+
+def is_begun_alike(line, frame):
+    """Whether the text before the octets of a frame begins with the first character of a line; digits are alike."""
+    before = frame.lines[0].text[:frame.run.start]
+    return re.sub(r'\d', '0', before[:1].lower()) == re.sub(r'\d', '0', line.text[:1].lower())
 
 
 # What a line is said to have instead of a reason that only lines of another kind have.

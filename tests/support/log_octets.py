@@ -128,11 +128,22 @@ def is_number_before(digits, is_after_words):
     return is_list and said(octets_of(digits[1:])) is not None and said(octets_of(digits)) is None
 
 
+def is_count_before(digits):
+    """Whether the first of these words is the count of the octets after it, which say a message; with it none of known length."""
+    count, rest = re.fullmatch('([0-9]+)[Bb]?', digits[0]), octets_of(digits[1:]) if is_hex_list(digits[1:]) else b''
+    whole = octets_of(digits) if is_hex_list(digits) else b''
+    return bool(count and rest) and int(count[1]) == len(rest) and said(rest) is not None and (
+        said(whole) is None or whole[0] in ANY_LENGTH)
+
+
 def lists_of(words, text, has_marks):
     """The parts of a sequence of words that are octets: all, or those between words of other lengths. A number before octets is
     none of them; one of several digits, after other words, without marks and at the end of the line, may be."""
     digits = [one[1] for one in words]
     is_after_words = any(one.isalnum() or one == '_' for one in text[:words[0].start()]) and not text[words[-1].end():].strip(' \t,;')
+    if len(digits) > 1 and is_after_words and not has_marks and is_count_before(digits):
+        yield words[1:]
+        return
     if is_number_before(digits, is_after_words and not has_marks):
         if len(digits[0]) > 1:
             yield words[1:]

@@ -211,7 +211,7 @@ def column_entry(lines, found):
     told, octets = stream_of(found), b''.join(run.octets for run in found)
     if len(found[0].octets) == 1 and None in [line.time() for line in lines] and octets[0] in ANY_LENGTH and any(
             said(octets[start:]) and octets[start] not in ANY_LENGTH for start in range(1, len(octets))):
-        return [Entry([line], reason='may be longer') for line in lines]
+        return [Entry(lines, reason='may be longer')]
     return [Entry(lines, found, messages=told)] if told else [Entry([line], reason='no message') for line in lines]
 
 

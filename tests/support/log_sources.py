@@ -9,9 +9,10 @@ COUNT = object()
 
 
 def numbers_in(before, octets):
-    """The words with a digit of what is before octets; COUNT for the number of the octets."""
+    """The words with a digit of what is before octets; COUNT for the number of two octets or more."""
     words = ''.join(char if char.isalnum() or char in WORD else ' ' for char in before.lower()).split()
-    found = [COUNT if set(word) <= DIGITS and int(word) == len(octets) else word for word in words
+    counts = (str(len(octets)), '%db' % len(octets)) if len(octets) > 1 else ()
+    found = [COUNT if word.lstrip('0') in counts else word for word in words
              if set(word) & DIGITS and not word.startswith('..')]
     return list(enumerate(found[:NUMBERS]))
 

@@ -14,6 +14,7 @@ use crate::around::Around;
 use crate::digits::{digit, is_letter};
 use crate::line_run::{LineRun, LineRuns};
 use crate::marks::end_of;
+use crate::messages::has_open_length;
 use crate::octets::{Octets, read_pairs};
 use crate::places::Notation;
 use crate::sayings::{Saying, read_saying};
@@ -93,7 +94,7 @@ impl Pattern {
             return false;
         };
         let saying = read_saying(octets.as_slice());
-        if !matches!(saying, Saying::Says { .. }) {
+        if !matches!(saying, Saying::Says { .. }) || may_have_number(octets.as_slice()) {
             return false;
         }
         runs.is_no_dump = self.around.has_before;
@@ -222,6 +223,11 @@ fn read_plain(text: &[u8], octets: &mut Octets) -> Option<Ways>
         text[0] != b'0'
     };
     Some(Ways::of_pairs(text.len(), has_blanks, is_bare))
+}
+
+/// Returns whether the first of octets may be a number before the others: with it they are a message of any length.
+fn may_have_number(octets: &[u8]) -> bool {
+    matches!(octets, [code, _, ..] if has_open_length(*code))
 }
 
 /// Returns whether octets fill a line from `start` on as a pattern reads them.
