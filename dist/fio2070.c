@@ -8,7 +8,7 @@
  * access outside the arguments of a call, which the proof excludes, ends in FIO2070_TRAP(). FIO2070_UNCHECKED leaves
  * the tests of accesses out. FIO2070_FAST makes the code longer and faster.
  *
- * Sources: 686e8e36bd8679a50a64d6cec152a4fddbdb62d9e56b0deafba2da47c19a8a01 (SHA-256; packaging/release-files --sources)
+ * Sources: 2a185048ecbc3ecdef46697b173b2212899c8b25384b860e829b2c929a0addc1 (SHA-256; packaging/release-files --sources)
  * Kit: rattle-kit-13f logic dac8208d650f15bf
  * Proof: logic=proved functions=225 target=wasm64-unknown-unknown sum=dac8208d650f15bf native=nat,char,string
  * Made by `make release-files`: do not edit.
@@ -30115,7 +30115,7 @@ static void fio_log_reader_Reader_judge_held(struct machine *m, uint64_t v0);
 static void fio_log_judge_decide_Decider_give_up(struct machine *m, uint64_t v0, uint64_t v1, uint64_t v2);
 static void fio_log_judge_Judge_close(struct machine *m, uint64_t v0);
 static uint32_t fio_log_patterns_Patterns_read(struct machine *m, uint64_t v0, uint64_t v1, uint64_t v2, uint64_t v3, uint64_t v4, uint64_t v5);
-static uint32_t fio_log_clock_is_gap(struct machine *m, uint32_t v0);
+static void fio_log_clock_time_in(struct machine *m, uint64_t v0, uint64_t v1, uint64_t v2);
 static void fio_log_glance_Glance_of(struct machine *m, uint64_t v0, uint64_t v1, uint64_t v2);
 static void fio_log_found_bracketed_at(struct machine *m, uint64_t v0, uint64_t v1, uint64_t v2, uint64_t v3, uint64_t v4);
 static void fio_log_line_runs_keep(struct machine *m, uint64_t v0, uint64_t v1, uint64_t v2, uint64_t v3, uint64_t v4, uint64_t v5);
@@ -30129,6 +30129,7 @@ static void fio_log_offsets_offset_row(struct machine *m, uint64_t v0, uint64_t 
 static uint32_t fio_log_judge_join_is_in_step(struct machine *m, uint64_t v0, uint64_t v1, uint64_t v2);
 static uint32_t fio_log_judge_join_Join_add(struct machine *m, uint64_t v0, uint64_t v1, uint32_t v2, uint64_t v3);
 static uint32_t fio_log_judge_join_Join_is_other(struct machine *m, uint64_t v0, uint64_t v1, uint32_t v2, uint64_t v3);
+static uint32_t fio_log_clock_is_gap(struct machine *m, uint32_t v0);
 static void fio_log_marks_end_of(struct machine *m, uint64_t v0, uint64_t v1, uint64_t v2, uint64_t v3, uint64_t v4, uint64_t v5);
 static uint64_t fio_log_ways_Ways_of_run(struct machine *m, uint64_t v0);
 static void fio_log_digits_octet(struct machine *m, uint64_t v0, uint32_t v1, uint32_t v2);
@@ -35339,51 +35340,29 @@ uint64_t v5 = 0;
 uint32_t v6 = 0;
 uint64_t v7 = 0;
 uint64_t v8 = 0;
-uint32_t v9 = 0;
-uint64_t v10 = 0;
+uint64_t v9 = 0;
+uint32_t v10 = 0;
 uint64_t v11 = 0;
 uint64_t v12 = 0;
 uint64_t v13 = 0;
-uint32_t v14 = 0;
+uint64_t v14 = 0;
 uint64_t v15 = 0;
 uint32_t v16 = 0;
-uint32_t v17 = 0;
+uint64_t v17 = 0;
 uint64_t v18 = 0;
 uint32_t v19 = 0;
-uint64_t v20 = 0;
+uint32_t v20 = 0;
 uint32_t v21 = 0;
 uint64_t v22 = 0;
-uint32_t v23 = 0;
+uint64_t v23 = 0;
 uint64_t v24 = 0;
 uint64_t v25 = 0;
 uint64_t v26 = 0;
-uint64_t v27 = 0;
-uint64_t v28 = 0;
-uint64_t v29 = 0;
-uint64_t v30 = 0;
-uint64_t v31 = 0;
-uint64_t v32 = 0;
-uint64_t v33 = 0;
-uint64_t v34 = 0;
-uint32_t v35 = 0;
-uint32_t v36 = 0;
-uint32_t v37 = 0;
-uint32_t v38 = 0;
-uint32_t v39 = 0;
-uint32_t v40 = 0;
-uint32_t v41 = 0;
-uint32_t v42 = 0;
-uint32_t v43 = 0;
-uint32_t v44 = 0;
-uint32_t v45 = 0;
-uint64_t v46 = 0;
-uint64_t v47 = 0;
-uint64_t v48 = 0;
-uint64_t v49 = 0;
 uint32_t i0;
 uint32_t i1;
 uint32_t i2;
 uint32_t i3;
+uint32_t i5;
 uint32_t i6;
 uint32_t i7;
 uint32_t i8;
@@ -35539,65 +35518,10 @@ uint8_t *p140;
 uint8_t *p141;
 uint8_t *p142;
 uint8_t *p143;
-uint8_t *p144;
-uint8_t *p145;
-uint8_t *p146;
-uint8_t *p147;
-uint8_t *p148;
-uint8_t *p149;
-uint8_t *p150;
-uint8_t *p151;
-uint8_t *p152;
-uint8_t *p153;
-uint8_t *p154;
-uint8_t *p155;
-uint8_t *p156;
-uint8_t *p157;
-uint8_t *p158;
-uint8_t *p159;
-uint8_t *p160;
-uint8_t *p161;
-uint8_t *p162;
-uint8_t *p163;
-uint8_t *p164;
-uint8_t *p165;
-uint8_t *p166;
-uint8_t *p167;
-uint8_t *p168;
-uint8_t *p169;
-uint8_t *p170;
-uint8_t *p171;
-uint8_t *p172;
-uint8_t *p173;
-uint8_t *p174;
-uint8_t *p175;
-uint8_t *p176;
-uint8_t *p177;
-uint8_t *p178;
-uint8_t *p179;
-uint8_t *p180;
-uint8_t *p181;
-uint8_t *p182;
-uint8_t *p183;
-uint8_t *p184;
-uint8_t *p185;
-uint8_t *p186;
-uint8_t *p187;
-uint8_t *p188;
-uint8_t *p189;
-uint8_t *p190;
-uint8_t *p191;
-uint8_t *p192;
-uint8_t *p193;
-uint8_t *p194;
-uint8_t *p195;
-uint8_t *p196;
-uint8_t *p197;
-uint8_t *p198;
 j0 = m->g0;
-j1 = UINT64_C(1216);
+j1 = UINT64_C(1248);
 j0 = j0 - j1;
-p1 = write_at(j0, m, 1216u);
+p1 = write_at(j0, m, 1248u);
 v1 = j0;
 m->g0 = j0;
 j0 = v1;
@@ -35623,11 +35547,6 @@ j1 = UINT64_C(65560);
 j0 = j0 + j1;
 v3 = j0;
 j0 = v0;
-j1 = UINT64_C(73048);
-j0 = j0 + j1;
-j0 = load64(p3 + 7512);
-v1 = j0;
-j0 = v0;
 j1 = UINT64_C(65536);
 j0 = j0 + j1;
 j0 = load64(p3 + 0);
@@ -35645,7 +35564,11 @@ v6 = i0;
 i1 = UINT32_C(1);
 i0 = (i0 != i1);
 if (i0) { goto l8; }
-j0 = v1;
+j0 = v0;
+j1 = UINT64_C(73048);
+j0 = j0 + j1;
+j0 = load64(p3 + 7512);
+v1 = j0;
 i0 = (j0 == 0);
 if (i0) { goto l9; }
 j0 = v1;
@@ -35691,7 +35614,23 @@ j0 = v0;
 j1 = UINT64_C(73088);
 j0 = j0 + j1;
 v7 = j0;
-j0 = v1;
+j0 = v2;
+j1 = UINT64_C(0);
+store64(p1 + 40, j1);
+j0 = v2;
+j1 = UINT64_C(0);
+store64(p1 + 32, j1);
+j0 = v2;
+j1 = UINT64_C(0);
+store64(p1 + 24, j1);
+j0 = v2;
+j1 = UINT64_C(0);
+store64(p1 + 16, j1);
+j0 = v0;
+j1 = UINT64_C(73048);
+j0 = j0 + j1;
+j0 = load64(p3 + 7512);
+v1 = j0;
 i0 = (j0 == 0);
 if (i0) { goto l11; }
 j0 = v1;
@@ -35714,7 +35653,7 @@ l11:;
 j0 = v0;
 j1 = UINT64_C(73064);
 j0 = j0 + j1;
-v8 = j0;
+v1 = j0;
 j1 = UINT64_C(0);
 store64(p3 + 7528, j1);
 j0 = v0;
@@ -35725,6 +35664,7 @@ store8(p3 + 7520, i1);
 j0 = v0;
 j1 = UINT64_C(73072);
 j0 = j0 + j1;
+v8 = j0;
 j1 = UINT64_C(0);
 store64(p3 + 7536, j1);
 j0 = v0;
@@ -35740,2567 +35680,78 @@ j4 = v4;
 j5 = v3;
 i0 = fio_log_patterns_Patterns_read(m, j0, j1, j2, j3, j4, j5);
 if (i0) { goto l3; }
-j0 = v4;
-i0 = (j0 == 0);
-v9 = i0;
-if (i0) { goto l14; }
-j0 = v4;
-j1 = UINT64_C(200);
+j0 = v2;
+j1 = UINT64_C(16);
+j0 = j0 + j1;
+j1 = v0;
 j2 = v4;
-j3 = UINT64_C(200);
-i2 = (j2 < j3);
-j0 = i2 ? j0 : j1;
-v10 = j0;
-j0 = v0;
-j1 = UINT64_C(1);
-j0 = j0 + j1;
-v11 = j0;
-j0 = v4;
-j1 = UINT64_C(18446744073709551615);
-j0 = j0 + j1;
-v12 = j0;
-j0 = UINT64_C(0);
-v13 = j0;
-i0 = UINT32_C(1);
-v14 = i0;
-l15:;
-j0 = v0;
-j1 = v13;
-j0 = j0 + j1;
-v15 = j0;
-p4 = read_at(j0, m, 1u);
-i0 = load8(p4 + 0);
-v16 = i0;
-i0 = v14;
-i1 = UINT32_C(1);
-i0 = i0 & i1;
-i0 = (i0 == 0);
-if (i0) { goto l19; }
-i0 = v16;
-i1 = UINT32_C(4294967248);
-i0 = i0 + i1;
-v17 = i0;
-i1 = UINT32_C(255);
-i0 = i0 & i1;
-i1 = UINT32_C(9);
-i0 = (i0 > i1);
-if (i0) { goto l21; }
-j0 = UINT64_C(0);
-v1 = j0;
-l23:;
-j0 = v15;
-j1 = v1;
-j0 = j0 + j1;
-p5 = read_at(j0, m, 1u);
-i0 = load8(p5 + 0);
-i1 = UINT32_C(4294967248);
-i0 = i0 + i1;
-i1 = UINT32_C(255);
-i0 = i0 & i1;
-i1 = UINT32_C(10);
-i0 = (i0 < i1);
-if (i0) { goto l24; }
-j0 = v13;
-j1 = v1;
-j0 = j0 + j1;
-v18 = j0;
-goto l22;
-l24:;
+fio_log_clock_time_in(m, j0, j1, j2);
 j0 = v1;
-j1 = UINT64_C(1);
-j0 = j0 + j1;
-v1 = j0;
-j1 = v13;
-j0 = j0 + j1;
-v18 = j0;
-j1 = v4;
-i0 = (j0 >= j1);
-if (i0) { goto l22; }
-j0 = v1;
-j1 = UINT64_C(14);
-i0 = (j0 < j1);
-if (i0) { goto l23; }
-l22:;
-j0 = v1;
-j1 = UINT64_C(18446744073709551606);
-j0 = j0 + j1;
-v1 = j0;
-j1 = UINT64_C(3);
-i0 = (j0 > j1);
-if (i0) { goto l25; }
-j0 = v1;
-i0 = (uint32_t)j0;
-switch (i0) {
-case 0:
-goto l20;
-case 1:
-goto l25;
-case 2:
-goto l25;
-case 3:
-goto l20;
-default:
-goto l20;
-}
-l25:;
-j0 = v18;
-j1 = v4;
-i0 = (j0 >= j1);
-if (i0) { goto l19; }
-j0 = v0;
-j1 = v18;
-j0 = j0 + j1;
-p6 = read_at(j0, m, 1u);
-j0 = load8(p6 + 0);
-v1 = j0;
-j1 = UINT64_C(58);
-i0 = (j0 > j1);
-if (i0) { goto l19; }
-j0 = UINT64_C(1);
-j1 = v1;
-j0 = j0 << (j1 & 63);
-j1 = UINT64_C(288476666756333568);
-j0 = j0 & j1;
-j1 = UINT64_C(0);
-i0 = (j0 == j1);
-if (i0) { goto l19; }
-goto l20;
-l21:;
-i0 = v16;
-i1 = UINT32_C(32);
-i0 = i0 + i1;
-i1 = v16;
-i2 = v16;
-i3 = UINT32_C(4294967231);
-i2 = i2 + i3;
-i3 = UINT32_C(255);
-i2 = i2 & i3;
-i3 = UINT32_C(26);
-i2 = (i2 < i3);
-i0 = i2 ? i0 : i1;
-v19 = i0;
-i1 = UINT32_C(255);
-i0 = i0 & i1;
-i1 = UINT32_C(4294967199);
-i0 = i0 + i1;
-v14 = i0;
-i1 = UINT32_C(18);
-i0 = (i0 > i1);
-if (i0) { goto l26; }
-i0 = UINT32_C(1);
-i1 = v14;
-i0 = i0 << (i1 & 31);
-i1 = UINT32_C(262697);
-i0 = i0 & i1;
-if (i0) { goto l20; }
-l26:;
-i0 = v19;
-i1 = UINT32_C(4294967187);
-i0 = i0 + i1;
-i1 = UINT32_C(255);
-i0 = i0 & i1;
-i1 = UINT32_C(3);
-i0 = (i0 >= i1);
-if (i0) { goto l19; }
-l20:;
-j0 = v13;
-j1 = UINT64_C(19);
-j0 = j0 + j1;
-v20 = j0;
-i0 = v17;
-i1 = UINT32_C(10);
-i0 = i0 * i1;
-v21 = i0;
-j0 = v4;
-j1 = v13;
-j0 = j0 - j1;
-v22 = j0;
-i0 = v16;
-i1 = UINT32_C(4294967263);
-i0 = i0 & i1;
-i1 = UINT32_C(4294967205);
-i0 = i0 + i1;
-v23 = i0;
-j0 = UINT64_C(0);
-v24 = j0;
-l27:;
-j0 = v24;
-j1 = UINT64_C(4);
-j0 = j0 << (j1 & 63);
-v1 = j0;
-j1 = UINT64_C(66088);
-j0 = j0 + j1;
-p7 = read_at(j0, m, 8u);
-j0 = load64(p7 + 0);
-v25 = j0;
-i0 = (j0 == 0);
-if (i0) { goto l32; }
-j0 = v1;
-j1 = UINT64_C(66080);
-j0 = j0 + j1;
-p8 = read_at(j0, m, 8u);
-j0 = load64(p8 + 0);
-v26 = j0;
-p9 = read_at(j0, m, 1u);
-i0 = load8(p9 + 0);
-v14 = i0;
-i1 = UINT32_C(78);
-i0 = (i0 != i1);
-if (i0) { goto l31; }
-i0 = v23;
-i1 = UINT32_C(255);
-i0 = i0 & i1;
-i1 = UINT32_C(230);
-i0 = (i0 < i1);
-if (i0) { goto l28; }
-goto l30;
-l32:;
-i0 = v23;
-i1 = UINT32_C(255);
-i0 = i0 & i1;
-i1 = UINT32_C(230);
-i0 = (i0 >= i1);
-if (i0) { goto l28; }
-j0 = UINT64_C(0);
-v27 = j0;
-j0 = UINT64_C(1970);
-v28 = j0;
-j0 = UINT64_C(0);
-v29 = j0;
-j0 = UINT64_C(0);
-v30 = j0;
-j0 = UINT64_C(0);
-v31 = j0;
-j0 = UINT64_C(0);
-v32 = j0;
-j0 = UINT64_C(0);
-v33 = j0;
-j0 = v13;
-v34 = j0;
-goto l29;
-l31:;
-i0 = v23;
-i1 = UINT32_C(255);
-i0 = i0 & i1;
-i1 = UINT32_C(230);
-i0 = (i0 >= i1);
-if (i0) { goto l28; }
-j0 = v25;
-j1 = UINT64_C(1);
-i0 = (j0 == j1);
-if (i0) { goto l30; }
-i0 = v14;
-i1 = UINT32_C(89);
-i0 = (i0 != i1);
-if (i0) { goto l30; }
-j0 = v22;
-j1 = UINT64_C(19);
-i0 = (j0 < j1);
-if (i0) { goto l30; }
-j0 = v26;
-p10 = read_at(j0 + UINT64_C(1), m, 1u);
-i0 = load8(p10 + 0);
-i1 = UINT32_C(255);
-i0 = i0 & i1;
-i1 = UINT32_C(45);
-i0 = (i0 != i1);
-if (i0) { goto l30; }
-j0 = v15;
-p11 = read_at(j0 + UINT64_C(4), m, 1u);
-i0 = load8(p11 + 0);
-i1 = UINT32_C(45);
-i0 = (i0 != i1);
-if (i0) { goto l30; }
-j0 = v15;
-p12 = read_at(j0 + UINT64_C(7), m, 1u);
-i0 = load8(p12 + 0);
-i1 = UINT32_C(45);
-i0 = (i0 != i1);
-if (i0) { goto l30; }
-j0 = v15;
-p13 = read_at(j0 + UINT64_C(13), m, 1u);
-i0 = load8(p13 + 0);
-i1 = UINT32_C(58);
-i0 = (i0 != i1);
-if (i0) { goto l30; }
-j0 = v15;
-p14 = read_at(j0 + UINT64_C(16), m, 1u);
-i0 = load8(p14 + 0);
-i1 = UINT32_C(58);
-i0 = (i0 != i1);
-if (i0) { goto l30; }
-i0 = v17;
-i1 = UINT32_C(255);
-i0 = i0 & i1;
-i1 = UINT32_C(9);
-i0 = (i0 > i1);
-if (i0) { goto l30; }
-j0 = v15;
-p15 = read_at(j0 + UINT64_C(1), m, 1u);
-i0 = load8(p15 + 0);
-i1 = UINT32_C(4294967248);
-i0 = i0 + i1;
-v14 = i0;
-i1 = UINT32_C(255);
-i0 = i0 & i1;
-i1 = UINT32_C(9);
-i0 = (i0 > i1);
-if (i0) { goto l30; }
-j0 = v15;
-p16 = read_at(j0 + UINT64_C(2), m, 1u);
-i0 = load8(p16 + 0);
-i1 = UINT32_C(4294967248);
-i0 = i0 + i1;
-v19 = i0;
-i1 = UINT32_C(255);
-i0 = i0 & i1;
-i1 = UINT32_C(9);
-i0 = (i0 > i1);
-if (i0) { goto l30; }
-j0 = v15;
-p17 = read_at(j0 + UINT64_C(3), m, 1u);
-i0 = load8(p17 + 0);
-i1 = UINT32_C(4294967248);
-i0 = i0 + i1;
-v35 = i0;
-i1 = UINT32_C(255);
-i0 = i0 & i1;
-i1 = UINT32_C(9);
-i0 = (i0 > i1);
-if (i0) { goto l30; }
-j0 = v15;
-p18 = read_at(j0 + UINT64_C(5), m, 1u);
-i0 = load8(p18 + 0);
-i1 = UINT32_C(4294967248);
-i0 = i0 + i1;
-v36 = i0;
-i1 = UINT32_C(255);
-i0 = i0 & i1;
-i1 = UINT32_C(9);
-i0 = (i0 > i1);
-if (i0) { goto l30; }
-j0 = v15;
-p19 = read_at(j0 + UINT64_C(6), m, 1u);
-i0 = load8(p19 + 0);
-i1 = UINT32_C(4294967248);
-i0 = i0 + i1;
-v37 = i0;
-i1 = UINT32_C(255);
-i0 = i0 & i1;
-i1 = UINT32_C(9);
-i0 = (i0 > i1);
-if (i0) { goto l30; }
-j0 = v15;
-p20 = read_at(j0 + UINT64_C(8), m, 1u);
-i0 = load8(p20 + 0);
-i1 = UINT32_C(4294967248);
-i0 = i0 + i1;
-v38 = i0;
-i1 = UINT32_C(255);
-i0 = i0 & i1;
-i1 = UINT32_C(9);
-i0 = (i0 > i1);
-if (i0) { goto l30; }
-j0 = v15;
-p21 = read_at(j0 + UINT64_C(9), m, 1u);
-i0 = load8(p21 + 0);
-i1 = UINT32_C(4294967248);
-i0 = i0 + i1;
-v39 = i0;
-i1 = UINT32_C(255);
-i0 = i0 & i1;
-i1 = UINT32_C(9);
-i0 = (i0 > i1);
-if (i0) { goto l30; }
-j0 = v15;
-p22 = read_at(j0 + UINT64_C(11), m, 1u);
-i0 = load8(p22 + 0);
-i1 = UINT32_C(4294967248);
-i0 = i0 + i1;
-v40 = i0;
-i1 = UINT32_C(255);
-i0 = i0 & i1;
-i1 = UINT32_C(9);
-i0 = (i0 > i1);
-if (i0) { goto l30; }
-j0 = v15;
-p23 = read_at(j0 + UINT64_C(12), m, 1u);
-i0 = load8(p23 + 0);
-i1 = UINT32_C(4294967248);
-i0 = i0 + i1;
-v41 = i0;
-i1 = UINT32_C(255);
-i0 = i0 & i1;
-i1 = UINT32_C(9);
-i0 = (i0 > i1);
-if (i0) { goto l30; }
-j0 = v15;
-p24 = read_at(j0 + UINT64_C(14), m, 1u);
-i0 = load8(p24 + 0);
-i1 = UINT32_C(4294967248);
-i0 = i0 + i1;
-v42 = i0;
-i1 = UINT32_C(255);
-i0 = i0 & i1;
-i1 = UINT32_C(9);
-i0 = (i0 > i1);
-if (i0) { goto l30; }
-j0 = v15;
-p25 = read_at(j0 + UINT64_C(15), m, 1u);
-i0 = load8(p25 + 0);
-i1 = UINT32_C(4294967248);
-i0 = i0 + i1;
-v43 = i0;
-i1 = UINT32_C(255);
-i0 = i0 & i1;
-i1 = UINT32_C(9);
-i0 = (i0 > i1);
-if (i0) { goto l30; }
-j0 = v15;
-p26 = read_at(j0 + UINT64_C(17), m, 1u);
-i0 = load8(p26 + 0);
-i1 = UINT32_C(4294967248);
-i0 = i0 + i1;
-v44 = i0;
-i1 = UINT32_C(255);
-i0 = i0 & i1;
-i1 = UINT32_C(9);
-i0 = (i0 > i1);
-if (i0) { goto l30; }
-j0 = v15;
-p27 = read_at(j0 + UINT64_C(18), m, 1u);
-i0 = load8(p27 + 0);
-i1 = UINT32_C(4294967248);
-i0 = i0 + i1;
-v45 = i0;
-i1 = UINT32_C(255);
-i0 = i0 & i1;
-i1 = UINT32_C(9);
-i0 = (i0 > i1);
-if (i0) { goto l30; }
-j0 = v15;
-p28 = read_at(j0 + UINT64_C(10), m, 1u);
-i0 = load8(p28 + 0);
-i0 = fio_log_clock_is_gap(m, i0);
-i0 = (i0 == 0);
-if (i0) { goto l30; }
-i0 = v36;
-i1 = UINT32_C(10);
-i0 = i0 * i1;
-i1 = v37;
-i0 = i0 + i1;
-j0 = (uint64_t)i0;
-j1 = UINT64_C(255);
-j0 = j0 & j1;
-v27 = j0;
-i0 = v38;
-i1 = UINT32_C(10);
-i0 = i0 * i1;
-i1 = v39;
-i0 = i0 + i1;
-j0 = (uint64_t)i0;
-j1 = UINT64_C(255);
-j0 = j0 & j1;
-v29 = j0;
-i0 = v40;
-i1 = UINT32_C(10);
-i0 = i0 * i1;
-i1 = v41;
-i0 = i0 + i1;
-j0 = (uint64_t)i0;
-j1 = UINT64_C(255);
-j0 = j0 & j1;
-v30 = j0;
-i0 = v42;
-i1 = UINT32_C(10);
-i0 = i0 * i1;
-i1 = v43;
-i0 = i0 + i1;
-j0 = (uint64_t)i0;
-j1 = UINT64_C(255);
-j0 = j0 & j1;
-v31 = j0;
-i0 = v14;
-i1 = v21;
-i0 = i0 + i1;
-j0 = (uint64_t)i0;
-j1 = UINT64_C(255);
-j0 = j0 & j1;
-j1 = UINT64_C(100);
-j0 = j0 * j1;
-i1 = v19;
-i2 = UINT32_C(10);
-i1 = i1 * i2;
-i2 = v35;
-i1 = i1 + i2;
-j1 = (uint64_t)i1;
-j2 = UINT64_C(255);
-j1 = j1 & j2;
-j0 = j0 + j1;
-v28 = j0;
-i0 = v44;
-i1 = UINT32_C(10);
-i0 = i0 * i1;
-i1 = v45;
-i0 = i0 + i1;
-j0 = (uint64_t)i0;
-j1 = UINT64_C(255);
-j0 = j0 & j1;
-v32 = j0;
-j0 = UINT64_C(0);
-v33 = j0;
-j0 = v20;
-v34 = j0;
-goto l29;
-l30:;
-j0 = UINT64_C(0);
-v27 = j0;
-j0 = UINT64_C(1970);
-v28 = j0;
-j0 = UINT64_C(0);
-v29 = j0;
-j0 = UINT64_C(0);
-v30 = j0;
-j0 = UINT64_C(0);
-v31 = j0;
-j0 = UINT64_C(0);
-v32 = j0;
-j0 = UINT64_C(0);
-v33 = j0;
-j0 = v13;
-v46 = j0;
-j0 = UINT64_C(0);
-v47 = j0;
-l33:;
-j0 = UINT64_C(14);
-v48 = j0;
-j0 = v26;
-j1 = v47;
-j0 = j0 + j1;
-p29 = read_at(j0, m, 1u);
-i0 = load8(p29 + 0);
-v19 = i0;
-i1 = UINT32_C(4294967228);
-i0 = i0 + i1;
-switch (i0) {
-case 0:
-goto l38;
-case 1:
-goto l36;
-case 2:
-goto l40;
-case 3:
-goto l39;
-case 4:
-goto l39;
-case 5:
-goto l39;
-case 6:
-goto l39;
-case 7:
-goto l39;
-case 8:
-goto l39;
-case 9:
-goto l38;
-case 10:
-goto l35;
-case 11:
-goto l39;
-case 12:
-goto l39;
-case 13:
-goto l39;
-case 14:
-goto l39;
-case 15:
-goto l39;
-case 16:
-goto l39;
-case 17:
-goto l39;
-case 18:
-goto l39;
-case 19:
-goto l39;
-case 20:
-goto l39;
-case 21:
-goto l37;
-case 22:
-goto l39;
-case 23:
-goto l39;
-case 24:
-goto l39;
-case 25:
-goto l39;
-case 26:
-goto l39;
-case 27:
-goto l41;
-case 28:
-goto l39;
-case 29:
-goto l39;
-case 30:
-goto l39;
-case 31:
-goto l39;
-case 32:
-goto l39;
-case 33:
-goto l39;
-case 34:
-goto l39;
-case 35:
-goto l39;
-case 36:
-goto l38;
-case 37:
-goto l39;
-case 38:
-goto l39;
-case 39:
-goto l39;
-case 40:
-goto l39;
-case 41:
-goto l38;
-case 42:
-goto l39;
-case 43:
-goto l39;
-case 44:
-goto l39;
-case 45:
-goto l39;
-case 46:
-goto l39;
-case 47:
-goto l38;
-default:
-goto l39;
-}
-l41:;
-j0 = v46;
-v34 = j0;
-j0 = v4;
-j1 = v46;
-i0 = (j0 <= j1);
-if (i0) { goto l42; }
-j0 = v46;
-v34 = j0;
-l43:;
-j0 = v0;
-j1 = v34;
-j0 = j0 + j1;
-p30 = read_at(j0, m, 1u);
-i0 = load8(p30 + 0);
-v14 = i0;
-i1 = UINT32_C(59);
-i0 = (i0 > i1);
-if (i0) { goto l45; }
-j0 = UINT64_C(1);
-i1 = v14;
-j1 = (uint64_t)i1;
-j0 = j0 << (j1 & 63);
-j1 = UINT64_C(576460756598391296);
-j0 = j0 & j1;
-j1 = UINT64_C(0);
-i0 = (j0 != j1);
-if (i0) { goto l44; }
-l45:;
-i0 = v14;
-i1 = UINT32_C(4294967212);
-i0 = i0 + i1;
-switch (i0) {
-case 0:
-goto l44;
-case 1:
-goto l46;
-case 2:
-goto l46;
-case 3:
-goto l46;
-case 4:
-goto l46;
-case 5:
-goto l46;
-case 6:
-goto l46;
-case 7:
-goto l46;
-case 8:
-goto l46;
-case 9:
-goto l46;
-case 10:
-goto l46;
-case 11:
-goto l44;
-default:
-goto l46;
-}
-l46:;
-i0 = v14;
-i1 = UINT32_C(254);
-i0 = i0 & i1;
-i1 = UINT32_C(44);
-i0 = (i0 != i1);
-if (i0) { goto l42; }
-l44:;
-j0 = v4;
-j1 = v34;
-j2 = UINT64_C(1);
-j1 = j1 + j2;
-v34 = j1;
-i0 = (j0 != j1);
-if (i0) { goto l43; }
-j0 = v4;
-v34 = j0;
-l42:;
-j0 = v46;
-j1 = v34;
-i0 = (j0 < j1);
-if (i0) { goto l34; }
-goto l28;
-l40:;
-j0 = UINT64_C(9);
-v48 = j0;
-goto l36;
-l39:;
-i0 = UINT32_C(0);
-v14 = i0;
-j0 = v4;
-j1 = v46;
-i0 = (j0 <= j1);
-if (i0) { goto l47; }
-j0 = v0;
-j1 = v46;
-j0 = j0 + j1;
-p31 = read_at(j0, m, 1u);
-i0 = load8(p31 + 0);
-v14 = i0;
-l47:;
-i0 = v14;
-i1 = UINT32_C(255);
-i0 = i0 & i1;
-i1 = v19;
-i0 = (i0 != i1);
-if (i0) { goto l28; }
-j0 = v4;
-j1 = v46;
-j2 = UINT64_C(1);
-j1 = j1 + j2;
-v1 = j1;
-j2 = v4;
-j3 = v1;
-i2 = (j2 < j3);
-j0 = i2 ? j0 : j1;
-v34 = j0;
-goto l34;
-l38:;
-j0 = UINT64_C(2);
-v48 = j0;
-goto l36;
-l37:;
-j0 = UINT64_C(4);
-v48 = j0;
-l36:;
-j0 = UINT64_C(0);
-v18 = j0;
-j0 = v46;
-v34 = j0;
-j0 = v4;
-j1 = v46;
-i0 = (j0 <= j1);
-v35 = i0;
-if (i0) { goto l48; }
-j0 = v0;
-j1 = v46;
-j0 = j0 + j1;
-v49 = j0;
-j0 = UINT64_C(0);
-v18 = j0;
-j0 = UINT64_C(0);
-v1 = j0;
-l50:;
-j0 = v49;
-j1 = v1;
-j0 = j0 + j1;
-p32 = read_at(j0, m, 1u);
-i0 = load8(p32 + 0);
-i1 = UINT32_C(4294967248);
-i0 = i0 + i1;
-v14 = i0;
-i1 = UINT32_C(255);
-i0 = i0 & i1;
-i1 = UINT32_C(9);
-i0 = (i0 > i1);
-if (i0) { goto l49; }
-j0 = v18;
-j1 = UINT64_C(10);
-j0 = j0 * j1;
-i1 = v14;
-j1 = (uint64_t)i1;
-j2 = UINT64_C(255);
-j1 = j1 & j2;
-j0 = j0 + j1;
-v18 = j0;
-j0 = v1;
-j1 = UINT64_C(1);
-j0 = j0 + j1;
-v1 = j0;
-j1 = v46;
-j0 = j0 + j1;
-v34 = j0;
-j1 = v4;
-i0 = (j0 >= j1);
-if (i0) { goto l48; }
-j0 = v1;
-j1 = v48;
-i0 = (j0 < j1);
-if (i0) { goto l50; }
-goto l48;
-l49:;
-j0 = v46;
-j1 = v1;
-j0 = j0 + j1;
-v34 = j0;
-l48:;
-j0 = v34;
-j1 = v46;
-j0 = j0 - j1;
-v1 = j0;
-i0 = v19;
-i1 = UINT32_C(4294967227);
-i0 = i0 + i1;
-switch (i0) {
-case 0:
-goto l56;
-case 1:
-goto l55;
-case 2:
-goto l52;
-case 3:
-goto l52;
-case 4:
-goto l52;
-case 5:
-goto l52;
-case 6:
-goto l52;
-case 7:
-goto l52;
-case 8:
-goto l52;
-case 9:
-goto l52;
-case 10:
-goto l52;
-case 11:
-goto l52;
-case 12:
-goto l52;
-case 13:
-goto l52;
-case 14:
-goto l52;
-case 15:
-goto l52;
-case 16:
-goto l52;
-case 17:
-goto l52;
-case 18:
-goto l52;
-case 19:
-goto l52;
-case 20:
-goto l54;
-case 21:
-goto l52;
-case 22:
-goto l52;
-case 23:
-goto l52;
-case 24:
-goto l52;
-case 25:
-goto l52;
-case 26:
-goto l52;
-case 27:
-goto l52;
-case 28:
-goto l52;
-case 29:
-goto l52;
-case 30:
-goto l52;
-case 31:
-goto l52;
-case 32:
-goto l52;
-case 33:
-goto l52;
-case 34:
-goto l52;
-case 35:
-goto l52;
-case 36:
-goto l52;
-case 37:
-goto l52;
-case 38:
-goto l52;
-case 39:
-goto l52;
-case 40:
-goto l53;
-case 41:
-goto l52;
-case 42:
-goto l52;
-case 43:
-goto l52;
-case 44:
-goto l52;
-case 45:
-goto l52;
-case 46:
-goto l53;
-default:
-goto l52;
-}
-l56:;
-i0 = UINT32_C(0);
-v14 = i0;
-j0 = v1;
-j1 = UINT64_C(18446744073709551606);
-j0 = j0 + j1;
-v48 = j0;
-j1 = UINT64_C(3);
-i0 = (j0 > j1);
-if (i0) { goto l51; }
-j0 = v48;
-i0 = (uint32_t)j0;
-switch (i0) {
-case 0:
-goto l57;
-case 1:
-goto l51;
-case 2:
-goto l51;
-case 3:
-goto l57;
-default:
-goto l57;
-}
-l57:;
-i0 = v35;
-if (i0) { goto l51; }
-j0 = v0;
-j1 = v46;
-j0 = j0 + j1;
-p33 = read_at(j0, m, 1u);
-i0 = load8(p33 + 0);
-i1 = UINT32_C(49);
-i0 = (i0 == i1);
-v14 = i0;
-goto l51;
-l55:;
-i0 = UINT32_C(0);
-v14 = i0;
-j0 = v34;
-j1 = v46;
-i0 = (j0 == j1);
-if (i0) { goto l51; }
-j0 = v34;
-j1 = v4;
-i0 = (j0 >= j1);
-if (i0) { goto l51; }
-j0 = v34;
-j1 = v12;
-i0 = (j0 >= j1);
-if (i0) { goto l51; }
-j0 = v0;
-j1 = v34;
-j0 = j0 + j1;
-v46 = j0;
-p34 = read_at(j0, m, 1u);
-i0 = load8(p34 + 0);
-i1 = UINT32_C(255);
-i0 = i0 & i1;
-i1 = UINT32_C(46);
-i0 = (i0 != i1);
-if (i0) { goto l51; }
-j0 = v46;
-j1 = UINT64_C(1);
-j0 = j0 + j1;
-p35 = read_at(j0, m, 1u);
-i0 = load8(p35 + 0);
-i1 = UINT32_C(4294967248);
-i0 = i0 + i1;
-i1 = UINT32_C(255);
-i0 = i0 & i1;
-i1 = UINT32_C(10);
-i0 = (i0 < i1);
-v14 = i0;
-goto l51;
-l54:;
-j0 = v1;
-j1 = UINT64_C(4);
-i0 = (j0 == j1);
-v14 = i0;
-goto l51;
-l53:;
-j0 = v1;
-j1 = UINT64_C(2);
-i0 = (j0 == j1);
-v14 = i0;
-goto l51;
-l52:;
-j0 = v34;
-j1 = v46;
-i0 = (j0 != j1);
-v14 = i0;
-l51:;
-j0 = v1;
-j1 = UINT64_C(13);
-i0 = (j0 == j1);
-if (i0) { goto l59; }
-j0 = v18;
-v1 = j0;
-goto l58;
-l59:;
-j0 = v18;
-j1 = v18;
-j2 = UINT64_C(1000);
-j1 = divide64(j1, j2);
-v1 = j1;
-j2 = UINT64_C(1000);
-j1 = j1 * j2;
-j0 = j0 - j1;
-j1 = UINT64_C(1000);
-j0 = j0 * j1;
-v33 = j0;
-l58:;
-j0 = v1;
-v18 = j0;
-i0 = v19;
-i1 = UINT32_C(4294967228);
-i0 = i0 + i1;
-switch (i0) {
-case 0:
-goto l64;
-case 1:
-goto l61;
-case 2:
-goto l61;
-case 3:
-goto l61;
-case 4:
-goto l61;
-case 5:
-goto l61;
-case 6:
-goto l61;
-case 7:
-goto l61;
-case 8:
-goto l61;
-case 9:
-goto l65;
-case 10:
-goto l61;
-case 11:
-goto l61;
-case 12:
-goto l61;
-case 13:
-goto l61;
-case 14:
-goto l61;
-case 15:
-goto l61;
-case 16:
-goto l61;
-case 17:
-goto l61;
-case 18:
-goto l61;
-case 19:
-goto l61;
-case 20:
-goto l61;
-case 21:
-goto l60;
-case 22:
-goto l61;
-case 23:
-goto l61;
-case 24:
-goto l61;
-case 25:
-goto l61;
-case 26:
-goto l61;
-case 27:
-goto l61;
-case 28:
-goto l61;
-case 29:
-goto l61;
-case 30:
-goto l61;
-case 31:
-goto l61;
-case 32:
-goto l61;
-case 33:
-goto l61;
-case 34:
-goto l61;
-case 35:
-goto l61;
-case 36:
-goto l63;
-case 37:
-goto l61;
-case 38:
-goto l61;
-case 39:
-goto l61;
-case 40:
-goto l61;
-case 41:
-goto l62;
-default:
-goto l61;
-}
-l65:;
-j0 = v28;
-v18 = j0;
-j0 = v1;
-v27 = j0;
-goto l60;
-l64:;
-j0 = v28;
-v18 = j0;
-j0 = v1;
-v29 = j0;
-goto l60;
-l63:;
-j0 = v28;
-v18 = j0;
-j0 = v1;
-v30 = j0;
-goto l60;
-l62:;
-j0 = v28;
-v18 = j0;
-j0 = v1;
-v31 = j0;
-goto l60;
-l61:;
-j0 = v28;
-v18 = j0;
-j0 = v1;
-v32 = j0;
-l60:;
-j0 = v18;
-v28 = j0;
-i0 = v14;
-if (i0) { goto l34; }
-goto l28;
-l35:;
-j0 = v4;
-j1 = v46;
-j0 = j0 - j1;
-j1 = UINT64_C(3);
-i0 = (j0 < j1);
-if (i0) { goto l28; }
-j0 = UINT64_C(2);
-v27 = j0;
-j0 = v0;
-j1 = v46;
-j0 = j0 + j1;
-v1 = j0;
-j1 = UINT64_C(2);
-j0 = j0 + j1;
-p36 = read_at(j0 + UINT64_C(18446744073709551614), m, 3u);
-i0 = load8(p36 + 2);
-v14 = i0;
-i1 = UINT32_C(32);
-i0 = i0 + i1;
-i1 = v14;
-i2 = v14;
-i3 = UINT32_C(4294967231);
-i2 = i2 + i3;
-i3 = UINT32_C(255);
-i2 = i2 & i3;
-i3 = UINT32_C(26);
-i2 = (i2 < i3);
-i0 = i2 ? i0 : i1;
-v35 = i0;
-j0 = v1;
-j1 = UINT64_C(1);
-j0 = j0 + j1;
-i0 = load8(p36 + 1);
-v14 = i0;
-i1 = UINT32_C(32);
-i0 = i0 + i1;
-i1 = v14;
-i2 = v14;
-i3 = UINT32_C(4294967231);
-i2 = i2 + i3;
-i3 = UINT32_C(255);
-i2 = i2 & i3;
-i3 = UINT32_C(26);
-i2 = (i2 < i3);
-i0 = i2 ? i0 : i1;
-v19 = i0;
-j0 = v1;
-i0 = load8(p36 + 0);
-v14 = i0;
-i1 = UINT32_C(32);
-i0 = i0 + i1;
-i1 = v14;
-i2 = v14;
-i3 = UINT32_C(4294967231);
-i2 = i2 + i3;
-i3 = UINT32_C(255);
-i2 = i2 & i3;
-i3 = UINT32_C(26);
-i2 = (i2 < i3);
-i0 = i2 ? i0 : i1;
-i1 = UINT32_C(255);
-i0 = i0 & i1;
-i1 = UINT32_C(4294967199);
-i0 = i0 + i1;
-switch (i0) {
-case 0:
-goto l71;
-case 1:
-goto l28;
-case 2:
-goto l28;
-case 3:
-goto l67;
-case 4:
-goto l28;
-case 5:
-goto l73;
-case 6:
-goto l28;
-case 7:
-goto l28;
-case 8:
-goto l28;
-case 9:
-goto l74;
-case 10:
-goto l28;
-case 11:
-goto l28;
-case 12:
-goto l72;
-case 13:
-goto l68;
-case 14:
-goto l69;
-case 15:
-goto l28;
-case 16:
-goto l28;
-case 17:
-goto l28;
-case 18:
-goto l70;
-default:
-goto l28;
-}
-l74:;
-i0 = v19;
-i1 = UINT32_C(255);
-i0 = i0 & i1;
-v14 = i0;
-i1 = UINT32_C(117);
-i0 = (i0 == i1);
-if (i0) { goto l75; }
-i0 = v14;
-i1 = UINT32_C(97);
-i0 = (i0 != i1);
-if (i0) { goto l28; }
-i0 = v35;
-i1 = UINT32_C(255);
-i0 = i0 & i1;
-i1 = UINT32_C(110);
-i0 = (i0 != i1);
-if (i0) { goto l28; }
-j0 = UINT64_C(1);
-v27 = j0;
-goto l66;
-l75:;
-j0 = UINT64_C(6);
-v27 = j0;
-i0 = v35;
-i1 = UINT32_C(255);
-i0 = i0 & i1;
-i1 = UINT32_C(4294967188);
-i0 = i0 + i1;
-switch (i0) {
-case 0:
-goto l76;
-case 1:
-goto l28;
-case 2:
-goto l66;
-default:
-goto l28;
-}
-l76:;
-j0 = UINT64_C(7);
-v27 = j0;
-goto l66;
-l73:;
-i0 = v19;
-i1 = UINT32_C(255);
-i0 = i0 & i1;
-i1 = UINT32_C(101);
-i0 = (i0 != i1);
-if (i0) { goto l28; }
-i0 = v35;
-i1 = UINT32_C(255);
-i0 = i0 & i1;
-i1 = UINT32_C(98);
-i0 = (i0 == i1);
-if (i0) { goto l66; }
-goto l28;
-l72:;
-i0 = v19;
-i1 = UINT32_C(255);
-i0 = i0 & i1;
-i1 = UINT32_C(97);
-i0 = (i0 != i1);
-if (i0) { goto l28; }
-j0 = UINT64_C(3);
-v27 = j0;
-i0 = v35;
-i1 = UINT32_C(255);
-i0 = i0 & i1;
-i1 = UINT32_C(4294967182);
-i0 = i0 + i1;
-switch (i0) {
-case 0:
-goto l66;
-case 1:
-goto l28;
-case 2:
-goto l28;
-case 3:
-goto l28;
-case 4:
-goto l28;
-case 5:
-goto l28;
-case 6:
-goto l28;
-case 7:
-goto l77;
-default:
-goto l28;
-}
-l77:;
-j0 = UINT64_C(5);
-v27 = j0;
-goto l66;
-l71:;
-i0 = v19;
-i1 = UINT32_C(255);
-i0 = i0 & i1;
-i1 = UINT32_C(4294967184);
-i0 = i0 + i1;
-switch (i0) {
-case 0:
-goto l79;
-case 1:
-goto l28;
-case 2:
-goto l28;
-case 3:
-goto l28;
-case 4:
-goto l28;
-case 5:
-goto l78;
-default:
-goto l28;
-}
-l79:;
-i0 = v35;
-i1 = UINT32_C(255);
-i0 = i0 & i1;
-i1 = UINT32_C(114);
-i0 = (i0 != i1);
-if (i0) { goto l28; }
-j0 = UINT64_C(4);
-v27 = j0;
-goto l66;
-l78:;
-i0 = v35;
-i1 = UINT32_C(255);
-i0 = i0 & i1;
-i1 = UINT32_C(103);
-i0 = (i0 != i1);
-if (i0) { goto l28; }
-j0 = UINT64_C(8);
-v27 = j0;
-goto l66;
-l70:;
-i0 = v19;
-i1 = UINT32_C(255);
-i0 = i0 & i1;
-i1 = UINT32_C(101);
-i0 = (i0 != i1);
-if (i0) { goto l28; }
-i0 = v35;
-i1 = UINT32_C(255);
-i0 = i0 & i1;
-i1 = UINT32_C(112);
-i0 = (i0 != i1);
-if (i0) { goto l28; }
-j0 = UINT64_C(9);
-v27 = j0;
-goto l66;
-l69:;
-i0 = v19;
-i1 = UINT32_C(255);
-i0 = i0 & i1;
-i1 = UINT32_C(99);
-i0 = (i0 != i1);
-if (i0) { goto l28; }
-i0 = v35;
-i1 = UINT32_C(255);
-i0 = i0 & i1;
-i1 = UINT32_C(116);
-i0 = (i0 != i1);
-if (i0) { goto l28; }
-j0 = UINT64_C(10);
-v27 = j0;
-goto l66;
-l68:;
-i0 = v19;
-i1 = UINT32_C(255);
-i0 = i0 & i1;
-i1 = UINT32_C(111);
-i0 = (i0 != i1);
-if (i0) { goto l28; }
-i0 = v35;
-i1 = UINT32_C(255);
-i0 = i0 & i1;
-i1 = UINT32_C(118);
-i0 = (i0 != i1);
-if (i0) { goto l28; }
-j0 = UINT64_C(11);
-v27 = j0;
-goto l66;
-l67:;
-i0 = v19;
-i1 = UINT32_C(255);
-i0 = i0 & i1;
-i1 = UINT32_C(101);
-i0 = (i0 != i1);
-if (i0) { goto l28; }
-i0 = v35;
-i1 = UINT32_C(255);
-i0 = i0 & i1;
-i1 = UINT32_C(99);
-i0 = (i0 != i1);
-if (i0) { goto l28; }
-j0 = UINT64_C(12);
-v27 = j0;
-l66:;
-j0 = v46;
-j1 = UINT64_C(3);
-j0 = j0 + j1;
-v34 = j0;
-l34:;
-j0 = v34;
-v46 = j0;
-j0 = v47;
-j1 = UINT64_C(1);
-j0 = j0 + j1;
-v47 = j0;
-j1 = v25;
-i0 = (j0 != j1);
-if (i0) { goto l33; }
-l29:;
-j0 = v34;
-j1 = v4;
-i0 = (j0 != j1);
-if (i0) { goto l81; }
-j0 = v33;
-v46 = j0;
-j0 = v4;
-v25 = j0;
-goto l80;
-l81:;
-j0 = v0;
-j1 = v34;
-j0 = j0 + j1;
-p37 = read_at(j0, m, 1u);
-i0 = load8(p37 + 0);
-i1 = UINT32_C(253);
-i0 = i0 & i1;
-i1 = UINT32_C(44);
-i0 = (i0 != i1);
-if (i0) { goto l83; }
-j0 = v34;
-j1 = UINT64_C(1);
-j0 = j0 + j1;
-v49 = j0;
-j1 = v4;
-i0 = (j0 >= j1);
-if (i0) { goto l83; }
-j0 = v11;
-j1 = v34;
-j0 = j0 + j1;
-v48 = j0;
-j0 = UINT64_C(0);
-v1 = j0;
-j0 = UINT64_C(0);
-v46 = j0;
-l86:;
-j0 = v48;
-j1 = v1;
-j0 = j0 + j1;
-p38 = read_at(j0, m, 1u);
-i0 = load8(p38 + 0);
-i1 = UINT32_C(4294967248);
-i0 = i0 + i1;
-v14 = i0;
-i1 = UINT32_C(255);
-i0 = i0 & i1;
-i1 = UINT32_C(9);
-i0 = (i0 > i1);
-if (i0) { goto l85; }
-j0 = v46;
-j1 = UINT64_C(10);
-j0 = j0 * j1;
-i1 = v14;
-j1 = (uint64_t)i1;
-j2 = UINT64_C(255);
-j1 = j1 & j2;
-j0 = j0 + j1;
-v46 = j0;
-j0 = v1;
-j1 = UINT64_C(1);
-j0 = j0 + j1;
-v18 = j0;
-j0 = v34;
-j1 = v1;
-j0 = j0 + j1;
-j1 = UINT64_C(2);
-j0 = j0 + j1;
-j1 = v4;
-i0 = (j0 >= j1);
-if (i0) { goto l87; }
-j0 = v18;
-v1 = j0;
-j0 = v18;
-j1 = UINT64_C(9);
-i0 = (j0 < j1);
-if (i0) { goto l86; }
-l87:;
-j0 = v34;
-j1 = v18;
-j0 = j0 + j1;
-j1 = UINT64_C(1);
-j0 = j0 + j1;
-v25 = j0;
-goto l84;
-l85:;
-j0 = v34;
-j1 = v1;
-j0 = j0 + j1;
-j1 = UINT64_C(1);
-j0 = j0 + j1;
-v25 = j0;
-l84:;
-j0 = v25;
-j1 = v49;
-i0 = (j0 == j1);
-if (i0) { goto l83; }
-j0 = v25;
-j1 = v34;
-j2 = UINT64_C(18446744073709551615);
-j1 = j1 ^ j2;
-j0 = j0 + j1;
-j1 = UINT64_C(18446744073709551615);
-j0 = j0 + j1;
-v1 = j0;
-j1 = UINT64_C(8);
-i0 = (j0 > j1);
-if (i0) { goto l82; }
-j0 = v1;
-i0 = (uint32_t)j0;
-switch (i0) {
-case 0:
-goto l95;
-case 1:
-goto l94;
-case 2:
-goto l93;
-case 3:
-goto l92;
-case 4:
-goto l91;
-case 5:
-goto l82;
-case 6:
-goto l90;
-case 7:
-goto l89;
-case 8:
-goto l88;
-default:
-goto l95;
-}
-l95:;
-j0 = v46;
-j1 = UINT64_C(100000);
-j0 = j0 * j1;
-v46 = j0;
-goto l82;
-l94:;
-j0 = v46;
-j1 = UINT64_C(10000);
-j0 = j0 * j1;
-v46 = j0;
-goto l82;
-l93:;
-j0 = v46;
-j1 = UINT64_C(1000);
-j0 = j0 * j1;
-v46 = j0;
-goto l82;
-l92:;
-j0 = v46;
-j1 = UINT64_C(100);
-j0 = j0 * j1;
-v46 = j0;
-goto l82;
-l91:;
-j0 = v46;
-j1 = UINT64_C(10);
-j0 = j0 * j1;
-v46 = j0;
-goto l82;
-l90:;
-j0 = v46;
-j1 = UINT64_C(10);
-j0 = divide64(j0, j1);
-v46 = j0;
-goto l82;
-l89:;
-j0 = v46;
-j1 = UINT64_C(100);
-j0 = divide64(j0, j1);
-v46 = j0;
-goto l82;
-l88:;
-j0 = v46;
-j1 = UINT64_C(1000);
-j0 = divide64(j0, j1);
-v46 = j0;
-goto l82;
-l83:;
-j0 = v33;
-v46 = j0;
-j0 = v34;
-v25 = j0;
-l82:;
-j0 = v4;
-j1 = v25;
-j0 = j0 - j1;
-v18 = j0;
-j0 = v4;
-j1 = v25;
-i0 = (j0 == j1);
-if (i0) { goto l96; }
-j0 = v0;
-j1 = v25;
-j0 = j0 + j1;
-v1 = j0;
-p39 = read_at(j0, m, 1u);
-i0 = load8(p39 + 0);
-v14 = i0;
-j0 = v18;
-j1 = UINT64_C(1);
-i0 = (j0 > j1);
-if (i0) { goto l102; }
-i0 = v14;
-i1 = UINT32_C(4294967206);
-i0 = i0 + i1;
-switch (i0) {
-case 0:
-goto l96;
-case 1:
-goto l100;
-case 2:
-goto l100;
-case 3:
-goto l100;
-case 4:
-goto l100;
-case 5:
-goto l28;
-default:
-goto l101;
-}
-l102:;
-i0 = v14;
-i1 = UINT32_C(4294967264);
-i0 = i0 + i1;
-switch (i0) {
-case 0:
-goto l103;
-case 1:
-goto l100;
-case 2:
-goto l100;
-case 3:
-goto l100;
-case 4:
-goto l100;
-case 5:
-goto l100;
-case 6:
-goto l100;
-case 7:
-goto l100;
-case 8:
-goto l100;
-case 9:
-goto l100;
-case 10:
-goto l100;
-case 11:
-goto l100;
-case 12:
-goto l100;
-case 13:
-goto l100;
-case 14:
-goto l104;
-case 15:
-goto l100;
-case 16:
-goto l100;
-case 17:
-goto l100;
-case 18:
-goto l100;
-case 19:
-goto l100;
-case 20:
-goto l100;
-case 21:
-goto l100;
-case 22:
-goto l100;
-case 23:
-goto l100;
-case 24:
-goto l100;
-case 25:
-goto l100;
-case 26:
-goto l105;
-default:
-goto l106;
-}
-l106:;
-i0 = v14;
-i1 = UINT32_C(4294967206);
-i0 = i0 + i1;
-switch (i0) {
-case 0:
-goto l96;
-case 1:
-goto l100;
-case 2:
-goto l100;
-case 3:
-goto l100;
-case 4:
-goto l100;
-case 5:
-goto l28;
-default:
-goto l100;
-}
-l105:;
-j0 = v1;
-j1 = UINT64_C(1);
-j0 = j0 + j1;
-p40 = read_at(j0, m, 1u);
-i0 = load8(p40 + 0);
-v14 = i0;
-i1 = UINT32_C(48);
-i0 = (i0 < i1);
-if (i0) { goto l96; }
-i0 = v14;
-i1 = UINT32_C(58);
-i0 = (i0 < i1);
-if (i0) { goto l28; }
-i0 = v14;
-i1 = UINT32_C(65);
-i0 = (i0 < i1);
-if (i0) { goto l96; }
-i0 = v14;
-i1 = UINT32_C(71);
-i0 = (i0 < i1);
-if (i0) { goto l28; }
-i0 = v14;
-i1 = UINT32_C(4294967199);
-i0 = i0 + i1;
-i1 = UINT32_C(255);
-i0 = i0 & i1;
-i1 = UINT32_C(6);
-i0 = (i0 >= i1);
-if (i0) { goto l96; }
-goto l28;
-l104:;
-j0 = v1;
-j1 = UINT64_C(1);
-j0 = j0 + j1;
-p41 = read_at(j0, m, 1u);
-i0 = load8(p41 + 0);
-i1 = UINT32_C(4294967248);
-i0 = i0 + i1;
-i1 = UINT32_C(255);
-i0 = i0 & i1;
-i1 = UINT32_C(10);
-i0 = (i0 >= i1);
-if (i0) { goto l96; }
-goto l28;
-l103:;
-j0 = v18;
-j1 = UINT64_C(18446744073709551614);
-j0 = j0 + j1;
-v34 = j0;
-j1 = UINT64_C(1);
-i0 = (j0 > j1);
-if (i0) { goto l107; }
-j0 = v34;
-i0 = (uint32_t)j0;
-switch (i0) {
-case 0:
-goto l96;
-case 1:
-goto l108;
-default:
-goto l96;
-}
-l108:;
-j0 = v1;
-j1 = UINT64_C(1);
-j0 = j0 + j1;
-p42 = read_at(j0, m, 1u);
-i0 = load8(p42 + 0);
-i1 = UINT32_C(4294967187);
-i0 = i0 + i1;
-v14 = i0;
-i1 = UINT32_C(8);
-i0 = (i0 > i1);
-if (i0) { goto l96; }
-i0 = UINT32_C(1);
-i1 = v14;
-i0 = i0 << (i1 & 31);
-i1 = UINT32_C(259);
-i0 = i0 & i1;
-i0 = (i0 == 0);
-if (i0) { goto l96; }
-j0 = v1;
-j1 = UINT64_C(2);
-j0 = j0 + j1;
-p43 = read_at(j0, m, 1u);
-i0 = load8(p43 + 0);
-i1 = UINT32_C(115);
-i0 = (i0 != i1);
-if (i0) { goto l96; }
-goto l28;
-l107:;
-j0 = v1;
-j1 = UINT64_C(1);
-j0 = j0 + j1;
-p44 = read_at(j0, m, 1u);
-i0 = load8(p44 + 0);
-v14 = i0;
-j0 = v18;
-j1 = UINT64_C(4);
-i0 = (j0 > j1);
-if (i0) { goto l110; }
-i0 = v14;
-i1 = UINT32_C(4294967102);
-i0 = i0 + i1;
-switch (i0) {
-case 0:
-goto l112;
-case 1:
-goto l99;
-case 2:
-goto l99;
-case 3:
-goto l99;
-case 4:
-goto l99;
-case 5:
-goto l99;
-case 6:
-goto l99;
-case 7:
-goto l99;
-case 8:
-goto l99;
-case 9:
-goto l99;
-case 10:
-goto l99;
-case 11:
-goto l99;
-case 12:
-goto l111;
-default:
-goto l109;
-}
-l112:;
-j0 = v1;
-j1 = UINT64_C(2);
-j0 = j0 + j1;
-p45 = read_at(j0, m, 1u);
-i0 = load8(p45 + 0);
-i1 = UINT32_C(181);
-i0 = (i0 != i1);
-if (i0) { goto l96; }
-j0 = v1;
-j1 = UINT64_C(3);
-j0 = j0 + j1;
-p46 = read_at(j0, m, 1u);
-i0 = load8(p46 + 0);
-i1 = UINT32_C(115);
-i0 = (i0 != i1);
-if (i0) { goto l96; }
-goto l28;
-l111:;
-j0 = v1;
-j1 = UINT64_C(2);
-j0 = j0 + j1;
-p47 = read_at(j0, m, 1u);
-i0 = load8(p47 + 0);
-i1 = UINT32_C(188);
-i0 = (i0 != i1);
-if (i0) { goto l96; }
-j0 = v1;
-j1 = UINT64_C(3);
-j0 = j0 + j1;
-p48 = read_at(j0, m, 1u);
-i0 = load8(p48 + 0);
-i1 = UINT32_C(115);
-i0 = (i0 != i1);
-if (i0) { goto l96; }
-goto l28;
-l110:;
-i0 = v14;
-i1 = UINT32_C(4294967102);
-i0 = i0 + i1;
-switch (i0) {
-case 0:
-goto l117;
-case 1:
-goto l113;
-case 2:
-goto l113;
-case 3:
-goto l113;
-case 4:
-goto l113;
-case 5:
-goto l113;
-case 6:
-goto l113;
-case 7:
-goto l113;
-case 8:
-goto l113;
-case 9:
-goto l113;
-case 10:
-goto l113;
-case 11:
-goto l113;
-case 12:
-goto l116;
-default:
-goto l114;
-}
-l117:;
-j0 = v1;
-j1 = UINT64_C(2);
-j0 = j0 + j1;
-p49 = read_at(j0, m, 1u);
-i0 = load8(p49 + 0);
-i1 = UINT32_C(181);
-i0 = (i0 != i1);
-if (i0) { goto l96; }
-j0 = v1;
-j1 = UINT64_C(3);
-j0 = j0 + j1;
-p50 = read_at(j0, m, 1u);
-i0 = load8(p50 + 0);
-i1 = UINT32_C(115);
-i0 = (i0 == i1);
-if (i0) { goto l115; }
-goto l96;
-l116:;
-j0 = v1;
-j1 = UINT64_C(2);
-j0 = j0 + j1;
-p51 = read_at(j0, m, 1u);
-i0 = load8(p51 + 0);
-i1 = UINT32_C(188);
-i0 = (i0 != i1);
-if (i0) { goto l96; }
-j0 = v1;
-j1 = UINT64_C(3);
-j0 = j0 + j1;
-p52 = read_at(j0, m, 1u);
-i0 = load8(p52 + 0);
-i1 = UINT32_C(115);
-i0 = (i0 != i1);
-if (i0) { goto l96; }
-l115:;
-j0 = v1;
-j1 = UINT64_C(4);
-j0 = j0 + j1;
-v1 = j0;
-goto l97;
-l114:;
-i0 = v14;
-i1 = UINT32_C(117);
-i0 = (i0 == i1);
-if (i0) { goto l98; }
-l113:;
-i0 = v14;
-i1 = UINT32_C(4294967187);
-i0 = i0 + i1;
-i1 = UINT32_C(255);
-i0 = i0 & i1;
-i1 = UINT32_C(2);
-i0 = (i0 < i1);
-if (i0) { goto l98; }
-goto l96;
-l109:;
-i0 = v14;
-i1 = UINT32_C(117);
-i0 = (i0 != i1);
-if (i0) { goto l99; }
-goto l98;
-l101:;
-i0 = v14;
-i1 = UINT32_C(32);
-i0 = (i0 == i1);
-if (i0) { goto l96; }
-l100:;
-i0 = v14;
-i1 = UINT32_C(48);
-i0 = (i0 < i1);
-if (i0) { goto l96; }
-i0 = v14;
-i1 = UINT32_C(58);
-i0 = (i0 < i1);
-if (i0) { goto l28; }
-i0 = v14;
-i1 = UINT32_C(65);
-i0 = (i0 < i1);
-if (i0) { goto l96; }
-i0 = v14;
-i1 = UINT32_C(91);
-i0 = (i0 < i1);
-if (i0) { goto l28; }
-i0 = v14;
-i1 = UINT32_C(97);
-i0 = (i0 < i1);
-if (i0) { goto l96; }
-i0 = v14;
-i0 = (uint32_t)extend(i0 & 255, 7);
-i1 = UINT32_C(123);
-i0 = (SIGNED32(i0) < SIGNED32(i1));
-if (i0) { goto l28; }
-goto l96;
-l99:;
-i0 = v14;
-i1 = UINT32_C(4294967187);
-i0 = i0 + i1;
-i1 = UINT32_C(255);
-i0 = i0 & i1;
-i1 = UINT32_C(2);
-i0 = (i0 >= i1);
-if (i0) { goto l96; }
-l98:;
-j0 = v1;
-j1 = UINT64_C(2);
-j0 = j0 + j1;
-p53 = read_at(j0, m, 1u);
-i0 = load8(p53 + 0);
-i1 = UINT32_C(115);
-i0 = (i0 != i1);
-if (i0) { goto l96; }
-j0 = v1;
-j1 = UINT64_C(3);
-j0 = j0 + j1;
-v1 = j0;
-l97:;
-j0 = v1;
-p54 = read_at(j0, m, 1u);
-i0 = load8(p54 + 0);
-v14 = i0;
-i1 = UINT32_C(95);
-i0 = (i0 == i1);
-if (i0) { goto l96; }
-i0 = v14;
-i1 = UINT32_C(48);
-i0 = (i0 < i1);
-if (i0) { goto l28; }
-i0 = v14;
-i1 = UINT32_C(58);
-i0 = (i0 < i1);
-if (i0) { goto l96; }
-i0 = v14;
-i1 = UINT32_C(65);
-i0 = (i0 < i1);
-if (i0) { goto l28; }
-i0 = v14;
-i1 = UINT32_C(91);
-i0 = (i0 < i1);
-if (i0) { goto l96; }
-i0 = v14;
-i1 = UINT32_C(97);
-i0 = (i0 < i1);
-if (i0) { goto l28; }
-i0 = v14;
-i0 = (uint32_t)extend(i0 & 255, 7);
-i1 = UINT32_C(122);
-i0 = (SIGNED32(i0) > SIGNED32(i1));
-if (i0) { goto l28; }
-l96:;
-j0 = v25;
-v1 = j0;
-j0 = v4;
-j1 = v25;
-i0 = (j0 <= j1);
-if (i0) { goto l118; }
-j0 = v25;
-v1 = j0;
-l120:;
-j0 = v0;
-j1 = v1;
-j0 = j0 + j1;
-p55 = read_at(j0, m, 1u);
-i0 = load8(p55 + 0);
-i1 = UINT32_C(32);
-i0 = (i0 != i1);
-if (i0) { goto l119; }
-j0 = v4;
-j1 = v1;
-j2 = UINT64_C(1);
-j1 = j1 + j2;
-v1 = j1;
-i0 = (j0 != j1);
-if (i0) { goto l120; }
-j0 = v4;
-v1 = j0;
-l119:;
-j0 = v4;
-j1 = v1;
-j0 = j0 - j1;
-v18 = j0;
-l118:;
-j0 = v18;
-j1 = UINT64_C(2);
-i0 = (j0 < j1);
-if (i0) { goto l80; }
-j0 = v0;
-j1 = v1;
-j0 = j0 + j1;
-v34 = j0;
-p56 = read_at(j0 + UINT64_C(1), m, 1u);
-i0 = load8(p56 + 0);
-i1 = UINT32_C(32);
-i0 = i0 | i1;
-i1 = UINT32_C(109);
-i0 = (i0 != i1);
-if (i0) { goto l80; }
-j0 = v18;
-j1 = UINT64_C(2);
-i0 = (j0 == j1);
-if (i0) { goto l121; }
-j0 = v34;
-j1 = UINT64_C(2);
-j0 = j0 + j1;
-p57 = read_at(j0, m, 1u);
-i0 = load8(p57 + 0);
-v14 = i0;
-i1 = UINT32_C(95);
-i0 = (i0 == i1);
-if (i0) { goto l80; }
-i0 = v14;
-i1 = UINT32_C(48);
-i0 = (i0 < i1);
-if (i0) { goto l121; }
-i0 = v14;
-i1 = UINT32_C(58);
-i0 = (i0 < i1);
-if (i0) { goto l80; }
-i0 = v14;
-i1 = UINT32_C(65);
-i0 = (i0 < i1);
-if (i0) { goto l121; }
-i0 = v14;
-i1 = UINT32_C(91);
-i0 = (i0 < i1);
-if (i0) { goto l80; }
-i0 = v14;
-i1 = UINT32_C(97);
-i0 = (i0 < i1);
-if (i0) { goto l121; }
-i0 = v14;
-i0 = (uint32_t)extend(i0 & 255, 7);
-i1 = UINT32_C(123);
-i0 = (SIGNED32(i0) < SIGNED32(i1));
-if (i0) { goto l80; }
-l121:;
-j0 = v34;
-p58 = read_at(j0, m, 1u);
-i0 = load8(p58 + 0);
-v14 = i0;
-i1 = UINT32_C(4294967231);
-i0 = i0 + i1;
-switch (i0) {
-case 0:
-goto l124;
-case 1:
-goto l80;
-case 2:
-goto l80;
-case 3:
-goto l80;
-case 4:
-goto l80;
-case 5:
-goto l80;
-case 6:
-goto l80;
-case 7:
-goto l80;
-case 8:
-goto l80;
-case 9:
-goto l80;
-case 10:
-goto l80;
-case 11:
-goto l80;
-case 12:
-goto l80;
-case 13:
-goto l80;
-case 14:
-goto l80;
-case 15:
-goto l123;
-default:
-goto l125;
-}
-l125:;
-i0 = v14;
-i1 = UINT32_C(4294967199);
-i0 = i0 + i1;
-switch (i0) {
-case 0:
-goto l124;
-case 1:
-goto l80;
-case 2:
-goto l80;
-case 3:
-goto l80;
-case 4:
-goto l80;
-case 5:
-goto l80;
-case 6:
-goto l80;
-case 7:
-goto l80;
-case 8:
-goto l80;
-case 9:
-goto l80;
-case 10:
-goto l80;
-case 11:
-goto l80;
-case 12:
-goto l80;
-case 13:
-goto l80;
-case 14:
-goto l80;
-case 15:
-goto l123;
-default:
-goto l80;
-}
-l124:;
-j0 = v30;
-j1 = UINT64_C(12);
-j0 = remainder64(j0, j1);
-v30 = j0;
-goto l122;
-l123:;
-j0 = v30;
-j1 = UINT64_C(12);
-j0 = remainder64(j0, j1);
-j1 = UINT64_C(12);
-j0 = j0 + j1;
-v30 = j0;
-l122:;
-j0 = v1;
-j1 = UINT64_C(2);
-j0 = j0 + j1;
-v25 = j0;
-l80:;
-j0 = v30;
-j1 = UINT64_C(24);
-i0 = (j0 < j1);
-j1 = v31;
-j2 = UINT64_C(60);
-i1 = (j1 < j2);
-i0 = i0 & i1;
-j1 = v27;
-j2 = UINT64_C(13);
-i1 = (j1 < j2);
-i0 = i0 & i1;
-v14 = i0;
-j0 = v29;
-i0 = (j0 == 0);
-i0 = (i0 == 0);
-if (i0) { goto l127; }
-j0 = UINT64_C(0);
-v1 = j0;
-goto l126;
-l127:;
-j0 = v27;
-j1 = UINT64_C(2);
-i0 = (j0 > j1);
-if (i0) { goto l129; }
-j0 = v27;
-j1 = UINT64_C(9);
-j0 = j0 + j1;
-v1 = j0;
-j0 = v28;
-j1 = v28;
+j1 = v2;
+j1 = load8(p1 + 16);
+v9 = j1;
+store64(p3 + 7528, j1);
+j0 = v8;
+j1 = v2;
+j1 = load64(p1 + 40);
 j2 = UINT64_C(0);
-i1 = (j1 != j2);
-j1 = (uint64_t)i1;
-j0 = j0 - j1;
-v28 = j0;
-goto l128;
-l129:;
-j0 = v27;
-j1 = UINT64_C(18446744073709551613);
-j0 = j0 + j1;
-v1 = j0;
-l128:;
-j0 = UINT64_C(0);
-j1 = v29;
-j2 = v28;
-j3 = UINT64_C(100);
-j2 = divide64(j2, j3);
-j1 = j1 - j2;
-j2 = v28;
-j3 = UINT64_C(2);
-j2 = j2 >> (j3 & 63);
-j1 = j1 + j2;
-j2 = v28;
-j3 = UINT64_C(400);
-j2 = divide64(j2, j3);
-j1 = j1 + j2;
-j2 = v28;
-j3 = UINT64_C(365);
-j2 = j2 * j3;
-j1 = j1 + j2;
-j2 = v1;
-j3 = UINT64_C(153);
-j2 = j2 * j3;
-j3 = UINT64_C(2);
-j2 = j2 + j3;
-j3 = UINT64_C(5);
-j2 = divide64(j2, j3);
-j1 = j1 + j2;
-v1 = j1;
-j2 = UINT64_C(18446744073708832147);
-j1 = j1 + j2;
-v18 = j1;
-j2 = v18;
-j3 = v1;
-i2 = (j2 > j3);
-j0 = i2 ? j0 : j1;
-j1 = UINT64_C(24);
-j0 = j0 * j1;
-v1 = j0;
-l126:;
-i0 = v14;
-if (i0) { goto l18; }
-l28:;
-j0 = v24;
-j1 = UINT64_C(1);
-j0 = j0 + j1;
-v24 = j0;
-j1 = UINT64_C(9);
-i0 = (j0 != j1);
-if (i0) { goto l27; }
-l19:;
-i0 = v16;
-i1 = UINT32_C(255);
-i0 = i0 & i1;
-v14 = i0;
-i1 = UINT32_C(95);
-i0 = (i0 == i1);
-if (i0) { goto l17; }
-i0 = v14;
-i1 = UINT32_C(48);
-i0 = (i0 < i1);
-if (i0) { goto l131; }
-i0 = v16;
-i1 = UINT32_C(255);
-i0 = i0 & i1;
-v14 = i0;
-i1 = UINT32_C(58);
-i0 = (i0 < i1);
-if (i0) { goto l17; }
-i0 = v14;
-i1 = UINT32_C(65);
-i0 = (i0 < i1);
-if (i0) { goto l132; }
-i0 = v16;
-i1 = UINT32_C(255);
-i0 = i0 & i1;
-v19 = i0;
-i1 = UINT32_C(91);
-i0 = (i0 < i1);
-if (i0) { goto l17; }
-i0 = UINT32_C(1);
-v14 = i0;
-i0 = v19;
-i1 = UINT32_C(97);
-i0 = (i0 < i1);
-if (i0) { goto l16; }
-i0 = v16;
-i0 = (uint32_t)extend(i0 & 255, 7);
-i1 = UINT32_C(122);
-i0 = (SIGNED32(i0) > SIGNED32(i1));
-if (i0) { goto l16; }
-goto l17;
-l132:;
-i0 = v16;
-i1 = UINT32_C(255);
-i0 = i0 & i1;
-i1 = UINT32_C(58);
-i0 = (i0 == i1);
-if (i0) { goto l17; }
-goto l130;
-l131:;
-i0 = v16;
-i1 = UINT32_C(255);
-i0 = i0 & i1;
-i1 = UINT32_C(45);
-i0 = (i0 >= i1);
-if (i0) { goto l17; }
-l130:;
-i0 = UINT32_C(1);
-v14 = i0;
-goto l16;
-l18:;
-j0 = v0;
-j1 = UINT64_C(73064);
-j0 = j0 + j1;
-j1 = UINT64_C(1);
-store64(p3 + 7528, j1);
-j0 = v0;
-j1 = UINT64_C(73072);
-j0 = j0 + j1;
-j1 = v1;
-j2 = v30;
-j1 = j1 + j2;
-j2 = UINT64_C(60);
-j1 = j1 * j2;
-j2 = v31;
-j1 = j1 + j2;
-j2 = UINT64_C(60);
-j1 = j1 * j2;
-j2 = v32;
-j1 = j1 + j2;
-j2 = UINT64_C(1000000);
-j1 = j1 * j2;
-j2 = v46;
-j1 = j1 + j2;
+j3 = v9;
+j4 = UINT64_C(1);
+i3 = (j3 == j4);
+v10 = i3;
+j1 = i3 ? j1 : j2;
 store64(p3 + 7536, j1);
-goto l13;
-l17:;
-i0 = UINT32_C(0);
-v14 = i0;
-l16:;
-j0 = v13;
-j1 = UINT64_C(1);
-j0 = j0 + j1;
-v13 = j0;
-j1 = v10;
-i0 = (j0 != j1);
-if (i0) { goto l15; }
-l14:;
-j0 = v8;
-j1 = UINT64_C(0);
-store64(p3 + 7536, j1);
-j0 = v8;
-j1 = UINT64_C(0);
-store64(p3 + 7528, j1);
-j0 = v4;
-v13 = j0;
-j0 = v4;
-v25 = j0;
-l13:;
 j0 = v7;
 j1 = v0;
 j2 = v4;
-j3 = v13;
-j4 = v25;
+j3 = v2;
+j3 = load64(p1 + 24);
+j4 = v4;
+i5 = v10;
+j3 = i5 ? j3 : j4;
+v11 = j3;
+j4 = v2;
+j4 = load64(p1 + 32);
+j5 = v4;
+i6 = v10;
+j4 = i6 ? j4 : j5;
+v12 = j4;
 j5 = v3;
 i0 = fio_log_patterns_Patterns_read(m, j0, j1, j2, j3, j4, j5);
 if (i0) { goto l3; }
-j0 = UINT64_C(0);
-v28 = j0;
 j0 = v2;
 j1 = UINT64_C(0);
-store64(p1 + 184, j1);
+store64(p1 + 216, j1);
+j0 = v2;
+j1 = UINT64_C(0);
+store64(p1 + 224, j1);
+j0 = v2;
+j1 = UINT64_C(0);
+store64(p1 + 232, j1);
+j0 = v2;
+j1 = UINT64_C(0);
+store64(p1 + 240, j1);
+j0 = v2;
+j1 = UINT64_C(0);
+store64(p1 + 248, j1);
 j0 = v2;
 j1 = UINT64_C(0);
 store64(p1 + 192, j1);
+j0 = v2;
+j1 = UINT64_C(14695981039346656037);
+store64(p1 + 184, j1);
+j0 = v2;
+j1 = UINT64_C(14695981039346656037);
+store64(p1 + 176, j1);
+j0 = v2;
+j1 = UINT64_C(14695981039346656037);
+store64(p1 + 168, j1);
+j0 = v2;
+j1 = v12;
+store64(p1 + 160, j1);
+j0 = v2;
+j1 = v11;
+store64(p1 + 152, j1);
 j0 = v2;
 j1 = UINT64_C(0);
 store64(p1 + 200, j1);
@@ -38309,292 +35760,286 @@ j1 = UINT64_C(0);
 store64(p1 + 208, j1);
 j0 = v2;
 j1 = UINT64_C(0);
-store64(p1 + 216, j1);
+store64(p1 + 48, j1);
 j0 = v2;
 j1 = UINT64_C(0);
-store64(p1 + 160, j1);
-j0 = v2;
-j1 = UINT64_C(14695981039346656037);
-store64(p1 + 152, j1);
-j0 = v2;
-j1 = UINT64_C(14695981039346656037);
-store64(p1 + 144, j1);
-j0 = v2;
-j1 = UINT64_C(14695981039346656037);
-store64(p1 + 136, j1);
-j0 = v2;
-j1 = v25;
-store64(p1 + 128, j1);
-j0 = v2;
-j1 = v13;
-store64(p1 + 120, j1);
+store64(p1 + 56, j1);
 j0 = v2;
 j1 = UINT64_C(0);
-store64(p1 + 168, j1);
+store64(p1 + 64, j1);
 j0 = v2;
-j1 = UINT64_C(0);
-store64(p1 + 176, j1);
-j0 = v2;
-j1 = UINT64_C(0);
-store64(p1 + 16, j1);
-j0 = v2;
-j1 = UINT64_C(0);
-store64(p1 + 24, j1);
-j0 = v2;
-j1 = UINT64_C(0);
-store64(p1 + 32, j1);
-j0 = v2;
-j1 = UINT64_C(16);
+j1 = UINT64_C(48);
 j0 = j0 + j1;
 j1 = v0;
 j2 = v4;
 fio_log_glance_Glance_of(m, j0, j1, j2);
 j0 = v2;
-j1 = UINT64_C(424);
+j1 = UINT64_C(456);
 j0 = j0 + j1;
 i1 = UINT32_C(0);
 j2 = UINT64_C(792);
 fill(m, j0, i1, j2);
 j0 = v2;
-j0 = load64(p1 + 16);
-v49 = j0;
+j0 = load64(p1 + 48);
+v13 = j0;
 j1 = UINT64_C(1152923171054157824);
 j0 = j0 & j1;
 j1 = v2;
-j1 = load64(p1 + 24);
-v47 = j1;
+j1 = load64(p1 + 56);
+v14 = j1;
 j2 = UINT64_C(576460752437641216);
 j1 = j1 & j2;
 j0 = j0 | j1;
 i0 = (j0 == 0);
-if (i0) { goto l133; }
+if (i0) { goto l13; }
 j0 = UINT64_C(0);
 v1 = j0;
+j0 = v2;
+j1 = UINT64_C(0);
+store64(p1 + 112, j1);
+j0 = v2;
+j1 = UINT64_C(0);
+store64(p1 + 104, j1);
+j0 = v2;
+j1 = UINT64_C(0);
+store64(p1 + 96, j1);
+j0 = v2;
+j1 = UINT64_C(0);
+store64(p1 + 88, j1);
 j0 = v2;
 j1 = UINT64_C(0);
 store64(p1 + 80, j1);
 j0 = v2;
 j1 = UINT64_C(0);
 store64(p1 + 72, j1);
+j0 = v4;
+i0 = (j0 == 0);
+if (i0) { goto l13; }
 j0 = v2;
-j1 = UINT64_C(0);
-store64(p1 + 64, j1);
-j0 = v2;
-j1 = UINT64_C(0);
-store64(p1 + 56, j1);
-j0 = v2;
-j1 = UINT64_C(0);
-store64(p1 + 48, j1);
-j0 = v2;
-j1 = UINT64_C(0);
-store64(p1 + 40, j1);
-i0 = v9;
-if (i0) { goto l133; }
-j0 = v2;
-j1 = UINT64_C(48);
+j1 = UINT64_C(80);
 j0 = j0 + j1;
-v18 = j0;
-l134:;
+v8 = j0;
+l14:;
 j0 = v2;
-j1 = UINT64_C(40);
+j1 = UINT64_C(72);
 j0 = j0 + j1;
 j1 = v0;
 j2 = v4;
 j3 = v1;
 j4 = v2;
-j5 = UINT64_C(424);
+j5 = UINT64_C(456);
 j4 = j4 + j5;
 fio_log_found_bracketed_at(m, j0, j1, j2, j3, j4);
 j0 = v2;
-i0 = load8(p1 + 40);
+i0 = load8(p1 + 72);
 i1 = UINT32_C(1);
 i0 = (i0 != i1);
-if (i0) { goto l135; }
+if (i0) { goto l15; }
 j0 = v0;
 j1 = v4;
-j2 = v18;
+j2 = v8;
 j3 = v2;
-j4 = UINT64_C(424);
+j4 = UINT64_C(456);
 j3 = j3 + j4;
 j4 = v2;
-j5 = UINT64_C(120);
+j5 = UINT64_C(152);
 j4 = j4 + j5;
 j5 = v3;
 fio_log_line_runs_keep(m, j0, j1, j2, j3, j4, j5);
-l135:;
+l15:;
 j0 = v4;
 j1 = v1;
 j2 = UINT64_C(1);
 j1 = j1 + j2;
 v1 = j1;
 i0 = (j0 != j1);
-if (i0) { goto l134; }
-l133:;
+if (i0) { goto l14; }
+l13:;
+j0 = UINT64_C(0);
+v15 = j0;
 j0 = v2;
-i0 = load8(p1 + 32);
-v19 = i0;
-l136:;
-j0 = v28;
+i0 = load8(p1 + 64);
+v16 = i0;
+l16:;
+j0 = v15;
 j1 = UINT64_C(5);
 j0 = j0 << (j1 & 63);
 v1 = j0;
-p59 = read_at(j0 + UINT64_C(66320), m, 24u);
-j0 = load64(p59 + 16);
-v48 = j0;
+p4 = read_at(j0 + UINT64_C(66320), m, 24u);
+j0 = load64(p4 + 16);
+v17 = j0;
 j0 = v1;
-j0 = load64(p59 + 8);
-v46 = j0;
-j0 = v1;
-j0 = load64(p59 + 0);
+j0 = load64(p4 + 8);
 v18 = j0;
+j0 = v1;
+j0 = load64(p4 + 0);
+v8 = j0;
 i0 = (j0 == 0);
-if (i0) { goto l138; }
+if (i0) { goto l18; }
 j0 = v1;
-p60 = read_at(j0 + UINT64_C(66312), m, 8u);
-j0 = load64(p60 + 0);
+p5 = read_at(j0 + UINT64_C(66312), m, 8u);
+j0 = load64(p5 + 0);
 v1 = j0;
-l139:;
+l19:;
 j0 = v1;
-p61 = read_at(j0, m, 1u);
-i0 = load8(p61 + 0);
-v14 = i0;
+p6 = read_at(j0, m, 1u);
+i0 = load8(p6 + 0);
+v10 = i0;
 i1 = UINT32_C(63);
 i0 = (i0 > i1);
-if (i0) { goto l141; }
+if (i0) { goto l21; }
 j0 = UINT64_C(1);
-i1 = v14;
+i1 = v10;
 j1 = (uint64_t)i1;
 j0 = j0 << (j1 & 63);
-j1 = v49;
+j1 = v13;
 j0 = j0 & j1;
-v34 = j0;
-goto l140;
-l141:;
-i0 = v14;
+v9 = j0;
+goto l20;
+l21:;
+i0 = v10;
 i0 = (uint32_t)extend(i0 & 255, 7);
 i1 = UINT32_C(0);
 i0 = (SIGNED32(i0) < SIGNED32(i1));
-if (i0) { goto l137; }
+if (i0) { goto l17; }
 j0 = UINT64_C(1);
-i1 = v14;
+i1 = v10;
 i2 = UINT32_C(4294967232);
 i1 = i1 + i2;
 j1 = (uint64_t)i1;
 j2 = UINT64_C(255);
 j1 = j1 & j2;
 j0 = j0 << (j1 & 63);
-j1 = v47;
+j1 = v14;
 j0 = j0 & j1;
-v34 = j0;
-l140:;
-j0 = v34;
+v9 = j0;
+l20:;
+j0 = v9;
 i0 = (j0 == 0);
-if (i0) { goto l137; }
+if (i0) { goto l17; }
 j0 = v1;
 j1 = UINT64_C(1);
 j0 = j0 + j1;
 v1 = j0;
+j0 = v8;
+j1 = UINT64_C(18446744073709551615);
+j0 = j0 + j1;
+v8 = j0;
+i0 = (j0 == 0);
+i0 = (i0 == 0);
+if (i0) { goto l19; }
+l18:;
+j0 = v17;
+i0 = (j0 == 0);
+if (i0) { goto l22; }
+l23:;
 j0 = v18;
-j1 = UINT64_C(18446744073709551615);
-j0 = j0 + j1;
-v18 = j0;
-i0 = (j0 == 0);
-i0 = (i0 == 0);
-if (i0) { goto l139; }
-l138:;
-j0 = v48;
-i0 = (j0 == 0);
-if (i0) { goto l142; }
-l143:;
-j0 = v46;
-p62 = read_at(j0, m, 1u);
-i0 = load8(p62 + 0);
-v14 = i0;
+p7 = read_at(j0, m, 1u);
+i0 = load8(p7 + 0);
+v10 = i0;
 i1 = UINT32_C(63);
 i0 = (i0 > i1);
-if (i0) { goto l145; }
+if (i0) { goto l25; }
 j0 = UINT64_C(1);
-i1 = v14;
+i1 = v10;
 j1 = (uint64_t)i1;
 j0 = j0 << (j1 & 63);
-j1 = v49;
+j1 = v13;
 j0 = j0 & j1;
 v1 = j0;
-goto l144;
-l145:;
-i0 = v14;
+goto l24;
+l25:;
+i0 = v10;
 i0 = (uint32_t)extend(i0 & 255, 7);
 i1 = UINT32_C(0);
 i0 = (SIGNED32(i0) < SIGNED32(i1));
-if (i0) { goto l137; }
+if (i0) { goto l17; }
 j0 = UINT64_C(1);
-i1 = v14;
+i1 = v10;
 i2 = UINT32_C(4294967232);
 i1 = i1 + i2;
 j1 = (uint64_t)i1;
 j2 = UINT64_C(255);
 j1 = j1 & j2;
 j0 = j0 << (j1 & 63);
-j1 = v47;
+j1 = v14;
 j0 = j0 & j1;
 v1 = j0;
-l144:;
+l24:;
 j0 = v1;
 i0 = (j0 == 0);
-if (i0) { goto l137; }
-j0 = v46;
+if (i0) { goto l17; }
+j0 = v18;
 j1 = UINT64_C(1);
 j0 = j0 + j1;
-v46 = j0;
-j0 = v48;
+v18 = j0;
+j0 = v17;
 j1 = UINT64_C(18446744073709551615);
 j0 = j0 + j1;
-v48 = j0;
+v17 = j0;
 i0 = (j0 == 0);
 i0 = (i0 == 0);
-if (i0) { goto l143; }
-l142:;
-j0 = v28;
+if (i0) { goto l23; }
+l22:;
+j0 = v15;
 i0 = (uint32_t)j0;
-v14 = i0;
-i0 = v19;
+v10 = i0;
+i0 = v16;
 i1 = UINT32_C(1);
 i0 = i0 & i1;
 i0 = (i0 == 0);
-if (i0) { goto l146; }
+if (i0) { goto l26; }
 j0 = v0;
 j1 = v4;
-i2 = v14;
+i2 = v10;
 i3 = UINT32_C(1);
 j4 = v2;
-j5 = UINT64_C(424);
+j5 = UINT64_C(456);
 j4 = j4 + j5;
 j5 = v2;
-j6 = UINT64_C(120);
+j6 = UINT64_C(152);
 j5 = j5 + j6;
 j6 = v3;
 fio_log_line_runs_find_marked(m, j0, j1, i2, i3, j4, j5, j6);
-l146:;
+l26:;
 j0 = v0;
 j1 = v4;
-i2 = v14;
+i2 = v10;
 i3 = UINT32_C(0);
 j4 = v2;
-j5 = UINT64_C(424);
+j5 = UINT64_C(456);
 j4 = j4 + j5;
 j5 = v2;
-j6 = UINT64_C(120);
+j6 = UINT64_C(152);
 j5 = j5 + j6;
 j6 = v3;
 fio_log_line_runs_find_marked(m, j0, j1, i2, i3, j4, j5, j6);
-l137:;
-j0 = v28;
+l17:;
+j0 = v15;
 j1 = UINT64_C(1);
 j0 = j0 + j1;
-v28 = j0;
+v15 = j0;
 j1 = UINT64_C(9);
 i0 = (j0 != j1);
-if (i0) { goto l136; }
+if (i0) { goto l16; }
+j0 = v2;
+j1 = UINT64_C(0);
+store64(p1 + 120, j1);
+j0 = v2;
+j1 = UINT64_C(0);
+store64(p1 + 128, j1);
+j0 = v2;
+j1 = UINT64_C(0);
+store64(p1 + 136, j1);
+j0 = v2;
+j1 = UINT64_C(0);
+store64(p1 + 144, j1);
+j0 = v2;
+j1 = UINT64_C(0);
+store64(p1 + 72, j1);
+j0 = v2;
+j1 = UINT64_C(0);
+store64(p1 + 80, j1);
 j0 = v2;
 j1 = UINT64_C(0);
 store64(p1 + 88, j1);
@@ -38608,152 +36053,134 @@ j0 = v2;
 j1 = UINT64_C(0);
 store64(p1 + 112, j1);
 j0 = v2;
-j1 = UINT64_C(0);
-store64(p1 + 40, j1);
-j0 = v2;
-j1 = UINT64_C(0);
-store64(p1 + 48, j1);
-j0 = v2;
-j1 = UINT64_C(0);
-store64(p1 + 56, j1);
-j0 = v2;
-j1 = UINT64_C(0);
-store64(p1 + 64, j1);
-j0 = v2;
-j1 = UINT64_C(0);
-store64(p1 + 72, j1);
-j0 = v2;
-j1 = UINT64_C(0);
-store64(p1 + 80, j1);
-j0 = v2;
-i0 = load8(p1 + 176);
+i0 = load8(p1 + 208);
 i1 = UINT32_C(1);
 i0 = (i0 != i1);
-if (i0) { goto l147; }
+if (i0) { goto l27; }
 j0 = v0;
 j1 = UINT64_C(73048);
 j0 = j0 + j1;
 j0 = load64(p3 + 7512);
 j1 = UINT64_C(1);
 j0 = j0 + j1;
-v18 = j0;
+v8 = j0;
 j0 = v2;
-i0 = load8(p1 + 210);
+i0 = load8(p1 + 242);
+v16 = i0;
+j0 = v2;
+i0 = load8(p1 + 241);
 v19 = i0;
 j0 = v2;
-i0 = load8(p1 + 209);
-v35 = i0;
+i0 = load8(p1 + 240);
+v10 = i0;
 j0 = v2;
-i0 = load8(p1 + 208);
-v14 = i0;
+j0 = load64(p1 + 224);
+v18 = j0;
 j0 = v2;
-j0 = load64(p1 + 192);
-v46 = j0;
-j0 = v2;
-j0 = load64(p1 + 184);
-v49 = j0;
+j0 = load64(p1 + 216);
+v13 = j0;
 j0 = v3;
-v34 = j0;
-l149:;
-j0 = v34;
+v9 = j0;
+l29:;
+j0 = v9;
 v1 = j0;
-j0 = v18;
+j0 = v8;
 j1 = UINT64_C(18446744073709551615);
 j0 = j0 + j1;
-v18 = j0;
+v8 = j0;
 i0 = (j0 == 0);
-if (i0) { goto l148; }
+if (i0) { goto l28; }
 j0 = v1;
 j1 = UINT64_C(936);
 j0 = j0 + j1;
-v34 = j0;
+v9 = j0;
 j0 = v1;
 j1 = UINT64_C(8);
 j0 = j0 + j1;
-p63 = read_at(j0, m, 8u);
-j0 = load64(p63 + 0);
-v48 = j0;
-j1 = v46;
+p8 = read_at(j0, m, 8u);
+j0 = load64(p8 + 0);
+v17 = j0;
+j1 = v18;
 i0 = (j0 < j1);
-if (i0) { goto l149; }
-j0 = v46;
-j1 = v48;
+if (i0) { goto l29; }
+j0 = v18;
+j1 = v17;
 i0 = (j0 == j1);
-j1 = v49;
+j1 = v13;
 j2 = v1;
-p64 = read_at(j2, m, 8u);
-j2 = load64(p64 + 0);
+p9 = read_at(j2, m, 8u);
+j2 = load64(p9 + 0);
 i1 = (j1 < j2);
 i0 = i0 & i1;
-if (i0) { goto l149; }
-goto l147;
-l148:;
-i0 = v14;
+if (i0) { goto l29; }
+goto l27;
+l28:;
+i0 = v10;
 i1 = UINT32_C(255);
 i0 = i0 & i1;
-if (i0) { goto l151; }
+if (i0) { goto l31; }
 j0 = v2;
-j1 = UINT64_C(40);
+j1 = UINT64_C(72);
 j0 = j0 + j1;
 j1 = v0;
 j2 = v4;
-j3 = v49;
+j3 = v13;
 j4 = v2;
-j4 = load64(p1 + 120);
+j4 = load64(p1 + 152);
 j5 = v2;
-j5 = load64(p1 + 128);
-i6 = v35;
-i7 = v19;
+j5 = load64(p1 + 160);
+i6 = v19;
+i7 = v16;
 i8 = UINT32_C(1);
 i7 = i7 & i8;
 j8 = v2;
-j9 = UINT64_C(424);
+j9 = UINT64_C(456);
 j8 = j8 + j9;
 fio_log_found_next_words(m, j0, j1, j2, j3, j4, j5, i6, i7, j8);
-goto l150;
-l151:;
+goto l30;
+l31:;
 j0 = v2;
-j1 = UINT64_C(40);
+j1 = UINT64_C(72);
 j0 = j0 + j1;
 j1 = v0;
 j2 = v4;
-j3 = v49;
+j3 = v13;
 j4 = v2;
-j5 = UINT64_C(424);
+j5 = UINT64_C(456);
 j4 = j4 + j5;
 fio_log_found_bracketed_at(m, j0, j1, j2, j3, j4);
-l150:;
+l30:;
 j0 = v2;
-i0 = load8(p1 + 40);
+i0 = load8(p1 + 72);
 i1 = UINT32_C(1);
 i0 = (i0 != i1);
-if (i0) { goto l147; }
+if (i0) { goto l27; }
 j0 = v2;
-j1 = UINT64_C(88);
+j1 = UINT64_C(120);
 j0 = j0 + j1;
 j1 = v2;
-j2 = UINT64_C(424);
+j2 = UINT64_C(456);
 j1 = j1 + j2;
 j2 = v2;
-j2 = load64(p1 + 1208);
+j2 = load64(p1 + 1240);
 fio_log_sayings_read_saying(m, j0, j1, j2);
 j0 = v0;
 j1 = v4;
 j2 = v2;
-j3 = UINT64_C(48);
+j3 = UINT64_C(80);
 j2 = j2 + j3;
 j3 = v2;
-j4 = UINT64_C(88);
+j4 = UINT64_C(120);
 j3 = j3 + j4;
 j4 = v2;
-j5 = UINT64_C(424);
+j5 = UINT64_C(456);
 j4 = j4 + j5;
 j5 = v2;
-j6 = UINT64_C(120);
+j6 = UINT64_C(152);
 j5 = j5 + j6;
 j6 = v3;
 fio_log_line_runs_keep_run(m, j0, j1, j2, j3, j4, j5, j6);
-l147:;
+l27:;
 j0 = v0;
 j1 = UINT64_C(73048);
 j0 = j0 + j1;
@@ -38781,24 +36208,24 @@ if (i0) { goto l3; }
 j0 = v4;
 j1 = v3;
 j1 = load64(p3 + 24);
-v18 = j1;
+v8 = j1;
 i0 = (j0 < j1);
 if (i0) { goto l3; }
 j0 = v2;
-j1 = UINT64_C(424);
+j1 = UINT64_C(456);
 j0 = j0 + j1;
 i1 = UINT32_C(0);
 j2 = UINT64_C(792);
 fill(m, j0, i1, j2);
 j0 = v2;
 j1 = v0;
-j2 = v18;
+j2 = v8;
 j1 = j1 + j2;
 j2 = v4;
-j3 = v18;
+j3 = v8;
 j2 = j2 - j3;
 j3 = v2;
-j4 = UINT64_C(424);
+j4 = UINT64_C(456);
 j3 = j3 + j4;
 fio_log_patterns_read_plain(m, j0, j1, j2, j3);
 j0 = v2;
@@ -38807,180 +36234,180 @@ i1 = UINT32_C(1);
 i0 = (i0 != i1);
 if (i0) { goto l3; }
 j0 = UINT64_C(0);
-v48 = j0;
+v17 = j0;
 j0 = v2;
 j1 = UINT64_C(0);
-store64(p1 + 424, j1);
-j0 = v13;
-j1 = v25;
+store64(p1 + 456, j1);
+j0 = v11;
+j1 = v12;
 i0 = (j0 < j1);
-if (i0) { goto l153; }
+if (i0) { goto l33; }
 j0 = v0;
-v49 = j0;
-goto l152;
-l153:;
-j0 = v18;
-j1 = v25;
+v13 = j0;
+goto l32;
+l33:;
+j0 = v8;
+j1 = v12;
 i0 = (j0 < j1);
 if (i0) { goto l3; }
 j0 = v0;
-j1 = v25;
+j1 = v12;
 j0 = j0 + j1;
-v49 = j0;
-j0 = v18;
-j1 = v25;
+v13 = j0;
+j0 = v8;
+j1 = v12;
 j0 = j0 - j1;
-v48 = j0;
-j0 = v13;
-v18 = j0;
-l152:;
+v17 = j0;
+j0 = v11;
+v8 = j0;
+l32:;
 j0 = v2;
-j1 = v13;
-j2 = v25;
+j1 = v11;
+j2 = v12;
 i1 = (j1 < j2);
-store8(p1 + 424, i1);
+store8(p1 + 456, i1);
 i0 = UINT32_C(0);
-v19 = i0;
+v16 = i0;
 j0 = v2;
-j1 = UINT64_C(432);
+j1 = UINT64_C(464);
 j0 = j0 + j1;
-v47 = j0;
+v14 = j0;
 i1 = UINT32_C(0);
 j2 = UINT64_C(208);
 fill(m, j0, i1, j2);
 j0 = v2;
-j1 = UINT64_C(640);
+j1 = UINT64_C(672);
 j0 = j0 + j1;
 j1 = v0;
 j2 = UINT64_C(66376);
 j1 = j1 + j2;
 j2 = UINT64_C(88);
 copy(m, j0, j1, j2);
-j0 = v18;
+j0 = v8;
 i0 = (j0 == 0);
-v16 = i0;
+v20 = i0;
 if (i0) { goto l6; }
-j0 = v18;
+j0 = v8;
 j1 = UINT64_C(18446744073709551615);
 j0 = j0 + j1;
-v34 = j0;
+v9 = j0;
 i0 = UINT32_C(1);
-v23 = i0;
+v21 = i0;
 j0 = UINT64_C(0);
 v1 = j0;
-l155:;
+l35:;
 j0 = v0;
 j1 = v1;
 j0 = j0 + j1;
-p65 = read_at(j0, m, 1u);
-i0 = load8(p65 + 0);
-v14 = i0;
+p10 = read_at(j0, m, 1u);
+i0 = load8(p10 + 0);
+v10 = i0;
 i1 = UINT32_C(95);
 i0 = (i0 == i1);
-if (i0) { goto l159; }
-i0 = v14;
+if (i0) { goto l39; }
+i0 = v10;
 i1 = UINT32_C(4294967262);
 i0 = i0 + i1;
 switch (i0) {
 case 0:
 goto l3;
 case 1:
-goto l160;
+goto l40;
 case 2:
-goto l160;
+goto l40;
 case 3:
-goto l160;
+goto l40;
 case 4:
-goto l160;
+goto l40;
 case 5:
 goto l3;
 default:
-goto l160;
+goto l40;
 }
-l160:;
-i0 = v14;
+l40:;
+i0 = v10;
 i1 = UINT32_C(48);
 i0 = (i0 < i1);
-if (i0) { goto l162; }
-i0 = v14;
+if (i0) { goto l42; }
+i0 = v10;
 i1 = UINT32_C(58);
 i0 = (i0 >= i1);
-if (i0) { goto l163; }
-i0 = v19;
-v35 = i0;
-goto l157;
-l163:;
-i0 = v14;
+if (i0) { goto l43; }
+i0 = v16;
+v19 = i0;
+goto l37;
+l43:;
+i0 = v10;
 i1 = UINT32_C(65);
 i0 = (i0 < i1);
-if (i0) { goto l162; }
-i0 = v14;
+if (i0) { goto l42; }
+i0 = v10;
 i1 = UINT32_C(91);
 i0 = (i0 < i1);
-if (i0) { goto l161; }
-i0 = v14;
+if (i0) { goto l41; }
+i0 = v10;
 i1 = UINT32_C(97);
 i0 = (i0 < i1);
-if (i0) { goto l162; }
-i0 = v14;
+if (i0) { goto l42; }
+i0 = v10;
 i0 = (uint32_t)extend(i0 & 255, 7);
 i1 = UINT32_C(123);
 i0 = (SIGNED32(i0) < SIGNED32(i1));
-if (i0) { goto l161; }
-l162:;
+if (i0) { goto l41; }
+l42:;
 i0 = UINT32_C(1);
-v35 = i0;
-i0 = UINT32_C(0);
 v19 = i0;
-i0 = v23;
+i0 = UINT32_C(0);
+v16 = i0;
+i0 = v21;
 i1 = UINT32_C(1);
 i0 = i0 & i1;
 i0 = (i0 == 0);
 if (i0) { goto l3; }
-goto l157;
-l161:;
-i0 = UINT32_C(1);
-v35 = i0;
-i0 = v19;
-i1 = UINT32_C(1);
-i0 = i0 & i1;
-v23 = i0;
+goto l37;
+l41:;
 i0 = UINT32_C(1);
 v19 = i0;
-i0 = v23;
-if (i0) { goto l157; }
-goto l158;
-l159:;
-i0 = UINT32_C(1);
-v35 = i0;
-i0 = v19;
+i0 = v16;
 i1 = UINT32_C(1);
 i0 = i0 & i1;
-v23 = i0;
+v21 = i0;
+i0 = UINT32_C(1);
+v16 = i0;
+i0 = v21;
+if (i0) { goto l37; }
+goto l38;
+l39:;
 i0 = UINT32_C(1);
 v19 = i0;
-i0 = v23;
-if (i0) { goto l157; }
-l158:;
-i0 = v14;
+i0 = v16;
+i1 = UINT32_C(1);
+i0 = i0 & i1;
+v21 = i0;
+i0 = UINT32_C(1);
+v16 = i0;
+i0 = v21;
+if (i0) { goto l37; }
+l38:;
+i0 = v10;
 i1 = UINT32_C(71);
 i0 = (i0 < i1);
-if (i0) { goto l164; }
-i0 = v14;
+if (i0) { goto l44; }
+i0 = v10;
 i1 = UINT32_C(4294967199);
 i0 = i0 + i1;
 i1 = UINT32_C(255);
 i0 = i0 & i1;
 i1 = UINT32_C(6);
 i0 = (i0 < i1);
-if (i0) { goto l164; }
-i0 = v14;
+if (i0) { goto l44; }
+i0 = v10;
 i1 = UINT32_C(4294967224);
 i0 = i0 + i1;
-v14 = i0;
+v10 = i0;
 i1 = UINT32_C(4);
 i0 = i0 << (i1 & 31);
-i1 = v14;
+i1 = v10;
 i2 = UINT32_C(240);
 i1 = i1 & i2;
 i2 = UINT32_C(4);
@@ -38990,53 +36417,53 @@ i1 = UINT32_C(255);
 i0 = i0 & i1;
 i1 = UINT32_C(3);
 i0 = (i0 > i1);
-v35 = i0;
 v19 = i0;
-goto l157;
-l164:;
+v16 = i0;
+goto l37;
+l44:;
 i0 = UINT32_C(0);
-v19 = i0;
+v16 = i0;
 i0 = UINT32_C(0);
-v23 = i0;
-j0 = v34;
+v21 = i0;
+j0 = v9;
 j1 = v1;
 i0 = (j0 == j1);
 if (i0) { goto l3; }
-goto l156;
-l157:;
-j0 = v34;
+goto l36;
+l37:;
+j0 = v9;
 j1 = v1;
 i0 = (j0 == j1);
-if (i0) { goto l154; }
-i0 = v35;
-v23 = i0;
-l156:;
+if (i0) { goto l34; }
+i0 = v19;
+v21 = i0;
+l36:;
 j0 = v1;
 j1 = UINT64_C(1);
 j0 = j0 + j1;
 v1 = j0;
-goto l155;
-l154:;
-i0 = v35;
+goto l35;
+l34:;
+i0 = v19;
 i1 = UINT32_C(1);
 i0 = i0 & i1;
 i0 = (i0 == 0);
 if (i0) { goto l3; }
 j0 = v0;
-j1 = v18;
+j1 = v8;
 j0 = j0 + j1;
 j1 = UINT64_C(18446744073709551615);
 j0 = j0 + j1;
-p66 = read_at(j0, m, 1u);
-i0 = load8(p66 + 0);
+p11 = read_at(j0, m, 1u);
+i0 = load8(p11 + 0);
 i1 = UINT32_C(36);
 i0 = (i0 == i1);
 if (i0) { goto l3; }
-j0 = v48;
+j0 = v17;
 i0 = (j0 == 0);
 i0 = (i0 == 0);
 if (i0) { goto l5; }
-j0 = v18;
+j0 = v8;
 j1 = UINT64_C(96);
 i0 = (j0 <= j1);
 if (i0) { goto l4; }
@@ -39044,133 +36471,133 @@ goto l3;
 l7:;
 trap();
 l6:;
-j0 = v48;
+j0 = v17;
 i0 = (j0 == 0);
 if (i0) { goto l4; }
 l5:;
-j0 = v48;
+j0 = v17;
 j1 = UINT64_C(18446744073709551615);
 j0 = j0 + j1;
-v34 = j0;
+v9 = j0;
 j0 = UINT64_C(0);
-v46 = j0;
+v18 = j0;
 i0 = UINT32_C(1);
-v23 = i0;
+v21 = i0;
 i0 = UINT32_C(0);
-v19 = i0;
-j0 = v49;
+v16 = i0;
+j0 = v13;
 v1 = j0;
-l166:;
+l46:;
 j0 = v1;
-p67 = read_at(j0, m, 1u);
-i0 = load8(p67 + 0);
-v14 = i0;
+p12 = read_at(j0, m, 1u);
+i0 = load8(p12 + 0);
+v10 = i0;
 i1 = UINT32_C(95);
 i0 = (i0 == i1);
-if (i0) { goto l170; }
-i0 = v14;
+if (i0) { goto l50; }
+i0 = v10;
 i1 = UINT32_C(4294967262);
 i0 = i0 + i1;
 switch (i0) {
 case 0:
 goto l3;
 case 1:
-goto l171;
+goto l51;
 case 2:
-goto l171;
+goto l51;
 case 3:
-goto l171;
+goto l51;
 case 4:
-goto l171;
+goto l51;
 case 5:
 goto l3;
 default:
-goto l171;
+goto l51;
 }
-l171:;
-i0 = v14;
+l51:;
+i0 = v10;
 i1 = UINT32_C(48);
 i0 = (i0 < i1);
-if (i0) { goto l173; }
-i0 = v14;
+if (i0) { goto l53; }
+i0 = v10;
 i1 = UINT32_C(58);
 i0 = (i0 >= i1);
-if (i0) { goto l174; }
-i0 = v19;
-v35 = i0;
-goto l168;
-l174:;
-i0 = v14;
+if (i0) { goto l54; }
+i0 = v16;
+v19 = i0;
+goto l48;
+l54:;
+i0 = v10;
 i1 = UINT32_C(65);
 i0 = (i0 < i1);
-if (i0) { goto l173; }
-i0 = v14;
+if (i0) { goto l53; }
+i0 = v10;
 i1 = UINT32_C(91);
 i0 = (i0 < i1);
-if (i0) { goto l172; }
-i0 = v14;
+if (i0) { goto l52; }
+i0 = v10;
 i1 = UINT32_C(97);
 i0 = (i0 < i1);
-if (i0) { goto l173; }
-i0 = v14;
+if (i0) { goto l53; }
+i0 = v10;
 i0 = (uint32_t)extend(i0 & 255, 7);
 i1 = UINT32_C(123);
 i0 = (SIGNED32(i0) < SIGNED32(i1));
-if (i0) { goto l172; }
-l173:;
+if (i0) { goto l52; }
+l53:;
 i0 = UINT32_C(1);
-v35 = i0;
-i0 = UINT32_C(0);
 v19 = i0;
-i0 = v23;
+i0 = UINT32_C(0);
+v16 = i0;
+i0 = v21;
 i1 = UINT32_C(1);
 i0 = i0 & i1;
 i0 = (i0 == 0);
 if (i0) { goto l3; }
-goto l168;
-l172:;
-i0 = UINT32_C(1);
-v35 = i0;
-i0 = v19;
-i1 = UINT32_C(1);
-i0 = i0 & i1;
-v23 = i0;
+goto l48;
+l52:;
 i0 = UINT32_C(1);
 v19 = i0;
-i0 = v23;
-if (i0) { goto l168; }
-goto l169;
-l170:;
-i0 = UINT32_C(1);
-v35 = i0;
-i0 = v19;
+i0 = v16;
 i1 = UINT32_C(1);
 i0 = i0 & i1;
-v23 = i0;
+v21 = i0;
+i0 = UINT32_C(1);
+v16 = i0;
+i0 = v21;
+if (i0) { goto l48; }
+goto l49;
+l50:;
 i0 = UINT32_C(1);
 v19 = i0;
-i0 = v23;
-if (i0) { goto l168; }
-l169:;
-i0 = v14;
+i0 = v16;
+i1 = UINT32_C(1);
+i0 = i0 & i1;
+v21 = i0;
+i0 = UINT32_C(1);
+v16 = i0;
+i0 = v21;
+if (i0) { goto l48; }
+l49:;
+i0 = v10;
 i1 = UINT32_C(71);
 i0 = (i0 < i1);
-if (i0) { goto l175; }
-i0 = v14;
+if (i0) { goto l55; }
+i0 = v10;
 i1 = UINT32_C(4294967199);
 i0 = i0 + i1;
 i1 = UINT32_C(255);
 i0 = i0 & i1;
 i1 = UINT32_C(6);
 i0 = (i0 < i1);
-if (i0) { goto l175; }
-i0 = v14;
+if (i0) { goto l55; }
+i0 = v10;
 i1 = UINT32_C(4294967224);
 i0 = i0 + i1;
-v14 = i0;
+v10 = i0;
 i1 = UINT32_C(4);
 i0 = i0 << (i1 & 31);
-i1 = v14;
+i1 = v10;
 i2 = UINT32_C(240);
 i1 = i1 & i2;
 i2 = UINT32_C(4);
@@ -39180,234 +36607,234 @@ i1 = UINT32_C(255);
 i0 = i0 & i1;
 i1 = UINT32_C(3);
 i0 = (i0 > i1);
-v35 = i0;
 v19 = i0;
-goto l168;
-l175:;
-j0 = v34;
+v16 = i0;
+goto l48;
+l55:;
+j0 = v9;
 i0 = (j0 == 0);
 if (i0) { goto l3; }
-j0 = v46;
+j0 = v18;
 j1 = UINT64_C(1);
 j0 = j0 + j1;
-v46 = j0;
+v18 = j0;
 i0 = UINT32_C(0);
-v19 = i0;
+v16 = i0;
 i0 = UINT32_C(0);
-v23 = i0;
-goto l167;
-l168:;
-j0 = v34;
+v21 = i0;
+goto l47;
+l48:;
+j0 = v9;
 i0 = (j0 == 0);
-if (i0) { goto l165; }
-j0 = v46;
+if (i0) { goto l45; }
+j0 = v18;
 j1 = UINT64_C(1);
 j0 = j0 + j1;
-v46 = j0;
-i0 = v35;
-v23 = i0;
-l167:;
+v18 = j0;
+i0 = v19;
+v21 = i0;
+l47:;
 j0 = v1;
 j1 = UINT64_C(1);
 j0 = j0 + j1;
 v1 = j0;
-j0 = v34;
+j0 = v9;
 j1 = UINT64_C(18446744073709551615);
 j0 = j0 + j1;
-v34 = j0;
-goto l166;
-l165:;
-i0 = v35;
+v9 = j0;
+goto l46;
+l45:;
+i0 = v19;
 i1 = UINT32_C(1);
 i0 = i0 & i1;
 i0 = (i0 == 0);
 if (i0) { goto l3; }
-j0 = v18;
+j0 = v8;
 j1 = UINT64_C(96);
 i0 = (j0 > j1);
 if (i0) { goto l3; }
-j0 = v49;
-j1 = v48;
+j0 = v13;
+j1 = v17;
 j0 = j0 + j1;
 j1 = UINT64_C(18446744073709551615);
 j0 = j0 + j1;
-p68 = read_at(j0, m, 1u);
-i0 = load8(p68 + 0);
+p13 = read_at(j0, m, 1u);
+i0 = load8(p13 + 0);
 i1 = UINT32_C(255);
 i0 = i0 & i1;
 i1 = UINT32_C(36);
 i0 = (i0 == i1);
 if (i0) { goto l3; }
 l4:;
-i0 = v16;
-if (i0) { goto l176; }
-j0 = v47;
+i0 = v20;
+if (i0) { goto l56; }
+j0 = v14;
 j1 = v0;
-j2 = v18;
+j2 = v8;
 copy(m, j0, j1, j2);
-l176:;
+l56:;
 j0 = v2;
-j1 = v18;
-p69 = write_at(j0 + UINT64_C(528), m, 112u);
-store64(p69 + 0, j1);
+j1 = v8;
+p14 = write_at(j0 + UINT64_C(560), m, 112u);
+store64(p14 + 0, j1);
 j0 = UINT64_C(96);
 j1 = v2;
-j1 = load64(p69 + 104);
+j1 = load64(p14 + 104);
 v1 = j1;
 j0 = j0 - j1;
-j1 = v48;
+j1 = v17;
 i0 = (j0 < j1);
 if (i0) { goto l3; }
-j0 = v48;
+j0 = v17;
 i0 = (j0 == 0);
-if (i0) { goto l177; }
+if (i0) { goto l57; }
 j0 = v2;
-j1 = UINT64_C(536);
+j1 = UINT64_C(568);
 j0 = j0 + j1;
 j1 = v1;
 j0 = j0 + j1;
-j1 = v49;
-j2 = v48;
+j1 = v13;
+j2 = v17;
 copy(m, j0, j1, j2);
-l177:;
+l57:;
 j0 = v2;
 j1 = v1;
-j2 = v48;
+j2 = v17;
 j1 = j1 + j2;
-store64(p69 + 104, j1);
+store64(p14 + 104, j1);
 j0 = v2;
-j1 = UINT64_C(120);
+j1 = UINT64_C(152);
 j0 = j0 + j1;
 j1 = v2;
-j2 = UINT64_C(424);
+j2 = UINT64_C(456);
 j1 = j1 + j2;
 j2 = UINT64_C(304);
 copy(m, j0, j1, j2);
 j0 = v7;
 j1 = v2;
-j2 = UINT64_C(120);
+j2 = UINT64_C(152);
 j1 = j1 + j2;
 fio_log_patterns_Patterns_set_next(m, j0, j1);
 l3:;
 i0 = UINT32_C(1);
-v14 = i0;
+v10 = i0;
 j0 = v0;
 j1 = UINT64_C(446288);
 j0 = j0 + j1;
-p70 = read_at(j0, m, 1u);
-i0 = load8(p70 + 0);
+p15 = read_at(j0, m, 1u);
+i0 = load8(p15 + 0);
 i1 = UINT32_C(1);
 i0 = (i0 != i1);
-if (i0) { goto l178; }
+if (i0) { goto l58; }
 j0 = v0;
 j1 = UINT64_C(74320);
 j0 = j0 + j1;
-v46 = j0;
+v18 = j0;
 j0 = v0;
 j1 = UINT64_C(282368);
 j0 = j0 + j1;
-p71 = read_at(j0, m, 90152u);
-j0 = load64(p71 + 0);
+p16 = read_at(j0, m, 90152u);
+j0 = load64(p16 + 0);
 v1 = j0;
 j1 = v0;
 j2 = UINT64_C(372512);
 j1 = j1 + j2;
-j1 = load64(p71 + 90144);
-v48 = j1;
+j1 = load64(p16 + 90144);
+v17 = j1;
 j2 = UINT64_C(18446744073709551615);
 j1 = j1 ^ j2;
 i0 = (j0 > j1);
-if (i0) { goto l183; }
-j0 = v48;
+if (i0) { goto l63; }
+j0 = v17;
 j1 = v1;
 j0 = j0 + j1;
 j1 = v5;
 i0 = (j0 != j1);
-if (i0) { goto l183; }
+if (i0) { goto l63; }
 j0 = v0;
 j1 = UINT64_C(446296);
 j0 = j0 + j1;
-p72 = read_at(j0, m, 8u);
-j0 = load64(p72 + 0);
-v49 = j0;
+p17 = read_at(j0, m, 8u);
+j0 = load64(p17 + 0);
+v14 = j0;
 i0 = v6;
-if (i0) { goto l184; }
+if (i0) { goto l64; }
 j0 = v4;
 i0 = (j0 == 0);
-if (i0) { goto l185; }
+if (i0) { goto l65; }
 j0 = v0;
 v1 = j0;
 j0 = v4;
-v18 = j0;
-l186:;
+v8 = j0;
+l66:;
 j0 = v1;
-p73 = read_at(j0, m, 1u);
-j0 = load8(p73 + 0);
-v34 = j0;
+p18 = read_at(j0, m, 1u);
+j0 = load8(p18 + 0);
+v9 = j0;
 j1 = UINT64_C(32);
 i0 = (j0 > j1);
-if (i0) { goto l184; }
+if (i0) { goto l64; }
 j0 = UINT64_C(1);
-j1 = v34;
+j1 = v9;
 j0 = j0 << (j1 & 63);
 j1 = UINT64_C(4294981120);
 j0 = j0 & j1;
 j1 = UINT64_C(0);
 i0 = (j0 == j1);
-if (i0) { goto l184; }
+if (i0) { goto l64; }
 j0 = v1;
 j1 = UINT64_C(1);
 j0 = j0 + j1;
 v1 = j0;
-j0 = v18;
+j0 = v8;
 j1 = UINT64_C(18446744073709551615);
 j0 = j0 + j1;
-v18 = j0;
+v8 = j0;
 j1 = UINT64_C(0);
 i0 = (j0 != j1);
-if (i0) { goto l186; }
-l185:;
-j0 = v48;
+if (i0) { goto l66; }
+l65:;
+j0 = v17;
 j1 = UINT64_C(1);
 i0 = (j0 > j1);
-if (i0) { goto l183; }
+if (i0) { goto l63; }
 j0 = v0;
 j1 = UINT64_C(372618);
 j0 = j0 + j1;
-p74 = read_at(j0, m, 1u);
-i0 = load8(p74 + 0);
+p19 = read_at(j0, m, 1u);
+i0 = load8(p19 + 0);
 i1 = UINT32_C(1);
 i0 = i0 & i1;
-if (i0) { goto l183; }
+if (i0) { goto l63; }
 j0 = v0;
 j1 = UINT64_C(372648);
 j0 = j0 + j1;
-p75 = read_at(j0, m, 1u);
-i0 = load8(p75 + 0);
+p20 = read_at(j0, m, 1u);
+i0 = load8(p20 + 0);
 i1 = UINT32_C(1);
 i0 = (i0 != i1);
-if (i0) { goto l183; }
+if (i0) { goto l63; }
 j0 = v0;
 j1 = UINT64_C(372602);
 j0 = j0 + j1;
-p76 = read_at(j0, m, 1u);
-i0 = load8(p76 + 0);
+p21 = read_at(j0, m, 1u);
+i0 = load8(p21 + 0);
 i1 = UINT32_C(1);
 i0 = (i0 != i1);
-if (i0) { goto l183; }
+if (i0) { goto l63; }
 j0 = v0;
 j1 = UINT64_C(372632);
 j0 = j0 + j1;
-p77 = read_at(j0, m, 1u);
-i0 = load8(p77 + 0);
+p22 = read_at(j0, m, 1u);
+i0 = load8(p22 + 0);
 i1 = UINT32_C(1);
 i0 = (i0 != i1);
-if (i0) { goto l183; }
+if (i0) { goto l63; }
 j0 = v0;
 j1 = UINT64_C(282376);
 j0 = j0 + j1;
-i0 = load8(p71 + 8);
-if (i0) { goto l183; }
+i0 = load8(p16 + 8);
+if (i0) { goto l63; }
 j0 = v0;
 j1 = UINT64_C(306976);
 j0 = j0 + j1;
@@ -39415,706 +36842,706 @@ v1 = j0;
 j0 = v0;
 j1 = UINT64_C(306968);
 j0 = j0 + j1;
-j0 = load64(p71 + 24600);
-v18 = j0;
+j0 = load64(p16 + 24600);
+v8 = j0;
 i0 = (j0 == 0);
-if (i0) { goto l187; }
-j0 = v18;
+if (i0) { goto l67; }
+j0 = v8;
 j1 = UINT64_C(2);
 j0 = j0 << (j1 & 63);
-v18 = j0;
+v8 = j0;
 i0 = (j0 == 0);
-if (i0) { goto l188; }
+if (i0) { goto l68; }
 j0 = v0;
 j1 = UINT64_C(298776);
 j0 = j0 + j1;
 i1 = UINT32_C(0);
-j2 = v18;
+j2 = v8;
 fill(m, j0, i1, j2);
-l188:;
+l68:;
 j0 = v0;
 j1 = UINT64_C(306968);
 j0 = j0 + j1;
 j1 = UINT64_C(0);
-p78 = write_at(j0, m, 8u);
-store64(p78 + 0, j1);
+p23 = write_at(j0, m, 8u);
+store64(p23 + 0, j1);
 j0 = v0;
 j1 = UINT64_C(372512);
 j0 = j0 + j1;
-j0 = load64(p71 + 90144);
-v48 = j0;
-l187:;
+j0 = load64(p16 + 90144);
+v17 = j0;
+l67:;
 j0 = v1;
-j1 = v48;
+j1 = v17;
 j2 = UINT64_C(2);
 j1 = j1 << (j2 & 63);
 j0 = j0 + j1;
 i1 = UINT32_C(0);
-p79 = write_at(j0, m, 4u);
-store32(p79 + 0, i1);
+p24 = write_at(j0, m, 4u);
+store32(p24 + 0, i1);
 j0 = v0;
 j1 = UINT64_C(372618);
 j0 = j0 + j1;
 i1 = UINT32_C(1);
-p80 = write_at(j0 + UINT64_C(18446744073709551510), m, 107u);
-store8(p80 + 106, i1);
+p25 = write_at(j0 + UINT64_C(18446744073709551510), m, 107u);
+store8(p25 + 106, i1);
 j0 = v0;
 j1 = UINT64_C(372512);
 j0 = j0 + j1;
-j1 = v48;
+j1 = v17;
 j2 = UINT64_C(1);
 j1 = j1 + j2;
-store64(p80 + 0, j1);
-goto l180;
-l184:;
+store64(p25 + 0, j1);
+goto l60;
+l64:;
 j0 = v0;
 j1 = UINT64_C(282360);
 j0 = j0 + j1;
-v47 = j0;
+v15 = j0;
 j0 = v0;
 j1 = UINT64_C(372618);
 j0 = j0 + j1;
-p81 = read_at(j0, m, 1u);
-i0 = load8(p81 + 0);
-if (i0) { goto l189; }
-j0 = v47;
-p82 = read_at(j0, m, 1u);
-j0 = load8(p82 + 0);
+p26 = read_at(j0, m, 1u);
+i0 = load8(p26 + 0);
+if (i0) { goto l69; }
+j0 = v15;
+p27 = read_at(j0, m, 1u);
+j0 = load8(p27 + 0);
 i0 = (uint32_t)j0;
 switch (i0) {
 case 0:
-goto l194;
+goto l74;
 case 1:
-goto l191;
+goto l71;
 case 2:
-goto l193;
+goto l73;
 case 3:
-goto l192;
+goto l72;
 case 4:
-goto l189;
+goto l69;
 default:
-goto l194;
+goto l74;
 }
-l194:;
+l74:;
 j0 = v4;
 i0 = (j0 == 0);
 i0 = (i0 == 0);
-if (i0) { goto l196; }
+if (i0) { goto l76; }
 i0 = UINT32_C(0);
-v23 = i0;
-goto l195;
-l196:;
-j0 = v0;
-p83 = read_at(j0, m, 1u);
-i0 = load8(p83 + 0);
 v19 = i0;
+goto l75;
+l76:;
+j0 = v0;
+p28 = read_at(j0, m, 1u);
+i0 = load8(p28 + 0);
+v16 = i0;
 i1 = UINT32_C(9);
 i0 = (i0 == i1);
-i1 = v19;
+i1 = v16;
 i2 = UINT32_C(32);
 i1 = (i1 == i2);
 i0 = i0 | i1;
-v23 = i0;
-l195:;
+v19 = i0;
+l75:;
 j0 = v0;
 j1 = UINT64_C(73048);
 j0 = j0 + j1;
-p84 = read_at(j0, m, 8u);
-j0 = load64(p84 + 0);
-v4 = j0;
+p29 = read_at(j0, m, 8u);
+j0 = load64(p29 + 0);
+v17 = j0;
 i0 = (j0 == 0);
-if (i0) { goto l189; }
+if (i0) { goto l69; }
 j0 = v0;
 j1 = UINT64_C(372656);
 j0 = j0 + j1;
-v27 = j0;
-j0 = v4;
+v22 = j0;
+j0 = v17;
 j1 = UINT64_C(18446744073709551615);
 j0 = j0 + j1;
-v24 = j0;
+v11 = j0;
 j0 = v0;
 j1 = UINT64_C(372584);
 j0 = j0 + j1;
-p85 = read_at(j0, m, 1u);
-i0 = load8(p85 + 0);
-v19 = i0;
+p30 = read_at(j0, m, 1u);
+i0 = load8(p30 + 0);
+v16 = i0;
 i0 = UINT32_C(1);
-v35 = i0;
+v6 = i0;
 j0 = UINT64_C(0);
-v26 = j0;
+v12 = j0;
 j0 = UINT64_C(0);
-v25 = j0;
+v7 = j0;
 j0 = UINT64_C(0);
-v18 = j0;
-l197:;
-j0 = v18;
+v8 = j0;
+l77:;
+j0 = v8;
 j1 = UINT64_C(936);
 j0 = j0 * j1;
 v1 = j0;
-j0 = v18;
-v34 = j0;
-l199:;
+j0 = v8;
+v9 = j0;
+l79:;
 j0 = v0;
 j1 = v1;
 j0 = j0 + j1;
-v18 = j0;
+v8 = j0;
 j1 = UINT64_C(66440);
 j0 = j0 + j1;
-p86 = read_at(j0, m, 1u);
-i0 = load8(p86 + 0);
-i1 = v19;
+p31 = read_at(j0, m, 1u);
+i0 = load8(p31 + 0);
+i1 = v16;
 i2 = UINT32_C(255);
 i1 = i1 & i2;
 i0 = (i0 != i1);
-if (i0) { goto l200; }
-j0 = v18;
+if (i0) { goto l80; }
+j0 = v8;
 j1 = UINT64_C(66462);
 j0 = j0 + j1;
-p87 = read_at(j0, m, 1u);
-i0 = load8(p87 + 0);
+p32 = read_at(j0, m, 1u);
+i0 = load8(p32 + 0);
 i1 = UINT32_C(1);
 i0 = (i0 != i1);
-if (i0) { goto l200; }
-j0 = v18;
+if (i0) { goto l80; }
+j0 = v8;
 j1 = UINT64_C(66460);
 j0 = j0 + j1;
-p88 = read_at(j0, m, 1u);
-i0 = load8(p88 + 0);
+p33 = read_at(j0, m, 1u);
+i0 = load8(p33 + 0);
 i1 = UINT32_C(1);
 i0 = (i0 != i1);
-if (i0) { goto l201; }
-j0 = v18;
+if (i0) { goto l81; }
+j0 = v8;
 j1 = UINT64_C(66376);
 j0 = j0 + j1;
-p89 = read_at(j0, m, 8u);
-j0 = load64(p89 + 0);
+p34 = read_at(j0, m, 8u);
+j0 = load64(p34 + 0);
 j1 = v0;
 j2 = UINT64_C(372520);
 j1 = j1 + j2;
-p90 = read_at(j1, m, 8u);
-j1 = load64(p90 + 0);
+p35 = read_at(j1, m, 8u);
+j1 = load64(p35 + 0);
 i0 = (j0 != j1);
-if (i0) { goto l200; }
-l201:;
-j0 = v18;
+if (i0) { goto l80; }
+l81:;
+j0 = v8;
 j1 = UINT64_C(66448);
 j0 = j0 + j1;
-p91 = read_at(j0, m, 8u);
-j0 = load64(p91 + 0);
-v48 = j0;
+p36 = read_at(j0, m, 8u);
+j0 = load64(p36 + 0);
+v13 = j0;
 i0 = (j0 == 0);
-if (i0) { goto l202; }
+if (i0) { goto l82; }
 j0 = v0;
 j1 = UINT64_C(372592);
 j0 = j0 + j1;
-p92 = read_at(j0, m, 8u);
-j0 = load64(p92 + 0);
-v28 = j0;
+p37 = read_at(j0, m, 8u);
+j0 = load64(p37 + 0);
+v4 = j0;
 i0 = (j0 == 0);
-if (i0) { goto l202; }
-j0 = v28;
-j1 = v48;
+if (i0) { goto l82; }
+j0 = v4;
+j1 = v13;
 j0 = j0 & j1;
 i0 = (j0 == 0);
-if (i0) { goto l200; }
-l202:;
+if (i0) { goto l80; }
+l82:;
 j0 = v0;
 j1 = UINT64_C(372624);
 j0 = j0 + j1;
-p93 = read_at(j0 + UINT64_C(18446744073709551600), m, 24u);
-j0 = load64(p93 + 16);
-v48 = j0;
+p38 = read_at(j0 + UINT64_C(18446744073709551600), m, 24u);
+j0 = load64(p38 + 16);
+v13 = j0;
 j1 = v0;
 j2 = UINT64_C(372608);
 j1 = j1 + j2;
-j1 = load64(p93 + 0);
+j1 = load64(p38 + 0);
 i0 = (j0 != j1);
-if (i0) { goto l200; }
-j0 = v18;
+if (i0) { goto l80; }
+j0 = v8;
 j1 = UINT64_C(66368);
 j0 = j0 + j1;
-p94 = read_at(j0, m, 8u);
-j0 = load64(p94 + 0);
-v28 = j0;
-j1 = v48;
+p39 = read_at(j0, m, 8u);
+j0 = load64(p39 + 0);
+v4 = j0;
+j1 = v13;
 i0 = (j0 > j1);
-if (i0) { goto l200; }
-j0 = v26;
-j1 = v28;
+if (i0) { goto l80; }
+j0 = v12;
+j1 = v4;
 i0 = (j0 < j1);
-if (i0) { goto l198; }
-l200:;
+if (i0) { goto l78; }
+l80:;
 j0 = v1;
 j1 = UINT64_C(936);
 j0 = j0 + j1;
 v1 = j0;
-j0 = v4;
-j1 = v34;
+j0 = v17;
+j1 = v9;
 j2 = UINT64_C(1);
 j1 = j1 + j2;
-v34 = j1;
+v9 = j1;
 i0 = (j0 != j1);
-if (i0) { goto l199; }
-i0 = v35;
+if (i0) { goto l79; }
+i0 = v6;
 i1 = UINT32_C(1);
 i0 = i0 & i1;
-if (i0) { goto l189; }
-j0 = v25;
+if (i0) { goto l69; }
+j0 = v7;
 j1 = UINT64_C(936);
 j0 = j0 * j1;
 v1 = j0;
-j0 = v25;
-v34 = j0;
-goto l190;
-l198:;
-j0 = v34;
+j0 = v7;
+v9 = j0;
+goto l70;
+l78:;
+j0 = v9;
 j1 = UINT64_C(1);
 j0 = j0 + j1;
-v18 = j0;
+v8 = j0;
 i0 = UINT32_C(0);
-v35 = i0;
-j0 = v28;
-v26 = j0;
-j0 = v34;
-v25 = j0;
-j0 = v24;
-j1 = v34;
+v6 = i0;
+j0 = v4;
+v12 = j0;
+j0 = v9;
+v7 = j0;
+j0 = v11;
+j1 = v9;
 i0 = (j0 != j1);
-if (i0) { goto l197; }
-goto l190;
-l193:;
+if (i0) { goto l77; }
+goto l70;
+l73:;
 j0 = v2;
-j1 = UINT64_C(120);
+j1 = UINT64_C(152);
 j0 = j0 + j1;
 i1 = UINT32_C(0);
 j2 = UINT64_C(88);
 fill(m, j0, i1, j2);
 j0 = v2;
-j1 = UINT64_C(424);
+j1 = UINT64_C(456);
 j0 = j0 + j1;
 i1 = UINT32_C(0);
 j2 = UINT64_C(792);
 fill(m, j0, i1, j2);
 j0 = v2;
-j1 = UINT64_C(120);
+j1 = UINT64_C(152);
 j0 = j0 + j1;
 j1 = v0;
 j2 = v4;
 j3 = v2;
-j4 = UINT64_C(424);
+j4 = UINT64_C(456);
 j3 = j3 + j4;
 fio_log_offsets_offset_row(m, j0, j1, j2, j3);
 j0 = v2;
-p95 = read_at(j0 + UINT64_C(120), m, 1u);
-i0 = load8(p95 + 0);
+p40 = read_at(j0 + UINT64_C(152), m, 1u);
+i0 = load8(p40 + 0);
 i1 = UINT32_C(1);
 i0 = (i0 != i1);
-if (i0) { goto l189; }
+if (i0) { goto l69; }
 j0 = v2;
-p96 = read_at(j0 + UINT64_C(128), m, 72u);
-j0 = load64(p96 + 64);
-v18 = j0;
+p41 = read_at(j0 + UINT64_C(160), m, 72u);
+j0 = load64(p41 + 64);
+v8 = j0;
 j0 = v2;
-j0 = load64(p96 + 56);
-v4 = j0;
+j0 = load64(p41 + 56);
+v17 = j0;
 j0 = v2;
-j0 = load64(p96 + 48);
-v34 = j0;
+j0 = load64(p41 + 48);
+v9 = j0;
 j0 = v2;
-i0 = load8(p96 + 40);
-v19 = i0;
+i0 = load8(p41 + 40);
+v16 = i0;
 j0 = v2;
-j0 = load64(p96 + 0);
+j0 = load64(p41 + 0);
 j1 = v0;
 j2 = UINT64_C(298768);
 j1 = j1 + j2;
-j1 = load64(p71 + 16400);
+j1 = load64(p16 + 16400);
 v1 = j1;
 i0 = (j0 == j1);
-if (i0) { goto l203; }
+if (i0) { goto l83; }
 j0 = v2;
-j0 = load64(p96 + 32);
-v48 = j0;
+j0 = load64(p41 + 32);
+v13 = j0;
 j0 = v2;
-i0 = load8(p96 + 24);
-v35 = i0;
+i0 = load8(p41 + 24);
+v6 = i0;
 j0 = v2;
-i0 = load8(p96 + 8);
+i0 = load8(p41 + 8);
 i1 = UINT32_C(1);
 i0 = (i0 != i1);
-if (i0) { goto l204; }
+if (i0) { goto l84; }
 j0 = v2;
-j0 = load64(p96 + 16);
+j0 = load64(p41 + 16);
 j1 = v1;
 i0 = (j0 == j1);
-if (i0) { goto l203; }
-l204:;
-i0 = v35;
+if (i0) { goto l83; }
+l84:;
+i0 = v6;
 i1 = UINT32_C(255);
 i0 = i0 & i1;
 i1 = UINT32_C(1);
 i0 = (i0 != i1);
-if (i0) { goto l189; }
-j0 = v48;
+if (i0) { goto l69; }
+j0 = v13;
 j1 = v1;
 i0 = (j0 != j1);
-if (i0) { goto l189; }
-l203:;
-i0 = v19;
+if (i0) { goto l69; }
+l83:;
+i0 = v16;
 i1 = UINT32_C(1);
 i0 = i0 & i1;
-if (i0) { goto l205; }
+if (i0) { goto l85; }
 j0 = v0;
-j1 = v49;
+j1 = v14;
 j2 = UINT64_C(144);
 j1 = j1 * j2;
 j0 = j0 + j1;
 j1 = UINT64_C(415792);
 j0 = j0 + j1;
 j1 = v5;
-p97 = write_at(j0, m, 8u);
-store64(p97 + 0, j1);
-j0 = v46;
-fio_log_judge_Judge_close(m, j0);
-goto l179;
-l205:;
+p42 = write_at(j0, m, 8u);
+store64(p42 + 0, j1);
 j0 = v18;
+fio_log_judge_Judge_close(m, j0);
+goto l59;
+l85:;
+j0 = v8;
 j1 = UINT64_C(11400714819323198485);
 j0 = j0 + j1;
 j1 = v0;
 j2 = UINT64_C(372520);
 j1 = j1 + j2;
-p98 = read_at(j1, m, 8u);
-j1 = load64(p98 + 0);
+p43 = read_at(j1, m, 8u);
+j1 = load64(p43 + 0);
 i0 = (j0 != j1);
-if (i0) { goto l189; }
+if (i0) { goto l69; }
 j0 = v0;
 j1 = UINT64_C(282376);
 j0 = j0 + j1;
-i0 = load8(p71 + 8);
-if (i0) { goto l189; }
-j0 = v4;
-j1 = v34;
+i0 = load8(p16 + 8);
+if (i0) { goto l69; }
+j0 = v17;
+j1 = v9;
 i0 = (j0 < j1);
-if (i0) { goto l189; }
-j0 = v34;
+if (i0) { goto l69; }
+j0 = v9;
 j1 = UINT64_C(65535);
 i0 = (j0 > j1);
-if (i0) { goto l189; }
-j0 = v4;
-j1 = v34;
+if (i0) { goto l69; }
+j0 = v17;
+j1 = v9;
 j0 = j0 - j1;
-v18 = j0;
+v8 = j0;
 j1 = UINT64_C(65535);
 i0 = (j0 > j1);
-if (i0) { goto l189; }
+if (i0) { goto l69; }
 j0 = v0;
 j1 = UINT64_C(372512);
 j0 = j0 + j1;
-j0 = load64(p71 + 90144);
-v4 = j0;
+j0 = load64(p16 + 90144);
+v17 = j0;
 j1 = UINT64_C(16384);
 i0 = (j0 == j1);
-if (i0) { goto l189; }
+if (i0) { goto l69; }
 j0 = v0;
 j1 = UINT64_C(282368);
 j0 = j0 + j1;
-j0 = load64(p71 + 0);
-j1 = v4;
+j0 = load64(p16 + 0);
+j1 = v17;
 j2 = UINT64_C(18446744073709551615);
 j1 = j1 ^ j2;
 i0 = (j0 > j1);
-if (i0) { goto l189; }
+if (i0) { goto l69; }
 j0 = v2;
-p99 = read_at(j0 + UINT64_C(1208), m, 8u);
-j0 = load64(p99 + 0);
-v4 = j0;
+p44 = read_at(j0 + UINT64_C(1240), m, 8u);
+j0 = load64(p44 + 0);
+v17 = j0;
 j0 = v0;
 j1 = UINT64_C(306968);
 j0 = j0 + j1;
-j0 = load64(p71 + 24600);
-v48 = j0;
+j0 = load64(p16 + 24600);
+v13 = j0;
 i0 = (j0 == 0);
-if (i0) { goto l206; }
-j0 = v48;
+if (i0) { goto l86; }
+j0 = v13;
 j1 = UINT64_C(2);
 j0 = j0 << (j1 & 63);
-v48 = j0;
+v13 = j0;
 i0 = (j0 == 0);
-if (i0) { goto l207; }
+if (i0) { goto l87; }
 j0 = v0;
 j1 = UINT64_C(298776);
 j0 = j0 + j1;
 i1 = UINT32_C(0);
-j2 = v48;
+j2 = v13;
 fill(m, j0, i1, j2);
-l207:;
+l87:;
 j0 = v0;
 j1 = UINT64_C(306968);
 j0 = j0 + j1;
 j1 = UINT64_C(0);
-p100 = write_at(j0, m, 8u);
-store64(p100 + 0, j1);
-l206:;
+p45 = write_at(j0, m, 8u);
+store64(p45 + 0, j1);
+l86:;
 j0 = UINT64_C(16384);
 j1 = v1;
 j0 = j0 - j1;
-j1 = v4;
+j1 = v17;
 i0 = (j0 < j1);
-if (i0) { goto l189; }
+if (i0) { goto l69; }
 j0 = v0;
 j1 = UINT64_C(306976);
 j0 = j0 + j1;
-v46 = j0;
-j0 = v18;
+v18 = j0;
+j0 = v8;
 i0 = (uint32_t)j0;
-v14 = i0;
-j0 = v34;
+v10 = i0;
+j0 = v9;
 i0 = (uint32_t)j0;
-v19 = i0;
-j0 = v4;
+v16 = i0;
+j0 = v17;
 i0 = (j0 == 0);
-if (i0) { goto l208; }
+if (i0) { goto l88; }
 j0 = v0;
 j1 = UINT64_C(282384);
 j0 = j0 + j1;
 j1 = v1;
 j0 = j0 + j1;
 j1 = v2;
-j2 = UINT64_C(424);
+j2 = UINT64_C(456);
 j1 = j1 + j2;
-j2 = v4;
+j2 = v17;
 copy(m, j0, j1, j2);
-l208:;
+l88:;
 j0 = v0;
 j1 = UINT64_C(298768);
 j0 = j0 + j1;
-j1 = v4;
+j1 = v17;
 j2 = v1;
 j1 = j1 + j2;
-p101 = write_at(j0, m, 73752u);
-store64(p101 + 0, j1);
-j0 = v46;
+p46 = write_at(j0, m, 73752u);
+store64(p46 + 0, j1);
+j0 = v18;
 j1 = v0;
 j2 = UINT64_C(372512);
 j1 = j1 + j2;
 v1 = j1;
-j1 = load64(p71 + 90144);
-v18 = j1;
+j1 = load64(p16 + 90144);
+v8 = j1;
 j2 = UINT64_C(2);
 j1 = j1 << (j2 & 63);
 j0 = j0 + j1;
-i1 = v14;
+i1 = v10;
 i2 = UINT32_C(16);
 i1 = i1 << (i2 & 31);
-i2 = v19;
+i2 = v16;
 i1 = i1 | i2;
-p102 = write_at(j0, m, 4u);
-store32(p102 + 0, i1);
+p47 = write_at(j0, m, 4u);
+store32(p47 + 0, i1);
 j0 = v1;
-j1 = v18;
+j1 = v8;
 j2 = UINT64_C(1);
 j1 = j1 + j2;
-store64(p101 + 73744, j1);
+store64(p46 + 73744, j1);
 j0 = v0;
-j1 = v49;
+j1 = v14;
 j2 = UINT64_C(144);
 j1 = j1 * j2;
 j0 = j0 + j1;
 j1 = UINT64_C(415792);
 j0 = j0 + j1;
 j1 = v5;
-p103 = write_at(j0, m, 8u);
-store64(p103 + 0, j1);
-goto l179;
-l192:;
+p48 = write_at(j0, m, 8u);
+store64(p48 + 0, j1);
+goto l59;
+l72:;
 j0 = UINT64_C(0);
-v34 = j0;
+v9 = j0;
 j0 = v0;
 j1 = UINT64_C(73048);
 j0 = j0 + j1;
-p104 = read_at(j0, m, 8u);
-j0 = load64(p104 + 0);
-v4 = j0;
+p49 = read_at(j0, m, 8u);
+j0 = load64(p49 + 0);
+v17 = j0;
 i0 = (j0 == 0);
-if (i0) { goto l209; }
+if (i0) { goto l89; }
 j0 = v3;
 v1 = j0;
 j0 = UINT64_C(0);
-v18 = j0;
-l210:;
-j0 = v34;
-v48 = j0;
-j1 = v4;
+v8 = j0;
+l90:;
+j0 = v9;
+v13 = j0;
+j1 = v17;
 i0 = (j0 < j1);
-if (i0) { goto l212; }
-j0 = v48;
-v34 = j0;
-goto l211;
-l212:;
-j0 = v18;
-v34 = j0;
+if (i0) { goto l92; }
+j0 = v13;
+v9 = j0;
+goto l91;
+l92:;
+j0 = v8;
+v9 = j0;
 j0 = v3;
-j1 = v48;
+j1 = v13;
 j2 = UINT64_C(936);
 j1 = j1 * j2;
 j0 = j0 + j1;
-v26 = j0;
+v12 = j0;
 j1 = UINT64_C(8);
 j0 = j0 + j1;
-p105 = read_at(j0, m, 8u);
-j0 = load64(p105 + 0);
-v28 = j0;
+p50 = read_at(j0, m, 8u);
+j0 = load64(p50 + 0);
+v4 = j0;
 j1 = v1;
 j2 = UINT64_C(8);
 j1 = j1 + j2;
-p106 = read_at(j1, m, 8u);
-j1 = load64(p106 + 0);
-v25 = j1;
+p51 = read_at(j1, m, 8u);
+j1 = load64(p51 + 0);
+v7 = j1;
 i0 = (j0 < j1);
-if (i0) { goto l211; }
-j0 = v25;
-j1 = v28;
+if (i0) { goto l91; }
+j0 = v7;
+j1 = v4;
 i0 = (j0 == j1);
-if (i0) { goto l213; }
-j0 = v48;
-v34 = j0;
-goto l211;
-l213:;
-j0 = v18;
-j1 = v48;
+if (i0) { goto l93; }
+j0 = v13;
+v9 = j0;
+goto l91;
+l93:;
+j0 = v8;
+j1 = v13;
 j2 = v1;
-p107 = read_at(j2, m, 8u);
-j2 = load64(p107 + 0);
-j3 = v26;
-p108 = read_at(j3, m, 8u);
-j3 = load64(p108 + 0);
+p52 = read_at(j2, m, 8u);
+j2 = load64(p52 + 0);
+j3 = v12;
+p53 = read_at(j3, m, 8u);
+j3 = load64(p53 + 0);
 i2 = (j2 < j3);
 j0 = i2 ? j0 : j1;
-v34 = j0;
-l211:;
+v9 = j0;
+l91:;
 j0 = v1;
 j1 = UINT64_C(936);
 j0 = j0 + j1;
 v1 = j0;
-j0 = v4;
-j1 = v18;
+j0 = v17;
+j1 = v8;
 j2 = UINT64_C(1);
 j1 = j1 + j2;
-v18 = j1;
+v8 = j1;
 i0 = (j0 != j1);
-if (i0) { goto l210; }
-l209:;
-j0 = v34;
-j1 = v4;
+if (i0) { goto l90; }
+l89:;
+j0 = v9;
+j1 = v17;
 i0 = (j0 >= j1);
-if (i0) { goto l189; }
+if (i0) { goto l69; }
 j0 = v3;
-j1 = v34;
+j1 = v9;
 j2 = UINT64_C(936);
 j1 = j1 * j2;
 j0 = j0 + j1;
-v25 = j0;
+v7 = j0;
 j1 = UINT64_C(808);
 j0 = j0 + j1;
-p109 = read_at(j0, m, 8u);
-j0 = load64(p109 + 0);
-v34 = j0;
+p54 = read_at(j0, m, 8u);
+j0 = load64(p54 + 0);
+v9 = j0;
 j1 = UINT64_C(2);
 i0 = (j0 != j1);
-if (i0) { goto l215; }
+if (i0) { goto l95; }
 j0 = v0;
 j1 = UINT64_C(298768);
 j0 = j0 + j1;
-j0 = load64(p71 + 16400);
+j0 = load64(p16 + 16400);
 j1 = UINT64_C(3);
 i0 = (j0 < j1);
-if (i0) { goto l189; }
+if (i0) { goto l69; }
 j0 = v0;
 j1 = UINT64_C(66464);
 j0 = j0 + j1;
 v1 = j0;
-j0 = v4;
-v18 = j0;
-l216:;
+j0 = v17;
+v8 = j0;
+l96:;
 j0 = v1;
 j1 = UINT64_C(18446744073709551520);
 j0 = j0 + j1;
-p110 = read_at(j0, m, 8u);
-j0 = load64(p110 + 0);
+p55 = read_at(j0, m, 8u);
+j0 = load64(p55 + 0);
 j1 = UINT64_C(3);
 i0 = (j0 < j1);
-if (i0) { goto l217; }
+if (i0) { goto l97; }
 j0 = v1;
-p111 = read_at(j0, m, 1u);
-i0 = load8(p111 + 0);
+p56 = read_at(j0, m, 1u);
+i0 = load8(p56 + 0);
 i1 = UINT32_C(2);
 i0 = (i0 == i1);
-if (i0) { goto l215; }
-l217:;
+if (i0) { goto l95; }
+l97:;
 j0 = v1;
 j1 = UINT64_C(936);
 j0 = j0 + j1;
 v1 = j0;
-j0 = v18;
+j0 = v8;
 j1 = UINT64_C(18446744073709551615);
 j0 = j0 + j1;
-v18 = j0;
+v8 = j0;
 i0 = (j0 == 0);
 i0 = (i0 == 0);
-if (i0) { goto l216; }
-j0 = v25;
+if (i0) { goto l96; }
+j0 = v7;
 j1 = UINT64_C(880);
 j0 = j0 + j1;
-p112 = read_at(j0, m, 1u);
-i0 = load8(p112 + 0);
+p57 = read_at(j0, m, 1u);
+i0 = load8(p57 + 0);
 j1 = v0;
 j2 = UINT64_C(372584);
 j1 = j1 + j2;
-p113 = read_at(j1, m, 1u);
-i1 = load8(p113 + 0);
+p58 = read_at(j1, m, 1u);
+i1 = load8(p58 + 0);
 i0 = (i0 == i1);
-if (i0) { goto l214; }
-goto l189;
-l215:;
-j0 = v34;
+if (i0) { goto l94; }
+goto l69;
+l95:;
+j0 = v9;
 j1 = UINT64_C(1);
 i0 = (j0 != j1);
-if (i0) { goto l189; }
-j0 = v25;
+if (i0) { goto l69; }
+j0 = v7;
 j1 = UINT64_C(880);
 j0 = j0 + j1;
-p114 = read_at(j0, m, 1u);
-i0 = load8(p114 + 0);
+p59 = read_at(j0, m, 1u);
+i0 = load8(p59 + 0);
 i1 = UINT32_C(255);
 i0 = i0 & i1;
 j1 = v0;
 j2 = UINT64_C(372584);
 j1 = j1 + j2;
-p115 = read_at(j1, m, 1u);
-i1 = load8(p115 + 0);
+p60 = read_at(j1, m, 1u);
+i1 = load8(p60 + 0);
 i2 = UINT32_C(255);
 i1 = i1 & i2;
 i0 = (i0 != i1);
-if (i0) { goto l189; }
+if (i0) { goto l69; }
 j0 = v0;
 j1 = UINT64_C(372656);
 j0 = j0 + j1;
-v48 = j0;
-j0 = v25;
+v13 = j0;
+j0 = v7;
 j1 = UINT64_C(832);
 j0 = j0 + j1;
-p116 = read_at(j0, m, 8u);
-j0 = load64(p116 + 0);
-v18 = j0;
+p61 = read_at(j0, m, 8u);
+j0 = load64(p61 + 0);
+v8 = j0;
 j0 = UINT64_C(0);
-v34 = j0;
-l220:;
-j0 = v48;
-j1 = v18;
-j2 = v34;
+v9 = j0;
+l100:;
+j0 = v13;
+j1 = v8;
+j2 = v9;
 j1 = j1 + j2;
-v28 = j1;
+v4 = j1;
 j2 = UINT64_C(511);
 j1 = j1 & j2;
 j2 = UINT64_C(40);
@@ -40123,19 +37550,19 @@ j0 = j0 + j1;
 v1 = j0;
 j1 = UINT64_C(8);
 j0 = j0 + j1;
-p117 = read_at(j0, m, 1u);
-i0 = load8(p117 + 0);
+p62 = read_at(j0, m, 1u);
+i0 = load8(p62 + 0);
 i1 = UINT32_C(1);
 i0 = (i0 != i1);
-if (i0) { goto l219; }
+if (i0) { goto l99; }
 j0 = v1;
-p118 = read_at(j0, m, 8u);
-j0 = load64(p118 + 0);
-j1 = v18;
+p63 = read_at(j0, m, 8u);
+j0 = load64(p63 + 0);
+j1 = v8;
 i0 = (j0 == j1);
-if (i0) { goto l219; }
-j0 = v48;
-j1 = v28;
+if (i0) { goto l99; }
+j0 = v13;
+j1 = v4;
 j2 = UINT64_C(1);
 j1 = j1 + j2;
 j2 = UINT64_C(511);
@@ -40146,1473 +37573,1473 @@ j0 = j0 + j1;
 v1 = j0;
 j1 = UINT64_C(8);
 j0 = j0 + j1;
-p119 = read_at(j0, m, 1u);
-i0 = load8(p119 + 0);
+p64 = read_at(j0, m, 1u);
+i0 = load8(p64 + 0);
 i1 = UINT32_C(1);
 i0 = (i0 != i1);
-if (i0) { goto l219; }
+if (i0) { goto l99; }
 j0 = v1;
-p120 = read_at(j0, m, 8u);
-j0 = load64(p120 + 0);
-j1 = v18;
+p65 = read_at(j0, m, 8u);
+j0 = load64(p65 + 0);
+j1 = v8;
 i0 = (j0 == j1);
-if (i0) { goto l219; }
-j0 = v34;
+if (i0) { goto l99; }
+j0 = v9;
 j1 = UINT64_C(2);
 j0 = j0 + j1;
-v34 = j0;
+v9 = j0;
 j1 = UINT64_C(32);
 i0 = (j0 == j1);
-if (i0) { goto l218; }
-goto l220;
-l219:;
+if (i0) { goto l98; }
+goto l100;
+l99:;
 j0 = v1;
-p121 = read_at(j0 + UINT64_C(24), m, 8u);
-i0 = load32(p121 + 0);
+p66 = read_at(j0 + UINT64_C(24), m, 8u);
+i0 = load32(p66 + 0);
 j1 = v1;
-i1 = load32(p121 + 4);
+i1 = load32(p66 + 4);
 i0 = i0 | i1;
-if (i0) { goto l189; }
-l218:;
+if (i0) { goto l69; }
+l98:;
 j0 = v0;
 j1 = UINT64_C(66464);
 j0 = j0 + j1;
 v1 = j0;
-l221:;
+l101:;
 j0 = v1;
 j1 = UINT64_C(18446744073709551520);
 j0 = j0 + j1;
-p122 = read_at(j0, m, 8u);
-j0 = load64(p122 + 0);
+p67 = read_at(j0, m, 8u);
+j0 = load64(p67 + 0);
 j1 = UINT64_C(2);
 i0 = (j0 < j1);
-if (i0) { goto l222; }
+if (i0) { goto l102; }
 j0 = v1;
-p123 = read_at(j0, m, 1u);
-i0 = load8(p123 + 0);
+p68 = read_at(j0, m, 1u);
+i0 = load8(p68 + 0);
 i1 = UINT32_C(2);
 i0 = (i0 == i1);
-if (i0) { goto l189; }
-l222:;
+if (i0) { goto l69; }
+l102:;
 j0 = v1;
 j1 = UINT64_C(936);
 j0 = j0 + j1;
 v1 = j0;
-j0 = v4;
+j0 = v17;
 j1 = UINT64_C(18446744073709551615);
 j0 = j0 + j1;
-v4 = j0;
+v17 = j0;
 j1 = UINT64_C(0);
 i0 = (j0 != j1);
-if (i0) { goto l221; }
-l214:;
+if (i0) { goto l101; }
+l94:;
 j0 = v0;
 j1 = UINT64_C(73072);
 j0 = j0 + j1;
-p124 = read_at(j0, m, 299561u);
-j0 = load64(p124 + 0);
+p69 = read_at(j0, m, 299561u);
+j0 = load64(p69 + 0);
 v1 = j0;
 j0 = v0;
 j1 = UINT64_C(372632);
 j0 = j0 + j1;
-i0 = load8(p124 + 299560);
+i0 = load8(p69 + 299560);
 i1 = UINT32_C(1);
 i0 = (i0 != i1);
-if (i0) { goto l226; }
+if (i0) { goto l106; }
 j0 = v0;
 j1 = UINT64_C(73064);
 j0 = j0 + j1;
-p125 = read_at(j0, m, 1u);
-i0 = load8(p125 + 0);
+p70 = read_at(j0, m, 1u);
+i0 = load8(p70 + 0);
 i1 = UINT32_C(1);
 i0 = (i0 != i1);
-if (i0) { goto l226; }
-j0 = v25;
+if (i0) { goto l106; }
+j0 = v7;
 j1 = UINT64_C(824);
 j0 = j0 + j1;
-p126 = read_at(j0, m, 8u);
-j0 = load64(p126 + 0);
+p71 = read_at(j0, m, 8u);
+j0 = load64(p71 + 0);
 j1 = v0;
 j2 = UINT64_C(372528);
 j1 = j1 + j2;
-j1 = load64(p124 + 299456);
+j1 = load64(p69 + 299456);
 i0 = (j0 != j1);
-if (i0) { goto l189; }
+if (i0) { goto l69; }
 j0 = v0;
 j1 = UINT64_C(372640);
 j0 = j0 + j1;
-p127 = read_at(j0, m, 8u);
-j0 = load64(p127 + 0);
-v18 = j0;
+p72 = read_at(j0, m, 8u);
+j0 = load64(p72 + 0);
+v8 = j0;
 j0 = v0;
 j1 = UINT64_C(372602);
 j0 = j0 + j1;
-i0 = load8(p124 + 299530);
-v19 = i0;
-j0 = v25;
+i0 = load8(p69 + 299530);
+v16 = i0;
+j0 = v7;
 j1 = UINT64_C(898);
 j0 = j0 + j1;
-p128 = read_at(j0, m, 1u);
-i0 = load8(p128 + 0);
+p73 = read_at(j0, m, 1u);
+i0 = load8(p73 + 0);
 i1 = UINT32_C(1);
 i0 = (i0 != i1);
-if (i0) { goto l225; }
-i0 = v19;
+if (i0) { goto l105; }
+i0 = v16;
 i1 = UINT32_C(255);
 i0 = i0 & i1;
 i1 = UINT32_C(1);
 i0 = (i0 != i1);
-if (i0) { goto l189; }
-j0 = v25;
+if (i0) { goto l69; }
+j0 = v7;
 j1 = UINT64_C(899);
 j0 = j0 + j1;
-p129 = read_at(j0, m, 1u);
-i0 = load8(p129 + 0);
+p74 = read_at(j0, m, 1u);
+i0 = load8(p74 + 0);
 j1 = v0;
 j2 = UINT64_C(372603);
 j1 = j1 + j2;
-i1 = load8(p124 + 299531);
+i1 = load8(p69 + 299531);
 i0 = (i0 == i1);
-if (i0) { goto l224; }
-goto l189;
-l226:;
-j0 = v25;
+if (i0) { goto l104; }
+goto l69;
+l106:;
+j0 = v7;
 j1 = UINT64_C(816);
 j0 = j0 + j1;
-p130 = read_at(j0, m, 8u);
-j0 = load64(p130 + 0);
+p75 = read_at(j0, m, 8u);
+j0 = load64(p75 + 0);
 j1 = v0;
 j2 = UINT64_C(372520);
 j1 = j1 + j2;
-j1 = load64(p124 + 299448);
+j1 = load64(p69 + 299448);
 i0 = (j0 == j1);
-if (i0) { goto l223; }
-goto l189;
-l225:;
-i0 = v19;
+if (i0) { goto l103; }
+goto l69;
+l105:;
+i0 = v16;
 i1 = UINT32_C(255);
 i0 = i0 & i1;
 i1 = UINT32_C(1);
 i0 = (i0 == i1);
-if (i0) { goto l189; }
-l224:;
-j0 = v18;
+if (i0) { goto l69; }
+l104:;
+j0 = v8;
 j1 = v1;
 j2 = v0;
 j3 = UINT64_C(446336);
 j2 = j2 + j3;
 i0 = fio_log_judge_join_is_in_step(m, j0, j1, j2);
 i0 = (i0 == 0);
-if (i0) { goto l189; }
+if (i0) { goto l69; }
 j0 = v0;
 j1 = UINT64_C(73072);
 j0 = j0 + j1;
-j0 = load64(p124 + 0);
+j0 = load64(p69 + 0);
 v1 = j0;
-l223:;
-j0 = v47;
-j1 = v25;
+l103:;
+j0 = v15;
+j1 = v7;
 j2 = v0;
 j3 = UINT64_C(73064);
 j2 = j2 + j3;
-p131 = read_at(j2, m, 1u);
-i2 = load8(p131 + 0);
+p76 = read_at(j2, m, 1u);
+i2 = load8(p76 + 0);
 j3 = v1;
 i0 = fio_log_judge_join_Join_add(m, j0, j1, i2, j3);
-if (i0) { goto l180; }
-goto l189;
-l191:;
+if (i0) { goto l60; }
+goto l69;
+l71:;
 j0 = v0;
 j1 = UINT64_C(73048);
 j0 = j0 + j1;
-p132 = read_at(j0, m, 8u);
-j0 = load64(p132 + 0);
-v4 = j0;
+p77 = read_at(j0, m, 8u);
+j0 = load64(p77 + 0);
+v17 = j0;
 i0 = (j0 == 0);
-if (i0) { goto l189; }
-j0 = v4;
+if (i0) { goto l69; }
+j0 = v17;
 j1 = UINT64_C(18446744073709551615);
 j0 = j0 + j1;
-v24 = j0;
+v11 = j0;
 j0 = v0;
 j1 = UINT64_C(372584);
 j0 = j0 + j1;
-p133 = read_at(j0, m, 1u);
-i0 = load8(p133 + 0);
-v19 = i0;
+p78 = read_at(j0, m, 1u);
+i0 = load8(p78 + 0);
+v16 = i0;
 i0 = UINT32_C(1);
-v35 = i0;
+v6 = i0;
 j0 = UINT64_C(0);
-v26 = j0;
+v12 = j0;
 j0 = UINT64_C(0);
-v25 = j0;
+v7 = j0;
 j0 = UINT64_C(0);
-v18 = j0;
-l227:;
-j0 = v18;
+v8 = j0;
+l107:;
+j0 = v8;
 j1 = UINT64_C(936);
 j0 = j0 * j1;
 v1 = j0;
-j0 = v18;
-v34 = j0;
-l230:;
+j0 = v8;
+v9 = j0;
+l110:;
 j0 = v0;
 j1 = v1;
 j0 = j0 + j1;
-v18 = j0;
+v8 = j0;
 j1 = UINT64_C(66440);
 j0 = j0 + j1;
-p134 = read_at(j0, m, 1u);
-i0 = load8(p134 + 0);
-i1 = v19;
+p79 = read_at(j0, m, 1u);
+i0 = load8(p79 + 0);
+i1 = v16;
 i2 = UINT32_C(255);
 i1 = i1 & i2;
 i0 = (i0 != i1);
-if (i0) { goto l231; }
-j0 = v18;
+if (i0) { goto l111; }
+j0 = v8;
 j1 = UINT64_C(66462);
 j0 = j0 + j1;
-p135 = read_at(j0, m, 1u);
-i0 = load8(p135 + 0);
+p80 = read_at(j0, m, 1u);
+i0 = load8(p80 + 0);
 i1 = UINT32_C(1);
 i0 = (i0 != i1);
-if (i0) { goto l231; }
-j0 = v18;
+if (i0) { goto l111; }
+j0 = v8;
 j1 = UINT64_C(66460);
 j0 = j0 + j1;
-p136 = read_at(j0, m, 1u);
-i0 = load8(p136 + 0);
+p81 = read_at(j0, m, 1u);
+i0 = load8(p81 + 0);
 i1 = UINT32_C(1);
 i0 = (i0 != i1);
-if (i0) { goto l232; }
-j0 = v18;
+if (i0) { goto l112; }
+j0 = v8;
 j1 = UINT64_C(66376);
 j0 = j0 + j1;
-p137 = read_at(j0, m, 8u);
-j0 = load64(p137 + 0);
+p82 = read_at(j0, m, 8u);
+j0 = load64(p82 + 0);
 j1 = v0;
 j2 = UINT64_C(372520);
 j1 = j1 + j2;
-p138 = read_at(j1, m, 8u);
-j1 = load64(p138 + 0);
+p83 = read_at(j1, m, 8u);
+j1 = load64(p83 + 0);
 i0 = (j0 != j1);
-if (i0) { goto l231; }
-l232:;
-j0 = v18;
+if (i0) { goto l111; }
+l112:;
+j0 = v8;
 j1 = UINT64_C(66448);
 j0 = j0 + j1;
-p139 = read_at(j0, m, 8u);
-j0 = load64(p139 + 0);
-v48 = j0;
+p84 = read_at(j0, m, 8u);
+j0 = load64(p84 + 0);
+v13 = j0;
 i0 = (j0 == 0);
-if (i0) { goto l233; }
+if (i0) { goto l113; }
 j0 = v0;
 j1 = UINT64_C(372592);
 j0 = j0 + j1;
-p140 = read_at(j0, m, 8u);
-j0 = load64(p140 + 0);
-v28 = j0;
+p85 = read_at(j0, m, 8u);
+j0 = load64(p85 + 0);
+v4 = j0;
 i0 = (j0 == 0);
-if (i0) { goto l233; }
-j0 = v28;
-j1 = v48;
+if (i0) { goto l113; }
+j0 = v4;
+j1 = v13;
 j0 = j0 & j1;
 i0 = (j0 == 0);
-if (i0) { goto l231; }
-l233:;
+if (i0) { goto l111; }
+l113:;
 j0 = v0;
 j1 = UINT64_C(372624);
 j0 = j0 + j1;
-p141 = read_at(j0 + UINT64_C(18446744073709551600), m, 24u);
-j0 = load64(p141 + 16);
-v48 = j0;
+p86 = read_at(j0 + UINT64_C(18446744073709551600), m, 24u);
+j0 = load64(p86 + 16);
+v13 = j0;
 j1 = v0;
 j2 = UINT64_C(372608);
 j1 = j1 + j2;
-j1 = load64(p141 + 0);
+j1 = load64(p86 + 0);
 i0 = (j0 != j1);
-if (i0) { goto l231; }
-j0 = v18;
+if (i0) { goto l111; }
+j0 = v8;
 j1 = UINT64_C(66368);
 j0 = j0 + j1;
-p142 = read_at(j0, m, 8u);
-j0 = load64(p142 + 0);
-v28 = j0;
-j1 = v48;
+p87 = read_at(j0, m, 8u);
+j0 = load64(p87 + 0);
+v4 = j0;
+j1 = v13;
 i0 = (j0 > j1);
-if (i0) { goto l231; }
-j0 = v26;
-j1 = v28;
+if (i0) { goto l111; }
+j0 = v12;
+j1 = v4;
 i0 = (j0 < j1);
-if (i0) { goto l229; }
-l231:;
+if (i0) { goto l109; }
+l111:;
 j0 = v1;
 j1 = UINT64_C(936);
 j0 = j0 + j1;
 v1 = j0;
-j0 = v4;
-j1 = v34;
+j0 = v17;
+j1 = v9;
 j2 = UINT64_C(1);
 j1 = j1 + j2;
-v34 = j1;
+v9 = j1;
 i0 = (j0 != j1);
-if (i0) { goto l230; }
-i0 = v35;
+if (i0) { goto l110; }
+i0 = v6;
 i1 = UINT32_C(1);
 i0 = i0 & i1;
-if (i0) { goto l189; }
-j0 = v25;
+if (i0) { goto l69; }
+j0 = v7;
 j1 = UINT64_C(936);
 j0 = j0 * j1;
 v1 = j0;
-j0 = v25;
-v34 = j0;
-goto l228;
-l229:;
-j0 = v34;
+j0 = v7;
+v9 = j0;
+goto l108;
+l109:;
+j0 = v9;
 j1 = UINT64_C(1);
 j0 = j0 + j1;
-v18 = j0;
+v8 = j0;
 i0 = UINT32_C(0);
-v35 = i0;
-j0 = v28;
-v26 = j0;
-j0 = v34;
-v25 = j0;
-j0 = v24;
-j1 = v34;
+v6 = i0;
+j0 = v4;
+v12 = j0;
+j0 = v9;
+v7 = j0;
+j0 = v11;
+j1 = v9;
 i0 = (j0 != j1);
-if (i0) { goto l227; }
-l228:;
-j0 = v34;
-j1 = v4;
+if (i0) { goto l107; }
+l108:;
+j0 = v9;
+j1 = v17;
 i0 = (j0 >= j1);
-if (i0) { goto l189; }
+if (i0) { goto l69; }
 j0 = v3;
 j1 = v1;
 j0 = j0 + j1;
 v1 = j0;
 j1 = UINT64_C(900);
 j0 = j0 + j1;
-p143 = read_at(j0, m, 1u);
-i0 = load8(p143 + 0);
-if (i0) { goto l189; }
+p88 = read_at(j0, m, 1u);
+i0 = load8(p88 + 0);
+if (i0) { goto l69; }
 j0 = v1;
 j1 = UINT64_C(901);
 j0 = j0 + j1;
-p144 = read_at(j0, m, 1u);
-i0 = load8(p144 + 0);
-if (i0) { goto l189; }
+p89 = read_at(j0, m, 1u);
+i0 = load8(p89 + 0);
+if (i0) { goto l69; }
 j0 = v1;
 j1 = UINT64_C(880);
 j0 = j0 + j1;
-p145 = read_at(j0, m, 1u);
-i0 = load8(p145 + 0);
-if (i0) { goto l189; }
+p90 = read_at(j0, m, 1u);
+i0 = load8(p90 + 0);
+if (i0) { goto l69; }
 j0 = v1;
 j1 = UINT64_C(904);
 j0 = j0 + j1;
-p146 = read_at(j0, m, 1u);
-i0 = load8(p146 + 0);
+p91 = read_at(j0, m, 1u);
+i0 = load8(p91 + 0);
 i1 = UINT32_C(2);
 i0 = (i0 != i1);
-if (i0) { goto l234; }
+if (i0) { goto l114; }
 j0 = v1;
 j1 = UINT64_C(928);
 j0 = j0 + j1;
-p147 = read_at(j0, m, 1u);
-i0 = load8(p147 + 0);
+p92 = read_at(j0, m, 1u);
+i0 = load8(p92 + 0);
 i1 = UINT32_C(1);
 i0 = i0 & i1;
-if (i0) { goto l189; }
-l234:;
-j0 = v47;
+if (i0) { goto l69; }
+l114:;
+j0 = v15;
 j1 = v1;
 j2 = v0;
 j3 = UINT64_C(73064);
 j2 = j2 + j3;
-p148 = read_at(j2, m, 16u);
-i2 = load8(p148 + 0);
+p93 = read_at(j2, m, 16u);
+i2 = load8(p93 + 0);
 j3 = v0;
 j4 = UINT64_C(73072);
 j3 = j3 + j4;
-j3 = load64(p148 + 8);
+j3 = load64(p93 + 8);
 i0 = fio_log_judge_join_Join_add(m, j0, j1, i2, j3);
 i0 = (i0 == 0);
-if (i0) { goto l189; }
+if (i0) { goto l69; }
 j0 = v1;
 j1 = UINT64_C(808);
 j0 = j0 + j1;
-p149 = read_at(j0, m, 8u);
-j0 = load64(p149 + 0);
+p94 = read_at(j0, m, 8u);
+j0 = load64(p94 + 0);
 j1 = v0;
 j2 = UINT64_C(372608);
 j1 = j1 + j2;
-p150 = read_at(j1, m, 8u);
-j1 = load64(p150 + 0);
+p95 = read_at(j1, m, 8u);
+j1 = load64(p95 + 0);
 i0 = (j0 >= j1);
-if (i0) { goto l180; }
-goto l181;
-l190:;
-j0 = v34;
-j1 = v4;
+if (i0) { goto l60; }
+goto l61;
+l70:;
+j0 = v9;
+j1 = v17;
 i0 = (j0 >= j1);
-if (i0) { goto l189; }
+if (i0) { goto l69; }
 j0 = v3;
 j1 = v1;
 j0 = j0 + j1;
-v29 = j0;
+v23 = j0;
 i0 = UINT32_C(1);
-v19 = i0;
+v16 = i0;
 i0 = UINT32_C(0);
-v35 = i0;
+v6 = i0;
 j0 = v0;
 j1 = UINT64_C(372604);
 j0 = j0 + j1;
-p151 = read_at(j0, m, 1u);
-i0 = load8(p151 + 0);
+p96 = read_at(j0, m, 1u);
+i0 = load8(p96 + 0);
 i1 = UINT32_C(1);
 i0 = (i0 != i1);
-if (i0) { goto l235; }
-i0 = v23;
-j1 = v29;
+if (i0) { goto l115; }
+i0 = v19;
+j1 = v23;
 j2 = UINT64_C(900);
 j1 = j1 + j2;
-p152 = read_at(j1, m, 1u);
-i1 = load8(p152 + 0);
-v19 = i1;
+p97 = read_at(j1, m, 1u);
+i1 = load8(p97 + 0);
+v16 = i1;
 i0 = i0 | i1;
 i1 = UINT32_C(1);
 i0 = i0 & i1;
 i0 = (i0 == 0);
-if (i0) { goto l189; }
-i0 = v19;
+if (i0) { goto l69; }
+i0 = v16;
 i1 = UINT32_C(1);
 i0 = i0 ^ i1;
-v35 = i0;
-l235:;
-j0 = v29;
+v6 = i0;
+l115:;
+j0 = v23;
 j1 = UINT64_C(808);
 j0 = j0 + j1;
-p153 = read_at(j0, m, 8u);
-j0 = load64(p153 + 0);
-v28 = j0;
+p98 = read_at(j0, m, 8u);
+j0 = load64(p98 + 0);
+v4 = j0;
 j0 = v0;
 j1 = UINT64_C(372648);
 j0 = j0 + j1;
-p154 = read_at(j0, m, 1u);
-i0 = load8(p154 + 0);
-v23 = i0;
+p99 = read_at(j0, m, 1u);
+i0 = load8(p99 + 0);
+v19 = i0;
 j0 = v2;
 j1 = UINT64_C(0);
-p155 = write_at(j0 + UINT64_C(424), m, 32u);
-store64(p155 + 24, j1);
+p100 = write_at(j0 + UINT64_C(456), m, 32u);
+store64(p100 + 24, j1);
 j0 = v2;
 j1 = UINT64_C(0);
-store64(p155 + 16, j1);
+store64(p100 + 16, j1);
 j0 = v2;
 j1 = UINT64_C(0);
-store64(p155 + 8, j1);
+store64(p100 + 8, j1);
 j0 = v2;
 j1 = UINT64_C(0);
-store64(p155 + 0, j1);
+store64(p100 + 0, j1);
 j0 = v0;
 j1 = UINT64_C(298768);
 j0 = j0 + j1;
-j0 = load64(p71 + 16400);
-v33 = j0;
+j0 = load64(p16 + 16400);
+v24 = j0;
 j0 = v0;
 j1 = UINT64_C(306968);
 j0 = j0 + j1;
-j0 = load64(p71 + 24600);
-v18 = j0;
+j0 = load64(p16 + 24600);
+v8 = j0;
 i0 = (j0 == 0);
-if (i0) { goto l236; }
-j0 = v18;
+if (i0) { goto l116; }
+j0 = v8;
 j1 = UINT64_C(2);
 j0 = j0 << (j1 & 63);
-v18 = j0;
+v8 = j0;
 i0 = (j0 == 0);
-if (i0) { goto l237; }
+if (i0) { goto l117; }
 j0 = v0;
 j1 = UINT64_C(298776);
 j0 = j0 + j1;
 i1 = UINT32_C(0);
-j2 = v18;
+j2 = v8;
 fill(m, j0, i1, j2);
-l237:;
+l117:;
 j0 = v0;
 j1 = UINT64_C(306968);
 j0 = j0 + j1;
 j1 = UINT64_C(0);
-p156 = write_at(j0, m, 8u);
-store64(p156 + 0, j1);
-l236:;
+p101 = write_at(j0, m, 8u);
+store64(p101 + 0, j1);
+l116:;
 j0 = UINT64_C(16384);
-j1 = v33;
+j1 = v24;
 j0 = j0 - j1;
-j1 = v28;
+j1 = v4;
 i0 = (j0 < j1);
-if (i0) { goto l189; }
+if (i0) { goto l69; }
 j0 = v0;
 j1 = UINT64_C(282384);
 j0 = j0 + j1;
-v30 = j0;
-j1 = v33;
+v25 = j0;
+j1 = v24;
 j0 = j0 + j1;
-v31 = j0;
-j1 = v29;
+v26 = j0;
+j1 = v23;
 j2 = UINT64_C(24);
 j1 = j1 + j2;
-v18 = j1;
+v8 = j1;
 j0 = j0 - j1;
-j1 = v28;
+j1 = v4;
 i0 = (j0 >= j1);
-if (i0) { goto l239; }
-j0 = v28;
+if (i0) { goto l119; }
+j0 = v4;
 j1 = UINT64_C(3);
 j0 = j0 & j1;
-v48 = j0;
+v13 = j0;
 j0 = UINT64_C(0);
-v34 = j0;
-j0 = v28;
+v9 = j0;
+j0 = v4;
 j1 = UINT64_C(4);
 i0 = (j0 < j1);
-if (i0) { goto l240; }
+if (i0) { goto l120; }
 j0 = v0;
 j1 = v1;
 j0 = j0 + j1;
-v25 = j0;
+v7 = j0;
 j0 = v0;
-j1 = v33;
+j1 = v24;
 j0 = j0 + j1;
-v26 = j0;
-j0 = v28;
+v12 = j0;
+j0 = v4;
 j1 = UINT64_C(18446744073709551612);
 j0 = j0 & j1;
-v24 = j0;
+v11 = j0;
 j0 = UINT64_C(0);
-v34 = j0;
-l241:;
-j0 = v26;
-j1 = v34;
+v9 = j0;
+l121:;
+j0 = v12;
+j1 = v9;
 j0 = j0 + j1;
-v18 = j0;
+v8 = j0;
 j1 = UINT64_C(282384);
 j0 = j0 + j1;
-j1 = v25;
-j2 = v34;
+j1 = v7;
+j2 = v9;
 j1 = j1 + j2;
-v4 = j1;
+v17 = j1;
 j2 = UINT64_C(65584);
 j1 = j1 + j2;
-p157 = read_at(j1, m, 4u);
-i1 = load8(p157 + 0);
-p158 = write_at(j0, m, 4u);
-store8(p158 + 0, i1);
-j0 = v18;
+p102 = read_at(j1, m, 4u);
+i1 = load8(p102 + 0);
+p103 = write_at(j0, m, 4u);
+store8(p103 + 0, i1);
+j0 = v8;
 j1 = UINT64_C(282385);
 j0 = j0 + j1;
-j1 = v4;
+j1 = v17;
 j2 = UINT64_C(65585);
 j1 = j1 + j2;
-i1 = load8(p157 + 1);
-store8(p158 + 1, i1);
-j0 = v18;
+i1 = load8(p102 + 1);
+store8(p103 + 1, i1);
+j0 = v8;
 j1 = UINT64_C(282386);
 j0 = j0 + j1;
-j1 = v4;
+j1 = v17;
 j2 = UINT64_C(65586);
 j1 = j1 + j2;
-i1 = load8(p157 + 2);
-store8(p158 + 2, i1);
-j0 = v18;
+i1 = load8(p102 + 2);
+store8(p103 + 2, i1);
+j0 = v8;
 j1 = UINT64_C(282387);
 j0 = j0 + j1;
-j1 = v4;
+j1 = v17;
 j2 = UINT64_C(65587);
 j1 = j1 + j2;
-i1 = load8(p157 + 3);
-store8(p158 + 3, i1);
-j0 = v24;
-j1 = v34;
+i1 = load8(p102 + 3);
+store8(p103 + 3, i1);
+j0 = v11;
+j1 = v9;
 j2 = UINT64_C(4);
 j1 = j1 + j2;
-v34 = j1;
+v9 = j1;
 i0 = (j0 != j1);
-if (i0) { goto l241; }
-j0 = v48;
+if (i0) { goto l121; }
+j0 = v13;
 i0 = (j0 == 0);
-if (i0) { goto l238; }
-l240:;
-j0 = v34;
-j1 = v33;
+if (i0) { goto l118; }
+l120:;
+j0 = v9;
+j1 = v24;
 j0 = j0 + j1;
 j1 = v0;
 j0 = j0 + j1;
 j1 = UINT64_C(282384);
 j0 = j0 + j1;
-v18 = j0;
+v8 = j0;
 j0 = v1;
-j1 = v34;
+j1 = v9;
 j0 = j0 + j1;
 j1 = v0;
 j0 = j0 + j1;
 j1 = UINT64_C(65584);
 j0 = j0 + j1;
 v1 = j0;
-l242:;
-j0 = v18;
+l122:;
+j0 = v8;
 j1 = v1;
-p159 = read_at(j1, m, 1u);
-i1 = load8(p159 + 0);
-p160 = write_at(j0, m, 1u);
-store8(p160 + 0, i1);
-j0 = v18;
+p104 = read_at(j1, m, 1u);
+i1 = load8(p104 + 0);
+p105 = write_at(j0, m, 1u);
+store8(p105 + 0, i1);
+j0 = v8;
 j1 = UINT64_C(1);
 j0 = j0 + j1;
-v18 = j0;
+v8 = j0;
 j0 = v1;
 j1 = UINT64_C(1);
 j0 = j0 + j1;
 v1 = j0;
-j0 = v48;
+j0 = v13;
 j1 = UINT64_C(18446744073709551615);
 j0 = j0 + j1;
-v48 = j0;
+v13 = j0;
 j1 = UINT64_C(0);
 i0 = (j0 != j1);
-if (i0) { goto l242; }
-goto l238;
-l239:;
-j0 = v28;
+if (i0) { goto l122; }
+goto l118;
+l119:;
+j0 = v4;
 i0 = (j0 == 0);
-if (i0) { goto l238; }
-j0 = v31;
-j1 = v18;
-j2 = v28;
+if (i0) { goto l118; }
+j0 = v26;
+j1 = v8;
+j2 = v4;
 copy(m, j0, j1, j2);
-l238:;
+l118:;
 j0 = v0;
 j1 = UINT64_C(298768);
 j0 = j0 + j1;
-j1 = v33;
-j2 = v28;
+j1 = v24;
+j2 = v4;
 j1 = j1 + j2;
 v1 = j1;
-p161 = write_at(j0, m, 8u);
-store64(p161 + 0, j1);
+p106 = write_at(j0, m, 8u);
+store64(p106 + 0, j1);
 j0 = v2;
-j1 = UINT64_C(424);
+j1 = UINT64_C(456);
 j0 = j0 + j1;
-j1 = v30;
+j1 = v25;
 j2 = v1;
 fio_log_sayings_read_saying(m, j0, j1, j2);
 j0 = v0;
 j1 = UINT64_C(306968);
 j0 = j0 + j1;
-j0 = load64(p71 + 24600);
-v18 = j0;
+j0 = load64(p16 + 24600);
+v8 = j0;
 i0 = (j0 == 0);
-if (i0) { goto l243; }
-j0 = v18;
+if (i0) { goto l123; }
+j0 = v8;
 j1 = UINT64_C(2);
 j0 = j0 << (j1 & 63);
-v18 = j0;
+v8 = j0;
 i0 = (j0 == 0);
-if (i0) { goto l244; }
+if (i0) { goto l124; }
 j0 = v0;
 j1 = UINT64_C(298776);
 j0 = j0 + j1;
 i1 = UINT32_C(0);
-j2 = v18;
+j2 = v8;
 fill(m, j0, i1, j2);
-l244:;
+l124:;
 j0 = v0;
 j1 = UINT64_C(306968);
 j0 = j0 + j1;
 j1 = UINT64_C(0);
-p162 = write_at(j0, m, 8u);
-store64(p162 + 0, j1);
-l243:;
-j0 = v33;
+p107 = write_at(j0, m, 8u);
+store64(p107 + 0, j1);
+l123:;
+j0 = v24;
 j1 = v1;
 i0 = (j0 >= j1);
-if (i0) { goto l245; }
-j0 = v28;
+if (i0) { goto l125; }
+j0 = v4;
 i0 = (j0 == 0);
-if (i0) { goto l246; }
-j0 = v31;
+if (i0) { goto l126; }
+j0 = v26;
 i1 = UINT32_C(0);
-j2 = v28;
+j2 = v4;
 fill(m, j0, i1, j2);
-l246:;
+l126:;
 j0 = v0;
 j1 = UINT64_C(298768);
 j0 = j0 + j1;
-j1 = v33;
-store64(p161 + 0, j1);
-l245:;
+j1 = v24;
+store64(p106 + 0, j1);
+l125:;
 j0 = v2;
-i0 = load8(p155 + 0);
-v16 = i0;
+i0 = load8(p100 + 0);
+v21 = i0;
 i1 = UINT32_C(255);
 i0 = i0 & i1;
 i0 = (i0 == 0);
-if (i0) { goto l189; }
-i0 = v35;
+if (i0) { goto l69; }
+i0 = v6;
 i1 = UINT32_C(1);
 i0 = i0 & i1;
-if (i0) { goto l248; }
-j0 = v47;
-j1 = v29;
-i2 = v16;
-j3 = v27;
+if (i0) { goto l128; }
+j0 = v15;
+j1 = v23;
+i2 = v21;
+j3 = v22;
 i0 = fio_log_judge_join_Join_is_other(m, j0, j1, i2, j3);
 i0 = (i0 == 0);
-if (i0) { goto l247; }
-goto l189;
-l248:;
-i0 = v19;
+if (i0) { goto l127; }
+goto l69;
+l128:;
+i0 = v16;
 i1 = UINT32_C(1);
 i0 = i0 & i1;
-if (i0) { goto l189; }
-l247:;
-j0 = v47;
-j1 = v29;
+if (i0) { goto l69; }
+l127:;
+j0 = v15;
+j1 = v23;
 j2 = v0;
 j3 = UINT64_C(73064);
 j2 = j2 + j3;
-p163 = read_at(j2, m, 16u);
-i2 = load8(p163 + 0);
+p108 = read_at(j2, m, 16u);
+i2 = load8(p108 + 0);
 j3 = v0;
 j4 = UINT64_C(73072);
 j3 = j3 + j4;
-j3 = load64(p163 + 8);
+j3 = load64(p108 + 8);
 i0 = fio_log_judge_join_Join_add(m, j0, j1, i2, j3);
 i0 = (i0 == 0);
-if (i0) { goto l189; }
+if (i0) { goto l69; }
 j0 = v0;
 j1 = UINT64_C(372648);
 j0 = j0 + j1;
-i1 = v16;
+i1 = v21;
 i2 = UINT32_C(255);
 i1 = i1 & i2;
 i2 = UINT32_C(1);
 i1 = (i1 == i2);
-v14 = i1;
-p164 = write_at(j0 + UINT64_C(18446744073709551584), m, 33u);
-store8(p164 + 32, i1);
+v10 = i1;
+p109 = write_at(j0 + UINT64_C(18446744073709551584), m, 33u);
+store8(p109 + 32, i1);
 j0 = v0;
 j1 = UINT64_C(372617);
 j0 = j0 + j1;
 v1 = j0;
-i1 = v19;
+i1 = v16;
 j2 = v1;
-i2 = load8(p164 + 1);
+i2 = load8(p109 + 1);
 i1 = i1 | i2;
 i2 = UINT32_C(1);
 i1 = i1 & i2;
-store8(p164 + 1, i1);
+store8(p109 + 1, i1);
 j0 = v0;
 j1 = UINT64_C(372616);
 j0 = j0 + j1;
-i0 = load8(p164 + 0);
-if (i0) { goto l181; }
-i0 = v14;
-if (i0) { goto l182; }
-i0 = v23;
+i0 = load8(p109 + 0);
+if (i0) { goto l61; }
+i0 = v10;
+if (i0) { goto l62; }
+i0 = v19;
 i1 = UINT32_C(1);
 i0 = i0 & i1;
-if (i0) { goto l182; }
-j0 = v29;
+if (i0) { goto l62; }
+j0 = v23;
 j1 = UINT64_C(808);
 j0 = j0 + j1;
-j0 = load64(p153 + 0);
+j0 = load64(p98 + 0);
 j1 = v0;
 j2 = UINT64_C(372608);
 j1 = j1 + j2;
-p165 = read_at(j1, m, 8u);
-j1 = load64(p165 + 0);
+p110 = read_at(j1, m, 8u);
+j1 = load64(p110 + 0);
 i0 = (j0 >= j1);
-if (i0) { goto l180; }
-goto l181;
-l189:;
+if (i0) { goto l60; }
+goto l61;
+l69:;
 j0 = v0;
 j1 = UINT64_C(282368);
 j0 = j0 + j1;
-j0 = load64(p71 + 0);
-v18 = j0;
+j0 = load64(p16 + 0);
+v8 = j0;
 j1 = v0;
 j2 = UINT64_C(372512);
 j1 = j1 + j2;
-j1 = load64(p71 + 90144);
+j1 = load64(p16 + 90144);
 v1 = j1;
 j2 = UINT64_C(18446744073709551615);
 j1 = j1 ^ j2;
 i0 = (j0 > j1);
-if (i0) { goto l183; }
+if (i0) { goto l63; }
 j0 = v1;
-j1 = v18;
+j1 = v8;
 j0 = j0 + j1;
 j1 = v5;
 i0 = (j0 != j1);
-if (i0) { goto l183; }
+if (i0) { goto l63; }
 j0 = v1;
 j1 = v0;
 j2 = UINT64_C(372618);
 j1 = j1 + j2;
-p166 = read_at(j1, m, 1u);
-i1 = load8(p166 + 0);
+p111 = read_at(j1, m, 1u);
+i1 = load8(p111 + 0);
 i2 = UINT32_C(1);
 i1 = i1 + i2;
 j1 = (uint64_t)i1;
 j2 = UINT64_C(3);
 j1 = j1 & j2;
 i0 = (j0 > j1);
-if (i0) { goto l183; }
+if (i0) { goto l63; }
 j0 = v0;
 j1 = UINT64_C(372648);
 j0 = j0 + j1;
-p167 = read_at(j0, m, 1u);
-i0 = load8(p167 + 0);
+p112 = read_at(j0, m, 1u);
+i0 = load8(p112 + 0);
 i1 = UINT32_C(1);
 i0 = (i0 != i1);
-if (i0) { goto l183; }
+if (i0) { goto l63; }
 j0 = v0;
 j1 = UINT64_C(372602);
 j0 = j0 + j1;
-p168 = read_at(j0, m, 1u);
-i0 = load8(p168 + 0);
+p113 = read_at(j0, m, 1u);
+i0 = load8(p113 + 0);
 i1 = UINT32_C(1);
 i0 = (i0 != i1);
-if (i0) { goto l183; }
+if (i0) { goto l63; }
 j0 = v0;
 j1 = UINT64_C(372632);
 j0 = j0 + j1;
-p169 = read_at(j0, m, 1u);
-i0 = load8(p169 + 0);
+p114 = read_at(j0, m, 1u);
+i0 = load8(p114 + 0);
 i1 = UINT32_C(1);
 i0 = (i0 != i1);
-if (i0) { goto l183; }
+if (i0) { goto l63; }
 j0 = v0;
 j1 = UINT64_C(73064);
 j0 = j0 + j1;
-p170 = read_at(j0, m, 1u);
-i0 = load8(p170 + 0);
+p115 = read_at(j0, m, 1u);
+i0 = load8(p115 + 0);
 i1 = UINT32_C(1);
 i0 = (i0 != i1);
-if (i0) { goto l183; }
+if (i0) { goto l63; }
 j0 = v0;
 j1 = UINT64_C(73072);
 j0 = j0 + j1;
-p171 = read_at(j0, m, 299576u);
-j0 = load64(p171 + 0);
+p116 = read_at(j0, m, 299576u);
+j0 = load64(p116 + 0);
 v1 = j0;
 j1 = v0;
 j2 = UINT64_C(372640);
 j1 = j1 + j2;
-j1 = load64(p171 + 299568);
-v18 = j1;
+j1 = load64(p116 + 299568);
+v8 = j1;
 i0 = (j0 < j1);
-if (i0) { goto l183; }
+if (i0) { goto l63; }
 j0 = UINT64_C(0);
 j1 = v1;
-j2 = v18;
+j2 = v8;
 j1 = j1 - j2;
-v18 = j1;
-j2 = v18;
+v8 = j1;
+j2 = v8;
 j3 = v1;
 i2 = (j2 > j3);
 j0 = i2 ? j0 : j1;
 j1 = UINT64_C(1000000);
 i0 = (j0 > j1);
-if (i0) { goto l183; }
+if (i0) { goto l63; }
 j0 = v0;
 j1 = UINT64_C(73048);
 j0 = j0 + j1;
-p172 = read_at(j0, m, 8u);
-j0 = load64(p172 + 0);
-v4 = j0;
+p117 = read_at(j0, m, 8u);
+j0 = load64(p117 + 0);
+v17 = j0;
 i0 = (j0 == 0);
-if (i0) { goto l183; }
-j0 = v4;
+if (i0) { goto l63; }
+j0 = v17;
 j1 = UINT64_C(18446744073709551615);
 j0 = j0 + j1;
-v24 = j0;
+v11 = j0;
 j0 = v0;
 j1 = UINT64_C(282384);
 j0 = j0 + j1;
-v25 = j0;
+v7 = j0;
 i0 = UINT32_C(1);
-v19 = i0;
+v16 = i0;
 j0 = UINT64_C(0);
-v48 = j0;
+v13 = j0;
 j0 = UINT64_C(0);
-v18 = j0;
+v8 = j0;
 j0 = UINT64_C(0);
-v34 = j0;
-l249:;
-j0 = v18;
-v28 = j0;
-j0 = v48;
-v26 = j0;
-j0 = v34;
+v9 = j0;
+l129:;
+j0 = v8;
+v4 = j0;
+j0 = v13;
+v12 = j0;
+j0 = v9;
 j1 = UINT64_C(936);
 j0 = j0 * j1;
 v1 = j0;
-j0 = v34;
-v18 = j0;
-l252:;
+j0 = v9;
+v8 = j0;
+l132:;
 j0 = v0;
 j1 = v1;
 j0 = j0 + j1;
-v34 = j0;
+v9 = j0;
 j1 = UINT64_C(66462);
 j0 = j0 + j1;
-p173 = read_at(j0, m, 1u);
-i0 = load8(p173 + 0);
+p118 = read_at(j0, m, 1u);
+i0 = load8(p118 + 0);
 i1 = UINT32_C(1);
 i0 = (i0 != i1);
-if (i0) { goto l253; }
-j0 = v34;
+if (i0) { goto l133; }
+j0 = v9;
 j1 = UINT64_C(66440);
 j0 = j0 + j1;
-p174 = read_at(j0, m, 1u);
-i0 = load8(p174 + 0);
+p119 = read_at(j0, m, 1u);
+i0 = load8(p119 + 0);
 j1 = v0;
 j2 = UINT64_C(372584);
 j1 = j1 + j2;
-i1 = load8(p171 + 299512);
+i1 = load8(p116 + 299512);
 i0 = (i0 != i1);
-if (i0) { goto l253; }
-j0 = v34;
+if (i0) { goto l133; }
+j0 = v9;
 j1 = UINT64_C(66376);
 j0 = j0 + j1;
-p175 = read_at(j0, m, 8u);
-j0 = load64(p175 + 0);
+p120 = read_at(j0, m, 8u);
+j0 = load64(p120 + 0);
 j1 = v0;
 j2 = UINT64_C(372520);
 j1 = j1 + j2;
-j1 = load64(p171 + 299448);
+j1 = load64(p116 + 299448);
 i0 = (j0 != j1);
-if (i0) { goto l253; }
-j0 = v34;
+if (i0) { goto l133; }
+j0 = v9;
 j1 = UINT64_C(66408);
 j0 = j0 + j1;
-p176 = read_at(j0, m, 8u);
-j0 = load64(p176 + 0);
+p121 = read_at(j0, m, 8u);
+j0 = load64(p121 + 0);
 j1 = v0;
 j2 = UINT64_C(372552);
 j1 = j1 + j2;
-j1 = load64(p171 + 299480);
+j1 = load64(p116 + 299480);
 i0 = (j0 != j1);
-if (i0) { goto l253; }
-j0 = v34;
+if (i0) { goto l133; }
+j0 = v9;
 j1 = UINT64_C(66416);
 j0 = j0 + j1;
-p177 = read_at(j0, m, 8u);
-j0 = load64(p177 + 0);
+p122 = read_at(j0, m, 8u);
+j0 = load64(p122 + 0);
 j1 = v0;
 j2 = UINT64_C(372560);
 j1 = j1 + j2;
-j1 = load64(p171 + 299488);
+j1 = load64(p116 + 299488);
 i0 = (j0 != j1);
-if (i0) { goto l253; }
-j0 = v34;
+if (i0) { goto l133; }
+j0 = v9;
 j1 = UINT64_C(66424);
 j0 = j0 + j1;
-p178 = read_at(j0, m, 8u);
-j0 = load64(p178 + 0);
+p123 = read_at(j0, m, 8u);
+j0 = load64(p123 + 0);
 j1 = v0;
 j2 = UINT64_C(372568);
 j1 = j1 + j2;
-j1 = load64(p171 + 299496);
+j1 = load64(p116 + 299496);
 i0 = (j0 != j1);
-if (i0) { goto l253; }
-j0 = v34;
+if (i0) { goto l133; }
+j0 = v9;
 j1 = UINT64_C(66432);
 j0 = j0 + j1;
-p179 = read_at(j0, m, 8u);
-j0 = load64(p179 + 0);
+p124 = read_at(j0, m, 8u);
+j0 = load64(p124 + 0);
 j1 = v0;
 j2 = UINT64_C(372576);
 j1 = j1 + j2;
-j1 = load64(p171 + 299504);
+j1 = load64(p116 + 299504);
 i0 = (j0 != j1);
-if (i0) { goto l253; }
-j0 = v34;
+if (i0) { goto l133; }
+j0 = v9;
 j1 = UINT64_C(66458);
 j0 = j0 + j1;
-p180 = read_at(j0, m, 1u);
-i0 = load8(p180 + 0);
+p125 = read_at(j0, m, 1u);
+i0 = load8(p125 + 0);
 i1 = UINT32_C(1);
 i0 = (i0 != i1);
-if (i0) { goto l253; }
-j0 = v34;
+if (i0) { goto l133; }
+j0 = v9;
 j1 = UINT64_C(66459);
 j0 = j0 + j1;
-p181 = read_at(j0, m, 1u);
-i0 = load8(p181 + 0);
+p126 = read_at(j0, m, 1u);
+i0 = load8(p126 + 0);
 j1 = v0;
 j2 = UINT64_C(372603);
 j1 = j1 + j2;
-i1 = load8(p171 + 299531);
+i1 = load8(p116 + 299531);
 i0 = (i0 != i1);
-if (i0) { goto l253; }
-j0 = v34;
+if (i0) { goto l133; }
+j0 = v9;
 j1 = UINT64_C(66448);
 j0 = j0 + j1;
-p182 = read_at(j0, m, 8u);
-j0 = load64(p182 + 0);
-v48 = j0;
+p127 = read_at(j0, m, 8u);
+j0 = load64(p127 + 0);
+v13 = j0;
 i0 = (j0 == 0);
-if (i0) { goto l254; }
+if (i0) { goto l134; }
 j0 = v0;
 j1 = UINT64_C(372592);
 j0 = j0 + j1;
-j0 = load64(p171 + 299520);
-v27 = j0;
+j0 = load64(p116 + 299520);
+v22 = j0;
 i0 = (j0 == 0);
-if (i0) { goto l254; }
-j0 = v27;
-j1 = v48;
+if (i0) { goto l134; }
+j0 = v22;
+j1 = v13;
 j0 = j0 & j1;
 i0 = (j0 == 0);
-if (i0) { goto l253; }
-l254:;
-j0 = v34;
+if (i0) { goto l133; }
+l134:;
+j0 = v9;
 j1 = UINT64_C(66368);
 j0 = j0 + j1;
-p183 = read_at(j0, m, 97u);
-j0 = load64(p183 + 0);
-v48 = j0;
-j0 = v34;
+p128 = read_at(j0, m, 97u);
+j0 = load64(p128 + 0);
+v13 = j0;
+j0 = v9;
 j1 = UINT64_C(66464);
 j0 = j0 + j1;
-i0 = load8(p183 + 96);
+i0 = load8(p128 + 96);
 i1 = UINT32_C(2);
 i0 = (i0 != i1);
-if (i0) { goto l255; }
-j0 = v34;
+if (i0) { goto l135; }
+j0 = v9;
 j1 = UINT64_C(66488);
 j0 = j0 + j1;
-p184 = read_at(j0, m, 1u);
-i0 = load8(p184 + 0);
+p129 = read_at(j0, m, 1u);
+i0 = load8(p129 + 0);
 i1 = UINT32_C(1);
 i0 = i0 & i1;
-if (i0) { goto l253; }
-j0 = v48;
+if (i0) { goto l133; }
+j0 = v13;
 i0 = (j0 == 0);
-if (i0) { goto l255; }
+if (i0) { goto l135; }
 j0 = v0;
 j1 = UINT64_C(298768);
 j0 = j0 + j1;
-j0 = load64(p71 + 16400);
+j0 = load64(p16 + 16400);
 i0 = (j0 == 0);
-if (i0) { goto l255; }
-j0 = v26;
-j1 = v48;
+if (i0) { goto l135; }
+j0 = v12;
+j1 = v13;
 i0 = (j0 >= j1);
-if (i0) { goto l253; }
-j0 = v25;
-i0 = load8(p71 + 16);
-j1 = v34;
+if (i0) { goto l133; }
+j0 = v7;
+i0 = load8(p16 + 16);
+j1 = v9;
 j2 = UINT64_C(65584);
 j1 = j1 + j2;
-p185 = read_at(j1, m, 1u);
-i1 = load8(p185 + 0);
+p130 = read_at(j1, m, 1u);
+i1 = load8(p130 + 0);
 i0 = i0 ^ i1;
 i0 = (uint32_t)extend(i0 & 255, 7);
 i1 = UINT32_C(0);
 i0 = (SIGNED32(i0) >= SIGNED32(i1));
-if (i0) { goto l253; }
-goto l251;
-l255:;
-j0 = v26;
-j1 = v48;
+if (i0) { goto l133; }
+goto l131;
+l135:;
+j0 = v12;
+j1 = v13;
 i0 = (j0 < j1);
-if (i0) { goto l251; }
-l253:;
+if (i0) { goto l131; }
+l133:;
 j0 = v1;
 j1 = UINT64_C(936);
 j0 = j0 + j1;
 v1 = j0;
-j0 = v4;
-j1 = v18;
+j0 = v17;
+j1 = v8;
 j2 = UINT64_C(1);
 j1 = j1 + j2;
-v18 = j1;
+v8 = j1;
 i0 = (j0 != j1);
-if (i0) { goto l252; }
-i0 = v19;
+if (i0) { goto l132; }
+i0 = v16;
 i1 = UINT32_C(1);
 i0 = i0 & i1;
-if (i0) { goto l183; }
-j0 = v28;
+if (i0) { goto l63; }
+j0 = v4;
 j1 = UINT64_C(936);
 j0 = j0 * j1;
 v1 = j0;
-j0 = v28;
-v18 = j0;
-goto l250;
-l251:;
-j0 = v18;
+j0 = v4;
+v8 = j0;
+goto l130;
+l131:;
+j0 = v8;
 j1 = UINT64_C(1);
 j0 = j0 + j1;
-v34 = j0;
+v9 = j0;
 i0 = UINT32_C(0);
-v19 = i0;
-j0 = v24;
-j1 = v18;
+v16 = i0;
+j0 = v11;
+j1 = v8;
 i0 = (j0 != j1);
-if (i0) { goto l249; }
-l250:;
-j0 = v18;
-j1 = v4;
+if (i0) { goto l129; }
+l130:;
+j0 = v8;
+j1 = v17;
 i0 = (j0 >= j1);
-if (i0) { goto l183; }
+if (i0) { goto l63; }
 j0 = v3;
 j1 = v1;
 j0 = j0 + j1;
-v29 = j0;
+v24 = j0;
 j1 = UINT64_C(808);
 j0 = j0 + j1;
-p186 = read_at(j0, m, 8u);
-j0 = load64(p186 + 0);
-v28 = j0;
+p131 = read_at(j0, m, 8u);
+j0 = load64(p131 + 0);
+v4 = j0;
 j0 = v2;
 j1 = UINT64_C(0);
-p187 = write_at(j0 + UINT64_C(424), m, 32u);
-store64(p187 + 24, j1);
+p132 = write_at(j0 + UINT64_C(456), m, 32u);
+store64(p132 + 24, j1);
 j0 = v2;
 j1 = UINT64_C(0);
-store64(p187 + 16, j1);
+store64(p132 + 16, j1);
 j0 = v2;
 j1 = UINT64_C(0);
-store64(p187 + 8, j1);
+store64(p132 + 8, j1);
 j0 = v2;
 j1 = UINT64_C(0);
-store64(p187 + 0, j1);
+store64(p132 + 0, j1);
 j0 = v0;
 j1 = UINT64_C(298768);
 j0 = j0 + j1;
-j0 = load64(p71 + 16400);
-v33 = j0;
+j0 = load64(p16 + 16400);
+v22 = j0;
 j0 = v0;
 j1 = UINT64_C(306968);
 j0 = j0 + j1;
-j0 = load64(p71 + 24600);
-v18 = j0;
+j0 = load64(p16 + 24600);
+v8 = j0;
 i0 = (j0 == 0);
-if (i0) { goto l256; }
-j0 = v18;
+if (i0) { goto l136; }
+j0 = v8;
 j1 = UINT64_C(2);
 j0 = j0 << (j1 & 63);
-v18 = j0;
+v8 = j0;
 i0 = (j0 == 0);
-if (i0) { goto l257; }
+if (i0) { goto l137; }
 j0 = v0;
 j1 = UINT64_C(298776);
 j0 = j0 + j1;
 i1 = UINT32_C(0);
-j2 = v18;
+j2 = v8;
 fill(m, j0, i1, j2);
-l257:;
+l137:;
 j0 = v0;
 j1 = UINT64_C(306968);
 j0 = j0 + j1;
 j1 = UINT64_C(0);
-p188 = write_at(j0, m, 8u);
-store64(p188 + 0, j1);
-l256:;
+p133 = write_at(j0, m, 8u);
+store64(p133 + 0, j1);
+l136:;
 j0 = UINT64_C(16384);
-j1 = v33;
+j1 = v22;
 j0 = j0 - j1;
-j1 = v28;
+j1 = v4;
 i0 = (j0 < j1);
-if (i0) { goto l183; }
-j0 = v25;
-j1 = v33;
+if (i0) { goto l63; }
+j0 = v7;
+j1 = v22;
 j0 = j0 + j1;
-v30 = j0;
-j1 = v29;
+v23 = j0;
+j1 = v24;
 j2 = UINT64_C(24);
 j1 = j1 + j2;
-v18 = j1;
+v8 = j1;
 j0 = j0 - j1;
-j1 = v28;
+j1 = v4;
 i0 = (j0 >= j1);
-if (i0) { goto l259; }
-j0 = v28;
+if (i0) { goto l139; }
+j0 = v4;
 j1 = UINT64_C(3);
 j0 = j0 & j1;
-v48 = j0;
+v13 = j0;
 j0 = UINT64_C(0);
-v34 = j0;
-j0 = v28;
+v9 = j0;
+j0 = v4;
 j1 = UINT64_C(4);
 i0 = (j0 < j1);
-if (i0) { goto l260; }
+if (i0) { goto l140; }
 j0 = v0;
 j1 = v1;
 j0 = j0 + j1;
-v26 = j0;
+v3 = j0;
 j0 = v0;
-j1 = v33;
+j1 = v22;
 j0 = j0 + j1;
-v24 = j0;
-j0 = v28;
+v12 = j0;
+j0 = v4;
 j1 = UINT64_C(18446744073709551612);
 j0 = j0 & j1;
-v27 = j0;
+v11 = j0;
 j0 = UINT64_C(0);
-v34 = j0;
-l261:;
-j0 = v24;
-j1 = v34;
+v9 = j0;
+l141:;
+j0 = v12;
+j1 = v9;
 j0 = j0 + j1;
-v18 = j0;
+v8 = j0;
 j1 = UINT64_C(282384);
 j0 = j0 + j1;
-j1 = v26;
-j2 = v34;
+j1 = v3;
+j2 = v9;
 j1 = j1 + j2;
-v4 = j1;
+v17 = j1;
 j2 = UINT64_C(65584);
 j1 = j1 + j2;
-p189 = read_at(j1, m, 4u);
-i1 = load8(p189 + 0);
-p190 = write_at(j0, m, 4u);
-store8(p190 + 0, i1);
-j0 = v18;
+p134 = read_at(j1, m, 4u);
+i1 = load8(p134 + 0);
+p135 = write_at(j0, m, 4u);
+store8(p135 + 0, i1);
+j0 = v8;
 j1 = UINT64_C(282385);
 j0 = j0 + j1;
-j1 = v4;
+j1 = v17;
 j2 = UINT64_C(65585);
 j1 = j1 + j2;
-i1 = load8(p189 + 1);
-store8(p190 + 1, i1);
-j0 = v18;
+i1 = load8(p134 + 1);
+store8(p135 + 1, i1);
+j0 = v8;
 j1 = UINT64_C(282386);
 j0 = j0 + j1;
-j1 = v4;
+j1 = v17;
 j2 = UINT64_C(65586);
 j1 = j1 + j2;
-i1 = load8(p189 + 2);
-store8(p190 + 2, i1);
-j0 = v18;
+i1 = load8(p134 + 2);
+store8(p135 + 2, i1);
+j0 = v8;
 j1 = UINT64_C(282387);
 j0 = j0 + j1;
-j1 = v4;
+j1 = v17;
 j2 = UINT64_C(65587);
 j1 = j1 + j2;
-i1 = load8(p189 + 3);
-store8(p190 + 3, i1);
-j0 = v27;
-j1 = v34;
+i1 = load8(p134 + 3);
+store8(p135 + 3, i1);
+j0 = v11;
+j1 = v9;
 j2 = UINT64_C(4);
 j1 = j1 + j2;
-v34 = j1;
+v9 = j1;
 i0 = (j0 != j1);
-if (i0) { goto l261; }
-j0 = v48;
+if (i0) { goto l141; }
+j0 = v13;
 i0 = (j0 == 0);
-if (i0) { goto l258; }
-l260:;
-j0 = v34;
-j1 = v33;
+if (i0) { goto l138; }
+l140:;
+j0 = v9;
+j1 = v22;
 j0 = j0 + j1;
 j1 = v0;
 j0 = j0 + j1;
 j1 = UINT64_C(282384);
 j0 = j0 + j1;
-v18 = j0;
+v8 = j0;
 j0 = v1;
-j1 = v34;
+j1 = v9;
 j0 = j0 + j1;
 j1 = v0;
 j0 = j0 + j1;
 j1 = UINT64_C(65584);
 j0 = j0 + j1;
 v1 = j0;
-l262:;
-j0 = v18;
+l142:;
+j0 = v8;
 j1 = v1;
-p191 = read_at(j1, m, 1u);
-i1 = load8(p191 + 0);
-p192 = write_at(j0, m, 1u);
-store8(p192 + 0, i1);
-j0 = v18;
+p136 = read_at(j1, m, 1u);
+i1 = load8(p136 + 0);
+p137 = write_at(j0, m, 1u);
+store8(p137 + 0, i1);
+j0 = v8;
 j1 = UINT64_C(1);
 j0 = j0 + j1;
-v18 = j0;
+v8 = j0;
 j0 = v1;
 j1 = UINT64_C(1);
 j0 = j0 + j1;
 v1 = j0;
-j0 = v48;
+j0 = v13;
 j1 = UINT64_C(18446744073709551615);
 j0 = j0 + j1;
-v48 = j0;
+v13 = j0;
 j1 = UINT64_C(0);
 i0 = (j0 != j1);
-if (i0) { goto l262; }
-goto l258;
-l259:;
-j0 = v28;
+if (i0) { goto l142; }
+goto l138;
+l139:;
+j0 = v4;
 i0 = (j0 == 0);
-if (i0) { goto l258; }
-j0 = v30;
-j1 = v18;
-j2 = v28;
+if (i0) { goto l138; }
+j0 = v23;
+j1 = v8;
+j2 = v4;
 copy(m, j0, j1, j2);
-l258:;
+l138:;
 j0 = v0;
 j1 = UINT64_C(298768);
 j0 = j0 + j1;
-j1 = v33;
-j2 = v28;
+j1 = v22;
+j2 = v4;
 j1 = j1 + j2;
 v1 = j1;
-p193 = write_at(j0, m, 8u);
-store64(p193 + 0, j1);
+p138 = write_at(j0, m, 8u);
+store64(p138 + 0, j1);
 j0 = v2;
-j1 = UINT64_C(424);
+j1 = UINT64_C(456);
 j0 = j0 + j1;
-j1 = v25;
+j1 = v7;
 j2 = v1;
 fio_log_sayings_read_saying(m, j0, j1, j2);
 j0 = v0;
 j1 = UINT64_C(306968);
 j0 = j0 + j1;
-j0 = load64(p71 + 24600);
-v18 = j0;
+j0 = load64(p16 + 24600);
+v8 = j0;
 i0 = (j0 == 0);
-if (i0) { goto l263; }
-j0 = v18;
+if (i0) { goto l143; }
+j0 = v8;
 j1 = UINT64_C(2);
 j0 = j0 << (j1 & 63);
-v18 = j0;
+v8 = j0;
 i0 = (j0 == 0);
-if (i0) { goto l264; }
+if (i0) { goto l144; }
 j0 = v0;
 j1 = UINT64_C(298776);
 j0 = j0 + j1;
 i1 = UINT32_C(0);
-j2 = v18;
+j2 = v8;
 fill(m, j0, i1, j2);
-l264:;
+l144:;
 j0 = v0;
 j1 = UINT64_C(306968);
 j0 = j0 + j1;
 j1 = UINT64_C(0);
-p194 = write_at(j0, m, 8u);
-store64(p194 + 0, j1);
-l263:;
-j0 = v33;
+p139 = write_at(j0, m, 8u);
+store64(p139 + 0, j1);
+l143:;
+j0 = v22;
 j1 = v1;
 i0 = (j0 >= j1);
-if (i0) { goto l265; }
-j0 = v28;
+if (i0) { goto l145; }
+j0 = v4;
 i0 = (j0 == 0);
-if (i0) { goto l266; }
-j0 = v30;
+if (i0) { goto l146; }
+j0 = v23;
 i1 = UINT32_C(0);
-j2 = v28;
+j2 = v4;
 fill(m, j0, i1, j2);
-l266:;
+l146:;
 j0 = v0;
 j1 = UINT64_C(298768);
 j0 = j0 + j1;
-j1 = v33;
-store64(p193 + 0, j1);
-l265:;
+j1 = v22;
+store64(p138 + 0, j1);
+l145:;
 j0 = v2;
-i0 = load8(p187 + 0);
+i0 = load8(p132 + 0);
 i1 = UINT32_C(2);
 i0 = (i0 != i1);
-if (i0) { goto l183; }
+if (i0) { goto l63; }
 j0 = v2;
-i0 = load8(p187 + 24);
+i0 = load8(p132 + 24);
 i1 = UINT32_C(1);
 i0 = i0 & i1;
 i0 = (i0 == 0);
-if (i0) { goto l183; }
-j0 = v47;
-j1 = v29;
+if (i0) { goto l63; }
+j0 = v15;
+j1 = v24;
 j2 = v0;
 j3 = UINT64_C(73064);
 j2 = j2 + j3;
-i2 = load8(p170 + 0);
+i2 = load8(p115 + 0);
 j3 = v0;
 j4 = UINT64_C(73072);
 j3 = j3 + j4;
-j3 = load64(p171 + 0);
+j3 = load64(p116 + 0);
 i0 = fio_log_judge_join_Join_add(m, j0, j1, i2, j3);
 i0 = (i0 == 0);
-if (i0) { goto l183; }
+if (i0) { goto l63; }
 j0 = v0;
 j1 = UINT64_C(372616);
 j0 = j0 + j1;
 i1 = UINT32_C(0);
-p195 = write_at(j0 + UINT64_C(18446744073709461360), m, 90257u);
-store8(p195 + 90256, i1);
+p140 = write_at(j0 + UINT64_C(18446744073709461360), m, 90257u);
+store8(p140 + 90256, i1);
 j0 = v0;
 j1 = UINT64_C(282360);
 j0 = j0 + j1;
 i1 = UINT32_C(0);
-store8(p195 + 0, i1);
-goto l181;
-l183:;
-j0 = v46;
+store8(p140 + 0, i1);
+goto l61;
+l63:;
+j0 = v18;
 fio_log_judge_Judge_close(m, j0);
-goto l178;
-l182:;
-i0 = v16;
+goto l58;
+l62:;
+i0 = v21;
 i1 = UINT32_C(255);
 i0 = i0 & i1;
 i1 = UINT32_C(1);
 i0 = (i0 == i1);
-if (i0) { goto l180; }
-l181:;
+if (i0) { goto l60; }
+l61:;
 j0 = v0;
-j1 = v49;
+j1 = v14;
 j2 = UINT64_C(144);
 j1 = j1 * j2;
 j0 = j0 + j1;
 j1 = UINT64_C(415792);
 j0 = j0 + j1;
 j1 = v5;
-p196 = write_at(j0, m, 8u);
-store64(p196 + 0, j1);
-j0 = v46;
+p141 = write_at(j0, m, 8u);
+store64(p141 + 0, j1);
+j0 = v18;
 fio_log_judge_Judge_close(m, j0);
-goto l179;
-l180:;
+goto l59;
+l60:;
 j0 = v0;
-j1 = v49;
+j1 = v14;
 j2 = UINT64_C(144);
 j1 = j1 * j2;
 j0 = j0 + j1;
 j1 = UINT64_C(415792);
 j0 = j0 + j1;
 j1 = v5;
-p197 = write_at(j0, m, 8u);
-store64(p197 + 0, j1);
-l179:;
+p142 = write_at(j0, m, 8u);
+store64(p142 + 0, j1);
+l59:;
 i0 = UINT32_C(0);
-v14 = i0;
-l178:;
+v10 = i0;
+l58:;
 j0 = v0;
 j1 = UINT64_C(451745);
 j0 = j0 + j1;
-i1 = v14;
-p198 = write_at(j0, m, 1u);
-store8(p198 + 0, i1);
+i1 = v10;
+p143 = write_at(j0, m, 1u);
+store8(p143 + 0, i1);
 l2:;
 j0 = v2;
-j1 = UINT64_C(1216);
+j1 = UINT64_C(1248);
 j0 = j0 + j1;
 m->g0 = j0;
 return;
@@ -41632,10 +39059,10 @@ uint64_t v10 = 0;
 uint64_t v11 = 0;
 uint64_t v12 = 0;
 uint64_t v13 = 0;
-uint32_t v14 = 0;
+uint64_t v14 = 0;
 uint32_t v15 = 0;
-uint64_t v16 = 0;
-uint64_t v17 = 0;
+uint32_t v16 = 0;
+uint32_t v17 = 0;
 uint64_t v18 = 0;
 uint64_t v19 = 0;
 uint64_t v20 = 0;
@@ -41650,7 +39077,7 @@ uint64_t v28 = 0;
 uint64_t v29 = 0;
 uint64_t v30 = 0;
 uint64_t v31 = 0;
-uint32_t v32 = 0;
+uint64_t v32 = 0;
 uint64_t v33 = 0;
 uint64_t v34 = 0;
 uint32_t v35 = 0;
@@ -41774,15 +39201,6 @@ uint8_t *p99;
 uint8_t *p100;
 uint8_t *p101;
 uint8_t *p102;
-uint8_t *p103;
-uint8_t *p104;
-uint8_t *p105;
-uint8_t *p106;
-uint8_t *p107;
-uint8_t *p108;
-uint8_t *p109;
-uint8_t *p110;
-uint8_t *p111;
 j0 = m->g0;
 j1 = UINT64_C(4576);
 j0 = j0 - j1;
@@ -42070,6 +39488,7 @@ j0 = v0;
 j1 = UINT64_C(73048);
 j0 = j0 + j1;
 j0 = load64(p3 + 7512);
+v13 = j0;
 j1 = UINT64_C(1);
 j0 = j0 + j1;
 v9 = j0;
@@ -42077,19 +39496,19 @@ j0 = v0;
 j1 = UINT64_C(446360);
 j0 = j0 + j1;
 j0 = load64(p3 + 380824);
-v13 = j0;
+v14 = j0;
 j0 = v0;
 j1 = UINT64_C(446352);
 j0 = j0 + j1;
 i0 = load8(p3 + 380816);
-v14 = i0;
-l14:;
+v15 = i0;
+l16:;
 j0 = v9;
 j1 = UINT64_C(18446744073709551615);
 j0 = j0 + j1;
 v9 = j0;
 i0 = (j0 == 0);
-if (i0) { goto l4; }
+if (i0) { goto l15; }
 j0 = v1;
 p8 = read_at(j0, m, 8u);
 j0 = load64(p8 + 0);
@@ -42101,278 +39520,319 @@ v1 = j0;
 j0 = v10;
 j1 = UINT64_C(1);
 i0 = (j0 <= j1);
-if (i0) { goto l14; }
+if (i0) { goto l16; }
+j0 = UINT64_C(0);
+v1 = j0;
+j0 = UINT64_C(0);
+v9 = j0;
+goto l14;
+l15:;
+j0 = v0;
+j1 = UINT64_C(73064);
+j0 = j0 + j1;
+j0 = load8(p3 + 7528);
+v9 = j0;
 j0 = v0;
 j1 = UINT64_C(73072);
 j0 = j0 + j1;
 j0 = load64(p3 + 7536);
 v1 = j0;
+l14:;
+j0 = v0;
+j1 = UINT64_C(446360);
+j0 = j0 + j1;
+j1 = v1;
+store64(p3 + 380824, j1);
+j0 = v0;
+j1 = UINT64_C(446352);
+j0 = j0 + j1;
+j1 = v9;
+store64(p3 + 380816, j1);
+j0 = v13;
+j1 = UINT64_C(1);
+j0 = j0 + j1;
+v9 = j0;
+j0 = v0;
+j1 = UINT64_C(66368);
+j0 = j0 + j1;
+v1 = j0;
+l19:;
+j0 = v9;
+j1 = UINT64_C(18446744073709551615);
+j0 = j0 + j1;
+v9 = j0;
+i0 = (j0 == 0);
+if (i0) { goto l18; }
+j0 = v1;
+p9 = read_at(j0, m, 8u);
+j0 = load64(p9 + 0);
+v10 = j0;
+j0 = v1;
+j1 = UINT64_C(936);
+j0 = j0 + j1;
+v1 = j0;
+j0 = v10;
+j1 = UINT64_C(2);
+i0 = (j0 < j1);
+if (i0) { goto l19; }
 j0 = v0;
 j1 = UINT64_C(73064);
 j0 = j0 + j1;
 i0 = load8(p3 + 7528);
-v15 = i0;
-j0 = UINT64_C(0);
-v9 = j0;
-j0 = UINT64_C(0);
-v10 = j0;
-goto l3;
-l5:;
-trap();
-l4:;
+v16 = i0;
+i1 = UINT32_C(1);
+i0 = (i0 != i1);
+i1 = v15;
+i2 = UINT32_C(255);
+i1 = i1 & i2;
+i2 = UINT32_C(1);
+i1 = (i1 == i2);
+i0 = i0 & i1;
+v17 = i0;
+goto l17;
+l18:;
 j0 = v0;
 j1 = UINT64_C(73064);
 j0 = j0 + j1;
-p9 = read_at(j0, m, 16u);
-i0 = load8(p9 + 0);
-v15 = i0;
-j0 = (uint64_t)i0;
-j1 = UINT64_C(255);
-j0 = j0 & j1;
-v10 = j0;
-j0 = v0;
-j1 = UINT64_C(73072);
-j0 = j0 + j1;
-j0 = load64(p9 + 8);
-v1 = j0;
-v9 = j0;
-l3:;
+i0 = load8(p3 + 7528);
+v16 = i0;
+i0 = UINT32_C(0);
+v17 = i0;
+l17:;
 j0 = v2;
 j1 = v0;
-p10 = write_at(j0 + UINT64_C(24), m, 32u);
-store64(p10 + 8, j1);
+store64(p1 + 32, j1);
 j0 = v0;
-j1 = UINT64_C(446360);
+j1 = UINT64_C(446330);
 j0 = j0 + j1;
-j1 = v9;
-p11 = write_at(j0 + UINT64_C(18446744073709551528), m, 96u);
-store64(p11 + 88, j1);
-j0 = v0;
-j1 = UINT64_C(446352);
-j0 = j0 + j1;
-j1 = v10;
-store64(p11 + 80, j1);
+v1 = j0;
+i1 = v17;
+j2 = v1;
+i2 = load8(p3 + 380794);
+i1 = i1 | i2;
+store8(p3 + 380794, i1);
 j0 = v2;
 i1 = UINT32_C(0);
-store32(p10 + 25, i1);
+store32(p1 + 49, i1);
 j0 = v2;
 i1 = v5;
-store8(p10 + 24, i1);
+store8(p1 + 48, i1);
 j0 = v2;
 j1 = v4;
-store64(p10 + 16, j1);
+store64(p1 + 40, j1);
 j0 = v2;
 j1 = v3;
-store64(p10 + 0, j1);
+store64(p1 + 24, j1);
 j0 = v2;
 i1 = UINT32_C(0);
-store32(p10 + 28, i1);
+store32(p1 + 52, i1);
 j0 = v8;
 j1 = v6;
 j2 = v2;
 j3 = UINT64_C(24);
 j2 = j2 + j3;
 i3 = UINT32_C(1);
-i4 = v14;
-i5 = v15;
+i4 = v15;
+i5 = v16;
 i6 = UINT32_C(255);
 i5 = i5 & i6;
 i6 = UINT32_C(1);
 i5 = (i5 == i6);
-v15 = i5;
+v16 = i5;
 i3 = i5 ? i3 : i4;
-j4 = v1;
-j5 = v13;
-i6 = v15;
+j4 = v0;
+j5 = UINT64_C(73072);
+j4 = j4 + j5;
+j4 = load64(p3 + 7536);
+j5 = v14;
+i6 = v16;
 j4 = i6 ? j4 : j5;
 j5 = v11;
 fio_log_judge_Judge_put(m, j0, j1, j2, i3, j4, j5);
 j0 = v0;
 j1 = UINT64_C(445504);
 j0 = j0 + j1;
-v16 = j0;
+v18 = j0;
 j0 = v0;
 j1 = UINT64_C(446272);
 j0 = j0 + j1;
-j0 = load64(p11 + 0);
+j0 = load64(p3 + 380736);
 v1 = j0;
 i0 = (j0 == 0);
-if (i0) { goto l15; }
+if (i0) { goto l20; }
 j0 = v1;
 j1 = UINT64_C(96);
 j0 = j0 * j1;
 v1 = j0;
 i0 = (j0 == 0);
-if (i0) { goto l16; }
-j0 = v16;
+if (i0) { goto l21; }
+j0 = v18;
 i1 = UINT32_C(0);
 j2 = v1;
 fill(m, j0, i1, j2);
-l16:;
+l21:;
 j0 = v0;
 j1 = UINT64_C(446272);
 j0 = j0 + j1;
 j1 = UINT64_C(0);
-store64(p11 + 0, j1);
-l15:;
+store64(p3 + 380736, j1);
+l20:;
 j0 = UINT64_C(0);
-v17 = j0;
+v19 = j0;
 j0 = v0;
 j1 = UINT64_C(73048);
 j0 = j0 + j1;
-p12 = read_at(j0, m, 8u);
-j0 = load64(p12 + 0);
-v18 = j0;
+j0 = load64(p3 + 7512);
+v20 = j0;
 j1 = UINT64_C(0);
 i0 = (j0 != j1);
-if (i0) { goto l18; }
+if (i0) { goto l23; }
 j0 = v6;
 j1 = UINT64_C(3152);
 j0 = j0 * j1;
-v19 = j0;
-goto l17;
-l18:;
+v21 = j0;
+goto l22;
+l23:;
 j0 = v0;
 j1 = UINT64_C(66464);
 j0 = j0 + j1;
-v20 = j0;
+v22 = j0;
 j0 = v8;
 j1 = v6;
 j2 = UINT64_C(3152);
 j1 = j1 * j2;
-v19 = j1;
+v21 = j1;
 j0 = j0 + j1;
-v21 = j0;
+v23 = j0;
 j1 = UINT64_C(32);
 j0 = j0 + j1;
-v22 = j0;
+v24 = j0;
 j0 = v2;
 j1 = UINT64_C(88);
 j0 = j0 + j1;
 j1 = UINT64_C(3);
 j0 = j0 | j1;
-v23 = j0;
+v25 = j0;
 j0 = v2;
 j1 = UINT64_C(88);
 j0 = j0 + j1;
 j1 = UINT64_C(2);
 j0 = j0 | j1;
-v24 = j0;
+v26 = j0;
 j0 = v2;
 j1 = UINT64_C(88);
 j0 = j0 + j1;
 j1 = UINT64_C(1);
 j0 = j0 | j1;
-v25 = j0;
+v27 = j0;
 j0 = v2;
 j1 = UINT64_C(987);
 j0 = j0 + j1;
-v26 = j0;
+v28 = j0;
 j0 = v2;
 j1 = UINT64_C(889);
 j0 = j0 + j1;
-v27 = j0;
+v29 = j0;
 j0 = v2;
 j1 = UINT64_C(95);
 j0 = j0 + j1;
-v28 = j0;
-l19:;
+v30 = j0;
+l24:;
 j0 = v11;
-j1 = v17;
+j1 = v19;
 j2 = UINT64_C(936);
 j1 = j1 * j2;
 j0 = j0 + j1;
 v10 = j0;
 j1 = UINT64_C(816);
 j0 = j0 + j1;
-v29 = j0;
+v14 = j0;
 j0 = v10;
 j1 = UINT64_C(808);
 j0 = j0 + j1;
-v30 = j0;
-p13 = read_at(j0, m, 8u);
-j0 = load64(p13 + 0);
+v31 = j0;
+p10 = read_at(j0, m, 8u);
+j0 = load64(p10 + 0);
 v13 = j0;
 j0 = v0;
 j1 = UINT64_C(446272);
 j0 = j0 + j1;
-v31 = j0;
-j0 = load64(p11 + 0);
+v32 = j0;
+j0 = load64(p3 + 380736);
 v9 = j0;
 j1 = UINT64_C(8);
 i0 = (j0 == j1);
-if (i0) { goto l20; }
+if (i0) { goto l25; }
 j0 = v10;
 j1 = UINT64_C(904);
 j0 = j0 + j1;
-p14 = read_at(j0, m, 1u);
-i0 = load8(p14 + 0);
-v14 = i0;
-j0 = v16;
+p11 = read_at(j0, m, 1u);
+i0 = load8(p11 + 0);
+v15 = i0;
+j0 = v18;
 j1 = v9;
 j2 = UINT64_C(96);
 j1 = j1 * j2;
 j0 = j0 + j1;
 v1 = j0;
-j1 = v29;
+j1 = v14;
 j2 = UINT64_C(88);
 copy(m, j0, j1, j2);
 j0 = v1;
 i1 = UINT32_C(0);
-p15 = write_at(j0 + UINT64_C(88), m, 8u);
-store32(p15 + 2, i1);
+p12 = write_at(j0 + UINT64_C(88), m, 8u);
+store32(p12 + 2, i1);
 j0 = v1;
-i1 = v14;
+i1 = v15;
 i2 = UINT32_C(1);
 i1 = (i1 == i2);
-store8(p15 + 1, i1);
+store8(p12 + 1, i1);
 j0 = v1;
 j1 = v13;
 j2 = UINT64_C(1);
 i1 = (j1 > j2);
-store8(p15 + 0, i1);
+store8(p12 + 0, i1);
 j0 = v1;
 i1 = UINT32_C(0);
-store16(p15 + 6, i1);
-j0 = v31;
+store16(p12 + 6, i1);
+j0 = v32;
 j1 = v9;
 j2 = UINT64_C(1);
 j1 = j1 + j2;
-store64(p11 + 0, j1);
-j0 = v30;
-j0 = load64(p13 + 0);
+store64(p3 + 380736, j1);
+j0 = v31;
+j0 = load64(p10 + 0);
 v13 = j0;
-l20:;
+l25:;
 j0 = v13;
 j1 = UINT64_C(1);
 i0 = (j0 != j1);
-if (i0) { goto l22; }
+if (i0) { goto l27; }
 j0 = v0;
 j1 = UINT64_C(73048);
 j0 = j0 + j1;
-p16 = read_at(j0, m, 8u);
-j0 = load64(p16 + 0);
+j0 = load64(p3 + 7512);
 v9 = j0;
 i0 = (j0 == 0);
-if (i0) { goto l22; }
-j0 = v20;
+if (i0) { goto l27; }
+j0 = v22;
 v1 = j0;
-l23:;
+l28:;
 j0 = v1;
 j1 = UINT64_C(18446744073709551520);
 j0 = j0 + j1;
-p17 = read_at(j0, m, 8u);
-j0 = load64(p17 + 0);
+p13 = read_at(j0, m, 8u);
+j0 = load64(p13 + 0);
 j1 = UINT64_C(2);
 i0 = (j0 < j1);
-if (i0) { goto l24; }
+if (i0) { goto l29; }
 j0 = v1;
-p18 = read_at(j0, m, 1u);
-i0 = load8(p18 + 0);
+p14 = read_at(j0, m, 1u);
+i0 = load8(p14 + 0);
 i1 = UINT32_C(2);
 i0 = (i0 == i1);
-if (i0) { goto l21; }
-l24:;
+if (i0) { goto l26; }
+l29:;
 j0 = v1;
 j1 = UINT64_C(936);
 j0 = j0 + j1;
@@ -42383,57 +39843,56 @@ j0 = j0 + j1;
 v9 = j0;
 j1 = UINT64_C(0);
 i0 = (j0 != j1);
-if (i0) { goto l23; }
-l22:;
+if (i0) { goto l28; }
+l27:;
 j0 = v10;
 j1 = UINT64_C(928);
 j0 = j0 + j1;
-p19 = read_at(j0 + UINT64_C(18446744073709550688), m, 929u);
-i0 = load8(p19 + 928);
-v15 = i0;
+p15 = read_at(j0 + UINT64_C(18446744073709550688), m, 929u);
+i0 = load8(p15 + 928);
+v16 = i0;
 j0 = v10;
 j1 = UINT64_C(920);
 j0 = j0 + j1;
-j0 = load64(p19 + 920);
+j0 = load64(p15 + 920);
 v9 = j0;
 j0 = v10;
 j1 = UINT64_C(912);
 j0 = j0 + j1;
-j0 = load64(p19 + 912);
+j0 = load64(p15 + 912);
 v1 = j0;
 j0 = v10;
 j1 = UINT64_C(16);
 j0 = j0 + j1;
-i0 = load8(p19 + 16);
-v32 = i0;
+i0 = load8(p15 + 16);
+v17 = i0;
 j0 = v10;
 j1 = UINT64_C(8);
 j0 = j0 + j1;
-j0 = load64(p19 + 8);
+j0 = load64(p15 + 8);
 v33 = j0;
 j0 = v10;
 j1 = UINT64_C(904);
 j0 = j0 + j1;
-i0 = load8(p19 + 904);
-v14 = i0;
+i0 = load8(p15 + 904);
+v15 = i0;
 j0 = v10;
-j0 = load64(p19 + 0);
+j0 = load64(p15 + 0);
 v34 = j0;
 j0 = v2;
 i1 = UINT32_C(0);
-p20 = write_at(j0 + UINT64_C(88), m, 7u);
-store32(p20 + 3, i1);
+store32(p1 + 91, i1);
 j0 = v2;
 i1 = UINT32_C(0);
-store32(p20 + 0, i1);
-i0 = v14;
+store32(p1 + 88, i1);
+i0 = v15;
 i1 = UINT32_C(2);
 i0 = (i0 != i1);
-if (i0) { goto l21; }
+if (i0) { goto l26; }
 j0 = v10;
 j1 = UINT64_C(24);
 j0 = j0 + j1;
-v30 = j0;
+v31 = j0;
 j0 = v2;
 j1 = UINT64_C(2904);
 j0 = j0 + j1;
@@ -42446,116 +39905,115 @@ j0 = j0 - j1;
 v9 = j0;
 j1 = UINT64_C(773);
 i0 = (j0 > j1);
-if (i0) { goto l25; }
+if (i0) { goto l30; }
 j0 = v9;
 i0 = (j0 == 0);
-if (i0) { goto l26; }
+if (i0) { goto l31; }
 j0 = v2;
 j1 = UINT64_C(2904);
 j0 = j0 + j1;
-j1 = v30;
+j1 = v31;
 j2 = v1;
 j1 = j1 + j2;
 j2 = v9;
 copy(m, j0, j1, j2);
-l26:;
+l31:;
 j0 = v2;
 j1 = v9;
-p21 = write_at(j0 + UINT64_C(3680), m, 8u);
-store64(p21 + 0, j1);
-l25:;
+store64(p1 + 3680, j1);
+l30:;
 i0 = UINT32_C(0);
-v14 = i0;
+v15 = i0;
 j0 = v13;
 i0 = (j0 == 0);
-if (i0) { goto l27; }
+if (i0) { goto l32; }
 j0 = v13;
 j1 = UINT64_C(1);
 i0 = (j0 == j1);
-if (i0) { goto l29; }
-j0 = v30;
-i0 = load8(p19 + 24);
+if (i0) { goto l34; }
+j0 = v31;
+i0 = load8(p15 + 24);
 v35 = i0;
 i1 = UINT32_C(255);
 i0 = i0 & i1;
 v36 = i0;
 i1 = UINT32_C(59);
 i0 = (i0 == i1);
-if (i0) { goto l29; }
+if (i0) { goto l34; }
 i0 = v36;
 i1 = UINT32_C(56);
 i0 = (i0 < i1);
-if (i0) { goto l30; }
+if (i0) { goto l35; }
 i0 = v35;
 i1 = UINT32_C(255);
 i0 = i0 & i1;
 v36 = i0;
 i1 = UINT32_C(58);
 i0 = (i0 < i1);
-if (i0) { goto l29; }
+if (i0) { goto l34; }
 i0 = v36;
 i1 = UINT32_C(183);
 i0 = (i0 < i1);
-if (i0) { goto l30; }
+if (i0) { goto l35; }
 i0 = v35;
 i1 = UINT32_C(255);
 i0 = i0 & i1;
 v36 = i0;
 i1 = UINT32_C(186);
 i0 = (i0 < i1);
-if (i0) { goto l29; }
+if (i0) { goto l34; }
 i0 = v36;
 i1 = UINT32_C(186);
 i0 = (i0 == i1);
-if (i0) { goto l30; }
+if (i0) { goto l35; }
 i0 = v35;
 i1 = UINT32_C(255);
 i0 = i0 & i1;
 i1 = UINT32_C(189);
 i0 = (i0 < i1);
-if (i0) { goto l29; }
-l30:;
+if (i0) { goto l34; }
+l35:;
 j0 = v10;
 j1 = UINT64_C(896);
 j0 = j0 + j1;
-i0 = load8(p19 + 896);
+i0 = load8(p15 + 896);
 i1 = UINT32_C(1);
 i0 = (i0 != i1);
-if (i0) { goto l29; }
+if (i0) { goto l34; }
 j0 = v10;
 j1 = UINT64_C(897);
 j0 = j0 + j1;
-i0 = load8(p19 + 897);
+i0 = load8(p15 + 897);
 i1 = v35;
 i2 = UINT32_C(128);
 i1 = i1 & i2;
 i2 = UINT32_C(7);
 i1 = i1 >> (i2 & 31);
 i0 = (i0 == i1);
-if (i0) { goto l28; }
-l29:;
+if (i0) { goto l33; }
+l34:;
 j0 = v10;
 j1 = UINT64_C(900);
 j0 = j0 + j1;
-i0 = load8(p19 + 900);
-if (i0) { goto l27; }
-l28:;
+i0 = load8(p15 + 900);
+if (i0) { goto l32; }
+l33:;
 j0 = v10;
 j1 = UINT64_C(901);
 j0 = j0 + j1;
-i0 = load8(p19 + 901);
-if (i0) { goto l27; }
+i0 = load8(p15 + 901);
+if (i0) { goto l32; }
 j0 = v10;
 j1 = UINT64_C(880);
 j0 = j0 + j1;
-i0 = load8(p19 + 880);
+i0 = load8(p15 + 880);
 i1 = UINT32_C(8);
 i0 = (i0 > i1);
-if (i0) { goto l27; }
+if (i0) { goto l32; }
 j0 = v10;
 j1 = UINT64_C(888);
 j0 = j0 + j1;
-j0 = load64(p19 + 888);
+j0 = load64(p15 + 888);
 v1 = j0;
 i0 = (j0 == 0);
 j1 = v1;
@@ -42564,10 +40022,10 @@ j1 = j1 & j2;
 j2 = UINT64_C(0);
 i1 = (j1 != j2);
 i0 = i0 | i1;
-v14 = i0;
-l27:;
-j0 = v28;
-j1 = v29;
+v15 = i0;
+l32:;
+j0 = v30;
+j1 = v14;
 j2 = UINT64_C(88);
 copy(m, j0, j1, j2);
 j0 = v2;
@@ -42578,31 +40036,30 @@ j2 = UINT64_C(88);
 j1 = j1 + j2;
 j2 = UINT64_C(95);
 copy(m, j0, j1, j2);
-i0 = v15;
+i0 = v16;
 i1 = UINT32_C(1);
 i0 = i0 & i1;
-if (i0) { goto l31; }
+if (i0) { goto l36; }
 j0 = v0;
 j1 = UINT64_C(73056);
 j0 = j0 + j1;
-p22 = read_at(j0, m, 1u);
-i0 = load8(p22 + 0);
-if (i0) { goto l21; }
-l31:;
-j0 = v21;
-p23 = read_at(j0, m, 8u);
-j0 = load64(p23 + 0);
+i0 = load8(p3 + 7520);
+if (i0) { goto l26; }
+l36:;
+j0 = v23;
+p16 = read_at(j0, m, 8u);
+j0 = load64(p16 + 0);
 j1 = v3;
 i0 = (j0 != j1);
-if (i0) { goto l21; }
-j0 = v21;
+if (i0) { goto l26; }
+j0 = v23;
 j1 = UINT64_C(3144);
 j0 = j0 + j1;
-p24 = read_at(j0, m, 8u);
-j0 = load64(p24 + 0);
+p17 = read_at(j0, m, 8u);
+j0 = load64(p17 + 0);
 j1 = UINT64_C(0);
 i0 = (j0 != j1);
-if (i0) { goto l21; }
+if (i0) { goto l26; }
 j0 = v2;
 j1 = UINT64_C(88);
 j0 = j0 + j1;
@@ -42612,51 +40069,50 @@ j1 = j1 + j2;
 j2 = UINT64_C(784);
 copy(m, j0, j1, j2);
 j0 = v2;
-i1 = v32;
-p25 = write_at(j0 + UINT64_C(872), m, 120u);
-store8(p25 + 16, i1);
+i1 = v17;
+store8(p1 + 888, i1);
 j0 = v2;
 j1 = v33;
-store64(p25 + 8, j1);
+store64(p1 + 880, j1);
 j0 = v2;
 j1 = v34;
-store64(p25 + 0, j1);
-j0 = v27;
+store64(p1 + 872, j1);
+j0 = v29;
 j1 = v2;
 j2 = UINT64_C(2809);
 j1 = j1 + j2;
 j2 = UINT64_C(95);
 copy(m, j0, j1, j2);
-j0 = v26;
+j0 = v28;
 i1 = UINT32_C(0);
-store32(p25 + 115, i1);
-j0 = v26;
+store32(p1 + 987, i1);
+j0 = v28;
 i1 = UINT32_C(0);
-store8(p25 + 119, i1);
+store8(p1 + 991, i1);
 j0 = v2;
-i1 = v14;
-store8(p25 + 114, i1);
+i1 = v15;
+store8(p1 + 986, i1);
 j0 = v2;
 j1 = v13;
 j2 = UINT64_C(1);
 i1 = (j1 > j2);
 v35 = i1;
-store8(p25 + 113, i1);
+store8(p1 + 985, i1);
 j0 = v2;
-i1 = v15;
+i1 = v16;
 i2 = UINT32_C(1);
 i1 = i1 & i2;
 v36 = i1;
-store8(p25 + 112, i1);
-j0 = v21;
+store8(p1 + 984, i1);
+j0 = v23;
 j1 = UINT64_C(2744);
 j0 = j0 + j1;
-p26 = read_at(j0, m, 8u);
-j0 = load64(p26 + 0);
-v31 = j0;
+p18 = read_at(j0, m, 8u);
+j0 = load64(p18 + 0);
+v32 = j0;
 j1 = UINT64_C(0);
 i0 = (j0 != j1);
-if (i0) { goto l33; }
+if (i0) { goto l38; }
 j0 = v2;
 j1 = UINT64_C(3792);
 j0 = j0 + j1;
@@ -42675,31 +40131,29 @@ j2 = UINT64_C(95);
 copy(m, j0, j1, j2);
 j0 = v2;
 i1 = UINT32_C(0);
-p27 = write_at(j0 + UINT64_C(3692), m, 5u);
-store8(p27 + 4, i1);
+store8(p1 + 3696, i1);
 j0 = v2;
 i1 = UINT32_C(0);
-store32(p27 + 0, i1);
-goto l32;
-l33:;
+store32(p1 + 3692, i1);
+goto l37;
+l38:;
 j0 = UINT64_C(66619);
-j1 = v23;
+j1 = v25;
 j2 = v2;
-p28 = read_at(j2 + UINT64_C(864), m, 8u);
-j2 = load64(p28 + 0);
+j2 = load64(p1 + 864);
 v1 = j2;
 i2 = (j2 == 0);
-v15 = i2;
+v16 = i2;
 j0 = i2 ? j0 : j1;
 v37 = j0;
 j0 = UINT64_C(66618);
-j1 = v24;
-i2 = v15;
+j1 = v26;
+i2 = v16;
 j0 = i2 ? j0 : j1;
 v38 = j0;
 j0 = UINT64_C(66617);
-j1 = v25;
-i2 = v15;
+j1 = v27;
+i2 = v16;
 j0 = i2 ? j0 : j1;
 v39 = j0;
 j0 = v1;
@@ -42713,28 +40167,28 @@ j0 = UINT64_C(66616);
 j1 = v2;
 j2 = UINT64_C(88);
 j1 = j1 + j2;
-i2 = v15;
+i2 = v16;
 j0 = i2 ? j0 : j1;
 v13 = j0;
-p29 = read_at(j0, m, 1u);
-i0 = load8(p29 + 0);
-v15 = i0;
+p19 = read_at(j0, m, 1u);
+i0 = load8(p19 + 0);
+v16 = i0;
 j0 = UINT64_C(0);
-v29 = j0;
+v14 = j0;
 j0 = v2;
-j0 = load64(p25 + 48);
+j0 = load64(p1 + 920);
 v40 = j0;
-l34:;
-j0 = v22;
-j1 = v29;
+l39:;
+j0 = v24;
+j1 = v14;
 j2 = UINT64_C(904);
 j1 = j1 * j2;
 j0 = j0 + j1;
-v30 = j0;
+v31 = j0;
 j1 = UINT64_C(776);
 j0 = j0 + j1;
-p30 = read_at(j0, m, 8u);
-j0 = load64(p30 + 0);
+p20 = read_at(j0, m, 8u);
+j0 = load64(p20 + 0);
 v1 = j0;
 j1 = UINT64_C(1);
 j2 = v1;
@@ -42743,119 +40197,119 @@ i2 = (j2 > j3);
 j0 = i2 ? j0 : j1;
 j1 = v9;
 i0 = (j0 != j1);
-if (i0) { goto l35; }
+if (i0) { goto l40; }
 j0 = v1;
 j1 = UINT64_C(3);
 i0 = (j0 > j1);
-if (i0) { goto l38; }
+if (i0) { goto l43; }
 j0 = UINT64_C(66616);
-j1 = v30;
+j1 = v31;
 j2 = v1;
 i2 = (j2 == 0);
 j0 = i2 ? j0 : j1;
 v10 = j0;
 j0 = UINT64_C(0);
 v1 = j0;
-l39:;
+l44:;
 j0 = v10;
 j1 = v1;
 j0 = j0 + j1;
-p31 = read_at(j0, m, 1u);
-i0 = load8(p31 + 0);
+p21 = read_at(j0, m, 1u);
+i0 = load8(p21 + 0);
 j1 = v13;
 j2 = v1;
 j1 = j1 + j2;
-p32 = read_at(j1, m, 1u);
-i1 = load8(p32 + 0);
+p22 = read_at(j1, m, 1u);
+i1 = load8(p22 + 0);
 i0 = (i0 != i1);
-if (i0) { goto l37; }
+if (i0) { goto l42; }
 j0 = v9;
 j1 = v1;
 j2 = UINT64_C(1);
 j1 = j1 + j2;
 v1 = j1;
 i0 = (j0 != j1);
-if (i0) { goto l39; }
-goto l36;
-l38:;
-j0 = v30;
-p33 = read_at(j0, m, 1u);
-i0 = load8(p33 + 0);
-i1 = v15;
+if (i0) { goto l44; }
+goto l41;
+l43:;
+j0 = v31;
+p23 = read_at(j0, m, 1u);
+i0 = load8(p23 + 0);
+i1 = v16;
 i2 = UINT32_C(255);
 i1 = i1 & i2;
 i0 = (i0 != i1);
-if (i0) { goto l35; }
-j0 = v30;
+if (i0) { goto l40; }
+j0 = v31;
 j1 = UINT64_C(1);
 j0 = j0 + j1;
-p34 = read_at(j0, m, 1u);
-i0 = load8(p34 + 0);
+p24 = read_at(j0, m, 1u);
+i0 = load8(p24 + 0);
 i1 = UINT32_C(255);
 i0 = i0 & i1;
 j1 = v39;
-p35 = read_at(j1, m, 1u);
-i1 = load8(p35 + 0);
+p25 = read_at(j1, m, 1u);
+i1 = load8(p25 + 0);
 i2 = UINT32_C(255);
 i1 = i1 & i2;
 i0 = (i0 != i1);
-if (i0) { goto l35; }
-j0 = v30;
+if (i0) { goto l40; }
+j0 = v31;
 j1 = UINT64_C(2);
 j0 = j0 + j1;
-p36 = read_at(j0, m, 1u);
-i0 = load8(p36 + 0);
+p26 = read_at(j0, m, 1u);
+i0 = load8(p26 + 0);
 i1 = UINT32_C(255);
 i0 = i0 & i1;
 j1 = v38;
-p37 = read_at(j1, m, 1u);
-i1 = load8(p37 + 0);
+p27 = read_at(j1, m, 1u);
+i1 = load8(p27 + 0);
 i2 = UINT32_C(255);
 i1 = i1 & i2;
 i0 = (i0 != i1);
-if (i0) { goto l35; }
-j0 = v30;
+if (i0) { goto l40; }
+j0 = v31;
 j1 = UINT64_C(3);
 j0 = j0 + j1;
-p38 = read_at(j0, m, 1u);
-i0 = load8(p38 + 0);
+p28 = read_at(j0, m, 1u);
+i0 = load8(p28 + 0);
 i1 = UINT32_C(255);
 i0 = i0 & i1;
 j1 = v37;
-p39 = read_at(j1, m, 1u);
-i1 = load8(p39 + 0);
+p29 = read_at(j1, m, 1u);
+i1 = load8(p29 + 0);
 i2 = UINT32_C(255);
 i1 = i1 & i2;
 i0 = (i0 != i1);
-if (i0) { goto l35; }
-j0 = v30;
+if (i0) { goto l40; }
+j0 = v31;
 j1 = v9;
 j2 = v13;
 i0 = core_cmp_slices_groups_equal_i8_31_core_cmp_numbers_U8PartialEq(m, j0, j1, j2);
-if (i0) { goto l36; }
-goto l35;
-l37:;
+if (i0) { goto l41; }
+goto l40;
+l42:;
 j0 = v1;
 j1 = v9;
 i0 = (j0 < j1);
-if (i0) { goto l35; }
-l36:;
-j0 = v30;
+if (i0) { goto l40; }
+l41:;
+j0 = v31;
 j1 = UINT64_C(832);
 j0 = j0 + j1;
-p40 = read_at(j0, m, 8u);
-j0 = load64(p40 + 0);
+p30 = read_at(j0, m, 8u);
+j0 = load64(p30 + 0);
 j1 = v40;
 i0 = (j0 == j1);
-if (i0) { goto l21; }
-l35:;
-j0 = v29;
+if (i0) { goto l26; }
+l40:;
+j0 = v14;
 j1 = UINT64_C(1);
 j0 = j0 + j1;
-v29 = j0;
-j1 = v31;
+v14 = j0;
+j1 = v32;
 i0 = (j0 != j1);
-if (i0) { goto l34; }
+if (i0) { goto l39; }
 j0 = v2;
 j1 = UINT64_C(3792);
 j0 = j0 + j1;
@@ -42874,18 +40328,17 @@ j2 = UINT64_C(95);
 copy(m, j0, j1, j2);
 j0 = v2;
 i1 = UINT32_C(0);
-p41 = write_at(j0 + UINT64_C(3692), m, 5u);
-store8(p41 + 4, i1);
+store8(p1 + 3696, i1);
 j0 = v2;
 i1 = UINT32_C(0);
-store32(p41 + 0, i1);
-j0 = v31;
+store32(p1 + 3692, i1);
+j0 = v32;
 j1 = UINT64_C(3);
 i0 = (j0 == j1);
-if (i0) { goto l21; }
-l32:;
-j0 = v22;
-j1 = v31;
+if (i0) { goto l26; }
+l37:;
+j0 = v24;
+j1 = v32;
 j2 = UINT64_C(904);
 j1 = j1 * j2;
 j0 = j0 + j1;
@@ -42896,15 +40349,15 @@ j1 = j1 + j2;
 j2 = UINT64_C(784);
 copy(m, j0, j1, j2);
 j0 = v1;
-i1 = v32;
-p42 = write_at(j0 + UINT64_C(784), m, 120u);
-store8(p42 + 16, i1);
+i1 = v17;
+p31 = write_at(j0 + UINT64_C(784), m, 120u);
+store8(p31 + 16, i1);
 j0 = v1;
 j1 = v33;
-store64(p42 + 8, j1);
+store64(p31 + 8, j1);
 j0 = v1;
 j1 = v34;
-store64(p42 + 0, j1);
+store64(p31 + 0, j1);
 j0 = v1;
 j1 = UINT64_C(801);
 j0 = j0 + j1;
@@ -42914,81 +40367,79 @@ j1 = j1 + j2;
 j2 = UINT64_C(95);
 copy(m, j0, j1, j2);
 j0 = v1;
-i1 = v14;
-store8(p42 + 114, i1);
+i1 = v15;
+store8(p31 + 114, i1);
 j0 = v1;
 i1 = v35;
-store8(p42 + 113, i1);
+store8(p31 + 113, i1);
 j0 = v1;
 i1 = v36;
-store8(p42 + 112, i1);
+store8(p31 + 112, i1);
 j0 = v1;
 j1 = v2;
-p43 = read_at(j1 + UINT64_C(3692), m, 5u);
-i1 = load32(p43 + 0);
-store32(p42 + 115, i1);
+i1 = load32(p1 + 3692);
+store32(p31 + 115, i1);
 j0 = v1;
 j1 = v2;
-i1 = load8(p43 + 4);
-store8(p42 + 119, i1);
-j0 = v21;
+i1 = load8(p1 + 3696);
+store8(p31 + 119, i1);
+j0 = v23;
 j1 = UINT64_C(2744);
 j0 = j0 + j1;
-j1 = v31;
+j1 = v32;
 j2 = UINT64_C(1);
 j1 = j1 + j2;
-p44 = write_at(j0, m, 8u);
-store64(p44 + 0, j1);
-l21:;
-j0 = v17;
+p32 = write_at(j0, m, 8u);
+store64(p32 + 0, j1);
+l26:;
+j0 = v19;
 j1 = UINT64_C(1);
 j0 = j0 + j1;
-v17 = j0;
-j1 = v18;
+v19 = j0;
+j1 = v20;
 i0 = (j0 != j1);
-if (i0) { goto l19; }
-l17:;
+if (i0) { goto l24; }
+l22:;
 i0 = UINT32_C(0);
-v15 = i0;
+v16 = i0;
 j0 = v8;
-j1 = v19;
+j1 = v21;
 j0 = j0 + j1;
 j1 = UINT64_C(2744);
 j0 = j0 + j1;
-p45 = read_at(j0, m, 8u);
-j0 = load64(p45 + 0);
+p33 = read_at(j0, m, 8u);
+j0 = load64(p33 + 0);
 j1 = UINT64_C(0);
 i0 = (j0 == j1);
-if (i0) { goto l41; }
+if (i0) { goto l45; }
 i0 = UINT32_C(0);
-v14 = i0;
-goto l40;
-l41:;
+v15 = i0;
+goto l3;
+l45:;
 i0 = UINT32_C(0);
-v14 = i0;
+v15 = i0;
 j0 = v0;
 j1 = UINT64_C(73048);
 j0 = j0 + j1;
-p46 = read_at(j0, m, 8u);
-j0 = load64(p46 + 0);
+j0 = load64(p3 + 7512);
 v9 = j0;
 i0 = (j0 == 0);
-if (i0) { goto l40; }
+if (i0) { goto l3; }
 j0 = v0;
 j1 = UINT64_C(66464);
 j0 = j0 + j1;
 v1 = j0;
 i0 = UINT32_C(0);
-v15 = i0;
+v16 = i0;
 i0 = UINT32_C(0);
-v14 = i0;
-l43:;
+v15 = i0;
+l46:;
 j0 = v1;
-p47 = read_at(j0, m, 1u);
-i0 = load8(p47 + 0);
+p34 = read_at(j0, m, 1u);
+i0 = load8(p34 + 0);
 i1 = UINT32_C(2);
 i0 = (i0 == i1);
-if (i0) { goto l44; }
+if (i0) { goto l47; }
 j0 = v2;
 j1 = UINT64_C(16);
 j0 = j0 + j1;
@@ -42998,29 +40449,27 @@ j1 = j1 + j2;
 j2 = v1;
 j3 = UINT64_C(18446744073709551520);
 j2 = j2 + j3;
-p48 = read_at(j2, m, 8u);
-j2 = load64(p48 + 0);
+p35 = read_at(j2, m, 8u);
+j2 = load64(p35 + 0);
 fio_log_judge_remarks_remark_of(m, j0, j1, j2);
 j0 = v2;
-p49 = read_at(j0 + UINT64_C(16), m, 1u);
-i0 = load8(p49 + 0);
+i0 = load8(p1 + 16);
 i1 = UINT32_C(1);
 i0 = (i0 != i1);
-if (i0) { goto l44; }
+if (i0) { goto l47; }
 i0 = UINT32_C(12);
-v14 = i0;
+v15 = i0;
 j0 = v2;
-p50 = read_at(j0 + UINT64_C(17), m, 1u);
-i0 = load8(p50 + 0);
-v32 = i0;
+i0 = load8(p1 + 17);
+v17 = i0;
 i1 = UINT32_C(255);
 i0 = i0 & i1;
 i1 = UINT32_C(12);
 i0 = (i0 != i1);
-if (i0) { goto l42; }
+if (i0) { goto l4; }
 i0 = UINT32_C(1);
-v15 = i0;
-l44:;
+v16 = i0;
+l47:;
 j0 = v1;
 j1 = UINT64_C(936);
 j0 = j0 + j1;
@@ -43031,29 +40480,32 @@ j0 = j0 + j1;
 v9 = j0;
 j1 = UINT64_C(0);
 i0 = (j0 != j1);
-if (i0) { goto l43; }
-goto l40;
-l42:;
+if (i0) { goto l46; }
+goto l3;
+l5:;
+trap();
+l4:;
 i0 = UINT32_C(1);
+v16 = i0;
+i0 = v17;
 v15 = i0;
-i0 = v32;
-v14 = i0;
-l40:;
+l3:;
 j0 = v0;
 j1 = UINT64_C(446281);
 j0 = j0 + j1;
-i1 = v14;
-store8(p11 + 9, i1);
+i1 = v15;
+p36 = write_at(j0 + UINT64_C(18446744073709551615), m, 2u);
+store8(p36 + 1, i1);
 j0 = v0;
 j1 = UINT64_C(446280);
 j0 = j0 + j1;
-i1 = v15;
-store8(p11 + 8, i1);
+i1 = v16;
+store8(p36 + 0, i1);
 i0 = v5;
 i1 = UINT32_C(1);
 i0 = i0 & i1;
 i0 = (i0 == 0);
-if (i0) { goto l45; }
+if (i0) { goto l48; }
 j0 = v7;
 j1 = v6;
 j2 = UINT64_C(144);
@@ -43063,31 +40515,31 @@ v1 = j0;
 j1 = UINT64_C(16);
 j0 = j0 + j1;
 j1 = UINT64_C(0);
-p51 = write_at(j0 + UINT64_C(18446744073709551608), m, 24u);
-store64(p51 + 8, j1);
+p37 = write_at(j0 + UINT64_C(18446744073709551608), m, 24u);
+store64(p37 + 8, j1);
 j0 = v1;
 j1 = UINT64_C(10);
 j0 = j0 + j1;
 i1 = UINT32_C(6);
-store8(p51 + 2, i1);
+store8(p37 + 2, i1);
 j0 = v1;
 j1 = UINT64_C(8);
 j0 = j0 + j1;
 i1 = UINT32_C(1284);
-store16(p51 + 0, i1);
+store16(p37 + 0, i1);
 j0 = v1;
 j1 = UINT64_C(24);
 j0 = j0 + j1;
 j1 = UINT64_C(0);
-store64(p51 + 16, j1);
+store64(p37 + 16, j1);
 goto l2;
-l45:;
+l48:;
 j0 = v0;
 j1 = UINT64_C(73080);
 j0 = j0 + j1;
-p52 = read_at(j0, m, 1u);
-i0 = load8(p52 + 0);
-if (i0) { goto l48; }
+p38 = read_at(j0, m, 1u);
+i0 = load8(p38 + 0);
+if (i0) { goto l51; }
 j0 = v2;
 j1 = UINT64_C(3792);
 j0 = j0 + j1;
@@ -43110,51 +40562,51 @@ j4 = UINT64_C(88);
 j3 = j3 + j4;
 fio_log_offsets_offset_row(m, j0, j1, j2, j3);
 j0 = v2;
-p53 = read_at(j0 + UINT64_C(3792), m, 1u);
-i0 = load8(p53 + 0);
+p39 = read_at(j0 + UINT64_C(3792), m, 1u);
+i0 = load8(p39 + 0);
 i1 = UINT32_C(1);
 i0 = (i0 != i1);
-if (i0) { goto l48; }
+if (i0) { goto l51; }
 j0 = v2;
-p54 = read_at(j0 + UINT64_C(3800), m, 64u);
-j0 = load64(p54 + 56);
+p40 = read_at(j0 + UINT64_C(3800), m, 64u);
+j0 = load64(p40 + 56);
 v9 = j0;
 j0 = v2;
-j0 = load64(p54 + 48);
+j0 = load64(p40 + 48);
 v1 = j0;
 j0 = v2;
-i0 = load8(p54 + 40);
-v14 = i0;
+i0 = load8(p40 + 40);
+v15 = i0;
 j0 = v2;
-j0 = load64(p54 + 0);
+j0 = load64(p40 + 0);
 i0 = (j0 == 0);
-if (i0) { goto l49; }
+if (i0) { goto l52; }
 j0 = v2;
-i0 = load8(p54 + 8);
+i0 = load8(p40 + 8);
 i1 = UINT32_C(1);
 i0 = (i0 == i1);
 j1 = v2;
-j1 = load64(p54 + 16);
+j1 = load64(p40 + 16);
 i1 = (j1 == 0);
 i0 = i0 & i1;
-if (i0) { goto l49; }
+if (i0) { goto l52; }
 j0 = v2;
-i0 = load8(p54 + 24);
+i0 = load8(p40 + 24);
 i1 = UINT32_C(1);
 i0 = (i0 == i1);
 j1 = v2;
-j1 = load64(p54 + 32);
+j1 = load64(p40 + 32);
 i1 = (j1 == 0);
 i0 = i0 & i1;
 i0 = (i0 == 0);
-if (i0) { goto l48; }
-l49:;
+if (i0) { goto l51; }
+l52:;
 j0 = v2;
-p55 = read_at(j0 + UINT64_C(8), m, 3865u);
-i0 = load8(p55 + 3864);
-v15 = i0;
+p41 = read_at(j0 + UINT64_C(8), m, 3865u);
+i0 = load8(p41 + 3864);
+v16 = i0;
 j0 = v2;
-j0 = load64(p55 + 3856);
+j0 = load64(p41 + 3856);
 v10 = j0;
 j0 = v2;
 j1 = UINT64_C(8);
@@ -43164,19 +40616,19 @@ j2 = v4;
 j3 = v1;
 fio_log_sides_said_at(m, j0, j1, j2, j3);
 j0 = v2;
-i0 = load16(p55 + 0);
-v32 = i0;
+i0 = load16(p41 + 0);
+v17 = i0;
 j0 = v0;
 j1 = UINT64_C(372552);
 j0 = j0 + j1;
 j1 = UINT64_C(0);
-p56 = write_at(j0 + UINT64_C(18446744073709461424), m, 90289u);
-store64(p56 + 90192, j1);
+p42 = write_at(j0 + UINT64_C(18446744073709461424), m, 90289u);
+store64(p42 + 90192, j1);
 j0 = v0;
 j1 = UINT64_C(372528);
 j0 = j0 + j1;
 j1 = UINT64_C(0);
-store64(p56 + 90168, j1);
+store64(p42 + 90168, j1);
 j0 = v0;
 j1 = UINT64_C(372520);
 j0 = j0 + j1;
@@ -43184,79 +40636,79 @@ j1 = v10;
 j2 = UINT64_C(11400714819323198485);
 j1 = j1 + j2;
 v10 = j1;
-store64(p56 + 90160, j1);
+store64(p42 + 90160, j1);
 j0 = v0;
 j1 = UINT64_C(282360);
 j0 = j0 + j1;
 i1 = UINT32_C(2);
-store8(p56 + 0, i1);
+store8(p42 + 0, i1);
 j0 = v0;
 j1 = UINT64_C(372560);
 j0 = j0 + j1;
 j1 = UINT64_C(0);
-store64(p56 + 90200, j1);
+store64(p42 + 90200, j1);
 j0 = v0;
 j1 = UINT64_C(372568);
 j0 = j0 + j1;
 j1 = UINT64_C(0);
-store64(p56 + 90208, j1);
+store64(p42 + 90208, j1);
 j0 = v0;
 j1 = UINT64_C(372576);
 j0 = j0 + j1;
 j1 = UINT64_C(0);
-store64(p56 + 90216, j1);
+store64(p42 + 90216, j1);
 j0 = v0;
 j1 = UINT64_C(372585);
 j0 = j0 + j1;
 j1 = UINT64_C(0);
-store64(p56 + 90225, j1);
+store64(p42 + 90225, j1);
 j0 = v0;
 j1 = UINT64_C(372584);
 j0 = j0 + j1;
-i1 = v15;
-store8(p56 + 90224, i1);
+i1 = v16;
+store8(p42 + 90224, i1);
 j0 = v0;
 j1 = UINT64_C(372593);
 j0 = j0 + j1;
 j1 = UINT64_C(0);
-store64(p56 + 90233, j1);
+store64(p42 + 90233, j1);
 j0 = v0;
 j1 = UINT64_C(372601);
 j0 = j0 + j1;
 i1 = UINT32_C(0);
-store8(p56 + 90241, i1);
+store8(p42 + 90241, i1);
 j0 = v0;
 j1 = UINT64_C(372617);
 j0 = j0 + j1;
 i1 = UINT32_C(0);
-store16(p56 + 90257, i1);
+store16(p42 + 90257, i1);
 j0 = v0;
 j1 = UINT64_C(372608);
 j0 = j0 + j1;
 j1 = v2;
-j1 = load64(p55 + 864);
+j1 = load64(p41 + 864);
 v13 = j1;
-store64(p56 + 90248, j1);
+store64(p42 + 90248, j1);
 j0 = v0;
 j1 = UINT64_C(372604);
 j0 = j0 + j1;
 i1 = UINT32_C(1);
-store32(p56 + 90244, i1);
+store32(p42 + 90244, i1);
 j0 = v0;
 j1 = UINT64_C(372602);
 j0 = j0 + j1;
-i1 = v32;
-store16(p56 + 90242, i1);
+i1 = v17;
+store16(p42 + 90242, i1);
 j0 = v0;
 j1 = UINT64_C(372616);
 j0 = j0 + j1;
 i1 = UINT32_C(0);
-store8(p56 + 90256, i1);
+store8(p42 + 90256, i1);
 j0 = v0;
 j1 = UINT64_C(372536);
 j0 = j0 + j1;
 j1 = v10;
-i2 = v15;
+i2 = v16;
 j2 = (uint64_t)i2;
 j3 = UINT64_C(255);
 j2 = j2 & j3;
@@ -43268,7 +40720,7 @@ j1 = j1 ^ j2;
 j2 = UINT64_C(1099511628211);
 j1 = j1 * j2;
 v10 = j1;
-store64(p56 + 90176, j1);
+store64(p42 + 90176, j1);
 j0 = v0;
 j1 = UINT64_C(372544);
 j0 = j0 + j1;
@@ -43277,135 +40729,87 @@ j2 = UINT64_C(18446744073709551615);
 j1 = j1 ^ j2;
 j2 = UINT64_C(1099511628211);
 j1 = j1 * j2;
-store64(p56 + 90184, j1);
+store64(p42 + 90184, j1);
 j0 = v0;
 j1 = UINT64_C(372648);
 j0 = j0 + j1;
 i1 = UINT32_C(0);
-store8(p56 + 90288, i1);
+store8(p42 + 90288, i1);
 j0 = v0;
 j1 = UINT64_C(372640);
 j0 = j0 + j1;
 j1 = UINT64_C(0);
-store64(p56 + 90280, j1);
+store64(p42 + 90280, j1);
 j0 = v0;
 j1 = UINT64_C(372632);
 j0 = j0 + j1;
 j1 = UINT64_C(0);
-store64(p56 + 90272, j1);
+store64(p42 + 90272, j1);
 j0 = v0;
 j1 = UINT64_C(282368);
 j0 = j0 + j1;
 j1 = v3;
-store64(p56 + 8, j1);
+store64(p42 + 8, j1);
 j0 = v0;
 j1 = UINT64_C(282376);
 j0 = j0 + j1;
 i1 = UINT32_C(0);
-store8(p56 + 16, i1);
+store8(p42 + 16, i1);
 j0 = v0;
 j1 = UINT64_C(306968);
 j0 = j0 + j1;
-j0 = load64(p56 + 24608);
+j0 = load64(p42 + 24608);
 v10 = j0;
 i0 = (j0 == 0);
-if (i0) { goto l50; }
+if (i0) { goto l53; }
 j0 = v10;
 j1 = UINT64_C(2);
 j0 = j0 << (j1 & 63);
 v10 = j0;
 i0 = (j0 == 0);
-if (i0) { goto l51; }
+if (i0) { goto l54; }
 j0 = v0;
 j1 = UINT64_C(298776);
 j0 = j0 + j1;
 i1 = UINT32_C(0);
 j2 = v10;
 fill(m, j0, i1, j2);
-l51:;
+l54:;
 j0 = v0;
 j1 = UINT64_C(306968);
 j0 = j0 + j1;
 j1 = UINT64_C(0);
-store64(p56 + 24608, j1);
-l50:;
+store64(p42 + 24608, j1);
+l53:;
 j0 = v0;
 j1 = UINT64_C(282384);
 j0 = j0 + j1;
-v29 = j0;
+v14 = j0;
 j0 = v0;
 j1 = UINT64_C(298768);
 j0 = j0 + j1;
-j0 = load64(p56 + 16408);
+j0 = load64(p42 + 16408);
 v10 = j0;
 i0 = (j0 == 0);
-v15 = i0;
-if (i0) { goto l52; }
-i0 = v15;
-if (i0) { goto l53; }
-j0 = v29;
+v16 = i0;
+if (i0) { goto l55; }
+i0 = v16;
+if (i0) { goto l56; }
+j0 = v14;
 i1 = UINT32_C(0);
 j2 = v10;
 fill(m, j0, i1, j2);
-l53:;
+l56:;
 j0 = v0;
 j1 = UINT64_C(298768);
 j0 = j0 + j1;
 j1 = UINT64_C(0);
-store64(p56 + 16408, j1);
-l52:;
-j0 = v0;
-j1 = UINT64_C(372512);
-j0 = j0 + j1;
-j0 = load64(p56 + 90152);
-v10 = j0;
-i0 = (j0 == 0);
-if (i0) { goto l54; }
-j0 = v10;
-j1 = UINT64_C(2);
-j0 = j0 << (j1 & 63);
-v10 = j0;
-i0 = (j0 == 0);
-if (i0) { goto l55; }
-j0 = v0;
-j1 = UINT64_C(306976);
-j0 = j0 + j1;
-i1 = UINT32_C(0);
-j2 = v10;
-fill(m, j0, i1, j2);
+store64(p42 + 16408, j1);
 l55:;
 j0 = v0;
 j1 = UINT64_C(372512);
 j0 = j0 + j1;
-j1 = UINT64_C(0);
-store64(p56 + 90152, j1);
-l54:;
-i0 = UINT32_C(0);
-v15 = i0;
-i0 = v14;
-i1 = UINT32_C(1);
-i0 = i0 & i1;
-i0 = (i0 == 0);
-if (i0) { goto l56; }
-j0 = v9;
-j1 = v1;
-i0 = (j0 < j1);
-if (i0) { goto l56; }
-j0 = v1;
-j1 = UINT64_C(65535);
-i0 = (j0 > j1);
-if (i0) { goto l56; }
-j0 = v9;
-j1 = v1;
-j0 = j0 - j1;
-v9 = j0;
-j1 = UINT64_C(65535);
-i0 = (j0 > j1);
-if (i0) { goto l56; }
-j0 = v0;
-j1 = UINT64_C(306968);
-j0 = j0 + j1;
-j0 = load64(p56 + 24608);
+j0 = load64(p42 + 90152);
 v10 = j0;
 i0 = (j0 == 0);
 if (i0) { goto l57; }
@@ -43416,85 +40820,135 @@ v10 = j0;
 i0 = (j0 == 0);
 if (i0) { goto l58; }
 j0 = v0;
-j1 = UINT64_C(298776);
+j1 = UINT64_C(306976);
 j0 = j0 + j1;
 i1 = UINT32_C(0);
 j2 = v10;
 fill(m, j0, i1, j2);
 l58:;
 j0 = v0;
+j1 = UINT64_C(372512);
+j0 = j0 + j1;
+j1 = UINT64_C(0);
+store64(p42 + 90152, j1);
+l57:;
+i0 = UINT32_C(0);
+v16 = i0;
+i0 = v15;
+i1 = UINT32_C(1);
+i0 = i0 & i1;
+i0 = (i0 == 0);
+if (i0) { goto l59; }
+j0 = v9;
+j1 = v1;
+i0 = (j0 < j1);
+if (i0) { goto l59; }
+j0 = v1;
+j1 = UINT64_C(65535);
+i0 = (j0 > j1);
+if (i0) { goto l59; }
+j0 = v9;
+j1 = v1;
+j0 = j0 - j1;
+v9 = j0;
+j1 = UINT64_C(65535);
+i0 = (j0 > j1);
+if (i0) { goto l59; }
+j0 = v0;
+j1 = UINT64_C(306968);
+j0 = j0 + j1;
+j0 = load64(p42 + 24608);
+v10 = j0;
+i0 = (j0 == 0);
+if (i0) { goto l60; }
+j0 = v10;
+j1 = UINT64_C(2);
+j0 = j0 << (j1 & 63);
+v10 = j0;
+i0 = (j0 == 0);
+if (i0) { goto l61; }
+j0 = v0;
+j1 = UINT64_C(298776);
+j0 = j0 + j1;
+i1 = UINT32_C(0);
+j2 = v10;
+fill(m, j0, i1, j2);
+l61:;
+j0 = v0;
 j1 = UINT64_C(306968);
 j0 = j0 + j1;
 j1 = UINT64_C(0);
-store64(p56 + 24608, j1);
-l57:;
+store64(p42 + 24608, j1);
+l60:;
 j0 = v13;
 j1 = UINT64_C(16384);
 i0 = (j0 > j1);
-if (i0) { goto l56; }
+if (i0) { goto l59; }
 j0 = v0;
 j1 = UINT64_C(306976);
 j0 = j0 + j1;
 v10 = j0;
 j0 = v9;
 i0 = (uint32_t)j0;
-v14 = i0;
+v15 = i0;
 j0 = v1;
 i0 = (uint32_t)j0;
-v15 = i0;
+v16 = i0;
 j0 = v13;
 i0 = (j0 == 0);
-if (i0) { goto l59; }
-j0 = v29;
+if (i0) { goto l62; }
+j0 = v14;
 j1 = v2;
 j2 = UINT64_C(88);
 j1 = j1 + j2;
 j2 = v13;
 copy(m, j0, j1, j2);
-l59:;
+l62:;
 j0 = v0;
 j1 = UINT64_C(298768);
 j0 = j0 + j1;
 j1 = v13;
-store64(p56 + 16408, j1);
+store64(p42 + 16408, j1);
 j0 = v10;
 j1 = v0;
 j2 = UINT64_C(372512);
 j1 = j1 + j2;
 v1 = j1;
-j1 = load64(p56 + 90152);
+j1 = load64(p42 + 90152);
 v9 = j1;
 j2 = UINT64_C(2);
 j1 = j1 << (j2 & 63);
 j0 = j0 + j1;
-i1 = v14;
+i1 = v15;
 i2 = UINT32_C(16);
 i1 = i1 << (i2 & 31);
-i2 = v15;
+i2 = v16;
 i1 = i1 | i2;
-p57 = write_at(j0, m, 4u);
-store32(p57 + 0, i1);
+p43 = write_at(j0, m, 4u);
+store32(p43 + 0, i1);
 j0 = v1;
 j1 = v9;
 j2 = UINT64_C(1);
 j1 = j1 + j2;
-store64(p56 + 90152, j1);
+store64(p42 + 90152, j1);
 i0 = UINT32_C(1);
-v15 = i0;
-l56:;
+v16 = i0;
+l59:;
 j0 = v0;
 j1 = UINT64_C(446304);
 j0 = j0 + j1;
 v1 = j0;
-i0 = load8(p11 + 32);
+p44 = read_at(j0, m, 1u);
+i0 = load8(p44 + 0);
 i1 = UINT32_C(1);
 i0 = (i0 != i1);
-if (i0) { goto l60; }
+if (i0) { goto l63; }
 j0 = v7;
 j1 = v0;
 j2 = UINT64_C(446312);
 j1 = j1 + j2;
-j1 = load64(p11 + 40);
+p45 = read_at(j1, m, 8u);
+j1 = load64(p45 + 0);
 j2 = UINT64_C(144);
 j1 = j1 * j2;
 j0 = j0 + j1;
@@ -43502,153 +40956,153 @@ v9 = j0;
 j1 = UINT64_C(8);
 j0 = j0 + j1;
 v10 = j0;
-p58 = read_at(j0, m, 1u);
-i0 = load8(p58 + 0);
+p46 = read_at(j0, m, 1u);
+i0 = load8(p46 + 0);
 i1 = UINT32_C(3);
 i0 = (i0 != i1);
-if (i0) { goto l60; }
+if (i0) { goto l63; }
 j0 = v9;
 j1 = UINT64_C(16);
 j0 = j0 + j1;
 j1 = UINT64_C(0);
-p59 = write_at(j0 + UINT64_C(18446744073709551608), m, 24u);
-store64(p59 + 8, j1);
+p47 = write_at(j0 + UINT64_C(18446744073709551608), m, 24u);
+store64(p47 + 8, j1);
 j0 = v9;
 j1 = UINT64_C(10);
 j0 = j0 + j1;
 i1 = UINT32_C(6);
-store8(p59 + 2, i1);
+store8(p47 + 2, i1);
 j0 = v10;
 i1 = UINT32_C(1284);
-store16(p59 + 0, i1);
+store16(p47 + 0, i1);
 j0 = v9;
 j1 = UINT64_C(24);
 j0 = j0 + j1;
 j1 = UINT64_C(0);
-store64(p59 + 16, j1);
-l60:;
+store64(p47 + 16, j1);
+l63:;
 j0 = v1;
 j1 = UINT64_C(0);
-p60 = write_at(j0, m, 16u);
-store64(p60 + 8, j1);
+p48 = write_at(j0, m, 16u);
+store64(p48 + 8, j1);
 j0 = v1;
 j1 = UINT64_C(0);
-store64(p60 + 0, j1);
-i0 = v15;
-if (i0) { goto l47; }
-goto l46;
-l48:;
+store64(p48 + 0, j1);
+i0 = v16;
+if (i0) { goto l50; }
+goto l49;
+l51:;
 j0 = UINT64_C(0);
 v13 = j0;
 j0 = v0;
 j1 = UINT64_C(73048);
 j0 = j0 + j1;
-p61 = read_at(j0, m, 8u);
-j0 = load64(p61 + 0);
+p49 = read_at(j0, m, 8u);
+j0 = load64(p49 + 0);
 v9 = j0;
 i0 = (j0 == 0);
-if (i0) { goto l62; }
+if (i0) { goto l65; }
 j0 = v0;
 j1 = UINT64_C(65560);
 j0 = j0 + j1;
-v17 = j0;
+v19 = j0;
 j0 = UINT64_C(0);
 v1 = j0;
 i0 = UINT32_C(0);
-v14 = i0;
+v15 = i0;
 j0 = UINT64_C(0);
 v10 = j0;
-l64:;
+l67:;
 j0 = v1;
-v29 = j0;
-i0 = v14;
-v15 = i0;
-j0 = v17;
+v14 = j0;
+i0 = v15;
+v16 = i0;
+j0 = v19;
 j1 = v10;
 j2 = UINT64_C(936);
 j1 = j1 * j2;
 j0 = j0 + j1;
 v1 = j0;
-l66:;
+l69:;
 j0 = v1;
 j1 = UINT64_C(904);
 j0 = j0 + j1;
-p62 = read_at(j0, m, 1u);
-i0 = load8(p62 + 0);
-v14 = i0;
+p50 = read_at(j0, m, 1u);
+i0 = load8(p50 + 0);
+v15 = i0;
 i1 = UINT32_C(2);
 i0 = (i0 != i1);
-if (i0) { goto l67; }
+if (i0) { goto l70; }
 j0 = v1;
 j1 = UINT64_C(928);
 j0 = j0 + j1;
-p63 = read_at(j0, m, 1u);
-i0 = load8(p63 + 0);
-if (i0) { goto l63; }
-l67:;
+p51 = read_at(j0, m, 1u);
+i0 = load8(p51 + 0);
+if (i0) { goto l66; }
+l70:;
 j0 = v1;
 j1 = UINT64_C(902);
 j0 = j0 + j1;
-p64 = read_at(j0, m, 1u);
-i0 = load8(p64 + 0);
+p52 = read_at(j0, m, 1u);
+i0 = load8(p52 + 0);
 i1 = UINT32_C(1);
 i0 = (i0 != i1);
-if (i0) { goto l68; }
+if (i0) { goto l71; }
 j0 = v1;
 j1 = UINT64_C(808);
 j0 = j0 + j1;
-p65 = read_at(j0, m, 8u);
-j0 = load64(p65 + 0);
+p53 = read_at(j0, m, 8u);
+j0 = load64(p53 + 0);
 v13 = j0;
 j1 = UINT64_C(8);
 i0 = (j0 < j1);
-if (i0) { goto l68; }
-i0 = v14;
+if (i0) { goto l71; }
+i0 = v15;
 switch (i0) {
 case 0:
-goto l68;
+goto l71;
 case 1:
-goto l65;
-case 2:
-goto l69;
-default:
 goto l68;
+case 2:
+goto l72;
+default:
+goto l71;
 }
-l69:;
+l72:;
 j0 = v1;
 j1 = UINT64_C(24);
 j0 = j0 + j1;
-p66 = read_at(j0, m, 1u);
-i0 = load8(p66 + 0);
-v14 = i0;
+p54 = read_at(j0, m, 1u);
+i0 = load8(p54 + 0);
+v15 = i0;
 i1 = UINT32_C(59);
 i0 = (i0 == i1);
-if (i0) { goto l65; }
-i0 = v14;
+if (i0) { goto l68; }
+i0 = v15;
 i1 = UINT32_C(56);
 i0 = (i0 < i1);
-if (i0) { goto l68; }
-i0 = v14;
+if (i0) { goto l71; }
+i0 = v15;
 i1 = UINT32_C(58);
 i0 = (i0 < i1);
-if (i0) { goto l65; }
-i0 = v14;
+if (i0) { goto l68; }
+i0 = v15;
 i1 = UINT32_C(183);
 i0 = (i0 < i1);
-if (i0) { goto l68; }
-i0 = v14;
+if (i0) { goto l71; }
+i0 = v15;
 i1 = UINT32_C(186);
 i0 = (i0 < i1);
-if (i0) { goto l65; }
-i0 = v14;
+if (i0) { goto l68; }
+i0 = v15;
 i1 = UINT32_C(186);
 i0 = (i0 == i1);
-if (i0) { goto l68; }
-i0 = v14;
+if (i0) { goto l71; }
+i0 = v15;
 i1 = UINT32_C(189);
 i0 = (i0 < i1);
-if (i0) { goto l65; }
-l68:;
+if (i0) { goto l68; }
+l71:;
 j0 = v1;
 j1 = UINT64_C(936);
 j0 = j0 + j1;
@@ -43659,308 +41113,308 @@ j0 = j0 + j1;
 v10 = j0;
 j1 = v9;
 i0 = (j0 < j1);
-if (i0) { goto l66; }
+if (i0) { goto l69; }
 i0 = UINT32_C(0);
-v14 = i0;
+v15 = i0;
 i0 = UINT32_C(0);
-v32 = i0;
-i0 = v15;
+v17 = i0;
+i0 = v16;
 i1 = UINT32_C(1);
 i0 = i0 & i1;
-if (i0) { goto l61; }
-goto l63;
-l65:;
+if (i0) { goto l64; }
+goto l66;
+l68:;
 i0 = UINT32_C(1);
-v14 = i0;
-i0 = v15;
+v15 = i0;
+i0 = v16;
 i1 = UINT32_C(1);
 i0 = i0 & i1;
 i0 = (i0 == 0);
-if (i0) { goto l70; }
-j0 = v29;
+if (i0) { goto l73; }
+j0 = v14;
 j1 = UINT64_C(808);
 j0 = j0 + j1;
-p67 = read_at(j0, m, 8u);
-j0 = load64(p67 + 0);
+p55 = read_at(j0, m, 8u);
+j0 = load64(p55 + 0);
 j1 = v13;
 i0 = (j0 != j1);
-if (i0) { goto l63; }
-j0 = v29;
+if (i0) { goto l66; }
+j0 = v14;
 j1 = UINT64_C(24);
 j0 = j0 + j1;
-v30 = j0;
-p68 = read_at(j0, m, 1u);
-i0 = load8(p68 + 0);
+v31 = j0;
+p56 = read_at(j0, m, 1u);
+i0 = load8(p56 + 0);
 j1 = v1;
 j2 = UINT64_C(24);
 j1 = j1 + j2;
-v31 = j1;
-p69 = read_at(j1, m, 1u);
-i1 = load8(p69 + 0);
+v32 = j1;
+p57 = read_at(j1, m, 1u);
+i1 = load8(p57 + 0);
 i0 = (i0 != i1);
-if (i0) { goto l63; }
-j0 = v29;
+if (i0) { goto l66; }
+j0 = v14;
 j1 = UINT64_C(25);
 j0 = j0 + j1;
-p70 = read_at(j0, m, 1u);
-i0 = load8(p70 + 0);
+p58 = read_at(j0, m, 1u);
+i0 = load8(p58 + 0);
 i1 = UINT32_C(255);
 i0 = i0 & i1;
 j1 = v1;
 j2 = UINT64_C(25);
 j1 = j1 + j2;
-p71 = read_at(j1, m, 1u);
-i1 = load8(p71 + 0);
+p59 = read_at(j1, m, 1u);
+i1 = load8(p59 + 0);
 i2 = UINT32_C(255);
 i1 = i1 & i2;
 i0 = (i0 != i1);
-if (i0) { goto l63; }
-j0 = v29;
+if (i0) { goto l66; }
+j0 = v14;
 j1 = UINT64_C(26);
 j0 = j0 + j1;
-p72 = read_at(j0, m, 1u);
-i0 = load8(p72 + 0);
+p60 = read_at(j0, m, 1u);
+i0 = load8(p60 + 0);
 i1 = UINT32_C(255);
 i0 = i0 & i1;
 j1 = v1;
 j2 = UINT64_C(26);
 j1 = j1 + j2;
-p73 = read_at(j1, m, 1u);
-i1 = load8(p73 + 0);
+p61 = read_at(j1, m, 1u);
+i1 = load8(p61 + 0);
 i2 = UINT32_C(255);
 i1 = i1 & i2;
 i0 = (i0 != i1);
-if (i0) { goto l63; }
-j0 = v29;
+if (i0) { goto l66; }
+j0 = v14;
 j1 = UINT64_C(27);
 j0 = j0 + j1;
-p74 = read_at(j0, m, 1u);
-i0 = load8(p74 + 0);
+p62 = read_at(j0, m, 1u);
+i0 = load8(p62 + 0);
 i1 = UINT32_C(255);
 i0 = i0 & i1;
 j1 = v1;
 j2 = UINT64_C(27);
 j1 = j1 + j2;
-p75 = read_at(j1, m, 1u);
-i1 = load8(p75 + 0);
+p63 = read_at(j1, m, 1u);
+i1 = load8(p63 + 0);
 i2 = UINT32_C(255);
 i1 = i1 & i2;
 i0 = (i0 != i1);
-if (i0) { goto l63; }
-j0 = v30;
+if (i0) { goto l66; }
+j0 = v31;
 j1 = v13;
-j2 = v31;
+j2 = v32;
 i0 = core_cmp_slices_groups_equal_i8_31_core_cmp_numbers_U8PartialEq(m, j0, j1, j2);
 i0 = (i0 == 0);
-if (i0) { goto l63; }
-l70:;
+if (i0) { goto l66; }
+l73:;
 j0 = v10;
 j1 = UINT64_C(1);
 j0 = j0 + j1;
 v10 = j0;
 j1 = v9;
 i0 = (j0 < j1);
-if (i0) { goto l64; }
+if (i0) { goto l67; }
 i0 = UINT32_C(0);
-v14 = i0;
+v15 = i0;
 j0 = v1;
-v29 = j0;
+v14 = j0;
 i0 = UINT32_C(0);
-v32 = i0;
-goto l61;
-l63:;
+v17 = i0;
+goto l64;
+l66:;
 j0 = v9;
 j1 = UINT64_C(1);
 i0 = (j0 != j1);
-if (i0) { goto l71; }
+if (i0) { goto l74; }
 j0 = v0;
 j1 = UINT64_C(66460);
 j0 = j0 + j1;
-p76 = read_at(j0, m, 1u);
-i0 = load8(p76 + 0);
-if (i0) { goto l71; }
+p64 = read_at(j0, m, 1u);
+i0 = load8(p64 + 0);
+if (i0) { goto l74; }
 j0 = v0;
 j1 = UINT64_C(66461);
 j0 = j0 + j1;
-p77 = read_at(j0, m, 1u);
-i0 = load8(p77 + 0);
-if (i0) { goto l71; }
+p65 = read_at(j0, m, 1u);
+i0 = load8(p65 + 0);
+if (i0) { goto l74; }
 j0 = v0;
 j1 = UINT64_C(66440);
 j0 = j0 + j1;
-p78 = read_at(j0, m, 1u);
-i0 = load8(p78 + 0);
-if (i0) { goto l71; }
+p66 = read_at(j0, m, 1u);
+i0 = load8(p66 + 0);
+if (i0) { goto l74; }
 j0 = v0;
 j1 = UINT64_C(66368);
 j0 = j0 + j1;
-p79 = read_at(j0, m, 8u);
-j0 = load64(p79 + 0);
+p67 = read_at(j0, m, 8u);
+j0 = load64(p67 + 0);
 v13 = j0;
 j1 = UINT64_C(8);
 i0 = (j0 < j1);
-if (i0) { goto l71; }
+if (i0) { goto l74; }
 j0 = v0;
 j1 = UINT64_C(66464);
 j0 = j0 + j1;
-p80 = read_at(j0, m, 1u);
-i0 = load8(p80 + 0);
-if (i0) { goto l71; }
+p68 = read_at(j0, m, 1u);
+i0 = load8(p68 + 0);
+if (i0) { goto l74; }
 j0 = v2;
 j1 = UINT64_C(0);
-p81 = write_at(j0 + UINT64_C(88), m, 32u);
-store64(p81 + 24, j1);
+p69 = write_at(j0 + UINT64_C(88), m, 32u);
+store64(p69 + 24, j1);
 j0 = v2;
 j1 = UINT64_C(0);
-store64(p81 + 16, j1);
+store64(p69 + 16, j1);
 j0 = v2;
 j1 = UINT64_C(0);
-store64(p81 + 8, j1);
+store64(p69 + 8, j1);
 j0 = v2;
 j1 = UINT64_C(0);
-store64(p81 + 0, j1);
+store64(p69 + 0, j1);
 j0 = v0;
 j1 = UINT64_C(65584);
 j0 = j0 + j1;
-v29 = j0;
-p82 = read_at(j0, m, 1u);
-i0 = load8(p82 + 0);
-v14 = i0;
+v14 = j0;
+p70 = read_at(j0, m, 1u);
+i0 = load8(p70 + 0);
+v15 = i0;
 i1 = UINT32_C(59);
 i0 = (i0 == i1);
-if (i0) { goto l71; }
-i0 = v14;
+if (i0) { goto l74; }
+i0 = v15;
 i1 = UINT32_C(56);
 i0 = (i0 < i1);
-if (i0) { goto l72; }
-i0 = v14;
+if (i0) { goto l75; }
+i0 = v15;
 i1 = UINT32_C(58);
 i0 = (i0 < i1);
-if (i0) { goto l71; }
-i0 = v14;
+if (i0) { goto l74; }
+i0 = v15;
 i1 = UINT32_C(183);
 i0 = (i0 < i1);
-if (i0) { goto l72; }
-i0 = v14;
+if (i0) { goto l75; }
+i0 = v15;
 i1 = UINT32_C(186);
 i0 = (i0 < i1);
-if (i0) { goto l71; }
-i0 = v14;
+if (i0) { goto l74; }
+i0 = v15;
 i1 = UINT32_C(186);
 i0 = (i0 == i1);
-if (i0) { goto l72; }
-i0 = v14;
+if (i0) { goto l75; }
+i0 = v15;
 i1 = UINT32_C(189);
 i0 = (i0 < i1);
-if (i0) { goto l71; }
-l72:;
+if (i0) { goto l74; }
+l75:;
 j0 = UINT64_C(1);
 v1 = j0;
 i0 = UINT32_C(0);
-v14 = i0;
-l74:;
+v15 = i0;
+l77:;
 j0 = v2;
 j1 = UINT64_C(88);
 j0 = j0 + j1;
-j1 = v29;
+j1 = v14;
 j2 = v1;
 fio_log_sayings_spelled(m, j0, j1, j2);
 j0 = v2;
-i0 = load8(p81 + 0);
+i0 = load8(p69 + 0);
 i0 = (i0 == 0);
-if (i0) { goto l73; }
+if (i0) { goto l76; }
 j0 = v2;
-i0 = load8(p81 + 8);
+i0 = load8(p69 + 8);
 i1 = UINT32_C(3);
 i0 = (i0 != i1);
-if (i0) { goto l71; }
+if (i0) { goto l74; }
 j0 = v2;
-j0 = load64(p81 + 16);
+j0 = load64(p69 + 16);
 v10 = j0;
 j1 = v1;
 i0 = (j0 <= j1);
-if (i0) { goto l71; }
-i0 = v14;
+if (i0) { goto l74; }
+i0 = v15;
 i1 = UINT32_C(1);
 i0 = (i0 > i1);
-if (i0) { goto l71; }
-i0 = v14;
+if (i0) { goto l74; }
+i0 = v15;
 i1 = UINT32_C(1);
 i0 = i0 + i1;
-v14 = i0;
+v15 = i0;
 j0 = v10;
 v1 = j0;
 j0 = v13;
 j1 = v10;
 i0 = (j0 < j1);
-if (i0) { goto l71; }
-goto l74;
-l73:;
+if (i0) { goto l74; }
+goto l77;
+l76:;
 i0 = UINT32_C(1);
-v14 = i0;
+v15 = i0;
 j0 = v11;
-v29 = j0;
+v14 = j0;
 i0 = UINT32_C(1);
-v32 = i0;
-goto l61;
-l71:;
+v17 = i0;
+goto l64;
+l74:;
 j0 = UINT64_C(0);
 v13 = j0;
 j0 = v11;
 v1 = j0;
 j0 = UINT64_C(0);
 v10 = j0;
-l75:;
+l78:;
 j0 = v13;
-v29 = j0;
+v14 = j0;
 j1 = v9;
 i0 = (j0 < j1);
-if (i0) { goto l77; }
-j0 = v29;
+if (i0) { goto l80; }
+j0 = v14;
 v13 = j0;
-goto l76;
-l77:;
+goto l79;
+l80:;
 j0 = v10;
 v13 = j0;
 j0 = v11;
-j1 = v29;
+j1 = v14;
 j2 = UINT64_C(936);
 j1 = j1 * j2;
 j0 = j0 + j1;
-v31 = j0;
+v32 = j0;
 j1 = UINT64_C(8);
 j0 = j0 + j1;
-p83 = read_at(j0, m, 8u);
-j0 = load64(p83 + 0);
-v17 = j0;
+p71 = read_at(j0, m, 8u);
+j0 = load64(p71 + 0);
+v19 = j0;
 j1 = v1;
 j2 = UINT64_C(8);
 j1 = j1 + j2;
-p84 = read_at(j1, m, 8u);
-j1 = load64(p84 + 0);
-v30 = j1;
+p72 = read_at(j1, m, 8u);
+j1 = load64(p72 + 0);
+v31 = j1;
 i0 = (j0 < j1);
-if (i0) { goto l76; }
-j0 = v30;
-j1 = v17;
+if (i0) { goto l79; }
+j0 = v31;
+j1 = v19;
 i0 = (j0 == j1);
-if (i0) { goto l78; }
-j0 = v29;
+if (i0) { goto l81; }
+j0 = v14;
 v13 = j0;
-goto l76;
-l78:;
+goto l79;
+l81:;
 j0 = v10;
-j1 = v29;
+j1 = v14;
 j2 = v1;
-p85 = read_at(j2, m, 8u);
-j2 = load64(p85 + 0);
-j3 = v31;
-p86 = read_at(j3, m, 8u);
-j3 = load64(p86 + 0);
+p73 = read_at(j2, m, 8u);
+j2 = load64(p73 + 0);
+j3 = v32;
+p74 = read_at(j3, m, 8u);
+j3 = load64(p74 + 0);
 i2 = (j2 < j3);
 j0 = i2 ? j0 : j1;
 v13 = j0;
-l76:;
+l79:;
 j0 = v1;
 j1 = UINT64_C(936);
 j0 = j0 + j1;
@@ -43971,46 +41425,46 @@ j2 = UINT64_C(1);
 j1 = j1 + j2;
 v10 = j1;
 i0 = (j0 != j1);
-if (i0) { goto l75; }
-l62:;
+if (i0) { goto l78; }
+l65:;
 j0 = v13;
 j1 = v9;
 i0 = (j0 >= j1);
-if (i0) { goto l46; }
+if (i0) { goto l49; }
 j0 = v11;
 j1 = v13;
 j2 = UINT64_C(936);
 j1 = j1 * j2;
 j0 = j0 + j1;
-v30 = j0;
+v31 = j0;
 j1 = UINT64_C(0);
 j2 = v13;
 j3 = v9;
 i2 = (j2 < j3);
 j0 = i2 ? j0 : j1;
-v29 = j0;
-j0 = v30;
+v14 = j0;
+j0 = v31;
 j1 = UINT64_C(808);
 j0 = j0 + j1;
-p87 = read_at(j0, m, 8u);
-j0 = load64(p87 + 0);
+p75 = read_at(j0, m, 8u);
+j0 = load64(p75 + 0);
 j1 = UINT64_C(1);
 i0 = (j0 != j1);
-if (i0) { goto l79; }
-j0 = v30;
+if (i0) { goto l82; }
+j0 = v31;
 j1 = UINT64_C(832);
 j0 = j0 + j1;
-p88 = read_at(j0, m, 8u);
-j0 = load64(p88 + 0);
+p76 = read_at(j0, m, 8u);
+j0 = load64(p76 + 0);
 v10 = j0;
 j0 = UINT64_C(0);
 v13 = j0;
-l82:;
+l85:;
 j0 = v12;
 j1 = v10;
 j2 = v13;
 j1 = j1 + j2;
-v17 = j1;
+v19 = j1;
 j2 = UINT64_C(511);
 j1 = j1 & j2;
 j2 = UINT64_C(40);
@@ -44019,19 +41473,19 @@ j0 = j0 + j1;
 v1 = j0;
 j1 = UINT64_C(8);
 j0 = j0 + j1;
-p89 = read_at(j0, m, 1u);
-i0 = load8(p89 + 0);
+p77 = read_at(j0, m, 1u);
+i0 = load8(p77 + 0);
 i1 = UINT32_C(1);
 i0 = (i0 != i1);
-if (i0) { goto l81; }
+if (i0) { goto l84; }
 j0 = v1;
-p90 = read_at(j0, m, 8u);
-j0 = load64(p90 + 0);
+p78 = read_at(j0, m, 8u);
+j0 = load64(p78 + 0);
 j1 = v10;
 i0 = (j0 == j1);
-if (i0) { goto l81; }
+if (i0) { goto l84; }
 j0 = v12;
-j1 = v17;
+j1 = v19;
 j2 = UINT64_C(1);
 j1 = j1 + j2;
 j2 = UINT64_C(511);
@@ -44042,56 +41496,56 @@ j0 = j0 + j1;
 v1 = j0;
 j1 = UINT64_C(8);
 j0 = j0 + j1;
-p91 = read_at(j0, m, 1u);
-i0 = load8(p91 + 0);
+p79 = read_at(j0, m, 1u);
+i0 = load8(p79 + 0);
 i1 = UINT32_C(1);
 i0 = (i0 != i1);
-if (i0) { goto l81; }
+if (i0) { goto l84; }
 j0 = v1;
-p92 = read_at(j0, m, 8u);
-j0 = load64(p92 + 0);
+p80 = read_at(j0, m, 8u);
+j0 = load64(p80 + 0);
 j1 = v10;
 i0 = (j0 == j1);
-if (i0) { goto l81; }
+if (i0) { goto l84; }
 j0 = v13;
 j1 = UINT64_C(2);
 j0 = j0 + j1;
 v13 = j0;
 j1 = UINT64_C(32);
 i0 = (j0 == j1);
-if (i0) { goto l80; }
-goto l82;
-l81:;
+if (i0) { goto l83; }
+goto l85;
+l84:;
 j0 = v1;
-p93 = read_at(j0 + UINT64_C(24), m, 8u);
-i0 = load32(p93 + 0);
+p81 = read_at(j0 + UINT64_C(24), m, 8u);
+i0 = load32(p81 + 0);
 j1 = v1;
-i1 = load32(p93 + 4);
+i1 = load32(p81 + 4);
 i0 = i0 | i1;
-if (i0) { goto l79; }
-l80:;
+if (i0) { goto l82; }
+l83:;
 j0 = v0;
 j1 = UINT64_C(66464);
 j0 = j0 + j1;
 v1 = j0;
 j0 = v9;
 v10 = j0;
-l83:;
+l86:;
 j0 = v1;
 j1 = UINT64_C(18446744073709551520);
 j0 = j0 + j1;
-p94 = read_at(j0, m, 8u);
-j0 = load64(p94 + 0);
+p82 = read_at(j0, m, 8u);
+j0 = load64(p82 + 0);
 j1 = UINT64_C(2);
 i0 = (j0 < j1);
-if (i0) { goto l84; }
+if (i0) { goto l87; }
 j0 = v1;
-p95 = read_at(j0, m, 1u);
-i0 = load8(p95 + 0);
+p83 = read_at(j0, m, 1u);
+i0 = load8(p83 + 0);
 i1 = UINT32_C(2);
 i0 = (i0 == i1);
-if (i0) { goto l79; }
-l84:;
+if (i0) { goto l82; }
+l87:;
 j0 = v1;
 j1 = UINT64_C(936);
 j0 = j0 + j1;
@@ -44102,45 +41556,45 @@ j0 = j0 + j1;
 v10 = j0;
 i0 = (j0 == 0);
 i0 = (i0 == 0);
-if (i0) { goto l83; }
+if (i0) { goto l86; }
 i0 = UINT32_C(3);
-v32 = i0;
+v17 = i0;
 i0 = UINT32_C(0);
-v14 = i0;
-goto l61;
-l79:;
-j0 = v30;
+v15 = i0;
+goto l64;
+l82:;
+j0 = v31;
 j1 = UINT64_C(904);
 j0 = j0 + j1;
-p96 = read_at(j0, m, 1u);
-i0 = load8(p96 + 0);
+p84 = read_at(j0, m, 1u);
+i0 = load8(p84 + 0);
 i1 = UINT32_C(1);
 i0 = (i0 != i1);
-if (i0) { goto l46; }
-j0 = v30;
+if (i0) { goto l49; }
+j0 = v31;
 j1 = UINT64_C(902);
 j0 = j0 + j1;
-p97 = read_at(j0, m, 1u);
-i0 = load8(p97 + 0);
+p85 = read_at(j0, m, 1u);
+i0 = load8(p85 + 0);
 i1 = UINT32_C(1);
 i0 = (i0 != i1);
-if (i0) { goto l46; }
-j0 = v30;
+if (i0) { goto l49; }
+j0 = v31;
 j1 = UINT64_C(898);
 j0 = j0 + j1;
-p98 = read_at(j0, m, 1u);
-i0 = load8(p98 + 0);
+p86 = read_at(j0, m, 1u);
+i0 = load8(p86 + 0);
 i1 = UINT32_C(1);
 i0 = (i0 != i1);
-if (i0) { goto l46; }
+if (i0) { goto l49; }
 j0 = v0;
 j1 = UINT64_C(73064);
 j0 = j0 + j1;
-p99 = read_at(j0, m, 1u);
-i0 = load8(p99 + 0);
+p87 = read_at(j0, m, 1u);
+i0 = load8(p87 + 0);
 i1 = UINT32_C(1);
 i0 = (i0 != i1);
-if (i0) { goto l46; }
+if (i0) { goto l49; }
 j0 = v9;
 j1 = UINT64_C(1);
 j0 = j0 + j1;
@@ -44149,47 +41603,49 @@ j0 = v0;
 j1 = UINT64_C(66464);
 j0 = j0 + j1;
 v1 = j0;
-l85:;
+l88:;
 j0 = v9;
 j1 = UINT64_C(18446744073709551615);
 j0 = j0 + j1;
 v9 = j0;
 i0 = (j0 == 0);
 i0 = (i0 == 0);
-if (i0) { goto l86; }
+if (i0) { goto l89; }
 i0 = UINT32_C(4);
-v32 = i0;
+v17 = i0;
 i0 = UINT32_C(0);
-v14 = i0;
-goto l61;
-l86:;
+v15 = i0;
+goto l64;
+l89:;
 j0 = v1;
-p100 = read_at(j0, m, 1u);
-i0 = load8(p100 + 0);
-v14 = i0;
+p88 = read_at(j0, m, 1u);
+i0 = load8(p88 + 0);
+v15 = i0;
 j0 = v1;
 j1 = UINT64_C(936);
 j0 = j0 + j1;
 v1 = j0;
-i0 = v14;
+i0 = v15;
 i1 = UINT32_C(2);
 i0 = (i0 != i1);
-if (i0) { goto l85; }
-goto l46;
-l61:;
+if (i0) { goto l88; }
+goto l49;
+l64:;
 j0 = v0;
 j1 = UINT64_C(446304);
 j0 = j0 + j1;
 v1 = j0;
-i0 = load8(p11 + 32);
+p89 = read_at(j0, m, 1u);
+i0 = load8(p89 + 0);
 i1 = UINT32_C(1);
 i0 = (i0 != i1);
-if (i0) { goto l87; }
+if (i0) { goto l90; }
 j0 = v7;
 j1 = v0;
 j2 = UINT64_C(446312);
 j1 = j1 + j2;
-j1 = load64(p11 + 40);
+p90 = read_at(j1, m, 8u);
+j1 = load64(p90 + 0);
 j2 = UINT64_C(144);
 j1 = j1 * j2;
 j0 = j0 + j1;
@@ -44197,70 +41653,70 @@ v9 = j0;
 j1 = UINT64_C(8);
 j0 = j0 + j1;
 v10 = j0;
-p101 = read_at(j0, m, 1u);
-i0 = load8(p101 + 0);
+p91 = read_at(j0, m, 1u);
+i0 = load8(p91 + 0);
 i1 = UINT32_C(3);
 i0 = (i0 != i1);
-if (i0) { goto l87; }
+if (i0) { goto l90; }
 j0 = v9;
 j1 = UINT64_C(16);
 j0 = j0 + j1;
 j1 = UINT64_C(0);
-p102 = write_at(j0 + UINT64_C(18446744073709551608), m, 24u);
-store64(p102 + 8, j1);
+p92 = write_at(j0 + UINT64_C(18446744073709551608), m, 24u);
+store64(p92 + 8, j1);
 j0 = v9;
 j1 = UINT64_C(10);
 j0 = j0 + j1;
 i1 = UINT32_C(6);
-store8(p102 + 2, i1);
+store8(p92 + 2, i1);
 j0 = v10;
 i1 = UINT32_C(1284);
-store16(p102 + 0, i1);
+store16(p92 + 0, i1);
 j0 = v9;
 j1 = UINT64_C(24);
 j0 = j0 + j1;
 j1 = UINT64_C(0);
-store64(p102 + 16, j1);
-l87:;
+store64(p92 + 16, j1);
+l90:;
 j0 = v1;
 j1 = UINT64_C(0);
-p103 = write_at(j0, m, 16u);
-store64(p103 + 8, j1);
+p93 = write_at(j0, m, 16u);
+store64(p93 + 8, j1);
 j0 = v1;
 j1 = UINT64_C(0);
-store64(p103 + 0, j1);
+store64(p93 + 0, j1);
 j0 = v0;
 j1 = UINT64_C(73064);
 j0 = j0 + j1;
-p104 = write_at(j0, m, 299585u);
-i0 = load8(p104 + 0);
-v15 = i0;
+p94 = write_at(j0, m, 299585u);
+i0 = load8(p94 + 0);
+v16 = i0;
 j0 = v0;
 j1 = UINT64_C(73072);
 j0 = j0 + j1;
-j0 = load64(p104 + 8);
+j0 = load64(p94 + 8);
 v9 = j0;
 j0 = v2;
 j1 = UINT64_C(88);
 j0 = j0 + j1;
-j1 = v29;
+j1 = v14;
 j2 = UINT64_C(816);
 j1 = j1 + j2;
 j2 = UINT64_C(88);
 copy(m, j0, j1, j2);
-j0 = v29;
+j0 = v14;
 j1 = UINT64_C(808);
 j0 = j0 + j1;
 v13 = j0;
-p105 = read_at(j0, m, 97u);
-j0 = load64(p105 + 0);
+p95 = read_at(j0, m, 97u);
+j0 = load64(p95 + 0);
 v1 = j0;
 j0 = v0;
 j1 = UINT64_C(282360);
 j0 = j0 + j1;
 v10 = j0;
-i1 = v32;
-store8(p104 + 209296, i1);
+i1 = v17;
+store8(p94 + 209296, i1);
 j0 = v0;
 j1 = UINT64_C(372520);
 j0 = j0 + j1;
@@ -44273,194 +41729,194 @@ j0 = v0;
 j1 = UINT64_C(372632);
 j0 = j0 + j1;
 j1 = UINT64_C(0);
-store64(p104 + 299568, j1);
+store64(p94 + 299568, j1);
 j0 = v0;
 j1 = UINT64_C(372618);
 j0 = j0 + j1;
 i1 = UINT32_C(0);
-store8(p104 + 299554, i1);
+store8(p94 + 299554, i1);
 j0 = v0;
 j1 = UINT64_C(372616);
 j0 = j0 + j1;
 i1 = UINT32_C(0);
-store16(p104 + 299552, i1);
+store16(p94 + 299552, i1);
 j0 = v0;
 j1 = UINT64_C(372608);
 j0 = j0 + j1;
 j1 = v1;
-store64(p104 + 299544, j1);
+store64(p94 + 299544, j1);
 j0 = v0;
 j1 = UINT64_C(372640);
 j0 = j0 + j1;
 j1 = UINT64_C(0);
-store64(p104 + 299576, j1);
+store64(p94 + 299576, j1);
 j0 = v0;
 j1 = UINT64_C(372648);
 j0 = j0 + j1;
 v1 = j0;
 i1 = UINT32_C(0);
-store8(p104 + 299584, i1);
+store8(p94 + 299584, i1);
 j0 = v1;
-j1 = v29;
+j1 = v14;
 j2 = UINT64_C(904);
 j1 = j1 + j2;
-i1 = load8(p105 + 96);
+i1 = load8(p95 + 96);
 i2 = UINT32_C(1);
 i1 = (i1 == i2);
-store8(p104 + 299584, i1);
-i0 = v14;
+store8(p94 + 299584, i1);
+i0 = v15;
 i0 = (i0 == 0);
-if (i0) { goto l88; }
+if (i0) { goto l91; }
 j0 = v13;
-j0 = load64(p105 + 0);
+j0 = load64(p95 + 0);
 j1 = UINT64_C(780);
 i0 = (j0 != j1);
-if (i0) { goto l88; }
-j0 = v29;
+if (i0) { goto l91; }
+j0 = v14;
 j1 = UINT64_C(8);
 j0 = j0 + j1;
-p106 = read_at(j0 + UINT64_C(18446744073709551608), m, 16u);
-j0 = load64(p106 + 8);
+p96 = read_at(j0 + UINT64_C(18446744073709551608), m, 16u);
+j0 = load64(p96 + 8);
 v1 = j0;
-j0 = v29;
-j0 = load64(p106 + 0);
+j0 = v14;
+j0 = load64(p96 + 0);
 v10 = j0;
 j0 = v0;
 j1 = UINT64_C(282376);
 j0 = j0 + j1;
 i1 = UINT32_C(3);
-store8(p104 + 209312, i1);
+store8(p94 + 209312, i1);
 j0 = v0;
 j1 = UINT64_C(282368);
 j0 = j0 + j1;
 j1 = v3;
-store64(p104 + 209304, j1);
+store64(p94 + 209304, j1);
 j0 = v0;
 j1 = UINT64_C(306968);
 j0 = j0 + j1;
-j0 = load64(p104 + 233904);
+j0 = load64(p94 + 233904);
 v9 = j0;
 i0 = (j0 == 0);
-if (i0) { goto l89; }
+if (i0) { goto l92; }
 j0 = v9;
 j1 = UINT64_C(2);
 j0 = j0 << (j1 & 63);
 v9 = j0;
 i0 = (j0 == 0);
-if (i0) { goto l90; }
+if (i0) { goto l93; }
 j0 = v0;
 j1 = UINT64_C(298776);
 j0 = j0 + j1;
 i1 = UINT32_C(0);
 j2 = v9;
 fill(m, j0, i1, j2);
-l90:;
+l93:;
 j0 = v0;
 j1 = UINT64_C(306968);
 j0 = j0 + j1;
 j1 = UINT64_C(0);
-store64(p104 + 233904, j1);
-l89:;
+store64(p94 + 233904, j1);
+l92:;
 j0 = v0;
 j1 = UINT64_C(282384);
 j0 = j0 + j1;
-v29 = j0;
+v14 = j0;
 j0 = v0;
 j1 = UINT64_C(298768);
 j0 = j0 + j1;
-j0 = load64(p104 + 225704);
+j0 = load64(p94 + 225704);
 v9 = j0;
 i0 = (j0 == 0);
-v14 = i0;
-if (i0) { goto l91; }
-i0 = v14;
-if (i0) { goto l92; }
-j0 = v29;
+v15 = i0;
+if (i0) { goto l94; }
+i0 = v15;
+if (i0) { goto l95; }
+j0 = v14;
 i1 = UINT32_C(0);
 j2 = v9;
 fill(m, j0, i1, j2);
-l92:;
+l95:;
 j0 = v0;
 j1 = UINT64_C(298768);
 j0 = j0 + j1;
 j1 = UINT64_C(0);
-store64(p104 + 225704, j1);
-l91:;
+store64(p94 + 225704, j1);
+l94:;
 j0 = v0;
 j1 = UINT64_C(372512);
 j0 = j0 + j1;
-j0 = load64(p104 + 299448);
+j0 = load64(p94 + 299448);
 v9 = j0;
 i0 = (j0 == 0);
-if (i0) { goto l93; }
+if (i0) { goto l96; }
 j0 = v9;
 j1 = UINT64_C(2);
 j0 = j0 << (j1 & 63);
 v9 = j0;
 i0 = (j0 == 0);
-if (i0) { goto l94; }
+if (i0) { goto l97; }
 j0 = v0;
 j1 = UINT64_C(306976);
 j0 = j0 + j1;
 i1 = UINT32_C(0);
 j2 = v9;
 fill(m, j0, i1, j2);
-l94:;
+l97:;
 j0 = v0;
 j1 = UINT64_C(372512);
 j0 = j0 + j1;
 j1 = UINT64_C(0);
-store64(p104 + 299448, j1);
-l93:;
+store64(p94 + 299448, j1);
+l96:;
 j0 = v1;
 j1 = v10;
 i0 = (j0 < j1);
-if (i0) { goto l46; }
+if (i0) { goto l49; }
 j0 = v10;
 j1 = UINT64_C(65535);
 i0 = (j0 > j1);
-if (i0) { goto l46; }
+if (i0) { goto l49; }
 j0 = v1;
 j1 = v10;
 j0 = j0 - j1;
-v30 = j0;
+v31 = j0;
 j1 = UINT64_C(65535);
 i0 = (j0 > j1);
-if (i0) { goto l46; }
+if (i0) { goto l49; }
 j0 = v4;
 j1 = v1;
 i0 = (j0 < j1);
-if (i0) { goto l46; }
+if (i0) { goto l49; }
 j0 = v0;
 j1 = UINT64_C(306968);
 j0 = j0 + j1;
-j0 = load64(p104 + 233904);
+j0 = load64(p94 + 233904);
 v9 = j0;
 i0 = (j0 == 0);
-if (i0) { goto l95; }
+if (i0) { goto l98; }
 j0 = v9;
 j1 = UINT64_C(2);
 j0 = j0 << (j1 & 63);
 v9 = j0;
 i0 = (j0 == 0);
-if (i0) { goto l96; }
+if (i0) { goto l99; }
 j0 = v0;
 j1 = UINT64_C(298776);
 j0 = j0 + j1;
 i1 = UINT32_C(0);
 j2 = v9;
 fill(m, j0, i1, j2);
-l96:;
+l99:;
 j0 = v0;
 j1 = UINT64_C(306968);
 j0 = j0 + j1;
 j1 = UINT64_C(0);
-store64(p104 + 233904, j1);
-l95:;
+store64(p94 + 233904, j1);
+l98:;
 j0 = v1;
 j1 = v10;
 i0 = (j0 == j1);
-if (i0) { goto l97; }
+if (i0) { goto l100; }
 j0 = v0;
 j1 = v10;
 j0 = j0 + j1;
@@ -44468,260 +41924,174 @@ v1 = j0;
 i0 = UINT32_C(0);
 v35 = i0;
 j0 = UINT64_C(0);
-v17 = j0;
-j0 = v30;
+v19 = j0;
+j0 = v31;
 v9 = j0;
 j0 = UINT64_C(0);
 v13 = j0;
 i0 = UINT32_C(0);
-v15 = i0;
-l98:;
+v16 = i0;
+l101:;
 i0 = UINT32_C(0);
 v5 = i0;
 i0 = UINT32_C(0);
-v14 = i0;
+v15 = i0;
 j0 = v1;
-p107 = read_at(j0, m, 1u);
-i0 = load8(p107 + 0);
-v32 = i0;
+p97 = read_at(j0, m, 1u);
+i0 = load8(p97 + 0);
+v17 = i0;
 i1 = UINT32_C(48);
 i0 = (i0 < i1);
-if (i0) { goto l99; }
-i0 = v32;
+if (i0) { goto l102; }
+i0 = v17;
 i1 = UINT32_C(57);
 i0 = (i0 > i1);
-if (i0) { goto l100; }
-i0 = v32;
+if (i0) { goto l103; }
+i0 = v17;
 i1 = UINT32_C(4294967248);
 i0 = i0 + i1;
 v5 = i0;
 i0 = UINT32_C(1);
-v14 = i0;
-goto l99;
-l100:;
+v15 = i0;
+goto l102;
+l103:;
 i0 = UINT32_C(0);
 v5 = i0;
 i0 = UINT32_C(0);
-v14 = i0;
-i0 = v32;
+v15 = i0;
+i0 = v17;
 i1 = UINT32_C(65);
 i0 = (i0 < i1);
-if (i0) { goto l99; }
-i0 = v32;
+if (i0) { goto l102; }
+i0 = v17;
 i1 = UINT32_C(70);
 i0 = (i0 > i1);
-if (i0) { goto l101; }
-i0 = v32;
+if (i0) { goto l104; }
+i0 = v17;
 i1 = UINT32_C(4294967241);
 i0 = i0 + i1;
 v5 = i0;
 i0 = UINT32_C(1);
-v14 = i0;
-goto l99;
-l101:;
-i0 = v32;
+v15 = i0;
+goto l102;
+l104:;
+i0 = v17;
 i1 = UINT32_C(4294967209);
 i0 = i0 + i1;
 i1 = UINT32_C(0);
-i2 = v32;
+i2 = v17;
 i3 = UINT32_C(4294967199);
 i2 = i2 + i3;
 i3 = UINT32_C(255);
 i2 = i2 & i3;
 i3 = UINT32_C(6);
 i2 = (i2 < i3);
-v14 = i2;
+v15 = i2;
 i0 = i2 ? i0 : i1;
 v5 = i0;
-l99:;
-i0 = v15;
+l102:;
+i0 = v16;
 i1 = UINT32_C(1);
 i0 = i0 & i1;
-if (i0) { goto l103; }
+if (i0) { goto l106; }
 i0 = v5;
 v35 = i0;
-goto l102;
-l103:;
-i0 = v14;
+goto l105;
+l106:;
+i0 = v15;
 i0 = (i0 == 0);
-if (i0) { goto l106; }
+if (i0) { goto l109; }
 i0 = v5;
 i1 = v35;
 i2 = UINT32_C(4);
 i1 = i1 << (i2 & 31);
 i0 = i0 + i1;
 v35 = i0;
-goto l105;
-l106:;
-i0 = v32;
+goto l108;
+l109:;
+i0 = v17;
 i1 = UINT32_C(32);
 i0 = i0 | i1;
 i1 = UINT32_C(120);
 i0 = (i0 == i1);
-if (i0) { goto l104; }
-l105:;
+if (i0) { goto l107; }
+l108:;
 j0 = v13;
 j1 = UINT64_C(16384);
 i0 = (j0 != j1);
-if (i0) { goto l107; }
+if (i0) { goto l110; }
 j0 = UINT64_C(16384);
 v13 = j0;
-goto l104;
-l107:;
-j0 = v29;
+goto l107;
+l110:;
+j0 = v14;
 j1 = v13;
 j0 = j0 + j1;
 i1 = v35;
-p108 = write_at(j0, m, 1u);
-store8(p108 + 0, i1);
+p98 = write_at(j0, m, 1u);
+store8(p98 + 0, i1);
 j0 = v0;
 j1 = UINT64_C(298768);
 j0 = j0 + j1;
 j1 = v13;
 j2 = UINT64_C(1);
 j1 = j1 + j2;
-v17 = j1;
-store64(p104 + 225704, j1);
-j0 = v17;
+v19 = j1;
+store64(p94 + 225704, j1);
+j0 = v19;
 v13 = j0;
-l104:;
+l107:;
 i0 = UINT32_C(0);
 v35 = i0;
-l102:;
+l105:;
 j0 = v1;
 j1 = UINT64_C(1);
 j0 = j0 + j1;
 v1 = j0;
-i0 = v14;
-i1 = v15;
+i0 = v15;
+i1 = v16;
 i2 = UINT32_C(1);
 i1 = i1 ^ i2;
 i0 = i0 & i1;
-v15 = i0;
+v16 = i0;
 j0 = v9;
 j1 = UINT64_C(18446744073709551615);
 j0 = j0 + j1;
 v9 = j0;
 j1 = UINT64_C(0);
 i0 = (j0 != j1);
-if (i0) { goto l98; }
-i0 = v15;
-j1 = v17;
+if (i0) { goto l101; }
+i0 = v16;
+j1 = v19;
 j2 = UINT64_C(16384);
 i1 = (j1 != j2);
 i0 = i0 & i1;
 i1 = UINT32_C(1);
 i0 = (i0 != i1);
-if (i0) { goto l108; }
-j0 = v29;
-j1 = v17;
+if (i0) { goto l111; }
+j0 = v14;
+j1 = v19;
 j0 = j0 + j1;
 i1 = v35;
-p109 = write_at(j0, m, 1u);
-store8(p109 + 0, i1);
+p99 = write_at(j0, m, 1u);
+store8(p99 + 0, i1);
 j0 = v0;
 j1 = UINT64_C(298768);
 j0 = j0 + j1;
-j1 = v17;
+j1 = v19;
 j2 = UINT64_C(1);
 j1 = j1 + j2;
-v17 = j1;
-store64(p104 + 225704, j1);
-l108:;
-j0 = v17;
+v19 = j1;
+store64(p94 + 225704, j1);
+l111:;
+j0 = v19;
 j1 = UINT64_C(16384);
 i0 = (j0 != j1);
-if (i0) { goto l97; }
+if (i0) { goto l100; }
 j0 = v0;
 j1 = UINT64_C(306968);
 j0 = j0 + j1;
-j0 = load64(p104 + 233904);
-v1 = j0;
-i0 = (j0 == 0);
-if (i0) { goto l109; }
-j0 = v1;
-j1 = UINT64_C(2);
-j0 = j0 << (j1 & 63);
-v1 = j0;
-i0 = (j0 == 0);
-if (i0) { goto l110; }
-j0 = v0;
-j1 = UINT64_C(298776);
-j0 = j0 + j1;
-i1 = UINT32_C(0);
-j2 = v1;
-fill(m, j0, i1, j2);
-l110:;
-j0 = v0;
-j1 = UINT64_C(306968);
-j0 = j0 + j1;
-j1 = UINT64_C(0);
-store64(p104 + 233904, j1);
-l109:;
-j0 = v17;
-i0 = (j0 == 0);
-v14 = i0;
-if (i0) { goto l46; }
-i0 = v14;
-if (i0) { goto l111; }
-j0 = v29;
-i1 = UINT32_C(0);
-j2 = v17;
-fill(m, j0, i1, j2);
-l111:;
-j0 = v0;
-j1 = UINT64_C(298768);
-j0 = j0 + j1;
-j1 = UINT64_C(0);
-store64(p104 + 225704, j1);
-goto l46;
-l97:;
-j0 = v0;
-j1 = v0;
-j2 = UINT64_C(372512);
-j1 = j1 + j2;
-v1 = j1;
-j1 = load64(p104 + 299448);
-v9 = j1;
-j2 = UINT64_C(2);
-j1 = j1 << (j2 & 63);
-j0 = j0 + j1;
-j1 = UINT64_C(306976);
-j0 = j0 + j1;
-j1 = v30;
-i1 = (uint32_t)j1;
-i2 = UINT32_C(16);
-i1 = i1 << (i2 & 31);
-j2 = v10;
-i2 = (uint32_t)j2;
-i1 = i1 | i2;
-p110 = write_at(j0, m, 4u);
-store32(p110 + 0, i1);
-j0 = v1;
-j1 = v9;
-j2 = UINT64_C(1);
-j1 = j1 + j2;
-store64(p104 + 299448, j1);
-goto l47;
-l88:;
-j0 = v0;
-j1 = UINT64_C(282376);
-j0 = j0 + j1;
-j1 = v29;
-j2 = UINT64_C(16);
-j1 = j1 + j2;
-p111 = read_at(j1, m, 1u);
-i1 = load8(p111 + 0);
-store8(p104 + 209312, i1);
-j0 = v0;
-j1 = UINT64_C(282368);
-j0 = j0 + j1;
-j1 = v3;
-store64(p104 + 209304, j1);
-j0 = v0;
-j1 = UINT64_C(306968);
-j0 = j0 + j1;
-j0 = load64(p104 + 233904);
+j0 = load64(p94 + 233904);
 v1 = j0;
 i0 = (j0 == 0);
 if (i0) { goto l112; }
@@ -44742,77 +42112,164 @@ j0 = v0;
 j1 = UINT64_C(306968);
 j0 = j0 + j1;
 j1 = UINT64_C(0);
-store64(p104 + 233904, j1);
+store64(p94 + 233904, j1);
 l112:;
+j0 = v19;
+i0 = (j0 == 0);
+v15 = i0;
+if (i0) { goto l49; }
+i0 = v15;
+if (i0) { goto l114; }
+j0 = v14;
+i1 = UINT32_C(0);
+j2 = v19;
+fill(m, j0, i1, j2);
+l114:;
 j0 = v0;
 j1 = UINT64_C(298768);
 j0 = j0 + j1;
-j0 = load64(p104 + 225704);
+j1 = UINT64_C(0);
+store64(p94 + 225704, j1);
+goto l49;
+l100:;
+j0 = v0;
+j1 = v0;
+j2 = UINT64_C(372512);
+j1 = j1 + j2;
+v1 = j1;
+j1 = load64(p94 + 299448);
+v9 = j1;
+j2 = UINT64_C(2);
+j1 = j1 << (j2 & 63);
+j0 = j0 + j1;
+j1 = UINT64_C(306976);
+j0 = j0 + j1;
+j1 = v31;
+i1 = (uint32_t)j1;
+i2 = UINT32_C(16);
+i1 = i1 << (i2 & 31);
+j2 = v10;
+i2 = (uint32_t)j2;
+i1 = i1 | i2;
+p100 = write_at(j0, m, 4u);
+store32(p100 + 0, i1);
+j0 = v1;
+j1 = v9;
+j2 = UINT64_C(1);
+j1 = j1 + j2;
+store64(p94 + 299448, j1);
+goto l50;
+l91:;
+j0 = v0;
+j1 = UINT64_C(282376);
+j0 = j0 + j1;
+j1 = v14;
+j2 = UINT64_C(16);
+j1 = j1 + j2;
+p101 = read_at(j1, m, 1u);
+i1 = load8(p101 + 0);
+store8(p94 + 209312, i1);
+j0 = v0;
+j1 = UINT64_C(282368);
+j0 = j0 + j1;
+j1 = v3;
+store64(p94 + 209304, j1);
+j0 = v0;
+j1 = UINT64_C(306968);
+j0 = j0 + j1;
+j0 = load64(p94 + 233904);
 v1 = j0;
 i0 = (j0 == 0);
-v14 = i0;
-if (i0) { goto l114; }
-i0 = v14;
 if (i0) { goto l115; }
+j0 = v1;
+j1 = UINT64_C(2);
+j0 = j0 << (j1 & 63);
+v1 = j0;
+i0 = (j0 == 0);
+if (i0) { goto l116; }
+j0 = v0;
+j1 = UINT64_C(298776);
+j0 = j0 + j1;
+i1 = UINT32_C(0);
+j2 = v1;
+fill(m, j0, i1, j2);
+l116:;
+j0 = v0;
+j1 = UINT64_C(306968);
+j0 = j0 + j1;
+j1 = UINT64_C(0);
+store64(p94 + 233904, j1);
+l115:;
+j0 = v0;
+j1 = UINT64_C(298768);
+j0 = j0 + j1;
+j0 = load64(p94 + 225704);
+v1 = j0;
+i0 = (j0 == 0);
+v15 = i0;
+if (i0) { goto l117; }
+i0 = v15;
+if (i0) { goto l118; }
 j0 = v0;
 j1 = UINT64_C(282384);
 j0 = j0 + j1;
 i1 = UINT32_C(0);
 j2 = v1;
 fill(m, j0, i1, j2);
-l115:;
+l118:;
 j0 = v0;
 j1 = UINT64_C(298768);
 j0 = j0 + j1;
 j1 = UINT64_C(0);
-store64(p104 + 225704, j1);
-l114:;
+store64(p94 + 225704, j1);
+l117:;
 j0 = v0;
 j1 = UINT64_C(372512);
 j0 = j0 + j1;
-j0 = load64(p104 + 299448);
+j0 = load64(p94 + 299448);
 v1 = j0;
 i0 = (j0 == 0);
-if (i0) { goto l116; }
+if (i0) { goto l119; }
 j0 = v1;
 j1 = UINT64_C(2);
 j0 = j0 << (j1 & 63);
 v1 = j0;
 i0 = (j0 == 0);
-if (i0) { goto l117; }
+if (i0) { goto l120; }
 j0 = v0;
 j1 = UINT64_C(306976);
 j0 = j0 + j1;
 i1 = UINT32_C(0);
 j2 = v1;
 fill(m, j0, i1, j2);
-l117:;
+l120:;
 j0 = v0;
 j1 = UINT64_C(372512);
 j0 = j0 + j1;
 j1 = UINT64_C(0);
-store64(p104 + 299448, j1);
-l116:;
+store64(p94 + 299448, j1);
+l119:;
 j0 = v10;
-j1 = v29;
-i2 = v15;
+j1 = v14;
+i2 = v16;
 j3 = v9;
 i0 = fio_log_judge_join_Join_add(m, j0, j1, i2, j3);
 i0 = (i0 == 0);
-if (i0) { goto l46; }
-l47:;
+if (i0) { goto l49; }
+l50:;
 j0 = v0;
 j1 = UINT64_C(446296);
 j0 = j0 + j1;
 j1 = v6;
-store64(p11 + 24, j1);
+p102 = write_at(j0 + UINT64_C(18446744073709551608), m, 16u);
+store64(p102 + 8, j1);
 j0 = v0;
 j1 = UINT64_C(446288);
 j0 = j0 + j1;
 j1 = UINT64_C(1);
-store64(p11 + 16, j1);
+store64(p102 + 0, j1);
 goto l2;
-l46:;
+l49:;
 j0 = v12;
 j1 = v8;
 j2 = v6;
@@ -45348,11 +42805,13 @@ uint32_t i0;
 uint32_t i1;
 uint32_t i2;
 uint32_t i3;
+uint32_t i4;
 uint64_t j0;
 uint64_t j1;
 uint64_t j2;
 uint64_t j3;
 uint64_t j4;
+uint64_t j5;
 uint8_t *p1;
 uint8_t *p2;
 uint8_t *p3;
@@ -45447,6 +42906,8 @@ uint8_t *p91;
 uint8_t *p92;
 uint8_t *p93;
 uint8_t *p94;
+uint8_t *p95;
+uint8_t *p96;
 j0 = m->g0;
 j1 = UINT64_C(2560);
 j0 = j0 - j1;
@@ -45457,7 +42918,7 @@ j0 = v1;
 v1 = j0;
 j1 = UINT64_C(16);
 i0 = (SIGNED64(j0) < SIGNED64(j1));
-if (i0) { goto l9; }
+if (i0) { goto l8; }
 j0 = v0;
 j1 = UINT64_C(371968);
 j0 = j0 + j1;
@@ -45509,19 +42970,19 @@ j0 = j0 & j1;
 i0 = (uint32_t)j0;
 switch (i0) {
 case 0:
-goto l11;
+goto l10;
 case 1:
-goto l10;
+goto l9;
 case 2:
-goto l10;
+goto l9;
 case 3:
-goto l12;
+goto l11;
 case 4:
-goto l11;
+goto l10;
 default:
-goto l11;
+goto l10;
 }
-l12:;
+l11:;
 j0 = v0;
 j1 = UINT64_C(298264);
 j0 = j0 + j1;
@@ -45535,7 +42996,7 @@ i0 = UINT32_C(0);
 v10 = i0;
 i0 = v7;
 i0 = (i0 == 0);
-if (i0) { goto l13; }
+if (i0) { goto l12; }
 j0 = v0;
 j1 = UINT64_C(298281);
 j0 = j0 + j1;
@@ -45546,7 +43007,7 @@ j1 = UINT64_C(298280);
 j0 = j0 + j1;
 i0 = load8(p3 + 90240);
 v9 = i0;
-l13:;
+l12:;
 j0 = v1;
 j1 = v0;
 j2 = UINT64_C(298208);
@@ -45664,7 +43125,7 @@ store8(p1 + 144, i1);
 j0 = v5;
 j1 = v2;
 i0 = (j0 > j1);
-if (i0) { goto l10; }
+if (i0) { goto l9; }
 j0 = v1;
 j1 = UINT64_C(96);
 j0 = j0 + j1;
@@ -45675,7 +43136,7 @@ j0 = j0 * j1;
 v18 = j0;
 j0 = UINT64_C(18446744073709551584);
 v8 = j0;
-l15:;
+l14:;
 j0 = v3;
 j1 = v18;
 j2 = v8;
@@ -45695,13 +43156,13 @@ p4 = read_at(j0, m, 1u);
 i0 = load8(p4 + 0);
 i1 = UINT32_C(1);
 i0 = (i0 != i1);
-if (i0) { goto l14; }
+if (i0) { goto l13; }
 j0 = v2;
 p5 = read_at(j0, m, 8u);
 j0 = load64(p5 + 0);
 j1 = v11;
 i0 = (j0 == j1);
-if (i0) { goto l14; }
+if (i0) { goto l13; }
 j0 = v3;
 j1 = v19;
 j2 = UINT64_C(18446742974197923438);
@@ -45718,21 +43179,21 @@ p6 = read_at(j0, m, 1u);
 i0 = load8(p6 + 0);
 i1 = UINT32_C(1);
 i0 = (i0 != i1);
-if (i0) { goto l14; }
+if (i0) { goto l13; }
 j0 = v2;
 p7 = read_at(j0, m, 8u);
 j0 = load64(p7 + 0);
 j1 = v11;
 i0 = (j0 == j1);
-if (i0) { goto l14; }
+if (i0) { goto l13; }
 j0 = v8;
 j1 = UINT64_C(2);
 j0 = j0 + j1;
 v8 = j0;
 i0 = (j0 == 0);
 if (i0) { goto l3; }
-goto l15;
-l14:;
+goto l14;
+l13:;
 j0 = v2;
 p8 = read_at(j0 + UINT64_C(9), m, 1u);
 i0 = load8(p8 + 0);
@@ -45747,14 +43208,14 @@ j1 = v12;
 j2 = v17;
 i0 = fio_log_sources_Sources_is_another(m, j0, j1, j2);
 i0 = (i0 == 0);
-if (i0) { goto l10; }
+if (i0) { goto l9; }
 goto l3;
-l11:;
+l10:;
 j0 = v5;
 j1 = v2;
 i0 = (j0 <= j1);
 if (i0) { goto l3; }
-l10:;
+l9:;
 j0 = v1;
 j1 = UINT64_C(0);
 store64(p1 + 904, j1);
@@ -45777,9 +43238,287 @@ j0 = v0;
 j1 = UINT64_C(298296);
 j0 = j0 + j1;
 i0 = load8(p3 + 90256);
+if (i0) { goto l7; }
+j0 = v0;
+j1 = UINT64_C(208064);
+j0 = j0 + j1;
+v19 = j0;
+j0 = v0;
+j1 = UINT64_C(224448);
+j0 = j0 + j1;
+j0 = load64(p3 + 16408);
+v8 = j0;
+i0 = v6;
+i1 = UINT32_C(255);
+i0 = i0 & i1;
+i1 = UINT32_C(3);
+i0 = (i0 == i1);
+if (i0) { goto l15; }
+j0 = v1;
+j1 = v0;
+j2 = UINT64_C(298232);
+j1 = j1 + j2;
+j1 = load64(p3 + 90192);
+store64(p1 + 1744, j1);
+j0 = v1;
+j1 = v0;
+j2 = UINT64_C(298240);
+j1 = j1 + j2;
+j1 = load64(p3 + 90200);
+store64(p1 + 1752, j1);
+j0 = v1;
+j1 = v0;
+j2 = UINT64_C(298248);
+j1 = j1 + j2;
+j1 = load64(p3 + 90208);
+store64(p1 + 1760, j1);
+j0 = v1;
+j1 = v0;
+j2 = UINT64_C(298256);
+j1 = j1 + j2;
+j1 = load64(p3 + 90216);
+store64(p1 + 1768, j1);
+j0 = v1;
+j1 = v0;
+j2 = UINT64_C(298265);
+j1 = j1 + j2;
+i1 = load32(p3 + 90225);
+store32(p1 + 960, i1);
+j0 = v1;
+j1 = v0;
+j2 = UINT64_C(298268);
+j1 = j1 + j2;
+i1 = load32(p3 + 90228);
+store32(p1 + 963, i1);
+j0 = v0;
+j1 = UINT64_C(298287);
+j0 = j0 + j1;
+i0 = load8(p3 + 90247);
+v20 = i0;
+j0 = v0;
+j1 = UINT64_C(298286);
+j0 = j0 + j1;
+i0 = load8(p3 + 90246);
+v21 = i0;
+j0 = v0;
+j1 = UINT64_C(298285);
+j0 = j0 + j1;
+i0 = load8(p3 + 90245);
+v16 = i0;
+j0 = v0;
+j1 = UINT64_C(298284);
+j0 = j0 + j1;
+i0 = load8(p3 + 90244);
+v15 = i0;
+j0 = v0;
+j1 = UINT64_C(298283);
+j0 = j0 + j1;
+i0 = load8(p3 + 90243);
+v22 = i0;
+j0 = v0;
+j1 = UINT64_C(298282);
+j0 = j0 + j1;
+i0 = load8(p3 + 90242);
+v23 = i0;
+j0 = v0;
+j1 = UINT64_C(298281);
+j0 = j0 + j1;
+i0 = load8(p3 + 90241);
+v10 = i0;
+j0 = v0;
+j1 = UINT64_C(298280);
+j0 = j0 + j1;
+i0 = load8(p3 + 90240);
+v9 = i0;
+j0 = v0;
+j1 = UINT64_C(298272);
+j0 = j0 + j1;
+j0 = load64(p3 + 90232);
+v11 = j0;
+j0 = v0;
+j1 = UINT64_C(298264);
+j0 = j0 + j1;
+i0 = load8(p3 + 90224);
+v7 = i0;
+j0 = v0;
+j1 = UINT64_C(298224);
+j0 = j0 + j1;
+j0 = load64(p3 + 90184);
+v18 = j0;
+j0 = v0;
+j1 = UINT64_C(298216);
+j0 = j0 + j1;
+j0 = load64(p3 + 90176);
+v2 = j0;
+j0 = v0;
+j1 = UINT64_C(298208);
+j0 = j0 + j1;
+j0 = load64(p3 + 90168);
+v12 = j0;
+j0 = v0;
+j1 = UINT64_C(298200);
+j0 = j0 + j1;
+j0 = load64(p3 + 90160);
+v17 = j0;
+goto l4;
+l15:;
+j0 = v8;
+i0 = (j0 == 0);
+if (i0) { goto l6; }
+j0 = v0;
+j1 = UINT64_C(298312);
+j0 = j0 + j1;
+i0 = load8(p3 + 90272);
+i1 = UINT32_C(255);
+i0 = i0 & i1;
 i1 = UINT32_C(1);
-i0 = (i0 != i1);
+i0 = (i0 == i1);
+if (i0) { goto l6; }
+j0 = v19;
+i0 = load8(p3 + 24);
+v7 = i0;
+i1 = UINT32_C(59);
+i0 = (i0 == i1);
+if (i0) { goto l17; }
+i0 = v7;
+i1 = UINT32_C(56);
+i0 = (i0 < i1);
+if (i0) { goto l6; }
+i0 = v7;
+i1 = UINT32_C(58);
+i0 = (i0 < i1);
+if (i0) { goto l17; }
+i0 = v7;
+i1 = UINT32_C(183);
+i0 = (i0 < i1);
+if (i0) { goto l6; }
+i0 = v7;
+i1 = UINT32_C(186);
+i0 = (i0 < i1);
+if (i0) { goto l17; }
+j0 = v8;
+j1 = UINT64_C(2);
+i0 = (j0 < j1);
+if (i0) { goto l6; }
+i0 = v7;
+i1 = UINT32_C(186);
+i0 = (i0 == i1);
+if (i0) { goto l6; }
+i0 = v7;
+i1 = UINT32_C(189);
+i0 = (i0 < i1);
 if (i0) { goto l16; }
+goto l6;
+l17:;
+j0 = v8;
+j1 = UINT64_C(2);
+i0 = (j0 < j1);
+if (i0) { goto l6; }
+l16:;
+j0 = v8;
+j1 = UINT64_C(18446744073709551615);
+j0 = j0 + j1;
+v18 = j0;
+j0 = v0;
+j1 = UINT64_C(208065);
+j0 = j0 + j1;
+v12 = j0;
+j0 = UINT64_C(0);
+v2 = j0;
+l18:;
+j0 = v8;
+j1 = v2;
+v11 = j1;
+j2 = UINT64_C(1);
+j1 = j1 + j2;
+v2 = j1;
+i0 = (j0 < j1);
+if (i0) { goto l19; }
+j0 = v1;
+j1 = UINT64_C(0);
+store64(p1 + 1768, j1);
+j0 = v1;
+j1 = UINT64_C(0);
+store64(p1 + 1760, j1);
+j0 = v1;
+j1 = UINT64_C(0);
+store64(p1 + 1752, j1);
+j0 = v1;
+j1 = UINT64_C(0);
+store64(p1 + 1744, j1);
+j0 = v8;
+j1 = v2;
+i0 = (j0 <= j1);
+if (i0) { goto l19; }
+j0 = v12;
+j1 = v11;
+j0 = j0 + j1;
+v11 = j0;
+p9 = read_at(j0, m, 1u);
+i0 = load8(p9 + 0);
+v7 = i0;
+i1 = UINT32_C(59);
+i0 = (i0 == i1);
+if (i0) { goto l19; }
+i0 = v7;
+i1 = UINT32_C(56);
+i0 = (i0 < i1);
+if (i0) { goto l20; }
+i0 = v7;
+i1 = UINT32_C(58);
+i0 = (i0 < i1);
+if (i0) { goto l19; }
+i0 = v7;
+i1 = UINT32_C(183);
+i0 = (i0 < i1);
+if (i0) { goto l20; }
+i0 = v7;
+i1 = UINT32_C(186);
+i0 = (i0 < i1);
+if (i0) { goto l19; }
+i0 = v7;
+i1 = UINT32_C(186);
+i0 = (i0 == i1);
+if (i0) { goto l20; }
+i0 = v7;
+i1 = UINT32_C(189);
+i0 = (i0 < i1);
+if (i0) { goto l19; }
+l20:;
+j0 = v1;
+j1 = UINT64_C(1744);
+j0 = j0 + j1;
+j1 = v11;
+j2 = UINT64_C(0);
+j3 = v8;
+j4 = v2;
+j3 = j3 - j4;
+v17 = j3;
+j4 = v17;
+j5 = v8;
+i4 = (j4 > j5);
+j2 = i4 ? j2 : j3;
+fio_log_sayings_read_saying(m, j0, j1, j2);
+j0 = v1;
+i0 = load8(p1 + 1744);
+i1 = UINT32_C(2);
+i0 = (i0 == i1);
+if (i0) { goto l7; }
+l19:;
+j0 = v18;
+j1 = v2;
+i0 = (j0 != j1);
+if (i0) { goto l18; }
+j0 = v1;
+i1 = UINT32_C(0);
+store32(p1 + 963, i1);
+j0 = v1;
+i1 = UINT32_C(0);
+store32(p1 + 960, i1);
+goto l5;
+l8:;
+trap();
+l7:;
 j0 = v0;
 j1 = v4;
 j2 = UINT64_C(144);
@@ -45789,151 +43528,38 @@ v0 = j0;
 j1 = UINT64_C(341488);
 j0 = j0 + j1;
 j1 = UINT64_C(0);
-p9 = write_at(j0 + UINT64_C(18446744073709551608), m, 24u);
-store64(p9 + 8, j1);
+p10 = write_at(j0 + UINT64_C(18446744073709551608), m, 24u);
+store64(p10 + 8, j1);
 j0 = v0;
 j1 = UINT64_C(341482);
 j0 = j0 + j1;
 i1 = UINT32_C(5);
-store8(p9 + 2, i1);
+store8(p10 + 2, i1);
 j0 = v0;
 j1 = UINT64_C(341480);
 j0 = j0 + j1;
 i1 = UINT32_C(1284);
-store16(p9 + 0, i1);
+store16(p10 + 0, i1);
 j0 = v0;
 j1 = UINT64_C(341496);
 j0 = j0 + j1;
 j1 = UINT64_C(0);
-store64(p9 + 16, j1);
+store64(p10 + 16, j1);
 goto l2;
-l16:;
+l6:;
 j0 = v1;
 i1 = UINT32_C(0);
-store32(p1 + 963, i1);
+p11 = write_at(j0 + UINT64_C(960), m, 7u);
+store32(p11 + 3, i1);
 j0 = v1;
 i1 = UINT32_C(0);
-store32(p1 + 960, i1);
-i0 = v6;
-i1 = UINT32_C(255);
-i0 = i0 & i1;
-i1 = UINT32_C(3);
-i0 = (i0 == i1);
-if (i0) { goto l18; }
-j0 = v1;
-j1 = v0;
-j2 = UINT64_C(298232);
-j1 = j1 + j2;
-p10 = read_at(j1 + UINT64_C(18446744073709551584), m, 88u);
-j1 = load64(p10 + 32);
-store64(p1 + 1744, j1);
-j0 = v1;
-j1 = v0;
-j2 = UINT64_C(298240);
-j1 = j1 + j2;
-j1 = load64(p10 + 40);
-store64(p1 + 1752, j1);
-j0 = v1;
-j1 = v0;
-j2 = UINT64_C(298248);
-j1 = j1 + j2;
-j1 = load64(p10 + 48);
-store64(p1 + 1760, j1);
-j0 = v1;
-j1 = v0;
-j2 = UINT64_C(298256);
-j1 = j1 + j2;
-j1 = load64(p10 + 56);
-store64(p1 + 1768, j1);
-j0 = v1;
-j1 = v0;
-j2 = UINT64_C(298265);
-j1 = j1 + j2;
-i1 = load32(p10 + 65);
-store32(p1 + 960, i1);
-j0 = v1;
-j1 = v0;
-j2 = UINT64_C(298268);
-j1 = j1 + j2;
-i1 = load32(p10 + 68);
-store32(p1 + 963, i1);
-j0 = v0;
-j1 = UINT64_C(298224);
-j0 = j0 + j1;
-j0 = load64(p10 + 24);
-v19 = j0;
-j0 = v0;
-j1 = UINT64_C(298216);
-j0 = j0 + j1;
-j0 = load64(p10 + 16);
-v2 = j0;
-j0 = v0;
-j1 = UINT64_C(298208);
-j0 = j0 + j1;
-j0 = load64(p10 + 8);
-v18 = j0;
-j0 = v0;
-j1 = UINT64_C(298200);
-j0 = j0 + j1;
-j0 = load64(p10 + 0);
-v17 = j0;
+store32(p11 + 0, i1);
+l5:;
 j0 = v0;
 j1 = UINT64_C(298264);
 j0 = j0 + j1;
-i0 = load8(p10 + 64);
-v7 = i0;
-j0 = v0;
-j1 = UINT64_C(298287);
-j0 = j0 + j1;
-i0 = load8(p10 + 87);
-v20 = i0;
-j0 = v0;
-j1 = UINT64_C(298286);
-j0 = j0 + j1;
-i0 = load8(p10 + 86);
-v21 = i0;
-j0 = v0;
-j1 = UINT64_C(298285);
-j0 = j0 + j1;
-i0 = load8(p10 + 85);
-v16 = i0;
-j0 = v0;
-j1 = UINT64_C(298284);
-j0 = j0 + j1;
-i0 = load8(p10 + 84);
-v15 = i0;
-j0 = v0;
-j1 = UINT64_C(298283);
-j0 = j0 + j1;
-i0 = load8(p10 + 83);
-v22 = i0;
-j0 = v0;
-j1 = UINT64_C(298282);
-j0 = j0 + j1;
-i0 = load8(p10 + 82);
-v23 = i0;
-j0 = v0;
-j1 = UINT64_C(298281);
-j0 = j0 + j1;
-i0 = load8(p10 + 81);
-v10 = i0;
-j0 = v0;
-j1 = UINT64_C(298280);
-j0 = j0 + j1;
-i0 = load8(p10 + 80);
-v9 = i0;
-j0 = v0;
-j1 = UINT64_C(298272);
-j0 = j0 + j1;
-j0 = load64(p10 + 72);
-v11 = j0;
-goto l17;
-l18:;
-j0 = v0;
-j1 = UINT64_C(298264);
-j0 = j0 + j1;
-p11 = read_at(j0, m, 1u);
-i0 = load8(p11 + 0);
+p12 = read_at(j0, m, 1u);
+i0 = load8(p12 + 0);
 v7 = i0;
 j0 = (uint64_t)i0;
 v2 = j0;
@@ -45945,70 +43571,71 @@ i0 = UINT32_C(0);
 v10 = i0;
 i0 = v7;
 i0 = (i0 == 0);
-if (i0) { goto l19; }
+if (i0) { goto l21; }
 j0 = v0;
 j1 = UINT64_C(298281);
 j0 = j0 + j1;
-p12 = read_at(j0 + UINT64_C(18446744073709551615), m, 2u);
-i0 = load8(p12 + 1);
+p13 = read_at(j0 + UINT64_C(18446744073709551615), m, 2u);
+i0 = load8(p13 + 1);
 v10 = i0;
 j0 = v0;
 j1 = UINT64_C(298280);
 j0 = j0 + j1;
-i0 = load8(p12 + 0);
+i0 = load8(p13 + 0);
 v9 = i0;
-l19:;
+l21:;
 j0 = v1;
 j1 = v0;
 j2 = UINT64_C(298232);
 j1 = j1 + j2;
-p13 = read_at(j1 + UINT64_C(18446744073709551592), m, 79u);
-j1 = load64(p13 + 24);
-store64(p1 + 1744, j1);
+p14 = read_at(j1 + UINT64_C(18446744073709551592), m, 79u);
+j1 = load64(p14 + 24);
+p15 = write_at(j0 + UINT64_C(1744), m, 32u);
+store64(p15 + 0, j1);
 j0 = v1;
 j1 = v0;
 j2 = UINT64_C(298240);
 j1 = j1 + j2;
-j1 = load64(p13 + 32);
-store64(p1 + 1752, j1);
+j1 = load64(p14 + 32);
+store64(p15 + 8, j1);
 j0 = v1;
 j1 = v0;
 j2 = UINT64_C(298248);
 j1 = j1 + j2;
-j1 = load64(p13 + 40);
-store64(p1 + 1760, j1);
+j1 = load64(p14 + 40);
+store64(p15 + 16, j1);
 j0 = v1;
 j1 = v0;
 j2 = UINT64_C(298256);
 j1 = j1 + j2;
-j1 = load64(p13 + 48);
-store64(p1 + 1768, j1);
+j1 = load64(p14 + 48);
+store64(p15 + 24, j1);
 j0 = v0;
 j1 = UINT64_C(298286);
 j0 = j0 + j1;
-i0 = load8(p13 + 78);
+i0 = load8(p14 + 78);
 i1 = UINT32_C(1);
 i0 = i0 & i1;
 v21 = i0;
 j0 = v0;
 j1 = UINT64_C(298285);
 j0 = j0 + j1;
-i0 = load8(p13 + 77);
+i0 = load8(p14 + 77);
 i1 = UINT32_C(1);
 i0 = i0 & i1;
 v16 = i0;
 j0 = v0;
 j1 = UINT64_C(298284);
 j0 = j0 + j1;
-i0 = load8(p13 + 76);
+i0 = load8(p14 + 76);
 i1 = UINT32_C(1);
 i0 = i0 & i1;
 v15 = i0;
 j0 = v0;
 j1 = UINT64_C(298208);
 j0 = j0 + j1;
-j0 = load64(p13 + 0);
-v18 = j0;
+j0 = load64(p14 + 0);
+v12 = j0;
 j1 = UINT64_C(14029467366897019727);
 j0 = j0 + j1;
 v17 = j0;
@@ -46025,68 +43652,61 @@ j1 = UINT64_C(18446744073709551615);
 j0 = j0 ^ j1;
 j1 = UINT64_C(1099511628211);
 j0 = j0 * j1;
-v19 = j0;
+v18 = j0;
 j0 = v0;
 j1 = UINT64_C(298283);
 j0 = j0 + j1;
-i0 = load8(p13 + 75);
+i0 = load8(p14 + 75);
 v22 = i0;
 j0 = v0;
 j1 = UINT64_C(298282);
 j0 = j0 + j1;
-i0 = load8(p13 + 74);
+i0 = load8(p14 + 74);
 v23 = i0;
 j0 = UINT64_C(0);
 v11 = j0;
-l17:;
+l4:;
 j0 = v1;
 j1 = v1;
-j1 = load64(p1 + 1768);
-store64(p1 + 896, j1);
+p16 = write_at(j1 + UINT64_C(864), m, 912u);
+j1 = load64(p16 + 904);
+store64(p16 + 32, j1);
 j0 = v1;
 j1 = v1;
-j1 = load64(p1 + 1760);
-store64(p1 + 888, j1);
+j1 = load64(p16 + 896);
+store64(p16 + 24, j1);
 j0 = v1;
 j1 = v1;
-j1 = load64(p1 + 1752);
-store64(p1 + 880, j1);
+j1 = load64(p16 + 888);
+store64(p16 + 16, j1);
 j0 = v1;
 j1 = v1;
-j1 = load64(p1 + 1744);
-store64(p1 + 872, j1);
+j1 = load64(p16 + 880);
+store64(p16 + 8, j1);
 j0 = v1;
 j1 = v1;
-i1 = load32(p1 + 960);
-store32(p1 + 864, i1);
+i1 = load32(p16 + 96);
+store32(p16 + 0, i1);
 j0 = v1;
 j1 = v1;
-i1 = load32(p1 + 963);
-store32(p1 + 867, i1);
+i1 = load32(p16 + 99);
+store32(p16 + 3, i1);
 j0 = v1;
 j1 = UINT64_C(904);
 j0 = j0 + j1;
-j1 = v0;
-j2 = UINT64_C(208064);
-j1 = j1 + j2;
-v12 = j1;
-j2 = v0;
-j3 = UINT64_C(224448);
-j2 = j2 + j3;
-p14 = read_at(j2, m, 8u);
-j2 = load64(p14 + 0);
-v8 = j2;
+j1 = v19;
+j2 = v8;
 fio_log_sayings_read_saying(m, j0, j1, j2);
 j0 = v1;
-i0 = load8(p1 + 928);
+i0 = load8(p16 + 64);
 v24 = i0;
 j0 = v1;
-i0 = load8(p1 + 904);
+i0 = load8(p16 + 40);
 v13 = i0;
 j0 = v5;
 j1 = UINT64_C(99);
 i0 = (j0 < j1);
-if (i0) { goto l20; }
+if (i0) { goto l23; }
 i0 = UINT32_C(0);
 v25 = i0;
 j0 = v1;
@@ -46097,36 +43717,37 @@ j2 = UINT64_C(800);
 fill(m, j0, i1, j2);
 j0 = v1;
 i1 = UINT32_C(0);
-store32(p1 + 59, i1);
+p17 = write_at(j0 + UINT64_C(8), m, 55u);
+store32(p17 + 51, i1);
 j0 = v1;
 i1 = UINT32_C(0);
-store32(p1 + 56, i1);
+store32(p17 + 48, i1);
 j0 = UINT64_C(0);
 v26 = j0;
 j0 = v1;
 j1 = UINT64_C(0);
-store64(p1 + 24, j1);
+store64(p17 + 16, j1);
 j0 = v1;
 j1 = UINT64_C(0);
-store64(p1 + 32, j1);
+store64(p17 + 24, j1);
 j0 = v1;
 j1 = UINT64_C(0);
-store64(p1 + 40, j1);
+store64(p17 + 32, j1);
 j0 = v1;
 j1 = UINT64_C(0);
-store64(p1 + 48, j1);
+store64(p17 + 40, j1);
 j0 = v1;
 i1 = UINT32_C(0);
-store32(p1 + 16, i1);
+store32(p17 + 8, i1);
 j0 = v1;
 i1 = UINT32_C(0);
-store32(p1 + 19, i1);
+store32(p17 + 11, i1);
 j0 = v1;
 i1 = UINT32_C(0);
-store32(p1 + 8, i1);
+store32(p17 + 0, i1);
 j0 = v1;
 i1 = UINT32_C(0);
-store8(p1 + 12, i1);
+store8(p17 + 4, i1);
 j0 = UINT64_C(0);
 v27 = j0;
 j0 = UINT64_C(0);
@@ -46161,26 +43782,26 @@ i0 = UINT32_C(0);
 v41 = i0;
 i0 = UINT32_C(0);
 v42 = i0;
-goto l4;
-l20:;
+goto l22;
+l23:;
 i0 = v13;
 i1 = UINT32_C(255);
 i0 = i0 & i1;
 v14 = i0;
 i1 = UINT32_C(2);
 i0 = (i0 != i1);
-if (i0) { goto l21; }
+if (i0) { goto l28; }
 j0 = v1;
-j0 = load64(p1 + 920);
+j0 = load64(p16 + 56);
 v43 = j0;
 j0 = v1;
-j0 = load64(p1 + 912);
+j0 = load64(p16 + 48);
 v5 = j0;
 j0 = v0;
 j1 = UINT64_C(208056);
 j0 = j0 + j1;
-p15 = read_at(j0, m, 1u);
-i0 = load8(p15 + 0);
+p18 = read_at(j0, m, 1u);
+i0 = load8(p18 + 0);
 v39 = i0;
 i0 = UINT32_C(0);
 v42 = i0;
@@ -46196,62 +43817,63 @@ j0 = j0 - j1;
 v43 = j0;
 j1 = UINT64_C(773);
 i0 = (j0 > j1);
-if (i0) { goto l22; }
+if (i0) { goto l29; }
 j0 = v43;
 i0 = (j0 == 0);
-if (i0) { goto l23; }
+if (i0) { goto l30; }
 j0 = v1;
 j1 = UINT64_C(1744);
 j0 = j0 + j1;
-j1 = v12;
+j1 = v19;
 j2 = v5;
 j1 = j1 + j2;
 j2 = v43;
 copy(m, j0, j1, j2);
-l23:;
+l30:;
 j0 = v1;
 j1 = v43;
-store64(p1 + 2520, j1);
-l22:;
+p19 = write_at(j0 + UINT64_C(2520), m, 8u);
+store64(p19 + 0, j1);
+l29:;
 j0 = v8;
 i0 = (j0 == 0);
-if (i0) { goto l6; }
+if (i0) { goto l25; }
 j0 = v8;
 j1 = UINT64_C(1);
 i0 = (j0 == j1);
-if (i0) { goto l8; }
-j0 = v12;
-p16 = read_at(j0, m, 1u);
-i0 = load8(p16 + 0);
+if (i0) { goto l27; }
+j0 = v19;
+p20 = read_at(j0, m, 1u);
+i0 = load8(p20 + 0);
 v29 = i0;
 i1 = UINT32_C(255);
 i0 = i0 & i1;
 v25 = i0;
 i1 = UINT32_C(59);
 i0 = (i0 == i1);
-if (i0) { goto l8; }
+if (i0) { goto l27; }
 i0 = v25;
 i1 = UINT32_C(56);
 i0 = (i0 < i1);
-if (i0) { goto l25; }
+if (i0) { goto l32; }
 i0 = v29;
 i1 = UINT32_C(255);
 i0 = i0 & i1;
 v25 = i0;
 i1 = UINT32_C(58);
 i0 = (i0 < i1);
-if (i0) { goto l8; }
+if (i0) { goto l27; }
 i0 = v25;
 i1 = UINT32_C(183);
 i0 = (i0 < i1);
-if (i0) { goto l25; }
+if (i0) { goto l32; }
 i0 = v29;
 i1 = UINT32_C(255);
 i0 = i0 & i1;
 v25 = i0;
 i1 = UINT32_C(186);
 i0 = (i0 < i1);
-if (i0) { goto l8; }
+if (i0) { goto l27; }
 i0 = v25;
 i1 = UINT32_C(186);
 i0 = (i0 != i1);
@@ -46259,22 +43881,22 @@ i1 = v25;
 i2 = UINT32_C(189);
 i1 = (i1 < i2);
 i0 = i0 & i1;
-if (i0) { goto l8; }
+if (i0) { goto l27; }
 i0 = v9;
 i1 = UINT32_C(255);
 i0 = i0 & i1;
 i1 = UINT32_C(1);
 i0 = (i0 == i1);
-if (i0) { goto l24; }
-goto l8;
-l25:;
+if (i0) { goto l31; }
+goto l27;
+l32:;
 i0 = v9;
 i1 = UINT32_C(255);
 i0 = i0 & i1;
 i1 = UINT32_C(1);
 i0 = (i0 != i1);
-if (i0) { goto l8; }
-l24:;
+if (i0) { goto l27; }
+l31:;
 i0 = v10;
 i1 = UINT32_C(255);
 i0 = i0 & i1;
@@ -46286,19 +43908,19 @@ i1 = i1 >> (i2 & 31);
 i0 = (i0 != i1);
 i1 = v15;
 i0 = i0 & i1;
-if (i0) { goto l6; }
+if (i0) { goto l25; }
 i0 = v16;
 i1 = UINT32_C(1);
 i0 = i0 & i1;
-if (i0) { goto l6; }
+if (i0) { goto l25; }
 i0 = v7;
 i1 = UINT32_C(255);
 i0 = i0 & i1;
 i1 = UINT32_C(8);
 i0 = (i0 > i1);
-if (i0) { goto l6; }
-goto l7;
-l21:;
+if (i0) { goto l25; }
+goto l26;
+l28:;
 i0 = UINT32_C(0);
 v25 = i0;
 j0 = v1;
@@ -46309,36 +43931,37 @@ j2 = UINT64_C(784);
 fill(m, j0, i1, j2);
 j0 = v1;
 i1 = UINT32_C(0);
-store32(p1 + 955, i1);
+store32(p16 + 91, i1);
 j0 = v1;
 i1 = UINT32_C(0);
-store32(p1 + 952, i1);
+store32(p16 + 88, i1);
 j0 = UINT64_C(0);
 v38 = j0;
 j0 = v1;
 j1 = UINT64_C(0);
-store64(p1 + 2528, j1);
+p21 = write_at(j0 + UINT64_C(2528), m, 32u);
+store64(p21 + 0, j1);
 j0 = v1;
 j1 = UINT64_C(0);
-store64(p1 + 2536, j1);
+store64(p21 + 8, j1);
 j0 = v1;
 j1 = UINT64_C(0);
-store64(p1 + 2544, j1);
+store64(p21 + 16, j1);
 j0 = v1;
 j1 = UINT64_C(0);
-store64(p1 + 2552, j1);
+store64(p21 + 24, j1);
 j0 = v1;
 i1 = UINT32_C(0);
-store32(p1 + 944, i1);
+store32(p16 + 80, i1);
 j0 = v1;
 i1 = UINT32_C(0);
-store32(p1 + 947, i1);
+store32(p16 + 83, i1);
 j0 = v1;
 i1 = UINT32_C(0);
-store32(p1 + 936, i1);
+store32(p16 + 72, i1);
 j0 = v1;
 i1 = UINT32_C(0);
-store8(p1 + 940, i1);
+store8(p16 + 76, i1);
 j0 = UINT64_C(0);
 v37 = j0;
 j0 = UINT64_C(0);
@@ -46371,25 +43994,23 @@ i0 = UINT32_C(0);
 v41 = i0;
 i0 = UINT32_C(0);
 v42 = i0;
-goto l5;
-l9:;
-trap();
-l8:;
+goto l24;
+l27:;
 i0 = v15;
 i1 = UINT32_C(1);
 i0 = i0 & i1;
-if (i0) { goto l6; }
+if (i0) { goto l25; }
 i0 = v16;
 i1 = UINT32_C(1);
 i0 = i0 & i1;
-if (i0) { goto l6; }
+if (i0) { goto l25; }
 i0 = v7;
 i1 = UINT32_C(255);
 i0 = i0 & i1;
 i1 = UINT32_C(8);
 i0 = (i0 > i1);
-if (i0) { goto l6; }
-l7:;
+if (i0) { goto l25; }
+l26:;
 j0 = v11;
 i0 = (j0 == 0);
 j1 = v11;
@@ -46399,7 +44020,7 @@ j2 = UINT64_C(0);
 i1 = (j1 != j2);
 i0 = i0 | i1;
 v42 = i0;
-l6:;
+l25:;
 i0 = v24;
 i1 = UINT32_C(1);
 i0 = i0 & i1;
@@ -46410,29 +44031,29 @@ i0 = (j0 > j1);
 v41 = i0;
 j0 = v1;
 j1 = v1;
-p17 = write_at(j1 + UINT64_C(864), m, 1696u);
-j1 = load64(p17 + 32);
-store64(p17 + 1688, j1);
+j1 = load64(p16 + 32);
+p22 = write_at(j0 + UINT64_C(2528), m, 32u);
+store64(p22 + 24, j1);
 j0 = v1;
 j1 = v1;
-j1 = load64(p17 + 24);
-store64(p17 + 1680, j1);
+j1 = load64(p16 + 24);
+store64(p22 + 16, j1);
 j0 = v1;
 j1 = v1;
-j1 = load64(p17 + 16);
-store64(p17 + 1672, j1);
+j1 = load64(p16 + 16);
+store64(p22 + 8, j1);
 j0 = v1;
 j1 = v1;
-j1 = load64(p17 + 8);
-store64(p17 + 1664, j1);
+j1 = load64(p16 + 8);
+store64(p22 + 0, j1);
 j0 = v1;
 j1 = v1;
-i1 = load32(p17 + 0);
-store32(p17 + 80, i1);
+i1 = load32(p16 + 0);
+store32(p16 + 80, i1);
 j0 = v1;
 j1 = v1;
-i1 = load32(p17 + 3);
-store32(p17 + 83, i1);
+i1 = load32(p16 + 3);
+store32(p16 + 83, i1);
 j0 = v1;
 j1 = UINT64_C(960);
 j0 = j0 + j1;
@@ -46443,23 +44064,23 @@ j2 = UINT64_C(784);
 copy(m, j0, j1, j2);
 j0 = v1;
 i1 = UINT32_C(0);
-store32(p17 + 91, i1);
+store32(p16 + 91, i1);
 j0 = v1;
 i1 = UINT32_C(0);
-store32(p17 + 88, i1);
+store32(p16 + 88, i1);
 j0 = v1;
 i1 = UINT32_C(0);
-store32(p17 + 72, i1);
+store32(p16 + 72, i1);
 j0 = v1;
 i1 = UINT32_C(0);
-store8(p17 + 76, i1);
+store8(p16 + 76, i1);
 j0 = v17;
 v38 = j0;
-j0 = v18;
+j0 = v12;
 v37 = j0;
 j0 = v2;
 v26 = j0;
-j0 = v19;
+j0 = v18;
 v27 = j0;
 i0 = v7;
 v25 = i0;
@@ -46481,7 +44102,7 @@ i0 = v21;
 v35 = i0;
 i0 = v20;
 v36 = i0;
-l5:;
+l24:;
 i0 = v14;
 i1 = UINT32_C(2);
 i0 = (i0 == i1);
@@ -46496,52 +44117,52 @@ j2 = UINT64_C(784);
 copy(m, j0, j1, j2);
 j0 = v1;
 j1 = UINT64_C(0);
-p18 = write_at(j0 + UINT64_C(8), m, 2552u);
-store64(p18 + 848, j1);
+p23 = write_at(j0 + UINT64_C(8), m, 2552u);
+store64(p23 + 848, j1);
 j0 = v1;
 j1 = UINT64_C(0);
-store64(p18 + 840, j1);
+store64(p23 + 840, j1);
 j0 = v1;
 j1 = v1;
-i1 = load32(p18 + 944);
-store32(p18 + 48, i1);
+i1 = load32(p16 + 88);
+store32(p23 + 48, i1);
 j0 = v1;
 j1 = v1;
-i1 = load32(p18 + 947);
-store32(p18 + 51, i1);
+i1 = load32(p16 + 91);
+store32(p23 + 51, i1);
 j0 = v1;
 j1 = v1;
-j1 = load64(p18 + 2520);
-store64(p18 + 16, j1);
+j1 = load64(p23 + 2520);
+store64(p23 + 16, j1);
 j0 = v1;
 j1 = v1;
-j1 = load64(p18 + 2528);
-store64(p18 + 24, j1);
+j1 = load64(p23 + 2528);
+store64(p23 + 24, j1);
 j0 = v1;
 j1 = v1;
-j1 = load64(p18 + 2536);
-store64(p18 + 32, j1);
+j1 = load64(p23 + 2536);
+store64(p23 + 32, j1);
 j0 = v1;
 j1 = v1;
-j1 = load64(p18 + 2544);
-store64(p18 + 40, j1);
+j1 = load64(p23 + 2544);
+store64(p23 + 40, j1);
 j0 = v1;
 j1 = v1;
-i1 = load32(p18 + 936);
-store32(p18 + 8, i1);
+i1 = load32(p16 + 80);
+store32(p23 + 8, i1);
 j0 = v1;
 j1 = v1;
-i1 = load32(p18 + 939);
-store32(p18 + 11, i1);
+i1 = load32(p16 + 83);
+store32(p23 + 11, i1);
 j0 = v1;
 j1 = v1;
-i1 = load8(p18 + 932);
-store8(p18 + 4, i1);
+i1 = load8(p16 + 76);
+store8(p23 + 4, i1);
 j0 = v1;
 j1 = v1;
-i1 = load32(p18 + 928);
-store32(p18 + 0, i1);
-l4:;
+i1 = load32(p16 + 72);
+store32(p23 + 0, i1);
+l22:;
 j0 = v0;
 j1 = UINT64_C(371184);
 j0 = j0 + j1;
@@ -46550,128 +44171,127 @@ j0 = v0;
 j1 = UINT64_C(371952);
 j0 = j0 + j1;
 v43 = j0;
-p19 = read_at(j0, m, 8u);
-j0 = load64(p19 + 0);
+p24 = read_at(j0, m, 8u);
+j0 = load64(p24 + 0);
 v44 = j0;
 i0 = (j0 == 0);
-if (i0) { goto l26; }
+if (i0) { goto l33; }
 j0 = v44;
 j1 = UINT64_C(96);
 j0 = j0 * j1;
 v44 = j0;
 i0 = (j0 == 0);
-if (i0) { goto l26; }
+if (i0) { goto l33; }
 j0 = v5;
 i1 = UINT32_C(0);
 j2 = v44;
 fill(m, j0, i1, j2);
-l26:;
+l33:;
 j0 = v0;
 j1 = UINT64_C(371208);
 j0 = j0 + j1;
-j1 = v19;
-p20 = write_at(j0 + UINT64_C(18446744073709551592), m, 96u);
-store64(p20 + 24, j1);
+j1 = v18;
+p25 = write_at(j0 + UINT64_C(18446744073709551592), m, 96u);
+store64(p25 + 24, j1);
 j0 = v0;
 j1 = UINT64_C(371200);
 j0 = j0 + j1;
 j1 = v2;
-store64(p20 + 16, j1);
+store64(p25 + 16, j1);
 j0 = v0;
 j1 = UINT64_C(371192);
 j0 = j0 + j1;
-j1 = v18;
-store64(p20 + 8, j1);
+j1 = v12;
+store64(p25 + 8, j1);
 j0 = v5;
 j1 = v17;
-store64(p20 + 0, j1);
+store64(p25 + 0, j1);
 j0 = v0;
 j1 = UINT64_C(371216);
 j0 = j0 + j1;
 j1 = v1;
-p21 = read_at(j1 + UINT64_C(864), m, 40u);
-j1 = load64(p21 + 8);
-store64(p20 + 32, j1);
+j1 = load64(p16 + 8);
+store64(p25 + 32, j1);
 j0 = v0;
 j1 = UINT64_C(371224);
 j0 = j0 + j1;
 j1 = v1;
-j1 = load64(p21 + 16);
-store64(p20 + 40, j1);
+j1 = load64(p16 + 16);
+store64(p25 + 40, j1);
 j0 = v0;
 j1 = UINT64_C(371232);
 j0 = j0 + j1;
 j1 = v1;
-j1 = load64(p21 + 24);
-store64(p20 + 48, j1);
+j1 = load64(p16 + 24);
+store64(p25 + 48, j1);
 j0 = v0;
 j1 = UINT64_C(371240);
 j0 = j0 + j1;
 j1 = v1;
-j1 = load64(p21 + 32);
-store64(p20 + 56, j1);
+j1 = load64(p16 + 32);
+store64(p25 + 56, j1);
 j0 = v0;
 j1 = UINT64_C(371248);
 j0 = j0 + j1;
 i1 = v7;
-store8(p20 + 64, i1);
+store8(p25 + 64, i1);
 j0 = v0;
 j1 = UINT64_C(371249);
 j0 = j0 + j1;
 j1 = v1;
-i1 = load32(p21 + 0);
-store32(p20 + 65, i1);
+i1 = load32(p16 + 0);
+store32(p25 + 65, i1);
 j0 = v0;
 j1 = UINT64_C(371252);
 j0 = j0 + j1;
 j1 = v1;
-i1 = load32(p21 + 3);
-store32(p20 + 68, i1);
+i1 = load32(p16 + 3);
+store32(p25 + 68, i1);
 j0 = v0;
 j1 = UINT64_C(371256);
 j0 = j0 + j1;
 j1 = v11;
-store64(p20 + 72, j1);
+store64(p25 + 72, j1);
 j0 = v0;
 j1 = UINT64_C(371271);
 j0 = j0 + j1;
 i1 = v20;
-store8(p20 + 87, i1);
+store8(p25 + 87, i1);
 j0 = v0;
 j1 = UINT64_C(371270);
 j0 = j0 + j1;
 i1 = v21;
-store8(p20 + 86, i1);
+store8(p25 + 86, i1);
 j0 = v0;
 j1 = UINT64_C(371269);
 j0 = j0 + j1;
 i1 = v16;
-store8(p20 + 85, i1);
+store8(p25 + 85, i1);
 j0 = v0;
 j1 = UINT64_C(371268);
 j0 = j0 + j1;
 i1 = v15;
-store8(p20 + 84, i1);
+store8(p25 + 84, i1);
 j0 = v0;
 j1 = UINT64_C(371267);
 j0 = j0 + j1;
 i1 = v22;
-store8(p20 + 83, i1);
+store8(p25 + 83, i1);
 j0 = v0;
 j1 = UINT64_C(371266);
 j0 = j0 + j1;
 i1 = v23;
-store8(p20 + 82, i1);
+store8(p25 + 82, i1);
 j0 = v0;
 j1 = UINT64_C(371265);
 j0 = j0 + j1;
 i1 = v10;
-store8(p20 + 81, i1);
+store8(p25 + 81, i1);
 j0 = v0;
 j1 = UINT64_C(371264);
 j0 = j0 + j1;
 i1 = v9;
-store8(p20 + 80, i1);
+store8(p25 + 80, i1);
 j0 = v0;
 j1 = UINT64_C(371273);
 j0 = j0 + j1;
@@ -46681,7 +44301,7 @@ i1 = i1 & i2;
 v9 = i1;
 i2 = UINT32_C(1);
 i1 = (i1 == i2);
-store8(p20 + 89, i1);
+store8(p25 + 89, i1);
 j0 = v0;
 j1 = UINT64_C(371272);
 j0 = j0 + j1;
@@ -46695,55 +44315,55 @@ j2 = v8;
 j3 = UINT64_C(1);
 i2 = (j2 > j3);
 i1 = i1 | i2;
-store8(p20 + 88, i1);
+store8(p25 + 88, i1);
 j0 = v0;
 j1 = UINT64_C(371278);
 j0 = j0 + j1;
 i1 = UINT32_C(0);
-store16(p20 + 94, i1);
+store16(p25 + 94, i1);
 j0 = v0;
 j1 = UINT64_C(371274);
 j0 = j0 + j1;
 i1 = UINT32_C(0);
-store32(p20 + 90, i1);
+store32(p25 + 90, i1);
 j0 = v43;
 j1 = UINT64_C(1);
-p22 = write_at(j0, m, 8u);
-store64(p22 + 0, j1);
+p26 = write_at(j0, m, 8u);
+store64(p26 + 0, j1);
 i0 = v9;
 i1 = UINT32_C(2);
 i0 = (i0 == i1);
-if (i0) { goto l28; }
+if (i0) { goto l35; }
 j0 = v1;
-j1 = v12;
+j1 = v19;
 j2 = v8;
 fio_log_judge_remarks_remark_of(m, j0, j1, j2);
 j0 = v0;
 j1 = UINT64_C(371960);
 j0 = j0 + j1;
 j1 = v1;
-p23 = read_at(j1, m, 2u);
-i1 = load16(p23 + 0);
-p24 = write_at(j0, m, 2u);
-store16(p24 + 0, i1);
-goto l27;
-l28:;
+p27 = read_at(j1, m, 2u);
+i1 = load16(p27 + 0);
+p28 = write_at(j0, m, 2u);
+store16(p28 + 0, i1);
+goto l34;
+l35:;
 j0 = v0;
 j1 = UINT64_C(371960);
 j0 = j0 + j1;
 i1 = UINT32_C(0);
-p25 = write_at(j0, m, 2u);
-store16(p25 + 0, i1);
+p29 = write_at(j0, m, 2u);
+store16(p29 + 0, i1);
 i0 = v10;
 i1 = UINT32_C(2);
 i0 = (i0 != i1);
-if (i0) { goto l29; }
+if (i0) { goto l36; }
 i0 = v7;
 i1 = UINT32_C(255);
 i0 = i0 & i1;
 i1 = UINT32_C(10);
 i0 = (i0 > i1);
-if (i0) { goto l29; }
+if (i0) { goto l36; }
 j0 = v0;
 i1 = v7;
 j1 = (uint64_t)i1;
@@ -46753,31 +44373,31 @@ j0 = j0 + j1;
 j1 = UINT64_C(333264);
 j0 = j0 + j1;
 i1 = UINT32_C(1);
-p26 = write_at(j0, m, 1u);
-store8(p26 + 0, i1);
-l29:;
+p30 = write_at(j0, m, 1u);
+store8(p30 + 0, i1);
+l36:;
 j0 = v0;
 j1 = UINT64_C(298297);
 j0 = j0 + j1;
-p27 = read_at(j0, m, 1u);
-i0 = load8(p27 + 0);
+p31 = read_at(j0, m, 1u);
+i0 = load8(p31 + 0);
 i1 = UINT32_C(1);
 i0 = (i0 != i1);
-if (i0) { goto l27; }
+if (i0) { goto l34; }
 i0 = v24;
 i1 = UINT32_C(1);
 i0 = i0 & i1;
 i0 = (i0 == 0);
-if (i0) { goto l27; }
+if (i0) { goto l34; }
 j0 = v0;
 j1 = UINT64_C(298288);
 j0 = j0 + j1;
-p28 = read_at(j0, m, 8u);
-j0 = load64(p28 + 0);
-v19 = j0;
+p32 = read_at(j0, m, 8u);
+j0 = load64(p32 + 0);
+v18 = j0;
 j0 = UINT64_C(0);
 v5 = j0;
-l32:;
+l39:;
 j0 = v3;
 j1 = v2;
 j2 = v5;
@@ -46791,17 +44411,17 @@ j0 = j0 + j1;
 v8 = j0;
 j1 = UINT64_C(8);
 j0 = j0 + j1;
-p29 = read_at(j0, m, 1u);
-i0 = load8(p29 + 0);
+p33 = read_at(j0, m, 1u);
+i0 = load8(p33 + 0);
 i1 = UINT32_C(1);
 i0 = (i0 != i1);
-if (i0) { goto l31; }
+if (i0) { goto l38; }
 j0 = v8;
-p30 = read_at(j0, m, 8u);
-j0 = load64(p30 + 0);
+p34 = read_at(j0, m, 8u);
+j0 = load64(p34 + 0);
 j1 = v2;
 i0 = (j0 == j1);
-if (i0) { goto l31; }
+if (i0) { goto l38; }
 j0 = v3;
 j1 = v11;
 j2 = UINT64_C(1);
@@ -46814,55 +44434,55 @@ j0 = j0 + j1;
 v8 = j0;
 j1 = UINT64_C(8);
 j0 = j0 + j1;
-p31 = read_at(j0, m, 1u);
-i0 = load8(p31 + 0);
+p35 = read_at(j0, m, 1u);
+i0 = load8(p35 + 0);
 i1 = UINT32_C(1);
 i0 = (i0 != i1);
-if (i0) { goto l31; }
+if (i0) { goto l38; }
 j0 = v8;
-p32 = read_at(j0, m, 8u);
-j0 = load64(p32 + 0);
+p36 = read_at(j0, m, 8u);
+j0 = load64(p36 + 0);
 j1 = v2;
 i0 = (j0 == j1);
-if (i0) { goto l31; }
+if (i0) { goto l38; }
 j0 = v5;
 j1 = UINT64_C(2);
 j0 = j0 + j1;
 v5 = j0;
 j1 = UINT64_C(32);
 i0 = (j0 != j1);
-if (i0) { goto l32; }
+if (i0) { goto l39; }
 i0 = UINT32_C(0);
 v7 = i0;
 j0 = UINT64_C(0);
-v18 = j0;
+v12 = j0;
 i0 = UINT32_C(0);
 v9 = i0;
 i0 = UINT32_C(0);
 v10 = i0;
 j0 = UINT64_C(0);
 v5 = j0;
-goto l30;
-l31:;
+goto l37;
+l38:;
 j0 = v8;
-p33 = read_at(j0 + UINT64_C(9), m, 23u);
-i0 = load8(p33 + 0);
+p37 = read_at(j0 + UINT64_C(9), m, 23u);
+i0 = load8(p37 + 0);
 i1 = UINT32_C(1);
 i0 = i0 & i1;
 v9 = i0;
 j0 = v8;
-i0 = load32(p33 + 19);
+i0 = load32(p37 + 19);
 v10 = i0;
 j0 = v8;
-i0 = load32(p33 + 15);
+i0 = load32(p37 + 15);
 v7 = i0;
 j0 = v8;
-j0 = load64(p33 + 7);
-v18 = j0;
+j0 = load64(p37 + 7);
+v12 = j0;
 j0 = UINT64_C(0);
 v5 = j0;
-l30:;
-l34:;
+l37:;
+l41:;
 j0 = v3;
 j1 = v2;
 j2 = v5;
@@ -46876,17 +44496,17 @@ j0 = j0 + j1;
 v8 = j0;
 j1 = UINT64_C(8);
 j0 = j0 + j1;
-p34 = read_at(j0, m, 1u);
-i0 = load8(p34 + 0);
+p38 = read_at(j0, m, 1u);
+i0 = load8(p38 + 0);
 i1 = UINT32_C(1);
 i0 = (i0 != i1);
-if (i0) { goto l33; }
+if (i0) { goto l40; }
 j0 = v8;
-p35 = read_at(j0, m, 8u);
-j0 = load64(p35 + 0);
+p39 = read_at(j0, m, 8u);
+j0 = load64(p39 + 0);
 j1 = v2;
 i0 = (j0 == j1);
-if (i0) { goto l33; }
+if (i0) { goto l40; }
 j0 = v3;
 j1 = v11;
 j2 = UINT64_C(1);
@@ -46899,57 +44519,57 @@ j0 = j0 + j1;
 v8 = j0;
 j1 = UINT64_C(8);
 j0 = j0 + j1;
-p36 = read_at(j0, m, 1u);
-i0 = load8(p36 + 0);
+p40 = read_at(j0, m, 1u);
+i0 = load8(p40 + 0);
 i1 = UINT32_C(1);
 i0 = (i0 != i1);
-if (i0) { goto l33; }
+if (i0) { goto l40; }
 j0 = v8;
-p37 = read_at(j0, m, 8u);
-j0 = load64(p37 + 0);
+p41 = read_at(j0, m, 8u);
+j0 = load64(p41 + 0);
 j1 = v2;
 i0 = (j0 == j1);
-if (i0) { goto l33; }
+if (i0) { goto l40; }
 j0 = v5;
 j1 = UINT64_C(2);
 j0 = j0 + j1;
 v5 = j0;
 j1 = UINT64_C(32);
 i0 = (j0 == j1);
-if (i0) { goto l27; }
-goto l34;
-l33:;
+if (i0) { goto l34; }
+goto l41;
+l40:;
 j0 = v8;
 i1 = UINT32_C(0);
-p38 = write_at(j0, m, 40u);
-store32(p38 + 10, i1);
+p42 = write_at(j0, m, 40u);
+store32(p42 + 10, i1);
 j0 = v8;
 i1 = v9;
-store8(p38 + 9, i1);
+store8(p42 + 9, i1);
 j0 = v8;
 j1 = v2;
-store64(p38 + 0, j1);
+store64(p42 + 0, j1);
 j0 = v8;
 i1 = UINT32_C(0);
-store16(p38 + 14, i1);
-j0 = v8;
-j1 = v19;
-store64(p38 + 32, j1);
-j0 = v8;
-i1 = v10;
-store32(p38 + 28, i1);
-j0 = v8;
-i1 = v7;
-store32(p38 + 24, i1);
+store16(p42 + 14, i1);
 j0 = v8;
 j1 = v18;
-store64(p38 + 16, j1);
+store64(p42 + 32, j1);
+j0 = v8;
+i1 = v10;
+store32(p42 + 28, i1);
+j0 = v8;
+i1 = v7;
+store32(p42 + 24, i1);
+j0 = v8;
+j1 = v12;
+store64(p42 + 16, j1);
 j0 = v8;
 j1 = UINT64_C(8);
 j0 = j0 + j1;
 i1 = UINT32_C(1);
-store8(p38 + 8, i1);
-l27:;
+store8(p42 + 8, i1);
+l34:;
 j0 = v0;
 j1 = v4;
 j2 = UINT64_C(3152);
@@ -46960,43 +44580,43 @@ v8 = j0;
 j1 = v0;
 j2 = UINT64_C(208048);
 j1 = j1 + j2;
-p39 = read_at(j1, m, 8u);
-j1 = load64(p39 + 0);
-p40 = write_at(j0, m, 2752u);
-store64(p40 + 0, j1);
+p43 = read_at(j1, m, 8u);
+j1 = load64(p43 + 0);
+p44 = write_at(j0, m, 2752u);
+store64(p44 + 0, j1);
 j0 = v8;
 j1 = UINT64_C(24);
 j0 = j0 + j1;
 i1 = UINT32_C(0);
-store8(p40 + 24, i1);
+store8(p44 + 24, i1);
 j0 = v8;
 j1 = UINT64_C(32);
 j0 = j0 + j1;
-v17 = j0;
+v12 = j0;
 j0 = v8;
 j1 = UINT64_C(2744);
 j0 = j0 + j1;
-j0 = load64(p40 + 2744);
+j0 = load64(p44 + 2744);
 v2 = j0;
 i0 = (j0 == 0);
-if (i0) { goto l35; }
+if (i0) { goto l42; }
 j0 = v2;
 j1 = UINT64_C(904);
 j0 = j0 * j1;
 v2 = j0;
 i0 = (j0 == 0);
-if (i0) { goto l36; }
-j0 = v17;
+if (i0) { goto l43; }
+j0 = v12;
 i1 = UINT32_C(0);
 j2 = v2;
 fill(m, j0, i1, j2);
-l36:;
+l43:;
 j0 = v8;
 j1 = UINT64_C(2744);
 j0 = j0 + j1;
 j1 = UINT64_C(0);
-store64(p40 + 2744, j1);
-l35:;
+store64(p44 + 2744, j1);
+l42:;
 j0 = v8;
 j1 = UINT64_C(2752);
 j0 = j0 + j1;
@@ -47004,41 +44624,41 @@ v5 = j0;
 j0 = v8;
 j1 = UINT64_C(3144);
 j0 = j0 + j1;
-p41 = read_at(j0, m, 8u);
-j0 = load64(p41 + 0);
+p45 = read_at(j0, m, 8u);
+j0 = load64(p45 + 0);
 v2 = j0;
 i0 = (j0 == 0);
-if (i0) { goto l37; }
+if (i0) { goto l44; }
 j0 = v2;
 j1 = UINT64_C(2);
 j0 = j0 << (j1 & 63);
 v2 = j0;
 i0 = (j0 == 0);
-if (i0) { goto l38; }
+if (i0) { goto l45; }
 j0 = v5;
 i1 = UINT32_C(0);
 j2 = v2;
 fill(m, j0, i1, j2);
-l38:;
+l45:;
 j0 = v8;
 j1 = UINT64_C(3144);
 j0 = j0 + j1;
 j1 = UINT64_C(0);
-p42 = write_at(j0, m, 8u);
-store64(p42 + 0, j1);
-l37:;
+p46 = write_at(j0, m, 8u);
+store64(p46 + 0, j1);
+l44:;
 i0 = v14;
 i0 = (i0 == 0);
-if (i0) { goto l39; }
+if (i0) { goto l46; }
 j0 = v0;
 j1 = UINT64_C(298192);
 j0 = j0 + j1;
-p43 = read_at(j0, m, 8u);
-j0 = load64(p43 + 0);
-v12 = j0;
+p47 = read_at(j0, m, 8u);
+j0 = load64(p47 + 0);
+v17 = j0;
 i0 = (j0 == 0);
 if (i0) { goto l3; }
-j0 = v12;
+j0 = v17;
 j1 = UINT64_C(98);
 i0 = (j0 > j1);
 if (i0) { goto l3; }
@@ -47048,8 +44668,8 @@ i0 = i0 & i1;
 j1 = v0;
 j2 = UINT64_C(208056);
 j1 = j1 + j2;
-p44 = read_at(j1, m, 1u);
-i1 = load8(p44 + 0);
+p48 = read_at(j1, m, 1u);
+i1 = load8(p48 + 0);
 i2 = UINT32_C(255);
 i1 = i1 & i2;
 i0 = (i0 != i1);
@@ -47057,23 +44677,23 @@ if (i0) { goto l3; }
 j0 = v11;
 j1 = UINT64_C(18446744073709321712);
 j0 = j0 + j1;
-j1 = v12;
+j1 = v17;
 j2 = UINT64_C(2);
 j1 = j1 << (j2 & 63);
 v2 = j1;
 i0 = (j0 >= j1);
-if (i0) { goto l41; }
-j0 = v12;
+if (i0) { goto l48; }
+j0 = v17;
 j1 = UINT64_C(3);
 j0 = j0 & j1;
 v5 = j0;
 j0 = UINT64_C(0);
 v44 = j0;
-j0 = v12;
+j0 = v17;
 j1 = UINT64_C(4);
 i0 = (j0 < j1);
-if (i0) { goto l43; }
-j0 = v12;
+if (i0) { goto l50; }
+j0 = v17;
 j1 = UINT64_C(2);
 j0 = j0 >> (j1 & 63);
 j1 = UINT64_C(31);
@@ -47088,7 +44708,7 @@ j0 = j0 << (j1 & 63);
 v43 = j0;
 j0 = UINT64_C(0);
 v2 = j0;
-l44:;
+l51:;
 j0 = v8;
 j1 = v2;
 j0 = j0 + j1;
@@ -47101,29 +44721,29 @@ j1 = j1 + j2;
 v18 = j1;
 j2 = UINT64_C(232656);
 j1 = j1 + j2;
-p45 = read_at(j1, m, 16u);
-j1 = load64(p45 + 0);
-p46 = write_at(j0, m, 16u);
-store64(p46 + 0, j1);
+p49 = read_at(j1, m, 16u);
+j1 = load64(p49 + 0);
+p50 = write_at(j0, m, 16u);
+store64(p50 + 0, j1);
 j0 = v19;
 j1 = UINT64_C(2760);
 j0 = j0 + j1;
 j1 = v18;
 j2 = UINT64_C(232664);
 j1 = j1 + j2;
-j1 = load64(p45 + 8);
-store64(p46 + 8, j1);
+j1 = load64(p49 + 8);
+store64(p50 + 8, j1);
 j0 = v43;
 j1 = v2;
 j2 = UINT64_C(16);
 j1 = j1 + j2;
 v2 = j1;
 i0 = (j0 != j1);
-if (i0) { goto l44; }
+if (i0) { goto l51; }
 j0 = v5;
 i0 = (j0 == 0);
-if (i0) { goto l42; }
-l43:;
+if (i0) { goto l49; }
+l50:;
 j0 = v44;
 j1 = UINT64_C(2);
 j0 = j0 << (j1 & 63);
@@ -47132,17 +44752,17 @@ j0 = j0 + j1;
 j1 = UINT64_C(232656);
 j0 = j0 + j1;
 v2 = j0;
-p47 = read_at(v2 + UINT64_C(0), m, run(4u, 4u, turns(v5, UINT64_C(0), 1u)));
-l45:;
+p51 = read_at(v2 + UINT64_C(0), m, run(4u, 4u, turns(v5, UINT64_C(0), 1u)));
+l52:;
 j0 = v2;
 j1 = v11;
 j0 = j0 + j1;
 j1 = UINT64_C(18446744073709321712);
 j0 = j0 + j1;
 j1 = v2;
-i1 = load32(p47 + 0);
-p48 = write_at(j0, m, 4u);
-store32(p48 + 0, i1);
+i1 = load32(p51 + 0);
+p52 = write_at(j0, m, 4u);
+store32(p52 + 0, i1);
 j0 = v2;
 j1 = UINT64_C(4);
 j0 = j0 + j1;
@@ -47153,44 +44773,44 @@ j0 = j0 + j1;
 v5 = j0;
 j1 = UINT64_C(0);
 i0 = (j0 != j1);
-if (i0) { p47 += 4; goto l45; }
-l42:;
+if (i0) { p51 += 4; goto l52; }
+l49:;
 j0 = v8;
 j1 = UINT64_C(3144);
 j0 = j0 + j1;
-j1 = v12;
-p49 = write_at(j0, m, 8u);
-store64(p49 + 0, j1);
+j1 = v17;
+p53 = write_at(j0, m, 8u);
+store64(p53 + 0, j1);
 j0 = v8;
 j1 = UINT64_C(2744);
 j0 = j0 + j1;
-j0 = load64(p40 + 2744);
+j0 = load64(p44 + 2744);
 v5 = j0;
 j1 = UINT64_C(3);
 i0 = (j0 == j1);
 if (i0) { goto l3; }
-goto l40;
-l41:;
+goto l47;
+l48:;
 j0 = v2;
 i0 = (j0 == 0);
-if (i0) { goto l46; }
+if (i0) { goto l53; }
 j0 = v5;
 j1 = v0;
 j2 = UINT64_C(232656);
 j1 = j1 + j2;
 j2 = v2;
 copy(m, j0, j1, j2);
-l46:;
+l53:;
 j0 = v8;
 j1 = UINT64_C(3144);
 j0 = j0 + j1;
-j1 = v12;
-p50 = write_at(j0, m, 8u);
-store64(p50 + 0, j1);
+j1 = v17;
+p54 = write_at(j0, m, 8u);
+store64(p54 + 0, j1);
 j0 = UINT64_C(0);
 v5 = j0;
-l40:;
-j0 = v17;
+l47:;
+j0 = v12;
 j1 = v5;
 j2 = UINT64_C(904);
 j1 = j1 * j2;
@@ -47203,109 +44823,109 @@ j2 = UINT64_C(800);
 copy(m, j0, j1, j2);
 j0 = v2;
 i1 = v39;
-p51 = write_at(j0 + UINT64_C(800), m, 104u);
-store8(p51 + 0, i1);
+p55 = write_at(j0 + UINT64_C(800), m, 104u);
+store8(p55 + 0, i1);
 j0 = v2;
 j1 = v27;
-store64(p51 + 32, j1);
+store64(p55 + 32, j1);
 j0 = v2;
 j1 = v26;
-store64(p51 + 24, j1);
+store64(p55 + 24, j1);
 j0 = v2;
 j1 = v37;
-store64(p51 + 16, j1);
+store64(p55 + 16, j1);
 j0 = v2;
 j1 = v38;
-store64(p51 + 8, j1);
+store64(p55 + 8, j1);
 j0 = v2;
 i1 = v25;
-store8(p51 + 72, i1);
+store8(p55 + 72, i1);
 j0 = v2;
 j1 = v1;
-p52 = read_at(j1 + UINT64_C(8), m, 55u);
-i1 = load32(p52 + 48);
-store32(p51 + 1, i1);
+p56 = read_at(j1 + UINT64_C(8), m, 55u);
+i1 = load32(p56 + 48);
+store32(p55 + 1, i1);
 j0 = v2;
 j1 = v1;
-i1 = load32(p52 + 51);
-store32(p51 + 4, i1);
+i1 = load32(p56 + 51);
+store32(p55 + 4, i1);
 j0 = v2;
 j1 = v1;
-j1 = load64(p52 + 16);
-store64(p51 + 40, j1);
+j1 = load64(p56 + 16);
+store64(p55 + 40, j1);
 j0 = v2;
 j1 = v1;
-j1 = load64(p52 + 24);
-store64(p51 + 48, j1);
+j1 = load64(p56 + 24);
+store64(p55 + 48, j1);
 j0 = v2;
 j1 = v1;
-j1 = load64(p52 + 32);
-store64(p51 + 56, j1);
+j1 = load64(p56 + 32);
+store64(p55 + 56, j1);
 j0 = v2;
 j1 = v1;
-j1 = load64(p52 + 40);
-store64(p51 + 64, j1);
+j1 = load64(p56 + 40);
+store64(p55 + 64, j1);
 j0 = v2;
 i1 = v29;
-store8(p51 + 88, i1);
+store8(p55 + 88, i1);
 j0 = v2;
 i1 = v30;
-store8(p51 + 89, i1);
+store8(p55 + 89, i1);
 j0 = v2;
 i1 = v31;
-store8(p51 + 90, i1);
+store8(p55 + 90, i1);
 j0 = v2;
 i1 = v32;
-store8(p51 + 91, i1);
+store8(p55 + 91, i1);
 j0 = v2;
 i1 = v33;
-store8(p51 + 92, i1);
+store8(p55 + 92, i1);
 j0 = v2;
 i1 = v34;
-store8(p51 + 93, i1);
+store8(p55 + 93, i1);
 j0 = v2;
 i1 = v35;
-store8(p51 + 94, i1);
+store8(p55 + 94, i1);
 j0 = v2;
 i1 = v36;
-store8(p51 + 95, i1);
+store8(p55 + 95, i1);
 j0 = v2;
 i1 = v40;
-store8(p51 + 96, i1);
+store8(p55 + 96, i1);
 j0 = v2;
 i1 = v41;
-store8(p51 + 97, i1);
+store8(p55 + 97, i1);
 j0 = v2;
 i1 = v42;
-store8(p51 + 98, i1);
+store8(p55 + 98, i1);
 j0 = v2;
 j1 = v28;
-store64(p51 + 80, j1);
+store64(p55 + 80, j1);
 j0 = v2;
 j1 = v1;
-i1 = load32(p52 + 11);
-store32(p51 + 76, i1);
+i1 = load32(p56 + 11);
+store32(p55 + 76, i1);
 j0 = v2;
 j1 = v1;
-i1 = load32(p52 + 8);
-store32(p51 + 73, i1);
+i1 = load32(p56 + 8);
+store32(p55 + 73, i1);
 j0 = v2;
 j1 = v1;
-i1 = load32(p52 + 0);
-store32(p51 + 99, i1);
+i1 = load32(p56 + 0);
+store32(p55 + 99, i1);
 j0 = v2;
 j1 = v1;
-i1 = load8(p52 + 4);
-store8(p51 + 103, i1);
+i1 = load8(p56 + 4);
+store8(p55 + 103, i1);
 j0 = v8;
 j1 = UINT64_C(2744);
 j0 = j0 + j1;
 j1 = v5;
 j2 = UINT64_C(1);
 j1 = j1 + j2;
-store64(p40 + 2744, j1);
+store64(p44 + 2744, j1);
 goto l3;
-l39:;
+l46:;
 i0 = v6;
 i1 = UINT32_C(255);
 i0 = i0 & i1;
@@ -47317,135 +44937,134 @@ i0 = UINT32_C(0);
 v10 = i0;
 j0 = v1;
 i1 = UINT32_C(0);
-p53 = write_at(j0 + UINT64_C(2528), m, 7u);
-store32(p53 + 3, i1);
+p57 = write_at(j0 + UINT64_C(2528), m, 7u);
+store32(p57 + 3, i1);
 j0 = v1;
 i1 = UINT32_C(0);
-store32(p53 + 0, i1);
+store32(p57 + 0, i1);
 j0 = v0;
 j1 = UINT64_C(208040);
 j0 = j0 + j1;
-p54 = read_at(j0, m, 1u);
-i0 = load8(p54 + 0);
+p58 = read_at(j0, m, 1u);
+i0 = load8(p58 + 0);
 v6 = i0;
 i1 = UINT32_C(3);
 i0 = (i0 == i1);
-if (i0) { goto l48; }
+if (i0) { goto l55; }
 j0 = v1;
 j1 = v0;
 j2 = UINT64_C(298232);
 j1 = j1 + j2;
-p55 = read_at(j1 + UINT64_C(18446744073709551584), m, 88u);
-j1 = load64(p55 + 32);
-p56 = write_at(j0 + UINT64_C(960), m, 32u);
-store64(p56 + 0, j1);
+p59 = read_at(j1 + UINT64_C(18446744073709551584), m, 88u);
+j1 = load64(p59 + 32);
+store64(p16 + 96, j1);
 j0 = v1;
 j1 = v0;
 j2 = UINT64_C(298240);
 j1 = j1 + j2;
-j1 = load64(p55 + 40);
-store64(p56 + 8, j1);
+j1 = load64(p59 + 40);
+store64(p16 + 104, j1);
 j0 = v1;
 j1 = v0;
 j2 = UINT64_C(298248);
 j1 = j1 + j2;
-j1 = load64(p55 + 48);
-store64(p56 + 16, j1);
+j1 = load64(p59 + 48);
+store64(p16 + 112, j1);
 j0 = v1;
 j1 = v0;
 j2 = UINT64_C(298256);
 j1 = j1 + j2;
-j1 = load64(p55 + 56);
-store64(p56 + 24, j1);
+j1 = load64(p59 + 56);
+store64(p16 + 120, j1);
 j0 = v1;
 j1 = v0;
 j2 = UINT64_C(298265);
 j1 = j1 + j2;
-i1 = load32(p55 + 65);
-store32(p53 + 0, i1);
+i1 = load32(p59 + 65);
+store32(p57 + 0, i1);
 j0 = v1;
 j1 = v0;
 j2 = UINT64_C(298268);
 j1 = j1 + j2;
-i1 = load32(p55 + 68);
-store32(p53 + 3, i1);
+i1 = load32(p59 + 68);
+store32(p57 + 3, i1);
 j0 = v0;
 j1 = UINT64_C(298224);
 j0 = j0 + j1;
-j0 = load64(p55 + 24);
+j0 = load64(p59 + 24);
 v27 = j0;
 j0 = v0;
 j1 = UINT64_C(298216);
 j0 = j0 + j1;
-j0 = load64(p55 + 16);
+j0 = load64(p59 + 16);
 v28 = j0;
 j0 = v0;
 j1 = UINT64_C(298208);
 j0 = j0 + j1;
-j0 = load64(p55 + 8);
+j0 = load64(p59 + 8);
 v2 = j0;
 j0 = v0;
 j1 = UINT64_C(298200);
 j0 = j0 + j1;
-j0 = load64(p55 + 0);
+j0 = load64(p59 + 0);
 v5 = j0;
 j0 = v0;
 j1 = UINT64_C(298264);
 j0 = j0 + j1;
-i0 = load8(p55 + 64);
+i0 = load8(p59 + 64);
 v13 = i0;
 j0 = v0;
 j1 = UINT64_C(298287);
 j0 = j0 + j1;
-i0 = load8(p55 + 87);
+i0 = load8(p59 + 87);
 v7 = i0;
 j0 = v0;
 j1 = UINT64_C(298286);
 j0 = j0 + j1;
-i0 = load8(p55 + 86);
+i0 = load8(p59 + 86);
 v9 = i0;
 j0 = v0;
 j1 = UINT64_C(298285);
 j0 = j0 + j1;
-i0 = load8(p55 + 85);
+i0 = load8(p59 + 85);
 v16 = i0;
 j0 = v0;
 j1 = UINT64_C(298284);
 j0 = j0 + j1;
-i0 = load8(p55 + 84);
+i0 = load8(p59 + 84);
 v15 = i0;
 j0 = v0;
 j1 = UINT64_C(298283);
 j0 = j0 + j1;
-i0 = load8(p55 + 83);
+i0 = load8(p59 + 83);
 v20 = i0;
 j0 = v0;
 j1 = UINT64_C(298282);
 j0 = j0 + j1;
-i0 = load8(p55 + 82);
+i0 = load8(p59 + 82);
 v21 = i0;
 j0 = v0;
 j1 = UINT64_C(298281);
 j0 = j0 + j1;
-i0 = load8(p55 + 81);
+i0 = load8(p59 + 81);
 v14 = i0;
 j0 = v0;
 j1 = UINT64_C(298280);
 j0 = j0 + j1;
-i0 = load8(p55 + 80);
+i0 = load8(p59 + 80);
 v10 = i0;
 j0 = v0;
 j1 = UINT64_C(298272);
 j0 = j0 + j1;
-j0 = load64(p55 + 72);
+j0 = load64(p59 + 72);
 v37 = j0;
-goto l47;
-l48:;
+goto l54;
+l55:;
 j0 = v0;
 j1 = UINT64_C(298264);
 j0 = j0 + j1;
-p57 = read_at(j0, m, 1u);
-i0 = load8(p57 + 0);
+p60 = read_at(j0, m, 1u);
+i0 = load8(p60 + 0);
 v13 = i0;
 j0 = (uint64_t)i0;
 v11 = j0;
@@ -47453,70 +45072,69 @@ i0 = UINT32_C(0);
 v14 = i0;
 i0 = v13;
 i0 = (i0 == 0);
-if (i0) { goto l49; }
+if (i0) { goto l56; }
 j0 = v0;
 j1 = UINT64_C(298281);
 j0 = j0 + j1;
-p58 = read_at(j0 + UINT64_C(18446744073709551615), m, 2u);
-i0 = load8(p58 + 1);
+p61 = read_at(j0 + UINT64_C(18446744073709551615), m, 2u);
+i0 = load8(p61 + 1);
 v14 = i0;
 j0 = v0;
 j1 = UINT64_C(298280);
 j0 = j0 + j1;
-i0 = load8(p58 + 0);
+i0 = load8(p61 + 0);
 v10 = i0;
-l49:;
+l56:;
 j0 = v1;
 j1 = v0;
 j2 = UINT64_C(298232);
 j1 = j1 + j2;
-p59 = read_at(j1 + UINT64_C(18446744073709551592), m, 79u);
-j1 = load64(p59 + 24);
-p60 = write_at(j0 + UINT64_C(960), m, 32u);
-store64(p60 + 0, j1);
+p62 = read_at(j1 + UINT64_C(18446744073709551592), m, 79u);
+j1 = load64(p62 + 24);
+store64(p16 + 96, j1);
 j0 = v1;
 j1 = v0;
 j2 = UINT64_C(298240);
 j1 = j1 + j2;
-j1 = load64(p59 + 32);
-store64(p60 + 8, j1);
+j1 = load64(p62 + 32);
+store64(p16 + 104, j1);
 j0 = v1;
 j1 = v0;
 j2 = UINT64_C(298248);
 j1 = j1 + j2;
-j1 = load64(p59 + 40);
-store64(p60 + 16, j1);
+j1 = load64(p62 + 40);
+store64(p16 + 112, j1);
 j0 = v1;
 j1 = v0;
 j2 = UINT64_C(298256);
 j1 = j1 + j2;
-j1 = load64(p59 + 48);
-store64(p60 + 24, j1);
+j1 = load64(p62 + 48);
+store64(p16 + 120, j1);
 j0 = v0;
 j1 = UINT64_C(298286);
 j0 = j0 + j1;
-i0 = load8(p59 + 78);
+i0 = load8(p62 + 78);
 i1 = UINT32_C(1);
 i0 = i0 & i1;
 v9 = i0;
 j0 = v0;
 j1 = UINT64_C(298285);
 j0 = j0 + j1;
-i0 = load8(p59 + 77);
+i0 = load8(p62 + 77);
 i1 = UINT32_C(1);
 i0 = i0 & i1;
 v16 = i0;
 j0 = v0;
 j1 = UINT64_C(298284);
 j0 = j0 + j1;
-i0 = load8(p59 + 76);
+i0 = load8(p62 + 76);
 i1 = UINT32_C(1);
 i0 = i0 & i1;
 v15 = i0;
 j0 = v0;
 j1 = UINT64_C(298208);
 j0 = j0 + j1;
-j0 = load64(p59 + 0);
+j0 = load64(p62 + 0);
 v2 = j0;
 j1 = UINT64_C(14029467366897019727);
 j0 = j0 + j1;
@@ -47538,100 +45156,100 @@ v27 = j0;
 j0 = v0;
 j1 = UINT64_C(298283);
 j0 = j0 + j1;
-i0 = load8(p59 + 75);
+i0 = load8(p62 + 75);
 v20 = i0;
 j0 = v0;
 j1 = UINT64_C(298282);
 j0 = j0 + j1;
-i0 = load8(p59 + 74);
+i0 = load8(p62 + 74);
 v21 = i0;
 i0 = UINT32_C(0);
 v7 = i0;
 j0 = UINT64_C(0);
 v37 = j0;
-l47:;
+l54:;
 j0 = v1;
 j1 = v1;
-p61 = write_at(j1 + UINT64_C(960), m, 872u);
-j1 = load64(p61 + 24);
-store64(p61 + 840, j1);
+j1 = load64(p16 + 120);
+p63 = write_at(j0 + UINT64_C(1776), m, 56u);
+store64(p63 + 24, j1);
 j0 = v1;
 j1 = v1;
-j1 = load64(p61 + 16);
-store64(p61 + 832, j1);
+j1 = load64(p16 + 112);
+store64(p63 + 16, j1);
 j0 = v1;
 j1 = v1;
-j1 = load64(p61 + 8);
-store64(p61 + 824, j1);
+j1 = load64(p16 + 104);
+store64(p63 + 8, j1);
 j0 = v1;
 j1 = v1;
-j1 = load64(p61 + 0);
-store64(p61 + 816, j1);
+j1 = load64(p16 + 96);
+store64(p63 + 0, j1);
 j0 = v1;
 j1 = v1;
-i1 = load32(p53 + 0);
-store32(p61 + 849, i1);
+i1 = load32(p57 + 0);
+store32(p63 + 33, i1);
 j0 = v1;
 j1 = v1;
-i1 = load32(p53 + 3);
-store32(p61 + 852, i1);
+i1 = load32(p57 + 3);
+store32(p63 + 36, i1);
 j0 = v1;
 i1 = v7;
-store8(p61 + 871, i1);
+store8(p63 + 55, i1);
 j0 = v1;
 i1 = v9;
-store8(p61 + 870, i1);
+store8(p63 + 54, i1);
 j0 = v1;
 i1 = v16;
-store8(p61 + 869, i1);
+store8(p63 + 53, i1);
 j0 = v1;
 i1 = v15;
-store8(p61 + 868, i1);
+store8(p63 + 52, i1);
 j0 = v1;
 i1 = v20;
-store8(p61 + 867, i1);
+store8(p63 + 51, i1);
 j0 = v1;
 i1 = v21;
-store8(p61 + 866, i1);
+store8(p63 + 50, i1);
 j0 = v1;
 i1 = v14;
-store8(p61 + 865, i1);
+store8(p63 + 49, i1);
 j0 = v1;
 i1 = v10;
-store8(p61 + 864, i1);
+store8(p63 + 48, i1);
 j0 = v1;
 j1 = v37;
-store64(p61 + 856, j1);
+store64(p63 + 40, j1);
 j0 = v1;
 i1 = v13;
-store8(p61 + 848, i1);
+store8(p63 + 32, i1);
 j0 = v1;
 j1 = v27;
-store64(p61 + 808, j1);
+store64(p16 + 904, j1);
 j0 = v1;
 j1 = v28;
-store64(p61 + 800, j1);
+store64(p16 + 896, j1);
 j0 = v1;
 j1 = v2;
-store64(p61 + 792, j1);
+store64(p16 + 888, j1);
 j0 = v1;
 j1 = v5;
-store64(p61 + 784, j1);
+store64(p16 + 880, j1);
 i0 = UINT32_C(1);
 v20 = i0;
 i0 = v6;
 i1 = UINT32_C(1);
 i0 = (i0 != i1);
-if (i0) { goto l50; }
+if (i0) { goto l57; }
 j0 = v0;
 j1 = UINT64_C(298192);
 j0 = j0 + j1;
-p62 = read_at(j0, m, 8u);
-j0 = load64(p62 + 0);
+p64 = read_at(j0, m, 8u);
+j0 = load64(p64 + 0);
 j1 = UINT64_C(1);
 i0 = (j0 > j1);
 v20 = i0;
-l50:;
+l57:;
 j0 = v0;
 j1 = UINT64_C(224456);
 j0 = j0 + j1;
@@ -47639,34 +45257,34 @@ v45 = j0;
 j0 = v0;
 j1 = UINT64_C(232648);
 j0 = j0 + j1;
-p63 = read_at(j0, m, 8u);
-j0 = load64(p63 + 0);
+p65 = read_at(j0, m, 8u);
+j0 = load64(p65 + 0);
 v2 = j0;
 i0 = (j0 == 0);
-if (i0) { goto l51; }
+if (i0) { goto l58; }
 j0 = v2;
 j1 = UINT64_C(2);
 j0 = j0 << (j1 & 63);
 v2 = j0;
 i0 = (j0 == 0);
-if (i0) { goto l52; }
+if (i0) { goto l59; }
 j0 = v45;
 i1 = UINT32_C(0);
 j2 = v2;
 fill(m, j0, i1, j2);
-l52:;
+l59:;
 j0 = v0;
 j1 = UINT64_C(232648);
 j0 = j0 + j1;
 j1 = UINT64_C(0);
-p64 = write_at(j0, m, 8u);
-store64(p64 + 0, j1);
-l51:;
+p66 = write_at(j0, m, 8u);
+store64(p66 + 0, j1);
+l58:;
 j0 = v0;
 j1 = UINT64_C(224448);
 j0 = j0 + j1;
-p65 = read_at(j0, m, 8u);
-j0 = load64(p65 + 0);
+p67 = read_at(j0, m, 8u);
+j0 = load64(p67 + 0);
 v17 = j0;
 i0 = (j0 == 0);
 if (i0) { goto l3; }
@@ -47684,177 +45302,177 @@ j0 = UINT64_C(0);
 v11 = j0;
 j0 = UINT64_C(0);
 v26 = j0;
-l58:;
-j0 = v12;
+l65:;
+j0 = v19;
 j1 = v11;
 j0 = j0 + j1;
-v19 = j0;
-p66 = read_at(j0, m, 1u);
-i0 = load8(p66 + 0);
+v18 = j0;
+p68 = read_at(j0, m, 1u);
+i0 = load8(p68 + 0);
 v7 = i0;
 i1 = UINT32_C(126);
 i0 = (i0 == i1);
-if (i0) { goto l64; }
+if (i0) { goto l71; }
 j0 = v1;
 j1 = UINT64_C(0);
-store64(p61 + 24, j1);
+store64(p16 + 120, j1);
 j0 = v1;
 j1 = UINT64_C(0);
-store64(p61 + 16, j1);
+store64(p16 + 112, j1);
 j0 = v1;
 j1 = UINT64_C(0);
-store64(p61 + 8, j1);
+store64(p16 + 104, j1);
 j0 = v1;
 j1 = UINT64_C(0);
-store64(p61 + 0, j1);
+store64(p16 + 96, j1);
 i0 = v7;
 i1 = UINT32_C(59);
 i0 = (i0 == i1);
-if (i0) { goto l53; }
+if (i0) { goto l60; }
 i0 = v7;
 i1 = UINT32_C(56);
 i0 = (i0 < i1);
-if (i0) { goto l65; }
+if (i0) { goto l72; }
 i0 = v7;
 i1 = UINT32_C(58);
 i0 = (i0 < i1);
-if (i0) { goto l53; }
+if (i0) { goto l60; }
 i0 = v7;
 i1 = UINT32_C(183);
 i0 = (i0 < i1);
-if (i0) { goto l65; }
+if (i0) { goto l72; }
 i0 = v7;
 i1 = UINT32_C(186);
 i0 = (i0 < i1);
-if (i0) { goto l53; }
+if (i0) { goto l60; }
 i0 = v7;
 i1 = UINT32_C(186);
 i0 = (i0 == i1);
-if (i0) { goto l65; }
+if (i0) { goto l72; }
 i0 = v7;
 i1 = UINT32_C(189);
 i0 = (i0 < i1);
-if (i0) { goto l53; }
-l65:;
+if (i0) { goto l60; }
+l72:;
 j0 = v17;
 j1 = v11;
 j0 = j0 - j1;
-v18 = j0;
+v12 = j0;
 j0 = UINT64_C(1);
 v2 = j0;
 i0 = UINT32_C(0);
 v6 = i0;
-l67:;
+l74:;
 j0 = v1;
 j1 = UINT64_C(960);
 j0 = j0 + j1;
-j1 = v19;
+j1 = v18;
 j2 = v2;
 fio_log_sayings_spelled(m, j0, j1, j2);
 j0 = v1;
-i0 = load8(p61 + 0);
+i0 = load8(p16 + 96);
 i0 = (i0 == 0);
-if (i0) { goto l66; }
+if (i0) { goto l73; }
 j0 = v1;
-i0 = load8(p61 + 8);
+i0 = load8(p16 + 104);
 i1 = UINT32_C(3);
 i0 = (i0 != i1);
-if (i0) { goto l53; }
+if (i0) { goto l60; }
 j0 = v1;
-j0 = load64(p61 + 16);
+j0 = load64(p16 + 112);
 v5 = j0;
 j1 = v2;
 i0 = (j0 <= j1);
-if (i0) { goto l53; }
+if (i0) { goto l60; }
 i0 = v6;
 i1 = UINT32_C(1);
 i0 = (i0 > i1);
-if (i0) { goto l53; }
+if (i0) { goto l60; }
 i0 = v6;
 i1 = UINT32_C(1);
 i0 = i0 + i1;
 v6 = i0;
 j0 = v5;
 v2 = j0;
-j0 = v18;
+j0 = v12;
 j1 = v5;
 i0 = (j0 < j1);
-if (i0) { goto l53; }
-goto l67;
-l66:;
+if (i0) { goto l60; }
+goto l74;
+l73:;
 j0 = v1;
 j1 = UINT64_C(0);
-store64(p61 + 24, j1);
+store64(p16 + 120, j1);
 j0 = v1;
 j1 = UINT64_C(0);
-store64(p61 + 16, j1);
+store64(p16 + 112, j1);
 j0 = v1;
 j1 = UINT64_C(0);
-store64(p61 + 8, j1);
+store64(p16 + 104, j1);
 j0 = v1;
 j1 = UINT64_C(0);
-store64(p61 + 0, j1);
+store64(p16 + 96, j1);
 j0 = v2;
 j1 = v11;
 j0 = j0 + j1;
-v18 = j0;
+v12 = j0;
 j1 = v11;
 i0 = (j0 < j1);
-if (i0) { goto l53; }
+if (i0) { goto l60; }
 j0 = v17;
-j1 = v18;
+j1 = v12;
 i0 = (j0 < j1);
-if (i0) { goto l53; }
+if (i0) { goto l60; }
 j0 = v1;
 j1 = UINT64_C(960);
 j0 = j0 + j1;
-j1 = v19;
+j1 = v18;
 j2 = v2;
 fio_log_sayings_spelled(m, j0, j1, j2);
-j0 = v18;
+j0 = v12;
 j1 = v11;
 j0 = j0 | j1;
 j1 = UINT64_C(65535);
 i0 = (j0 > j1);
-if (i0) { goto l53; }
+if (i0) { goto l60; }
 j0 = v1;
-i0 = load8(p61 + 0);
+i0 = load8(p16 + 96);
 i1 = UINT32_C(255);
 i0 = i0 & i1;
-if (i0) { goto l53; }
+if (i0) { goto l60; }
 i0 = v7;
 i1 = UINT32_C(182);
 i0 = (i0 != i1);
-if (i0) { goto l68; }
+if (i0) { goto l75; }
 i0 = UINT32_C(1);
 v6 = i0;
-goto l62;
-l68:;
+goto l69;
+l75:;
 i0 = v7;
 i1 = UINT32_C(51);
 i0 = (i0 != i1);
-if (i0) { goto l63; }
+if (i0) { goto l70; }
 j0 = v2;
 j1 = UINT64_C(2);
 i0 = (j0 > j1);
 v6 = i0;
-goto l62;
-l64:;
+goto l69;
+l71:;
 j0 = UINT64_C(0);
 v2 = j0;
 j0 = v1;
 j1 = UINT64_C(0);
-p67 = write_at(j0 + UINT64_C(2528), m, 32u);
-store64(p67 + 24, j1);
+p69 = write_at(j0 + UINT64_C(2528), m, 32u);
+store64(p69 + 24, j1);
 j0 = v1;
 j1 = UINT64_C(0);
-store64(p67 + 16, j1);
+store64(p69 + 16, j1);
 j0 = v1;
 j1 = UINT64_C(0);
-store64(p67 + 8, j1);
+store64(p69 + 8, j1);
 j0 = v1;
 j1 = UINT64_C(0);
-store64(p67 + 0, j1);
+store64(p69 + 0, j1);
 j0 = v11;
 j1 = UINT64_C(1);
 j0 = j0 + j1;
@@ -47872,37 +45490,37 @@ j3 = v5;
 j4 = v17;
 i3 = (j3 < j4);
 j1 = i3 ? j1 : j2;
-v19 = j1;
+v18 = j1;
 i0 = (j0 >= j1);
-if (i0) { goto l69; }
+if (i0) { goto l76; }
 j0 = v47;
 j1 = v11;
 j0 = j0 + j1;
 v5 = j0;
 j0 = v48;
-j1 = v19;
+j1 = v18;
 j0 = j0 - j1;
-v19 = j0;
-j0 = v12;
+v18 = j0;
+j0 = v19;
 j1 = v44;
 j0 = j0 + j1;
 v43 = j0;
-j0 = v12;
+j0 = v19;
 j1 = v11;
 j2 = UINT64_C(3);
 j1 = j1 + j2;
 v11 = j1;
 j0 = j0 + j1;
 v38 = j0;
-l70:;
+l77:;
 j0 = v5;
 j1 = v2;
 j0 = j0 + j1;
-p68 = read_at(j0, m, 1u);
-i0 = load8(p68 + 0);
+p70 = read_at(j0, m, 1u);
+i0 = load8(p70 + 0);
 i1 = UINT32_C(126);
 i0 = (i0 != i1);
-if (i0) { goto l71; }
+if (i0) { goto l78; }
 j0 = v1;
 j1 = UINT64_C(2528);
 j0 = j0 + j1;
@@ -47912,69 +45530,69 @@ j3 = UINT64_C(5);
 j2 = j2 + j3;
 fio_log_sayings_read_saying(m, j0, j1, j2);
 j0 = v1;
-i0 = load8(p53 + 0);
+i0 = load8(p57 + 0);
 i1 = UINT32_C(2);
 i0 = (i0 != i1);
-if (i0) { goto l71; }
+if (i0) { goto l78; }
 j0 = v1;
-j0 = load64(p67 + 8);
+j0 = load64(p69 + 8);
 j1 = UINT64_C(2);
 i0 = (j0 != j1);
-if (i0) { goto l71; }
+if (i0) { goto l78; }
 j0 = v1;
-i0 = load8(p67 + 24);
+i0 = load8(p69 + 24);
 i1 = UINT32_C(1);
 i0 = i0 & i1;
 i0 = (i0 == 0);
-if (i0) { goto l71; }
+if (i0) { goto l78; }
 j0 = v1;
-j0 = load64(p67 + 16);
-v18 = j0;
-j0 = v1;
-j1 = UINT64_C(0);
-store64(p61 + 24, j1);
+j0 = load64(p69 + 16);
+v12 = j0;
 j0 = v1;
 j1 = UINT64_C(0);
-store64(p61 + 16, j1);
+store64(p16 + 120, j1);
 j0 = v1;
 j1 = UINT64_C(0);
-store64(p61 + 8, j1);
+store64(p16 + 112, j1);
 j0 = v1;
 j1 = UINT64_C(0);
-store64(p61 + 0, j1);
-j0 = v18;
+store64(p16 + 104, j1);
+j0 = v1;
+j1 = UINT64_C(0);
+store64(p16 + 96, j1);
+j0 = v12;
 j1 = v44;
 j0 = j0 + j1;
-v18 = j0;
+v12 = j0;
 j1 = v11;
 i0 = (j0 < j1);
-if (i0) { goto l71; }
+if (i0) { goto l78; }
 j0 = v17;
-j1 = v18;
+j1 = v12;
 i0 = (j0 < j1);
-if (i0) { goto l71; }
+if (i0) { goto l78; }
 j0 = v1;
 j1 = UINT64_C(960);
 j0 = j0 + j1;
 j1 = v38;
-j2 = v18;
+j2 = v12;
 j3 = v11;
 j2 = j2 - j3;
 fio_log_sayings_spelled(m, j0, j1, j2);
-j0 = v18;
+j0 = v12;
 j1 = v11;
 j0 = j0 | j1;
 j1 = UINT64_C(65535);
 i0 = (j0 > j1);
-if (i0) { goto l71; }
+if (i0) { goto l78; }
 j0 = v1;
-i0 = load8(p61 + 0);
+i0 = load8(p16 + 96);
 i1 = UINT32_C(255);
 i0 = i0 & i1;
 i0 = (i0 == 0);
-if (i0) { goto l61; }
-l71:;
-j0 = v19;
+if (i0) { goto l68; }
+l78:;
+j0 = v18;
 j1 = v2;
 j2 = UINT64_C(1);
 j1 = j1 + j2;
@@ -47982,46 +45600,46 @@ v2 = j1;
 j0 = j0 + j1;
 i0 = (j0 == 0);
 i0 = (i0 == 0);
-if (i0) { goto l70; }
-l69:;
+if (i0) { goto l77; }
+l76:;
 i0 = UINT32_C(0);
 v6 = i0;
 j0 = v44;
 v11 = j0;
-goto l59;
-l63:;
+goto l66;
+l70:;
 i0 = UINT32_C(0);
 v6 = i0;
-l62:;
-j0 = v18;
+l69:;
+j0 = v12;
 v2 = j0;
-goto l60;
-l61:;
+goto l67;
+l68:;
 j0 = v48;
 j1 = v2;
 j0 = j0 + j1;
 v2 = j0;
 i0 = UINT32_C(1);
 v6 = i0;
-l60:;
+l67:;
 j0 = v26;
 j1 = UINT64_C(2048);
 i0 = (j0 == j1);
-if (i0) { goto l57; }
+if (i0) { goto l64; }
 j0 = v45;
 j1 = v26;
 j2 = UINT64_C(2);
 j1 = j1 << (j2 & 63);
 j0 = j0 + j1;
-j1 = v18;
+j1 = v12;
 i1 = (uint32_t)j1;
 i2 = UINT32_C(16);
 i1 = i1 << (i2 & 31);
 j2 = v11;
 i2 = (uint32_t)j2;
 i1 = i1 | i2;
-p69 = write_at(j0, m, 4u);
-store32(p69 + 0, i1);
+p71 = write_at(j0, m, 4u);
+store32(p71 + 0, i1);
 j0 = v0;
 j1 = UINT64_C(232648);
 j0 = j0 + j1;
@@ -48029,16 +45647,16 @@ j1 = v26;
 j2 = UINT64_C(1);
 j1 = j1 + j2;
 v26 = j1;
-p70 = write_at(j0, m, 8u);
-store64(p70 + 0, j1);
+p72 = write_at(j0, m, 8u);
+store64(p72 + 0, j1);
 j0 = v0;
 j1 = UINT64_C(224448);
 j0 = j0 + j1;
-j0 = load64(p65 + 0);
+j0 = load64(p67 + 0);
 v17 = j0;
 j0 = v2;
 v11 = j0;
-l59:;
+l66:;
 i0 = v9;
 i1 = v6;
 i0 = i0 | i1;
@@ -48046,7 +45664,7 @@ v9 = i0;
 j0 = v11;
 j1 = v17;
 i0 = (j0 < j1);
-if (i0) { goto l58; }
+if (i0) { goto l65; }
 j0 = v26;
 i0 = (j0 == 0);
 if (i0) { goto l3; }
@@ -48061,10 +45679,10 @@ i0 = UINT32_C(0);
 v6 = i0;
 j0 = v26;
 i0 = (j0 == 0);
-if (i0) { goto l54; }
+if (i0) { goto l61; }
 j0 = v45;
-p71 = read_at(j0, m, 4u);
-i0 = load32(p71 + 0);
+p73 = read_at(j0, m, 4u);
+i0 = load32(p73 + 0);
 v7 = i0;
 i1 = UINT32_C(16);
 i0 = i0 >> (i1 & 31);
@@ -48074,7 +45692,7 @@ i2 = UINT32_C(65535);
 i1 = i1 & i2;
 v7 = i1;
 i0 = (i0 == i1);
-if (i0) { goto l54; }
+if (i0) { goto l61; }
 i0 = v20;
 j0 = (uint64_t)i0;
 i1 = v7;
@@ -48083,41 +45701,41 @@ v2 = j1;
 j0 = j0 - j1;
 j1 = UINT64_C(1);
 i0 = (j0 == j1);
-if (i0) { goto l56; }
-j0 = v12;
+if (i0) { goto l63; }
+j0 = v19;
 j1 = v2;
 j0 = j0 + j1;
-p72 = read_at(j0, m, 1u);
-i0 = load8(p72 + 0);
+p74 = read_at(j0, m, 1u);
+i0 = load8(p74 + 0);
 v20 = i0;
 i1 = UINT32_C(255);
 i0 = i0 & i1;
 v7 = i0;
 i1 = UINT32_C(59);
 i0 = (i0 == i1);
-if (i0) { goto l56; }
+if (i0) { goto l63; }
 i0 = v7;
 i1 = UINT32_C(56);
 i0 = (i0 < i1);
-if (i0) { goto l73; }
+if (i0) { goto l80; }
 i0 = v20;
 i1 = UINT32_C(255);
 i0 = i0 & i1;
 v7 = i0;
 i1 = UINT32_C(58);
 i0 = (i0 < i1);
-if (i0) { goto l56; }
+if (i0) { goto l63; }
 i0 = v7;
 i1 = UINT32_C(183);
 i0 = (i0 < i1);
-if (i0) { goto l73; }
+if (i0) { goto l80; }
 i0 = v20;
 i1 = UINT32_C(255);
 i0 = i0 & i1;
 v7 = i0;
 i1 = UINT32_C(186);
 i0 = (i0 < i1);
-if (i0) { goto l56; }
+if (i0) { goto l63; }
 i0 = v7;
 i1 = UINT32_C(186);
 i0 = (i0 != i1);
@@ -48125,22 +45743,22 @@ i1 = v7;
 i2 = UINT32_C(189);
 i1 = (i1 < i2);
 i0 = i0 & i1;
-if (i0) { goto l56; }
+if (i0) { goto l63; }
 i0 = v10;
 i1 = UINT32_C(255);
 i0 = i0 & i1;
 i1 = UINT32_C(1);
 i0 = (i0 == i1);
-if (i0) { goto l72; }
-goto l56;
-l73:;
+if (i0) { goto l79; }
+goto l63;
+l80:;
 i0 = v10;
 i1 = UINT32_C(255);
 i0 = i0 & i1;
 i1 = UINT32_C(1);
 i0 = (i0 != i1);
-if (i0) { goto l56; }
-l72:;
+if (i0) { goto l63; }
+l79:;
 i0 = v14;
 i1 = UINT32_C(255);
 i0 = i0 & i1;
@@ -48152,40 +45770,40 @@ i1 = i1 >> (i2 & 31);
 i0 = (i0 != i1);
 i1 = v15;
 i0 = i0 & i1;
-if (i0) { goto l54; }
+if (i0) { goto l61; }
 i0 = v16;
 i1 = UINT32_C(1);
 i0 = i0 & i1;
-if (i0) { goto l54; }
+if (i0) { goto l61; }
 i0 = v13;
 i1 = UINT32_C(255);
 i0 = i0 & i1;
 i1 = UINT32_C(8);
 i0 = (i0 > i1);
-if (i0) { goto l54; }
-goto l55;
-l57:;
+if (i0) { goto l61; }
+goto l62;
+l64:;
 j0 = v45;
 i1 = UINT32_C(0);
 j2 = UINT64_C(8200);
 fill(m, j0, i1, j2);
 goto l3;
-l56:;
+l63:;
 i0 = v15;
 i1 = UINT32_C(1);
 i0 = i0 & i1;
-if (i0) { goto l54; }
+if (i0) { goto l61; }
 i0 = v16;
 i1 = UINT32_C(1);
 i0 = i0 & i1;
-if (i0) { goto l54; }
+if (i0) { goto l61; }
 i0 = v13;
 i1 = UINT32_C(255);
 i0 = i0 & i1;
 i1 = UINT32_C(8);
 i0 = (i0 > i1);
-if (i0) { goto l54; }
-l55:;
+if (i0) { goto l61; }
+l62:;
 j0 = v37;
 i0 = (j0 == 0);
 j1 = v37;
@@ -48195,7 +45813,7 @@ j2 = UINT64_C(0);
 i1 = (j1 != j2);
 i0 = i0 | i1;
 v6 = i0;
-l54:;
+l61:;
 j0 = v0;
 j1 = UINT64_C(372009);
 j0 = j0 + j1;
@@ -48206,13 +45824,13 @@ j3 = UINT64_C(1744);
 j2 = j2 + j3;
 i1 = fio_log_judge_shapes_Shapes_add_good(m, j1, j2);
 j2 = v2;
-p73 = write_at(j2, m, 1u);
-i2 = load8(p73 + 0);
+p75 = write_at(j2, m, 1u);
+i2 = load8(p75 + 0);
 i1 = i1 | i2;
-store8(p73 + 0, i1);
+store8(p75 + 0, i1);
 j0 = UINT64_C(0);
 v5 = j0;
-l76:;
+l83:;
 j0 = v3;
 j1 = v27;
 j2 = v5;
@@ -48226,17 +45844,17 @@ j0 = j0 + j1;
 v2 = j0;
 j1 = UINT64_C(8);
 j0 = j0 + j1;
-p74 = read_at(j0, m, 1u);
-i0 = load8(p74 + 0);
+p76 = read_at(j0, m, 1u);
+i0 = load8(p76 + 0);
 i1 = UINT32_C(1);
 i0 = (i0 != i1);
-if (i0) { goto l75; }
+if (i0) { goto l82; }
 j0 = v2;
-p75 = read_at(j0, m, 8u);
-j0 = load64(p75 + 0);
+p77 = read_at(j0, m, 8u);
+j0 = load64(p77 + 0);
 j1 = v27;
 i0 = (j0 == j1);
-if (i0) { goto l75; }
+if (i0) { goto l82; }
 j0 = v3;
 j1 = v11;
 j2 = UINT64_C(1);
@@ -48249,51 +45867,51 @@ j0 = j0 + j1;
 v2 = j0;
 j1 = UINT64_C(8);
 j0 = j0 + j1;
-p76 = read_at(j0, m, 1u);
-i0 = load8(p76 + 0);
+p78 = read_at(j0, m, 1u);
+i0 = load8(p78 + 0);
 i1 = UINT32_C(1);
 i0 = (i0 != i1);
-if (i0) { goto l75; }
+if (i0) { goto l82; }
 j0 = v2;
-p77 = read_at(j0, m, 8u);
-j0 = load64(p77 + 0);
+p79 = read_at(j0, m, 8u);
+j0 = load64(p79 + 0);
 j1 = v27;
 i0 = (j0 == j1);
-if (i0) { goto l75; }
+if (i0) { goto l82; }
 j0 = v5;
 j1 = UINT64_C(2);
 j0 = j0 + j1;
 v5 = j0;
 j1 = UINT64_C(32);
 i0 = (j0 != j1);
-if (i0) { goto l76; }
+if (i0) { goto l83; }
 i0 = UINT32_C(0);
 v10 = i0;
-goto l74;
-l75:;
+goto l81;
+l82:;
 i0 = UINT32_C(0);
 v10 = i0;
 j0 = v2;
-p78 = read_at(j0 + UINT64_C(9), m, 1u);
-i0 = load8(p78 + 0);
+p80 = read_at(j0 + UINT64_C(9), m, 1u);
+i0 = load8(p80 + 0);
 i1 = UINT32_C(1);
 i0 = i0 & i1;
 i0 = (i0 == 0);
-if (i0) { goto l74; }
+if (i0) { goto l81; }
 j0 = v0;
 j1 = UINT64_C(318816);
 j0 = j0 + j1;
 j1 = v28;
 j2 = v46;
 i0 = fio_log_sources_Sources_is_another(m, j0, j1, j2);
-if (i0) { goto l74; }
+if (i0) { goto l81; }
 j0 = v3;
 j1 = v1;
 j2 = UINT64_C(1744);
 j1 = j1 + j2;
 i0 = fio_log_judge_shapes_Shapes_is_mostly_good(m, j0, j1);
 v10 = i0;
-l74:;
+l81:;
 i0 = v6;
 i1 = UINT32_C(1);
 i0 = i0 ^ i1;
@@ -48308,17 +45926,17 @@ v6 = i0;
 i0 = v10;
 i1 = UINT32_C(1);
 i0 = i0 & i1;
-if (i0) { goto l77; }
+if (i0) { goto l84; }
 i0 = v7;
-if (i0) { goto l77; }
+if (i0) { goto l84; }
 i0 = v15;
 i1 = UINT32_C(1);
 i0 = i0 & i1;
 i0 = (i0 == 0);
-if (i0) { goto l78; }
+if (i0) { goto l85; }
 j0 = UINT64_C(0);
 v5 = j0;
-l80:;
+l87:;
 j0 = v3;
 j1 = v28;
 j2 = v5;
@@ -48332,17 +45950,17 @@ j0 = j0 + j1;
 v2 = j0;
 j1 = UINT64_C(8);
 j0 = j0 + j1;
-p79 = read_at(j0, m, 1u);
-i0 = load8(p79 + 0);
+p81 = read_at(j0, m, 1u);
+i0 = load8(p81 + 0);
 i1 = UINT32_C(1);
 i0 = (i0 != i1);
-if (i0) { goto l79; }
+if (i0) { goto l86; }
 j0 = v2;
-p80 = read_at(j0, m, 8u);
-j0 = load64(p80 + 0);
+p82 = read_at(j0, m, 8u);
+j0 = load64(p82 + 0);
 j1 = v28;
 i0 = (j0 == j1);
-if (i0) { goto l79; }
+if (i0) { goto l86; }
 j0 = v3;
 j1 = v11;
 j2 = UINT64_C(1);
@@ -48355,110 +45973,110 @@ j0 = j0 + j1;
 v2 = j0;
 j1 = UINT64_C(8);
 j0 = j0 + j1;
-p81 = read_at(j0, m, 1u);
-i0 = load8(p81 + 0);
+p83 = read_at(j0, m, 1u);
+i0 = load8(p83 + 0);
 i1 = UINT32_C(1);
 i0 = (i0 != i1);
-if (i0) { goto l79; }
+if (i0) { goto l86; }
 j0 = v2;
-p82 = read_at(j0, m, 8u);
-j0 = load64(p82 + 0);
+p84 = read_at(j0, m, 8u);
+j0 = load64(p84 + 0);
 j1 = v28;
 i0 = (j0 == j1);
-if (i0) { goto l79; }
+if (i0) { goto l86; }
 j0 = v5;
 j1 = UINT64_C(2);
 j0 = j0 + j1;
 v5 = j0;
 j1 = UINT64_C(32);
 i0 = (j0 != j1);
-if (i0) { goto l80; }
+if (i0) { goto l87; }
 i0 = UINT32_C(0);
 v6 = i0;
-goto l77;
-l79:;
+goto l84;
+l86:;
 j0 = v2;
-p83 = read_at(j0 + UINT64_C(24), m, 8u);
-i0 = load32(p83 + 0);
+p85 = read_at(j0 + UINT64_C(24), m, 8u);
+i0 = load32(p85 + 0);
 i1 = UINT32_C(0);
 i0 = (i0 != i1);
 j1 = v2;
-i1 = load32(p83 + 4);
+i1 = load32(p85 + 4);
 i1 = (i1 == 0);
 i0 = i0 & i1;
 v6 = i0;
-goto l77;
-l78:;
+goto l84;
+l85:;
 j0 = v0;
 j1 = UINT64_C(372008);
 j0 = j0 + j1;
-p84 = read_at(j0, m, 1u);
-i0 = load8(p84 + 0);
+p86 = read_at(j0, m, 1u);
+i0 = load8(p86 + 0);
 i0 = (i0 == 0);
-if (i0) { goto l81; }
+if (i0) { goto l88; }
 i0 = UINT32_C(0);
 v6 = i0;
-goto l77;
-l81:;
+goto l84;
+l88:;
 j0 = v0;
 j1 = UINT64_C(333168);
 j0 = j0 + j1;
-p85 = read_at(j0, m, 1u);
-i0 = load8(p85 + 0);
+p87 = read_at(j0, m, 1u);
+i0 = load8(p87 + 0);
 i1 = UINT32_C(1);
 i0 = i0 ^ i1;
 v6 = i0;
-l77:;
+l84:;
 j0 = v0;
 j1 = UINT64_C(368432);
 j0 = j0 + j1;
 j1 = UINT64_C(0);
-p86 = write_at(j0, m, 3577u);
-store64(p86 + 0, j1);
+p88 = write_at(j0, m, 3577u);
+store64(p88 + 0, j1);
 j0 = v0;
 j1 = UINT64_C(368440);
 j0 = j0 + j1;
 j1 = UINT64_C(0);
-store64(p86 + 8, j1);
+store64(p88 + 8, j1);
 j0 = v0;
 j1 = UINT64_C(372008);
 j0 = j0 + j1;
 v2 = j0;
 i1 = v7;
 j2 = v2;
-i2 = load8(p86 + 3576);
+i2 = load8(p88 + 3576);
 i1 = i1 | i2;
-store8(p86 + 3576, i1);
+store8(p88 + 3576, i1);
 j0 = v0;
 j1 = UINT64_C(371160);
 j0 = j0 + j1;
-j0 = load64(p86 + 2728);
+j0 = load64(p88 + 2728);
 v2 = j0;
 i0 = (j0 == 0);
-if (i0) { goto l82; }
+if (i0) { goto l89; }
 j0 = v2;
 j1 = UINT64_C(904);
 j0 = j0 * j1;
 v2 = j0;
 i0 = (j0 == 0);
-if (i0) { goto l83; }
+if (i0) { goto l90; }
 j0 = v0;
 j1 = UINT64_C(368448);
 j0 = j0 + j1;
 i1 = UINT32_C(0);
 j2 = v2;
 fill(m, j0, i1, j2);
-l83:;
+l90:;
 j0 = v0;
 j1 = UINT64_C(371160);
 j0 = j0 + j1;
 j1 = UINT64_C(0);
-store64(p86 + 2728, j1);
-l82:;
+store64(p88 + 2728, j1);
+l89:;
 i0 = v6;
 i1 = UINT32_C(1);
 i0 = i0 & i1;
-if (i0) { goto l84; }
+if (i0) { goto l91; }
 j0 = v0;
 j1 = v4;
 j2 = UINT64_C(144);
@@ -48468,45 +46086,45 @@ v0 = j0;
 j1 = UINT64_C(341488);
 j0 = j0 + j1;
 j1 = UINT64_C(0);
-p87 = write_at(j0 + UINT64_C(18446744073709551608), m, 24u);
-store64(p87 + 8, j1);
+p89 = write_at(j0 + UINT64_C(18446744073709551608), m, 24u);
+store64(p89 + 8, j1);
 j0 = v0;
 j1 = UINT64_C(341482);
 j0 = j0 + j1;
 i1 = UINT32_C(3);
-store8(p87 + 2, i1);
+store8(p89 + 2, i1);
 j0 = v0;
 j1 = UINT64_C(341480);
 j0 = j0 + j1;
 i1 = UINT32_C(1284);
-store16(p87 + 0, i1);
+store16(p89 + 0, i1);
 j0 = v0;
 j1 = UINT64_C(341496);
 j0 = j0 + j1;
 j1 = UINT64_C(0);
-store64(p87 + 16, j1);
+store64(p89 + 16, j1);
 goto l2;
-l84:;
+l91:;
 j0 = v0;
 j1 = UINT64_C(372000);
 j0 = j0 + j1;
 v2 = j0;
 j1 = UINT64_C(18446744073709551615);
 j2 = v2;
-p88 = write_at(j2, m, 8u);
-j2 = load64(p88 + 0);
+p90 = write_at(j2, m, 8u);
+j2 = load64(p90 + 0);
 j3 = UINT64_C(1);
 j2 = j2 + j3;
 v2 = j2;
 j3 = v2;
 i3 = (j3 == 0);
 j1 = i3 ? j1 : j2;
-store64(p88 + 0, j1);
+store64(p90 + 0, j1);
 i0 = v9;
 i1 = UINT32_C(1);
 i0 = i0 & i1;
 i0 = (i0 == 0);
-if (i0) { goto l85; }
+if (i0) { goto l92; }
 j0 = v0;
 j1 = UINT64_C(372009);
 j0 = j0 + j1;
@@ -48517,11 +46135,11 @@ j3 = UINT64_C(1744);
 j2 = j2 + j3;
 i1 = fio_log_judge_shapes_Shapes_learn(m, j1, j2);
 j2 = v2;
-p89 = write_at(j2, m, 1u);
-i2 = load8(p89 + 0);
+p91 = write_at(j2, m, 1u);
+i2 = load8(p91 + 0);
 i1 = i1 | i2;
-store8(p89 + 0, i1);
-l85:;
+store8(p91 + 0, i1);
+l92:;
 j0 = UINT64_C(0);
 v5 = j0;
 j0 = v0;
@@ -48533,58 +46151,58 @@ v2 = j0;
 j1 = UINT64_C(341488);
 j0 = j0 + j1;
 j1 = UINT64_C(0);
-p90 = write_at(j0 + UINT64_C(18446744073709551608), m, 24u);
-store64(p90 + 8, j1);
+p92 = write_at(j0 + UINT64_C(18446744073709551608), m, 24u);
+store64(p92 + 8, j1);
 j0 = v2;
 j1 = UINT64_C(341496);
 j0 = j0 + j1;
 j1 = UINT64_C(0);
-store64(p90 + 16, j1);
+store64(p92 + 16, j1);
 j0 = v2;
 j1 = UINT64_C(341482);
 j0 = j0 + j1;
 i1 = UINT32_C(0);
-store8(p90 + 2, i1);
+store8(p92 + 2, i1);
 j0 = v2;
 j1 = UINT64_C(341480);
 j0 = j0 + j1;
 i1 = UINT32_C(3);
-store16(p90 + 0, i1);
+store16(p92 + 0, i1);
 j0 = v0;
 j1 = UINT64_C(371984);
 j0 = j0 + j1;
 j1 = UINT64_C(1);
-p91 = write_at(j0 + UINT64_C(18446744073709548056), m, 3586u);
-store64(p91 + 3560, j1);
+p93 = write_at(j0 + UINT64_C(18446744073709548056), m, 3586u);
+store64(p93 + 3560, j1);
 j0 = v0;
 j1 = UINT64_C(371992);
 j0 = j0 + j1;
 j1 = v4;
-store64(p91 + 3568, j1);
+store64(p93 + 3568, j1);
 j0 = v3;
 j1 = v8;
 j2 = v4;
 fio_log_judge_decide_Decider_judge_one(m, j0, j1, j2);
-l87:;
+l94:;
 j0 = v0;
 j1 = UINT64_C(368424);
 j0 = j0 + j1;
-j0 = load64(p91 + 0);
+j0 = load64(p93 + 0);
 v2 = j0;
 j0 = v0;
 j1 = UINT64_C(372009);
 j0 = j0 + j1;
 v8 = j0;
-i0 = load8(p91 + 3585);
+i0 = load8(p93 + 3585);
 i1 = UINT32_C(1);
 i0 = (i0 != i1);
-if (i0) { goto l86; }
+if (i0) { goto l93; }
 j0 = v8;
 i1 = UINT32_C(0);
-store8(p91 + 3585, i1);
+store8(p93 + 3585, i1);
 j0 = v2;
 i0 = (j0 == 0);
-if (i0) { goto l88; }
+if (i0) { goto l95; }
 j0 = v2;
 j1 = UINT64_C(66);
 j2 = v2;
@@ -48594,13 +46212,13 @@ j0 = i2 ? j0 : j1;
 v4 = j0;
 j0 = UINT64_C(0);
 v2 = j0;
-l89:;
+l96:;
 j0 = v2;
 j1 = v0;
 j2 = UINT64_C(368416);
 j1 = j1 + j2;
-p92 = read_at(j1, m, 8u);
-j1 = load64(p92 + 0);
+p94 = read_at(j1, m, 8u);
+j1 = load64(p94 + 0);
 v8 = j1;
 j2 = v8;
 j3 = v2;
@@ -48615,18 +46233,18 @@ v8 = j0;
 j0 = v0;
 j1 = UINT64_C(371968);
 j0 = j0 + j1;
-i0 = load8(p91 + 3544);
+i0 = load8(p93 + 3544);
 i1 = UINT32_C(1);
 i0 = (i0 != i1);
-if (i0) { goto l91; }
+if (i0) { goto l98; }
 j0 = v8;
 j1 = v0;
 j2 = UINT64_C(371976);
 j1 = j1 + j2;
-j1 = load64(p91 + 3552);
+j1 = load64(p93 + 3552);
 i0 = (j0 == j1);
-if (i0) { goto l90; }
-l91:;
+if (i0) { goto l97; }
+l98:;
 j0 = v3;
 j1 = v0;
 j2 = v8;
@@ -48635,28 +46253,28 @@ j2 = j2 * j3;
 j1 = j1 + j2;
 j2 = v8;
 fio_log_judge_decide_Decider_judge_one(m, j0, j1, j2);
-l90:;
+l97:;
 j0 = v4;
 j1 = v2;
 j2 = UINT64_C(1);
 j1 = j1 + j2;
 v2 = j1;
 i0 = (j0 != j1);
-if (i0) { goto l89; }
-l88:;
+if (i0) { goto l96; }
+l95:;
 j0 = v5;
 j1 = UINT64_C(1);
 j0 = j0 + j1;
 v5 = j0;
 j1 = UINT64_C(66);
 i0 = (j0 != j1);
-if (i0) { goto l87; }
+if (i0) { goto l94; }
 j0 = v0;
 j1 = UINT64_C(368424);
 j0 = j0 + j1;
-j0 = load64(p91 + 0);
+j0 = load64(p93 + 0);
 v2 = j0;
-l86:;
+l93:;
 j0 = v2;
 i0 = (j0 == 0);
 if (i0) { goto l2; }
@@ -48669,13 +46287,13 @@ j0 = i2 ? j0 : j1;
 v4 = j0;
 j0 = UINT64_C(0);
 v2 = j0;
-l92:;
+l99:;
 j0 = v2;
 j1 = v0;
 j2 = UINT64_C(368416);
 j1 = j1 + j2;
-p93 = read_at(j1, m, 8u);
-j1 = load64(p93 + 0);
+p95 = read_at(j1, m, 8u);
+j1 = load64(p95 + 0);
 v8 = j1;
 j2 = v8;
 j3 = v2;
@@ -48690,23 +46308,23 @@ v8 = j0;
 j0 = v0;
 j1 = UINT64_C(371968);
 j0 = j0 + j1;
-i0 = load8(p91 + 3544);
+i0 = load8(p93 + 3544);
 i1 = UINT32_C(1);
 i0 = (i0 != i1);
-if (i0) { goto l94; }
+if (i0) { goto l101; }
 j0 = v8;
 j1 = v0;
 j2 = UINT64_C(371976);
 j1 = j1 + j2;
-j1 = load64(p91 + 3552);
+j1 = load64(p93 + 3552);
 i0 = (j0 == j1);
-if (i0) { goto l93; }
-l94:;
+if (i0) { goto l100; }
+l101:;
 j0 = v3;
 j1 = v0;
 j2 = v8;
 fio_log_judge_decide_Decider_give_up(m, j0, j1, j2);
-l93:;
+l100:;
 j0 = v4;
 j1 = v2;
 j2 = UINT64_C(1);
@@ -48714,8 +46332,8 @@ j1 = j1 + j2;
 v2 = j1;
 i0 = (j0 == j1);
 if (i0) { goto l2; }
-goto l92;
-l53:;
+goto l99;
+l60:;
 j0 = v26;
 i0 = (j0 == 0);
 if (i0) { goto l3; }
@@ -48724,18 +46342,18 @@ j1 = UINT64_C(2);
 j0 = j0 << (j1 & 63);
 v2 = j0;
 i0 = (j0 == 0);
-if (i0) { goto l95; }
+if (i0) { goto l102; }
 j0 = v45;
 i1 = UINT32_C(0);
 j2 = v2;
 fill(m, j0, i1, j2);
-l95:;
+l102:;
 j0 = v0;
 j1 = UINT64_C(232648);
 j0 = j0 + j1;
 j1 = UINT64_C(0);
-p94 = write_at(j0, m, 8u);
-store64(p94 + 0, j1);
+p96 = write_at(j0, m, 8u);
+store64(p96 + 0, j1);
 l3:;
 j0 = v3;
 j1 = v0;
@@ -48757,8 +46375,8 @@ uint32_t v9 = 0;
 uint64_t v10 = 0;
 uint32_t v11 = 0;
 uint64_t v12 = 0;
-uint32_t v13 = 0;
-uint64_t v14 = 0;
+uint64_t v13 = 0;
+uint32_t v14 = 0;
 uint64_t v15 = 0;
 uint32_t v16 = 0;
 uint64_t v17 = 0;
@@ -48939,11 +46557,46 @@ j2 = UINT64_C(920);
 j1 = j1 + j2;
 j2 = v6;
 j2 = load64(p1 + 1704);
+v13 = j2;
 fio_log_sayings_read_saying(m, j0, j1, j2);
 j0 = v6;
 i0 = load8(p1 + 888);
 i1 = UINT32_C(2);
+i0 = (i0 != i1);
+if (i0) { goto l7; }
+j0 = v13;
+j1 = UINT64_C(2);
+i0 = (j0 < j1);
+if (i0) { goto l5; }
+j0 = v6;
+i0 = load8(p1 + 920);
+v9 = i0;
+i1 = UINT32_C(59);
 i0 = (i0 == i1);
+if (i0) { goto l7; }
+i0 = v9;
+i1 = UINT32_C(56);
+i0 = (i0 < i1);
+if (i0) { goto l5; }
+i0 = v9;
+i1 = UINT32_C(58);
+i0 = (i0 < i1);
+if (i0) { goto l7; }
+i0 = v9;
+i1 = UINT32_C(183);
+i0 = (i0 < i1);
+if (i0) { goto l5; }
+i0 = v9;
+i1 = UINT32_C(186);
+i0 = (i0 < i1);
+if (i0) { goto l7; }
+i0 = v9;
+i1 = UINT32_C(186);
+i0 = (i0 == i1);
+if (i0) { goto l5; }
+i0 = v9;
+i1 = UINT32_C(189);
+i0 = (i0 >= i1);
 if (i0) { goto l5; }
 l7:;
 j0 = v0;
@@ -48983,7 +46636,7 @@ j0 = v0;
 j1 = UINT64_C(280);
 j0 = j0 + j1;
 i0 = load8(p6 + 64);
-v13 = i0;
+v14 = i0;
 j0 = v0;
 j1 = UINT64_C(216);
 j0 = j0 + j1;
@@ -49006,7 +46659,7 @@ j0 = load64(p6 + 24);
 v1 = j0;
 j0 = v6;
 j0 = load64(p1 + 896);
-v14 = j0;
+v13 = j0;
 j0 = v6;
 j0 = load64(p1 + 904);
 v15 = j0;
@@ -49097,7 +46750,7 @@ j0 = v0;
 i1 = UINT32_C(0);
 store32(p8 + 881, i1);
 j0 = v0;
-i1 = v13;
+i1 = v14;
 store8(p8 + 880, i1);
 j0 = v0;
 i1 = UINT32_C(0);
@@ -49109,7 +46762,7 @@ j0 = v0;
 j1 = v15;
 store64(p8 + 920, j1);
 j0 = v0;
-j1 = v14;
+j1 = v13;
 store64(p8 + 912, j1);
 j0 = v0;
 j1 = UINT64_C(2);
@@ -49170,88 +46823,2748 @@ l2:;
 trap();
 return r;
 }
-static uint32_t fio_log_clock_is_gap(struct machine *m, uint32_t v0)
+static void fio_log_clock_time_in(struct machine *m, uint64_t v0, uint64_t v1, uint64_t v2)
 {
-uint32_t v1 = 0;
+uint64_t v3 = 0;
+uint64_t v4 = 0;
+uint64_t v5 = 0;
+uint64_t v6 = 0;
+uint64_t v7 = 0;
+uint32_t v8 = 0;
+uint64_t v9 = 0;
+uint32_t v10 = 0;
+uint32_t v11 = 0;
+uint64_t v12 = 0;
+uint64_t v13 = 0;
+uint32_t v14 = 0;
+uint64_t v15 = 0;
+uint32_t v16 = 0;
+uint64_t v17 = 0;
+uint32_t v18 = 0;
+uint64_t v19 = 0;
+uint64_t v20 = 0;
+uint64_t v21 = 0;
+uint64_t v22 = 0;
+uint64_t v23 = 0;
+uint64_t v24 = 0;
+uint64_t v25 = 0;
+uint64_t v26 = 0;
+uint64_t v27 = 0;
+uint64_t v28 = 0;
+uint32_t v29 = 0;
+uint32_t v30 = 0;
+uint32_t v31 = 0;
+uint32_t v32 = 0;
+uint32_t v33 = 0;
+uint32_t v34 = 0;
+uint32_t v35 = 0;
+uint32_t v36 = 0;
+uint32_t v37 = 0;
+uint32_t v38 = 0;
+uint32_t v39 = 0;
+uint64_t v40 = 0;
+uint64_t v41 = 0;
+uint64_t v42 = 0;
+uint64_t v43 = 0;
+uint64_t v44 = 0;
 uint32_t i0;
 uint32_t i1;
+uint32_t i2;
+uint32_t i3;
 uint64_t j0;
 uint64_t j1;
 uint64_t j2;
-uint32_t r;
+uint64_t j3;
+uint8_t *p1;
+uint8_t *p2;
+uint8_t *p3;
+uint8_t *p4;
+uint8_t *p5;
+uint8_t *p6;
+uint8_t *p7;
+uint8_t *p8;
+uint8_t *p9;
+uint8_t *p10;
+uint8_t *p11;
+uint8_t *p12;
+uint8_t *p13;
+uint8_t *p14;
+uint8_t *p15;
+uint8_t *p16;
+uint8_t *p17;
+uint8_t *p18;
+uint8_t *p19;
+uint8_t *p20;
+uint8_t *p21;
+uint8_t *p22;
+uint8_t *p23;
+uint8_t *p24;
+uint8_t *p25;
+uint8_t *p26;
+uint8_t *p27;
+uint8_t *p28;
+uint8_t *p29;
+uint8_t *p30;
+uint8_t *p31;
+uint8_t *p32;
+uint8_t *p33;
+uint8_t *p34;
+uint8_t *p35;
+uint8_t *p36;
+uint8_t *p37;
+uint8_t *p38;
+uint8_t *p39;
+uint8_t *p40;
+uint8_t *p41;
+uint8_t *p42;
+uint8_t *p43;
+uint8_t *p44;
+uint8_t *p45;
+uint8_t *p46;
+uint8_t *p47;
+uint8_t *p48;
+uint8_t *p49;
+uint8_t *p50;
+uint8_t *p51;
+uint8_t *p52;
+uint8_t *p53;
+uint8_t *p54;
+uint8_t *p55;
+uint8_t *p56;
+uint8_t *p57;
+uint8_t *p58;
 j0 = m->g0;
+v3 = j0;
 j1 = UINT64_C(16);
 i0 = (SIGNED64(j0) < SIGNED64(j1));
+if (i0) { goto l2; }
+j0 = v2;
+i0 = (j0 == 0);
+if (i0) { goto l3; }
+j0 = v2;
+j1 = UINT64_C(200);
+j2 = v2;
+j3 = UINT64_C(200);
+i2 = (j2 < j3);
+j0 = i2 ? j0 : j1;
+v4 = j0;
+j0 = v1;
+j1 = UINT64_C(1);
+j0 = j0 + j1;
+v5 = j0;
+j0 = v2;
+j1 = UINT64_C(18446744073709551615);
+j0 = j0 + j1;
+v6 = j0;
+j0 = UINT64_C(0);
+v7 = j0;
+i0 = UINT32_C(1);
+v8 = i0;
+l4:;
+j0 = v1;
+j1 = v7;
+j0 = j0 + j1;
+v9 = j0;
+p1 = read_at(j0, m, 1u);
+i0 = load8(p1 + 0);
+v10 = i0;
+i0 = v8;
+i1 = UINT32_C(1);
+i0 = i0 & i1;
+i0 = (i0 == 0);
 if (i0) { goto l5; }
-i0 = v0;
+i0 = v10;
+i1 = UINT32_C(4294967248);
+i0 = i0 + i1;
+v11 = i0;
 i1 = UINT32_C(255);
 i0 = i0 & i1;
-v1 = i0;
-i1 = UINT32_C(59);
+i1 = UINT32_C(9);
 i0 = (i0 > i1);
-if (i0) { goto l4; }
+if (i0) { goto l7; }
+j0 = UINT64_C(0);
+v12 = j0;
+l9:;
+j0 = v9;
+j1 = v12;
+j0 = j0 + j1;
+p2 = read_at(j0, m, 1u);
+i0 = load8(p2 + 0);
+i1 = UINT32_C(4294967248);
+i0 = i0 + i1;
+i1 = UINT32_C(255);
+i0 = i0 & i1;
+i1 = UINT32_C(10);
+i0 = (i0 < i1);
+if (i0) { goto l10; }
+j0 = v7;
+j1 = v12;
+j0 = j0 + j1;
+v13 = j0;
+goto l8;
+l10:;
+j0 = v12;
+j1 = UINT64_C(1);
+j0 = j0 + j1;
+v12 = j0;
+j1 = v7;
+j0 = j0 + j1;
+v13 = j0;
+j1 = v2;
+i0 = (j0 >= j1);
+if (i0) { goto l8; }
+j0 = v12;
+j1 = UINT64_C(14);
+i0 = (j0 < j1);
+if (i0) { goto l9; }
+l8:;
+j0 = v12;
+j1 = UINT64_C(18446744073709551606);
+j0 = j0 + j1;
+v12 = j0;
+j1 = UINT64_C(3);
+i0 = (j0 > j1);
+if (i0) { goto l11; }
+j0 = v12;
+i0 = (uint32_t)j0;
+switch (i0) {
+case 0:
+goto l6;
+case 1:
+goto l11;
+case 2:
+goto l11;
+case 3:
+goto l6;
+default:
+goto l6;
+}
+l11:;
+j0 = v13;
+j1 = v2;
+i0 = (j0 >= j1);
+if (i0) { goto l5; }
+j0 = v1;
+j1 = v13;
+j0 = j0 + j1;
+p3 = read_at(j0, m, 1u);
+j0 = load8(p3 + 0);
+v12 = j0;
+j1 = UINT64_C(58);
+i0 = (j0 > j1);
+if (i0) { goto l5; }
 j0 = UINT64_C(1);
-i1 = v0;
+j1 = v12;
+j0 = j0 << (j1 & 63);
+j1 = UINT64_C(288476666756333568);
+j0 = j0 & j1;
+j1 = UINT64_C(0);
+i0 = (j0 == j1);
+if (i0) { goto l5; }
+goto l6;
+l7:;
+i0 = v10;
+i1 = UINT32_C(32);
+i0 = i0 + i1;
+i1 = v10;
+i2 = v10;
+i3 = UINT32_C(4294967231);
+i2 = i2 + i3;
+i3 = UINT32_C(255);
+i2 = i2 & i3;
+i3 = UINT32_C(26);
+i2 = (i2 < i3);
+i0 = i2 ? i0 : i1;
+v14 = i0;
+i1 = UINT32_C(255);
+i0 = i0 & i1;
+i1 = UINT32_C(4294967199);
+i0 = i0 + i1;
+v8 = i0;
+i1 = UINT32_C(18);
+i0 = (i0 > i1);
+if (i0) { goto l12; }
+i0 = UINT32_C(1);
+i1 = v8;
+i0 = i0 << (i1 & 31);
+i1 = UINT32_C(262697);
+i0 = i0 & i1;
+if (i0) { goto l6; }
+l12:;
+i0 = v14;
+i1 = UINT32_C(4294967187);
+i0 = i0 + i1;
+i1 = UINT32_C(255);
+i0 = i0 & i1;
+i1 = UINT32_C(3);
+i0 = (i0 >= i1);
+if (i0) { goto l5; }
+l6:;
+j0 = v7;
+j1 = UINT64_C(19);
+j0 = j0 + j1;
+v15 = j0;
+i0 = v11;
+i1 = UINT32_C(10);
+i0 = i0 * i1;
+v16 = i0;
+j0 = v2;
+j1 = v7;
+j0 = j0 - j1;
+v17 = j0;
+i0 = v10;
+i1 = UINT32_C(4294967263);
+i0 = i0 & i1;
+i1 = UINT32_C(4294967205);
+i0 = i0 + i1;
+v18 = i0;
+j0 = UINT64_C(0);
+v19 = j0;
+l13:;
+j0 = v19;
+j1 = UINT64_C(4);
+j0 = j0 << (j1 & 63);
+v12 = j0;
+j1 = UINT64_C(66088);
+j0 = j0 + j1;
+p4 = read_at(j0, m, 8u);
+j0 = load64(p4 + 0);
+v20 = j0;
+i0 = (j0 == 0);
+if (i0) { goto l18; }
+j0 = v12;
+j1 = UINT64_C(66080);
+j0 = j0 + j1;
+p5 = read_at(j0, m, 8u);
+j0 = load64(p5 + 0);
+v21 = j0;
+p6 = read_at(j0, m, 1u);
+i0 = load8(p6 + 0);
+v8 = i0;
+i1 = UINT32_C(78);
+i0 = (i0 != i1);
+if (i0) { goto l17; }
+i0 = v18;
+i1 = UINT32_C(255);
+i0 = i0 & i1;
+i1 = UINT32_C(230);
+i0 = (i0 >= i1);
+if (i0) { goto l16; }
+goto l14;
+l18:;
+i0 = v18;
+i1 = UINT32_C(255);
+i0 = i0 & i1;
+i1 = UINT32_C(230);
+i0 = (i0 >= i1);
+if (i0) { goto l14; }
+j0 = UINT64_C(0);
+v22 = j0;
+j0 = UINT64_C(1970);
+v23 = j0;
+j0 = UINT64_C(0);
+v24 = j0;
+j0 = UINT64_C(0);
+v25 = j0;
+j0 = UINT64_C(0);
+v26 = j0;
+j0 = UINT64_C(0);
+v27 = j0;
+j0 = UINT64_C(0);
+v28 = j0;
+j0 = v7;
+v13 = j0;
+goto l15;
+l17:;
+i0 = v18;
+i1 = UINT32_C(255);
+i0 = i0 & i1;
+i1 = UINT32_C(230);
+i0 = (i0 >= i1);
+if (i0) { goto l14; }
+j0 = v20;
+j1 = UINT64_C(1);
+i0 = (j0 == j1);
+if (i0) { goto l16; }
+i0 = v8;
+i1 = UINT32_C(89);
+i0 = (i0 != i1);
+if (i0) { goto l16; }
+j0 = v17;
+j1 = UINT64_C(19);
+i0 = (j0 < j1);
+if (i0) { goto l16; }
+j0 = v21;
+p7 = read_at(j0 + UINT64_C(1), m, 1u);
+i0 = load8(p7 + 0);
+i1 = UINT32_C(255);
+i0 = i0 & i1;
+i1 = UINT32_C(45);
+i0 = (i0 != i1);
+if (i0) { goto l16; }
+j0 = v9;
+p8 = read_at(j0 + UINT64_C(4), m, 1u);
+i0 = load8(p8 + 0);
+i1 = UINT32_C(45);
+i0 = (i0 != i1);
+if (i0) { goto l16; }
+j0 = v9;
+p9 = read_at(j0 + UINT64_C(7), m, 1u);
+i0 = load8(p9 + 0);
+i1 = UINT32_C(45);
+i0 = (i0 != i1);
+if (i0) { goto l16; }
+j0 = v9;
+p10 = read_at(j0 + UINT64_C(13), m, 1u);
+i0 = load8(p10 + 0);
+i1 = UINT32_C(58);
+i0 = (i0 != i1);
+if (i0) { goto l16; }
+j0 = v9;
+p11 = read_at(j0 + UINT64_C(16), m, 1u);
+i0 = load8(p11 + 0);
+i1 = UINT32_C(58);
+i0 = (i0 != i1);
+if (i0) { goto l16; }
+i0 = v11;
+i1 = UINT32_C(255);
+i0 = i0 & i1;
+i1 = UINT32_C(9);
+i0 = (i0 > i1);
+if (i0) { goto l16; }
+j0 = v9;
+p12 = read_at(j0 + UINT64_C(1), m, 1u);
+i0 = load8(p12 + 0);
+i1 = UINT32_C(4294967248);
+i0 = i0 + i1;
+v8 = i0;
+i1 = UINT32_C(255);
+i0 = i0 & i1;
+i1 = UINT32_C(9);
+i0 = (i0 > i1);
+if (i0) { goto l16; }
+j0 = v9;
+p13 = read_at(j0 + UINT64_C(2), m, 1u);
+i0 = load8(p13 + 0);
+i1 = UINT32_C(4294967248);
+i0 = i0 + i1;
+v14 = i0;
+i1 = UINT32_C(255);
+i0 = i0 & i1;
+i1 = UINT32_C(9);
+i0 = (i0 > i1);
+if (i0) { goto l16; }
+j0 = v9;
+p14 = read_at(j0 + UINT64_C(3), m, 1u);
+i0 = load8(p14 + 0);
+i1 = UINT32_C(4294967248);
+i0 = i0 + i1;
+v29 = i0;
+i1 = UINT32_C(255);
+i0 = i0 & i1;
+i1 = UINT32_C(9);
+i0 = (i0 > i1);
+if (i0) { goto l16; }
+j0 = v9;
+p15 = read_at(j0 + UINT64_C(5), m, 1u);
+i0 = load8(p15 + 0);
+i1 = UINT32_C(4294967248);
+i0 = i0 + i1;
+v30 = i0;
+i1 = UINT32_C(255);
+i0 = i0 & i1;
+i1 = UINT32_C(9);
+i0 = (i0 > i1);
+if (i0) { goto l16; }
+j0 = v9;
+p16 = read_at(j0 + UINT64_C(6), m, 1u);
+i0 = load8(p16 + 0);
+i1 = UINT32_C(4294967248);
+i0 = i0 + i1;
+v31 = i0;
+i1 = UINT32_C(255);
+i0 = i0 & i1;
+i1 = UINT32_C(9);
+i0 = (i0 > i1);
+if (i0) { goto l16; }
+j0 = v9;
+p17 = read_at(j0 + UINT64_C(8), m, 1u);
+i0 = load8(p17 + 0);
+i1 = UINT32_C(4294967248);
+i0 = i0 + i1;
+v32 = i0;
+i1 = UINT32_C(255);
+i0 = i0 & i1;
+i1 = UINT32_C(9);
+i0 = (i0 > i1);
+if (i0) { goto l16; }
+j0 = v9;
+p18 = read_at(j0 + UINT64_C(9), m, 1u);
+i0 = load8(p18 + 0);
+i1 = UINT32_C(4294967248);
+i0 = i0 + i1;
+v33 = i0;
+i1 = UINT32_C(255);
+i0 = i0 & i1;
+i1 = UINT32_C(9);
+i0 = (i0 > i1);
+if (i0) { goto l16; }
+j0 = v9;
+p19 = read_at(j0 + UINT64_C(11), m, 1u);
+i0 = load8(p19 + 0);
+i1 = UINT32_C(4294967248);
+i0 = i0 + i1;
+v34 = i0;
+i1 = UINT32_C(255);
+i0 = i0 & i1;
+i1 = UINT32_C(9);
+i0 = (i0 > i1);
+if (i0) { goto l16; }
+j0 = v9;
+p20 = read_at(j0 + UINT64_C(12), m, 1u);
+i0 = load8(p20 + 0);
+i1 = UINT32_C(4294967248);
+i0 = i0 + i1;
+v35 = i0;
+i1 = UINT32_C(255);
+i0 = i0 & i1;
+i1 = UINT32_C(9);
+i0 = (i0 > i1);
+if (i0) { goto l16; }
+j0 = v9;
+p21 = read_at(j0 + UINT64_C(14), m, 1u);
+i0 = load8(p21 + 0);
+i1 = UINT32_C(4294967248);
+i0 = i0 + i1;
+v36 = i0;
+i1 = UINT32_C(255);
+i0 = i0 & i1;
+i1 = UINT32_C(9);
+i0 = (i0 > i1);
+if (i0) { goto l16; }
+j0 = v9;
+p22 = read_at(j0 + UINT64_C(15), m, 1u);
+i0 = load8(p22 + 0);
+i1 = UINT32_C(4294967248);
+i0 = i0 + i1;
+v37 = i0;
+i1 = UINT32_C(255);
+i0 = i0 & i1;
+i1 = UINT32_C(9);
+i0 = (i0 > i1);
+if (i0) { goto l16; }
+j0 = v9;
+p23 = read_at(j0 + UINT64_C(17), m, 1u);
+i0 = load8(p23 + 0);
+i1 = UINT32_C(4294967248);
+i0 = i0 + i1;
+v38 = i0;
+i1 = UINT32_C(255);
+i0 = i0 & i1;
+i1 = UINT32_C(9);
+i0 = (i0 > i1);
+if (i0) { goto l16; }
+j0 = v9;
+p24 = read_at(j0 + UINT64_C(18), m, 1u);
+i0 = load8(p24 + 0);
+i1 = UINT32_C(4294967248);
+i0 = i0 + i1;
+v39 = i0;
+i1 = UINT32_C(255);
+i0 = i0 & i1;
+i1 = UINT32_C(9);
+i0 = (i0 > i1);
+if (i0) { goto l16; }
+j0 = v9;
+p25 = read_at(j0 + UINT64_C(10), m, 1u);
+i0 = load8(p25 + 0);
+i0 = fio_log_clock_is_gap(m, i0);
+i0 = (i0 == 0);
+if (i0) { goto l16; }
+i0 = v30;
+i1 = UINT32_C(10);
+i0 = i0 * i1;
+i1 = v31;
+i0 = i0 + i1;
+j0 = (uint64_t)i0;
+j1 = UINT64_C(255);
+j0 = j0 & j1;
+v22 = j0;
+i0 = v32;
+i1 = UINT32_C(10);
+i0 = i0 * i1;
+i1 = v33;
+i0 = i0 + i1;
+j0 = (uint64_t)i0;
+j1 = UINT64_C(255);
+j0 = j0 & j1;
+v24 = j0;
+i0 = v34;
+i1 = UINT32_C(10);
+i0 = i0 * i1;
+i1 = v35;
+i0 = i0 + i1;
+j0 = (uint64_t)i0;
+j1 = UINT64_C(255);
+j0 = j0 & j1;
+v25 = j0;
+i0 = v36;
+i1 = UINT32_C(10);
+i0 = i0 * i1;
+i1 = v37;
+i0 = i0 + i1;
+j0 = (uint64_t)i0;
+j1 = UINT64_C(255);
+j0 = j0 & j1;
+v26 = j0;
+i0 = v8;
+i1 = v16;
+i0 = i0 + i1;
+j0 = (uint64_t)i0;
+j1 = UINT64_C(255);
+j0 = j0 & j1;
+j1 = UINT64_C(100);
+j0 = j0 * j1;
+i1 = v14;
+i2 = UINT32_C(10);
+i1 = i1 * i2;
+i2 = v29;
+i1 = i1 + i2;
 j1 = (uint64_t)i1;
 j2 = UINT64_C(255);
 j1 = j1 & j2;
+j0 = j0 + j1;
+v23 = j0;
+i0 = v38;
+i1 = UINT32_C(10);
+i0 = i0 * i1;
+i1 = v39;
+i0 = i0 + i1;
+j0 = (uint64_t)i0;
+j1 = UINT64_C(255);
+j0 = j0 & j1;
+v27 = j0;
+j0 = UINT64_C(0);
+v28 = j0;
+j0 = v15;
+v13 = j0;
+goto l15;
+l16:;
+j0 = UINT64_C(0);
+v22 = j0;
+j0 = UINT64_C(1970);
+v23 = j0;
+j0 = UINT64_C(0);
+v24 = j0;
+j0 = UINT64_C(0);
+v25 = j0;
+j0 = UINT64_C(0);
+v26 = j0;
+j0 = UINT64_C(0);
+v27 = j0;
+j0 = UINT64_C(0);
+v28 = j0;
+j0 = v7;
+v40 = j0;
+j0 = UINT64_C(0);
+v41 = j0;
+l19:;
+j0 = UINT64_C(14);
+v42 = j0;
+j0 = v21;
+j1 = v41;
+j0 = j0 + j1;
+p26 = read_at(j0, m, 1u);
+i0 = load8(p26 + 0);
+v14 = i0;
+i1 = UINT32_C(4294967228);
+i0 = i0 + i1;
+switch (i0) {
+case 0:
+goto l24;
+case 1:
+goto l22;
+case 2:
+goto l26;
+case 3:
+goto l25;
+case 4:
+goto l25;
+case 5:
+goto l25;
+case 6:
+goto l25;
+case 7:
+goto l25;
+case 8:
+goto l25;
+case 9:
+goto l24;
+case 10:
+goto l21;
+case 11:
+goto l25;
+case 12:
+goto l25;
+case 13:
+goto l25;
+case 14:
+goto l25;
+case 15:
+goto l25;
+case 16:
+goto l25;
+case 17:
+goto l25;
+case 18:
+goto l25;
+case 19:
+goto l25;
+case 20:
+goto l25;
+case 21:
+goto l23;
+case 22:
+goto l25;
+case 23:
+goto l25;
+case 24:
+goto l25;
+case 25:
+goto l25;
+case 26:
+goto l25;
+case 27:
+goto l27;
+case 28:
+goto l25;
+case 29:
+goto l25;
+case 30:
+goto l25;
+case 31:
+goto l25;
+case 32:
+goto l25;
+case 33:
+goto l25;
+case 34:
+goto l25;
+case 35:
+goto l25;
+case 36:
+goto l24;
+case 37:
+goto l25;
+case 38:
+goto l25;
+case 39:
+goto l25;
+case 40:
+goto l25;
+case 41:
+goto l24;
+case 42:
+goto l25;
+case 43:
+goto l25;
+case 44:
+goto l25;
+case 45:
+goto l25;
+case 46:
+goto l25;
+case 47:
+goto l24;
+default:
+goto l25;
+}
+l27:;
+j0 = v40;
+v13 = j0;
+j0 = v2;
+j1 = v40;
+i0 = (j0 <= j1);
+if (i0) { goto l28; }
+j0 = v40;
+v13 = j0;
+l29:;
+j0 = v1;
+j1 = v13;
+j0 = j0 + j1;
+p27 = read_at(j0, m, 1u);
+i0 = load8(p27 + 0);
+v8 = i0;
+i1 = UINT32_C(59);
+i0 = (i0 > i1);
+if (i0) { goto l31; }
+j0 = UINT64_C(1);
+i1 = v8;
+j1 = (uint64_t)i1;
 j0 = j0 << (j1 & 63);
 j1 = UINT64_C(576460756598391296);
 j0 = j0 & j1;
 j1 = UINT64_C(0);
-i0 = (j0 == j1);
-if (i0) { goto l4; }
-goto l3;
-l5:;
-trap();
-l4:;
-i0 = v1;
+i0 = (j0 != j1);
+if (i0) { goto l30; }
+l31:;
+i0 = v8;
 i1 = UINT32_C(4294967212);
 i0 = i0 + i1;
 switch (i0) {
 case 0:
-goto l3;
+goto l30;
 case 1:
-goto l6;
+goto l32;
 case 2:
-goto l6;
+goto l32;
 case 3:
-goto l6;
+goto l32;
 case 4:
-goto l6;
+goto l32;
 case 5:
-goto l6;
+goto l32;
 case 6:
-goto l6;
+goto l32;
 case 7:
-goto l6;
+goto l32;
 case 8:
-goto l6;
+goto l32;
 case 9:
-goto l6;
+goto l32;
 case 10:
-goto l6;
+goto l32;
 case 11:
-goto l3;
+goto l30;
 default:
-goto l6;
+goto l32;
 }
-l6:;
-i0 = UINT32_C(0);
-v1 = i0;
-i0 = v0;
+l32:;
+i0 = v8;
 i1 = UINT32_C(254);
 i0 = i0 & i1;
 i1 = UINT32_C(44);
 i0 = (i0 != i1);
-if (i0) { goto l2; }
-l3:;
+if (i0) { goto l28; }
+l30:;
+j0 = v2;
+j1 = v13;
+j2 = UINT64_C(1);
+j1 = j1 + j2;
+v13 = j1;
+i0 = (j0 != j1);
+if (i0) { goto l29; }
+j0 = v2;
+v13 = j0;
+l28:;
+j0 = v40;
+j1 = v13;
+i0 = (j0 < j1);
+if (i0) { goto l20; }
+goto l14;
+l26:;
+j0 = UINT64_C(9);
+v42 = j0;
+goto l22;
+l25:;
+i0 = UINT32_C(0);
+v8 = i0;
+j0 = v2;
+j1 = v40;
+i0 = (j0 <= j1);
+if (i0) { goto l33; }
+j0 = v1;
+j1 = v40;
+j0 = j0 + j1;
+p28 = read_at(j0, m, 1u);
+i0 = load8(p28 + 0);
+v8 = i0;
+l33:;
+i0 = v8;
+i1 = UINT32_C(255);
+i0 = i0 & i1;
+i1 = v14;
+i0 = (i0 != i1);
+if (i0) { goto l14; }
+j0 = v2;
+j1 = v40;
+j2 = UINT64_C(1);
+j1 = j1 + j2;
+v12 = j1;
+j2 = v2;
+j3 = v12;
+i2 = (j2 < j3);
+j0 = i2 ? j0 : j1;
+v13 = j0;
+goto l20;
+l24:;
+j0 = UINT64_C(2);
+v42 = j0;
+goto l22;
+l23:;
+j0 = UINT64_C(4);
+v42 = j0;
+l22:;
+j0 = UINT64_C(0);
+v43 = j0;
+j0 = v40;
+v13 = j0;
+j0 = v2;
+j1 = v40;
+i0 = (j0 <= j1);
+v29 = i0;
+if (i0) { goto l34; }
+j0 = v1;
+j1 = v40;
+j0 = j0 + j1;
+v44 = j0;
+j0 = UINT64_C(0);
+v43 = j0;
+j0 = UINT64_C(0);
+v12 = j0;
+l36:;
+j0 = v44;
+j1 = v12;
+j0 = j0 + j1;
+p29 = read_at(j0, m, 1u);
+i0 = load8(p29 + 0);
+i1 = UINT32_C(4294967248);
+i0 = i0 + i1;
+v8 = i0;
+i1 = UINT32_C(255);
+i0 = i0 & i1;
+i1 = UINT32_C(9);
+i0 = (i0 > i1);
+if (i0) { goto l35; }
+j0 = v43;
+j1 = UINT64_C(10);
+j0 = j0 * j1;
+i1 = v8;
+j1 = (uint64_t)i1;
+j2 = UINT64_C(255);
+j1 = j1 & j2;
+j0 = j0 + j1;
+v43 = j0;
+j0 = v12;
+j1 = UINT64_C(1);
+j0 = j0 + j1;
+v12 = j0;
+j1 = v40;
+j0 = j0 + j1;
+v13 = j0;
+j1 = v2;
+i0 = (j0 >= j1);
+if (i0) { goto l34; }
+j0 = v12;
+j1 = v42;
+i0 = (j0 < j1);
+if (i0) { goto l36; }
+goto l34;
+l35:;
+j0 = v40;
+j1 = v12;
+j0 = j0 + j1;
+v13 = j0;
+l34:;
+j0 = v13;
+j1 = v40;
+j0 = j0 - j1;
+v12 = j0;
+i0 = v14;
+i1 = UINT32_C(4294967227);
+i0 = i0 + i1;
+switch (i0) {
+case 0:
+goto l42;
+case 1:
+goto l41;
+case 2:
+goto l38;
+case 3:
+goto l38;
+case 4:
+goto l38;
+case 5:
+goto l38;
+case 6:
+goto l38;
+case 7:
+goto l38;
+case 8:
+goto l38;
+case 9:
+goto l38;
+case 10:
+goto l38;
+case 11:
+goto l38;
+case 12:
+goto l38;
+case 13:
+goto l38;
+case 14:
+goto l38;
+case 15:
+goto l38;
+case 16:
+goto l38;
+case 17:
+goto l38;
+case 18:
+goto l38;
+case 19:
+goto l38;
+case 20:
+goto l40;
+case 21:
+goto l38;
+case 22:
+goto l38;
+case 23:
+goto l38;
+case 24:
+goto l38;
+case 25:
+goto l38;
+case 26:
+goto l38;
+case 27:
+goto l38;
+case 28:
+goto l38;
+case 29:
+goto l38;
+case 30:
+goto l38;
+case 31:
+goto l38;
+case 32:
+goto l38;
+case 33:
+goto l38;
+case 34:
+goto l38;
+case 35:
+goto l38;
+case 36:
+goto l38;
+case 37:
+goto l38;
+case 38:
+goto l38;
+case 39:
+goto l38;
+case 40:
+goto l39;
+case 41:
+goto l38;
+case 42:
+goto l38;
+case 43:
+goto l38;
+case 44:
+goto l38;
+case 45:
+goto l38;
+case 46:
+goto l39;
+default:
+goto l38;
+}
+l42:;
+i0 = UINT32_C(0);
+v8 = i0;
+j0 = v12;
+j1 = UINT64_C(18446744073709551606);
+j0 = j0 + j1;
+v42 = j0;
+j1 = UINT64_C(3);
+i0 = (j0 > j1);
+if (i0) { goto l37; }
+j0 = v42;
+i0 = (uint32_t)j0;
+switch (i0) {
+case 0:
+goto l43;
+case 1:
+goto l37;
+case 2:
+goto l37;
+case 3:
+goto l43;
+default:
+goto l43;
+}
+l43:;
+i0 = v29;
+if (i0) { goto l37; }
+j0 = v1;
+j1 = v40;
+j0 = j0 + j1;
+p30 = read_at(j0, m, 1u);
+i0 = load8(p30 + 0);
+i1 = UINT32_C(49);
+i0 = (i0 == i1);
+v8 = i0;
+goto l37;
+l41:;
+i0 = UINT32_C(0);
+v8 = i0;
+j0 = v13;
+j1 = v40;
+i0 = (j0 == j1);
+if (i0) { goto l37; }
+j0 = v13;
+j1 = v2;
+i0 = (j0 >= j1);
+if (i0) { goto l37; }
+j0 = v13;
+j1 = v6;
+i0 = (j0 >= j1);
+if (i0) { goto l37; }
+j0 = v1;
+j1 = v13;
+j0 = j0 + j1;
+v40 = j0;
+p31 = read_at(j0, m, 1u);
+i0 = load8(p31 + 0);
+i1 = UINT32_C(255);
+i0 = i0 & i1;
+i1 = UINT32_C(46);
+i0 = (i0 != i1);
+if (i0) { goto l37; }
+j0 = v40;
+j1 = UINT64_C(1);
+j0 = j0 + j1;
+p32 = read_at(j0, m, 1u);
+i0 = load8(p32 + 0);
+i1 = UINT32_C(4294967248);
+i0 = i0 + i1;
+i1 = UINT32_C(255);
+i0 = i0 & i1;
+i1 = UINT32_C(10);
+i0 = (i0 < i1);
+v8 = i0;
+goto l37;
+l40:;
+j0 = v12;
+j1 = UINT64_C(4);
+i0 = (j0 == j1);
+v8 = i0;
+goto l37;
+l39:;
+j0 = v12;
+j1 = UINT64_C(2);
+i0 = (j0 == j1);
+v8 = i0;
+goto l37;
+l38:;
+j0 = v13;
+j1 = v40;
+i0 = (j0 != j1);
+v8 = i0;
+l37:;
+j0 = v12;
+j1 = UINT64_C(13);
+i0 = (j0 == j1);
+if (i0) { goto l45; }
+j0 = v43;
+v12 = j0;
+goto l44;
+l45:;
+j0 = v43;
+j1 = v43;
+j2 = UINT64_C(1000);
+j1 = divide64(j1, j2);
+v12 = j1;
+j2 = UINT64_C(1000);
+j1 = j1 * j2;
+j0 = j0 - j1;
+j1 = UINT64_C(1000);
+j0 = j0 * j1;
+v28 = j0;
+l44:;
+j0 = v12;
+v43 = j0;
+i0 = v14;
+i1 = UINT32_C(4294967228);
+i0 = i0 + i1;
+switch (i0) {
+case 0:
+goto l50;
+case 1:
+goto l47;
+case 2:
+goto l47;
+case 3:
+goto l47;
+case 4:
+goto l47;
+case 5:
+goto l47;
+case 6:
+goto l47;
+case 7:
+goto l47;
+case 8:
+goto l47;
+case 9:
+goto l51;
+case 10:
+goto l47;
+case 11:
+goto l47;
+case 12:
+goto l47;
+case 13:
+goto l47;
+case 14:
+goto l47;
+case 15:
+goto l47;
+case 16:
+goto l47;
+case 17:
+goto l47;
+case 18:
+goto l47;
+case 19:
+goto l47;
+case 20:
+goto l47;
+case 21:
+goto l46;
+case 22:
+goto l47;
+case 23:
+goto l47;
+case 24:
+goto l47;
+case 25:
+goto l47;
+case 26:
+goto l47;
+case 27:
+goto l47;
+case 28:
+goto l47;
+case 29:
+goto l47;
+case 30:
+goto l47;
+case 31:
+goto l47;
+case 32:
+goto l47;
+case 33:
+goto l47;
+case 34:
+goto l47;
+case 35:
+goto l47;
+case 36:
+goto l49;
+case 37:
+goto l47;
+case 38:
+goto l47;
+case 39:
+goto l47;
+case 40:
+goto l47;
+case 41:
+goto l48;
+default:
+goto l47;
+}
+l51:;
+j0 = v23;
+v43 = j0;
+j0 = v12;
+v22 = j0;
+goto l46;
+l50:;
+j0 = v23;
+v43 = j0;
+j0 = v12;
+v24 = j0;
+goto l46;
+l49:;
+j0 = v23;
+v43 = j0;
+j0 = v12;
+v25 = j0;
+goto l46;
+l48:;
+j0 = v23;
+v43 = j0;
+j0 = v12;
+v26 = j0;
+goto l46;
+l47:;
+j0 = v23;
+v43 = j0;
+j0 = v12;
+v27 = j0;
+l46:;
+j0 = v43;
+v23 = j0;
+i0 = v8;
+if (i0) { goto l20; }
+goto l14;
+l21:;
+j0 = v2;
+j1 = v40;
+j0 = j0 - j1;
+j1 = UINT64_C(3);
+i0 = (j0 < j1);
+if (i0) { goto l14; }
+j0 = UINT64_C(2);
+v22 = j0;
+j0 = v1;
+j1 = v40;
+j0 = j0 + j1;
+v12 = j0;
+j1 = UINT64_C(2);
+j0 = j0 + j1;
+p33 = read_at(j0 + UINT64_C(18446744073709551614), m, 3u);
+i0 = load8(p33 + 2);
+v8 = i0;
+i1 = UINT32_C(32);
+i0 = i0 + i1;
+i1 = v8;
+i2 = v8;
+i3 = UINT32_C(4294967231);
+i2 = i2 + i3;
+i3 = UINT32_C(255);
+i2 = i2 & i3;
+i3 = UINT32_C(26);
+i2 = (i2 < i3);
+i0 = i2 ? i0 : i1;
+v29 = i0;
+j0 = v12;
+j1 = UINT64_C(1);
+j0 = j0 + j1;
+i0 = load8(p33 + 1);
+v8 = i0;
+i1 = UINT32_C(32);
+i0 = i0 + i1;
+i1 = v8;
+i2 = v8;
+i3 = UINT32_C(4294967231);
+i2 = i2 + i3;
+i3 = UINT32_C(255);
+i2 = i2 & i3;
+i3 = UINT32_C(26);
+i2 = (i2 < i3);
+i0 = i2 ? i0 : i1;
+v14 = i0;
+j0 = v12;
+i0 = load8(p33 + 0);
+v8 = i0;
+i1 = UINT32_C(32);
+i0 = i0 + i1;
+i1 = v8;
+i2 = v8;
+i3 = UINT32_C(4294967231);
+i2 = i2 + i3;
+i3 = UINT32_C(255);
+i2 = i2 & i3;
+i3 = UINT32_C(26);
+i2 = (i2 < i3);
+i0 = i2 ? i0 : i1;
+i1 = UINT32_C(255);
+i0 = i0 & i1;
+i1 = UINT32_C(4294967199);
+i0 = i0 + i1;
+switch (i0) {
+case 0:
+goto l57;
+case 1:
+goto l14;
+case 2:
+goto l14;
+case 3:
+goto l53;
+case 4:
+goto l14;
+case 5:
+goto l59;
+case 6:
+goto l14;
+case 7:
+goto l14;
+case 8:
+goto l14;
+case 9:
+goto l60;
+case 10:
+goto l14;
+case 11:
+goto l14;
+case 12:
+goto l58;
+case 13:
+goto l54;
+case 14:
+goto l55;
+case 15:
+goto l14;
+case 16:
+goto l14;
+case 17:
+goto l14;
+case 18:
+goto l56;
+default:
+goto l14;
+}
+l60:;
+i0 = v14;
+i1 = UINT32_C(255);
+i0 = i0 & i1;
+v8 = i0;
+i1 = UINT32_C(117);
+i0 = (i0 == i1);
+if (i0) { goto l61; }
+i0 = v8;
+i1 = UINT32_C(97);
+i0 = (i0 != i1);
+if (i0) { goto l14; }
+i0 = v29;
+i1 = UINT32_C(255);
+i0 = i0 & i1;
+i1 = UINT32_C(110);
+i0 = (i0 != i1);
+if (i0) { goto l14; }
+j0 = UINT64_C(1);
+v22 = j0;
+goto l52;
+l61:;
+j0 = UINT64_C(6);
+v22 = j0;
+i0 = v29;
+i1 = UINT32_C(255);
+i0 = i0 & i1;
+i1 = UINT32_C(4294967188);
+i0 = i0 + i1;
+switch (i0) {
+case 0:
+goto l62;
+case 1:
+goto l14;
+case 2:
+goto l52;
+default:
+goto l14;
+}
+l62:;
+j0 = UINT64_C(7);
+v22 = j0;
+goto l52;
+l59:;
+i0 = v14;
+i1 = UINT32_C(255);
+i0 = i0 & i1;
+i1 = UINT32_C(101);
+i0 = (i0 != i1);
+if (i0) { goto l14; }
+i0 = v29;
+i1 = UINT32_C(255);
+i0 = i0 & i1;
+i1 = UINT32_C(98);
+i0 = (i0 == i1);
+if (i0) { goto l52; }
+goto l14;
+l58:;
+i0 = v14;
+i1 = UINT32_C(255);
+i0 = i0 & i1;
+i1 = UINT32_C(97);
+i0 = (i0 != i1);
+if (i0) { goto l14; }
+j0 = UINT64_C(3);
+v22 = j0;
+i0 = v29;
+i1 = UINT32_C(255);
+i0 = i0 & i1;
+i1 = UINT32_C(4294967182);
+i0 = i0 + i1;
+switch (i0) {
+case 0:
+goto l52;
+case 1:
+goto l14;
+case 2:
+goto l14;
+case 3:
+goto l14;
+case 4:
+goto l14;
+case 5:
+goto l14;
+case 6:
+goto l14;
+case 7:
+goto l63;
+default:
+goto l14;
+}
+l63:;
+j0 = UINT64_C(5);
+v22 = j0;
+goto l52;
+l57:;
+i0 = v14;
+i1 = UINT32_C(255);
+i0 = i0 & i1;
+i1 = UINT32_C(4294967184);
+i0 = i0 + i1;
+switch (i0) {
+case 0:
+goto l65;
+case 1:
+goto l14;
+case 2:
+goto l14;
+case 3:
+goto l14;
+case 4:
+goto l14;
+case 5:
+goto l64;
+default:
+goto l14;
+}
+l65:;
+i0 = v29;
+i1 = UINT32_C(255);
+i0 = i0 & i1;
+i1 = UINT32_C(114);
+i0 = (i0 != i1);
+if (i0) { goto l14; }
+j0 = UINT64_C(4);
+v22 = j0;
+goto l52;
+l64:;
+i0 = v29;
+i1 = UINT32_C(255);
+i0 = i0 & i1;
+i1 = UINT32_C(103);
+i0 = (i0 != i1);
+if (i0) { goto l14; }
+j0 = UINT64_C(8);
+v22 = j0;
+goto l52;
+l56:;
+i0 = v14;
+i1 = UINT32_C(255);
+i0 = i0 & i1;
+i1 = UINT32_C(101);
+i0 = (i0 != i1);
+if (i0) { goto l14; }
+i0 = v29;
+i1 = UINT32_C(255);
+i0 = i0 & i1;
+i1 = UINT32_C(112);
+i0 = (i0 != i1);
+if (i0) { goto l14; }
+j0 = UINT64_C(9);
+v22 = j0;
+goto l52;
+l55:;
+i0 = v14;
+i1 = UINT32_C(255);
+i0 = i0 & i1;
+i1 = UINT32_C(99);
+i0 = (i0 != i1);
+if (i0) { goto l14; }
+i0 = v29;
+i1 = UINT32_C(255);
+i0 = i0 & i1;
+i1 = UINT32_C(116);
+i0 = (i0 != i1);
+if (i0) { goto l14; }
+j0 = UINT64_C(10);
+v22 = j0;
+goto l52;
+l54:;
+i0 = v14;
+i1 = UINT32_C(255);
+i0 = i0 & i1;
+i1 = UINT32_C(111);
+i0 = (i0 != i1);
+if (i0) { goto l14; }
+i0 = v29;
+i1 = UINT32_C(255);
+i0 = i0 & i1;
+i1 = UINT32_C(118);
+i0 = (i0 != i1);
+if (i0) { goto l14; }
+j0 = UINT64_C(11);
+v22 = j0;
+goto l52;
+l53:;
+i0 = v14;
+i1 = UINT32_C(255);
+i0 = i0 & i1;
+i1 = UINT32_C(101);
+i0 = (i0 != i1);
+if (i0) { goto l14; }
+i0 = v29;
+i1 = UINT32_C(255);
+i0 = i0 & i1;
+i1 = UINT32_C(99);
+i0 = (i0 != i1);
+if (i0) { goto l14; }
+j0 = UINT64_C(12);
+v22 = j0;
+l52:;
+j0 = v40;
+j1 = UINT64_C(3);
+j0 = j0 + j1;
+v13 = j0;
+l20:;
+j0 = v13;
+v40 = j0;
+j0 = v41;
+j1 = UINT64_C(1);
+j0 = j0 + j1;
+v41 = j0;
+j1 = v20;
+i0 = (j0 != j1);
+if (i0) { goto l19; }
+l15:;
+j0 = v13;
+j1 = v2;
+i0 = (j0 != j1);
+if (i0) { goto l67; }
+j0 = v2;
+v13 = j0;
+goto l66;
+l67:;
+j0 = v1;
+j1 = v13;
+j0 = j0 + j1;
+p34 = read_at(j0, m, 1u);
+i0 = load8(p34 + 0);
+v14 = i0;
+i1 = UINT32_C(58);
+i0 = (i0 > i1);
+if (i0) { goto l68; }
+j0 = UINT64_C(0);
+v40 = j0;
+j0 = UINT64_C(1);
+i1 = v14;
+j1 = (uint64_t)i1;
+j0 = j0 << (j1 & 63);
+j1 = UINT64_C(288318337081933824);
+j0 = j0 & j1;
+j1 = UINT64_C(0);
+i0 = (j0 == j1);
+if (i0) { goto l68; }
+j0 = v13;
+j1 = UINT64_C(1);
+j0 = j0 + j1;
+v43 = j0;
+j1 = v2;
+i0 = (j0 >= j1);
+if (i0) { goto l69; }
+j0 = v5;
+j1 = v13;
+j0 = j0 + j1;
+v42 = j0;
+j0 = UINT64_C(0);
+v12 = j0;
+j0 = UINT64_C(0);
+v40 = j0;
+l71:;
+j0 = v42;
+j1 = v12;
+j0 = j0 + j1;
+p35 = read_at(j0, m, 1u);
+i0 = load8(p35 + 0);
+i1 = UINT32_C(4294967248);
+i0 = i0 + i1;
+v8 = i0;
+i1 = UINT32_C(255);
+i0 = i0 & i1;
+i1 = UINT32_C(9);
+i0 = (i0 > i1);
+if (i0) { goto l70; }
+j0 = v40;
+j1 = UINT64_C(10);
+j0 = j0 * j1;
+i1 = v8;
+j1 = (uint64_t)i1;
+j2 = UINT64_C(255);
+j1 = j1 & j2;
+j0 = j0 + j1;
+v40 = j0;
+j0 = v12;
+j1 = UINT64_C(1);
+j0 = j0 + j1;
+v43 = j0;
+j0 = v13;
+j1 = v12;
+j0 = j0 + j1;
+j1 = UINT64_C(2);
+j0 = j0 + j1;
+j1 = v2;
+i0 = (j0 >= j1);
+if (i0) { goto l72; }
+j0 = v43;
+v12 = j0;
+j0 = v43;
+j1 = UINT64_C(9);
+i0 = (j0 < j1);
+if (i0) { goto l71; }
+l72:;
+j0 = v13;
+j1 = v43;
+j0 = j0 + j1;
+j1 = UINT64_C(1);
+j0 = j0 + j1;
+v43 = j0;
+goto l69;
+l70:;
+j0 = v13;
+j1 = v12;
+j0 = j0 + j1;
+j1 = UINT64_C(1);
+j0 = j0 + j1;
+v43 = j0;
+l69:;
+j0 = v43;
+j1 = v13;
+j2 = UINT64_C(18446744073709551615);
+j1 = j1 ^ j2;
+j0 = j0 + j1;
+v12 = j0;
+i0 = (j0 == 0);
+if (i0) { goto l68; }
+i0 = v14;
+i1 = UINT32_C(58);
+i0 = (i0 != i1);
+if (i0) { goto l73; }
+j0 = v12;
+j1 = UINT64_C(3);
+i0 = (j0 != j1);
+if (i0) { goto l68; }
+l73:;
+j0 = v12;
+j1 = UINT64_C(18446744073709551615);
+j0 = j0 + j1;
+v12 = j0;
+j1 = UINT64_C(8);
+i0 = (j0 > j1);
+if (i0) { goto l74; }
+j0 = v12;
+i0 = (uint32_t)j0;
+switch (i0) {
+case 0:
+goto l82;
+case 1:
+goto l81;
+case 2:
+goto l80;
+case 3:
+goto l79;
+case 4:
+goto l78;
+case 5:
+goto l74;
+case 6:
+goto l77;
+case 7:
+goto l76;
+case 8:
+goto l75;
+default:
+goto l82;
+}
+l82:;
+j0 = v40;
+j1 = UINT64_C(100000);
+j0 = j0 * j1;
+v40 = j0;
+goto l74;
+l81:;
+j0 = v40;
+j1 = UINT64_C(10000);
+j0 = j0 * j1;
+v40 = j0;
+goto l74;
+l80:;
+j0 = v40;
+j1 = UINT64_C(1000);
+j0 = j0 * j1;
+v40 = j0;
+goto l74;
+l79:;
+j0 = v40;
+j1 = UINT64_C(100);
+j0 = j0 * j1;
+v40 = j0;
+goto l74;
+l78:;
+j0 = v40;
+j1 = UINT64_C(10);
+j0 = j0 * j1;
+v40 = j0;
+goto l74;
+l77:;
+j0 = v40;
+j1 = UINT64_C(10);
+j0 = divide64(j0, j1);
+v40 = j0;
+goto l74;
+l76:;
+j0 = v40;
+j1 = UINT64_C(100);
+j0 = divide64(j0, j1);
+v40 = j0;
+goto l74;
+l75:;
+j0 = v40;
+j1 = UINT64_C(1000);
+j0 = divide64(j0, j1);
+v40 = j0;
+l74:;
+j0 = v43;
+j1 = v2;
+i0 = (j0 < j1);
+if (i0) { goto l83; }
+j0 = v40;
+v28 = j0;
+j0 = v43;
+v13 = j0;
+goto l68;
+l83:;
+j0 = v1;
+j1 = v43;
+j0 = j0 + j1;
+v42 = j0;
+j0 = UINT64_C(0);
+v12 = j0;
+l86:;
+j0 = v42;
+j1 = v12;
+j0 = j0 + j1;
+p36 = read_at(j0, m, 1u);
+i0 = load8(p36 + 0);
+i1 = UINT32_C(4294967248);
+i0 = i0 + i1;
+i1 = UINT32_C(255);
+i0 = i0 & i1;
+i1 = UINT32_C(9);
+i0 = (i0 > i1);
+if (i0) { goto l85; }
+j0 = v12;
+j1 = UINT64_C(1);
+j0 = j0 + j1;
+v12 = j0;
+j1 = v43;
+j0 = j0 + j1;
+v13 = j0;
+j1 = v2;
+i0 = (j0 >= j1);
+if (i0) { goto l84; }
+j0 = v12;
+j1 = UINT64_C(9);
+i0 = (j0 < j1);
+if (i0) { goto l86; }
+goto l84;
+l85:;
+j0 = v43;
+j1 = v12;
+j0 = j0 + j1;
+v13 = j0;
+l84:;
+j0 = v40;
+v28 = j0;
+l68:;
+j0 = v2;
+j1 = v13;
+j0 = j0 - j1;
+v43 = j0;
+j0 = v2;
+j1 = v13;
+i0 = (j0 == j1);
+if (i0) { goto l87; }
+j0 = v1;
+j1 = v13;
+j0 = j0 + j1;
+v12 = j0;
+p37 = read_at(j0, m, 1u);
+i0 = load8(p37 + 0);
+v8 = i0;
+j0 = v43;
+j1 = UINT64_C(1);
+i0 = (j0 > j1);
+if (i0) { goto l93; }
+i0 = v8;
+i1 = UINT32_C(4294967206);
+i0 = i0 + i1;
+switch (i0) {
+case 0:
+goto l87;
+case 1:
+goto l91;
+case 2:
+goto l91;
+case 3:
+goto l91;
+case 4:
+goto l91;
+case 5:
+goto l14;
+default:
+goto l92;
+}
+l93:;
+i0 = v8;
+i1 = UINT32_C(4294967264);
+i0 = i0 + i1;
+switch (i0) {
+case 0:
+goto l94;
+case 1:
+goto l91;
+case 2:
+goto l91;
+case 3:
+goto l91;
+case 4:
+goto l91;
+case 5:
+goto l91;
+case 6:
+goto l91;
+case 7:
+goto l91;
+case 8:
+goto l91;
+case 9:
+goto l91;
+case 10:
+goto l91;
+case 11:
+goto l91;
+case 12:
+goto l91;
+case 13:
+goto l91;
+case 14:
+goto l95;
+case 15:
+goto l91;
+case 16:
+goto l91;
+case 17:
+goto l91;
+case 18:
+goto l91;
+case 19:
+goto l91;
+case 20:
+goto l91;
+case 21:
+goto l91;
+case 22:
+goto l91;
+case 23:
+goto l91;
+case 24:
+goto l91;
+case 25:
+goto l91;
+case 26:
+goto l96;
+default:
+goto l97;
+}
+l97:;
+i0 = v8;
+i1 = UINT32_C(4294967206);
+i0 = i0 + i1;
+switch (i0) {
+case 0:
+goto l87;
+case 1:
+goto l91;
+case 2:
+goto l91;
+case 3:
+goto l91;
+case 4:
+goto l91;
+case 5:
+goto l14;
+default:
+goto l91;
+}
+l96:;
+j0 = v12;
+j1 = UINT64_C(1);
+j0 = j0 + j1;
+p38 = read_at(j0, m, 1u);
+i0 = load8(p38 + 0);
+v8 = i0;
+i1 = UINT32_C(48);
+i0 = (i0 < i1);
+if (i0) { goto l87; }
+i0 = v8;
+i1 = UINT32_C(58);
+i0 = (i0 < i1);
+if (i0) { goto l14; }
+i0 = v8;
+i1 = UINT32_C(65);
+i0 = (i0 < i1);
+if (i0) { goto l87; }
+i0 = v8;
+i1 = UINT32_C(71);
+i0 = (i0 < i1);
+if (i0) { goto l14; }
+i0 = v8;
+i1 = UINT32_C(4294967199);
+i0 = i0 + i1;
+i1 = UINT32_C(255);
+i0 = i0 & i1;
+i1 = UINT32_C(6);
+i0 = (i0 >= i1);
+if (i0) { goto l87; }
+goto l14;
+l95:;
+j0 = v12;
+j1 = UINT64_C(1);
+j0 = j0 + j1;
+p39 = read_at(j0, m, 1u);
+i0 = load8(p39 + 0);
+i1 = UINT32_C(4294967248);
+i0 = i0 + i1;
+i1 = UINT32_C(255);
+i0 = i0 & i1;
+i1 = UINT32_C(10);
+i0 = (i0 >= i1);
+if (i0) { goto l87; }
+goto l14;
+l94:;
+j0 = v43;
+j1 = UINT64_C(18446744073709551614);
+j0 = j0 + j1;
+v40 = j0;
+j1 = UINT64_C(1);
+i0 = (j0 > j1);
+if (i0) { goto l98; }
+j0 = v40;
+i0 = (uint32_t)j0;
+switch (i0) {
+case 0:
+goto l87;
+case 1:
+goto l99;
+default:
+goto l87;
+}
+l99:;
+j0 = v12;
+j1 = UINT64_C(1);
+j0 = j0 + j1;
+p40 = read_at(j0, m, 1u);
+i0 = load8(p40 + 0);
+i1 = UINT32_C(4294967187);
+i0 = i0 + i1;
+v8 = i0;
+i1 = UINT32_C(8);
+i0 = (i0 > i1);
+if (i0) { goto l87; }
 i0 = UINT32_C(1);
-v1 = i0;
+i1 = v8;
+i0 = i0 << (i1 & 31);
+i1 = UINT32_C(259);
+i0 = i0 & i1;
+i0 = (i0 == 0);
+if (i0) { goto l87; }
+j0 = v12;
+j1 = UINT64_C(2);
+j0 = j0 + j1;
+p41 = read_at(j0, m, 1u);
+i0 = load8(p41 + 0);
+i1 = UINT32_C(115);
+i0 = (i0 != i1);
+if (i0) { goto l87; }
+goto l14;
+l98:;
+j0 = v12;
+j1 = UINT64_C(1);
+j0 = j0 + j1;
+p42 = read_at(j0, m, 1u);
+i0 = load8(p42 + 0);
+v8 = i0;
+j0 = v43;
+j1 = UINT64_C(4);
+i0 = (j0 > j1);
+if (i0) { goto l101; }
+i0 = v8;
+i1 = UINT32_C(4294967102);
+i0 = i0 + i1;
+switch (i0) {
+case 0:
+goto l103;
+case 1:
+goto l90;
+case 2:
+goto l90;
+case 3:
+goto l90;
+case 4:
+goto l90;
+case 5:
+goto l90;
+case 6:
+goto l90;
+case 7:
+goto l90;
+case 8:
+goto l90;
+case 9:
+goto l90;
+case 10:
+goto l90;
+case 11:
+goto l90;
+case 12:
+goto l102;
+default:
+goto l100;
+}
+l103:;
+j0 = v12;
+j1 = UINT64_C(2);
+j0 = j0 + j1;
+p43 = read_at(j0, m, 1u);
+i0 = load8(p43 + 0);
+i1 = UINT32_C(181);
+i0 = (i0 != i1);
+if (i0) { goto l87; }
+j0 = v12;
+j1 = UINT64_C(3);
+j0 = j0 + j1;
+p44 = read_at(j0, m, 1u);
+i0 = load8(p44 + 0);
+i1 = UINT32_C(115);
+i0 = (i0 != i1);
+if (i0) { goto l87; }
+goto l14;
+l102:;
+j0 = v12;
+j1 = UINT64_C(2);
+j0 = j0 + j1;
+p45 = read_at(j0, m, 1u);
+i0 = load8(p45 + 0);
+i1 = UINT32_C(188);
+i0 = (i0 != i1);
+if (i0) { goto l87; }
+j0 = v12;
+j1 = UINT64_C(3);
+j0 = j0 + j1;
+p46 = read_at(j0, m, 1u);
+i0 = load8(p46 + 0);
+i1 = UINT32_C(115);
+i0 = (i0 != i1);
+if (i0) { goto l87; }
+goto l14;
+l101:;
+i0 = v8;
+i1 = UINT32_C(4294967102);
+i0 = i0 + i1;
+switch (i0) {
+case 0:
+goto l108;
+case 1:
+goto l104;
+case 2:
+goto l104;
+case 3:
+goto l104;
+case 4:
+goto l104;
+case 5:
+goto l104;
+case 6:
+goto l104;
+case 7:
+goto l104;
+case 8:
+goto l104;
+case 9:
+goto l104;
+case 10:
+goto l104;
+case 11:
+goto l104;
+case 12:
+goto l107;
+default:
+goto l105;
+}
+l108:;
+j0 = v12;
+j1 = UINT64_C(2);
+j0 = j0 + j1;
+p47 = read_at(j0, m, 1u);
+i0 = load8(p47 + 0);
+i1 = UINT32_C(181);
+i0 = (i0 != i1);
+if (i0) { goto l87; }
+j0 = v12;
+j1 = UINT64_C(3);
+j0 = j0 + j1;
+p48 = read_at(j0, m, 1u);
+i0 = load8(p48 + 0);
+i1 = UINT32_C(115);
+i0 = (i0 == i1);
+if (i0) { goto l106; }
+goto l87;
+l107:;
+j0 = v12;
+j1 = UINT64_C(2);
+j0 = j0 + j1;
+p49 = read_at(j0, m, 1u);
+i0 = load8(p49 + 0);
+i1 = UINT32_C(188);
+i0 = (i0 != i1);
+if (i0) { goto l87; }
+j0 = v12;
+j1 = UINT64_C(3);
+j0 = j0 + j1;
+p50 = read_at(j0, m, 1u);
+i0 = load8(p50 + 0);
+i1 = UINT32_C(115);
+i0 = (i0 != i1);
+if (i0) { goto l87; }
+l106:;
+j0 = v12;
+j1 = UINT64_C(4);
+j0 = j0 + j1;
+v12 = j0;
+goto l88;
+l105:;
+i0 = v8;
+i1 = UINT32_C(117);
+i0 = (i0 == i1);
+if (i0) { goto l89; }
+l104:;
+i0 = v8;
+i1 = UINT32_C(4294967187);
+i0 = i0 + i1;
+i1 = UINT32_C(255);
+i0 = i0 & i1;
+i1 = UINT32_C(2);
+i0 = (i0 < i1);
+if (i0) { goto l89; }
+goto l87;
+l100:;
+i0 = v8;
+i1 = UINT32_C(117);
+i0 = (i0 != i1);
+if (i0) { goto l90; }
+goto l89;
+l92:;
+i0 = v8;
+i1 = UINT32_C(32);
+i0 = (i0 == i1);
+if (i0) { goto l87; }
+l91:;
+i0 = v8;
+i1 = UINT32_C(48);
+i0 = (i0 < i1);
+if (i0) { goto l87; }
+i0 = v8;
+i1 = UINT32_C(58);
+i0 = (i0 < i1);
+if (i0) { goto l14; }
+i0 = v8;
+i1 = UINT32_C(65);
+i0 = (i0 < i1);
+if (i0) { goto l87; }
+i0 = v8;
+i1 = UINT32_C(91);
+i0 = (i0 < i1);
+if (i0) { goto l14; }
+i0 = v8;
+i1 = UINT32_C(97);
+i0 = (i0 < i1);
+if (i0) { goto l87; }
+i0 = v8;
+i0 = (uint32_t)extend(i0 & 255, 7);
+i1 = UINT32_C(123);
+i0 = (SIGNED32(i0) < SIGNED32(i1));
+if (i0) { goto l14; }
+goto l87;
+l90:;
+i0 = v8;
+i1 = UINT32_C(4294967187);
+i0 = i0 + i1;
+i1 = UINT32_C(255);
+i0 = i0 & i1;
+i1 = UINT32_C(2);
+i0 = (i0 >= i1);
+if (i0) { goto l87; }
+l89:;
+j0 = v12;
+j1 = UINT64_C(2);
+j0 = j0 + j1;
+p51 = read_at(j0, m, 1u);
+i0 = load8(p51 + 0);
+i1 = UINT32_C(115);
+i0 = (i0 != i1);
+if (i0) { goto l87; }
+j0 = v12;
+j1 = UINT64_C(3);
+j0 = j0 + j1;
+v12 = j0;
+l88:;
+j0 = v12;
+p52 = read_at(j0, m, 1u);
+i0 = load8(p52 + 0);
+v8 = i0;
+i1 = UINT32_C(95);
+i0 = (i0 == i1);
+if (i0) { goto l87; }
+i0 = v8;
+i1 = UINT32_C(48);
+i0 = (i0 < i1);
+if (i0) { goto l14; }
+i0 = v8;
+i1 = UINT32_C(58);
+i0 = (i0 < i1);
+if (i0) { goto l87; }
+i0 = v8;
+i1 = UINT32_C(65);
+i0 = (i0 < i1);
+if (i0) { goto l14; }
+i0 = v8;
+i1 = UINT32_C(91);
+i0 = (i0 < i1);
+if (i0) { goto l87; }
+i0 = v8;
+i1 = UINT32_C(97);
+i0 = (i0 < i1);
+if (i0) { goto l14; }
+i0 = v8;
+i0 = (uint32_t)extend(i0 & 255, 7);
+i1 = UINT32_C(122);
+i0 = (SIGNED32(i0) > SIGNED32(i1));
+if (i0) { goto l14; }
+l87:;
+j0 = v13;
+v12 = j0;
+j0 = v2;
+j1 = v13;
+i0 = (j0 <= j1);
+if (i0) { goto l109; }
+j0 = v13;
+v12 = j0;
+l111:;
+j0 = v1;
+j1 = v12;
+j0 = j0 + j1;
+p53 = read_at(j0, m, 1u);
+i0 = load8(p53 + 0);
+i1 = UINT32_C(32);
+i0 = (i0 != i1);
+if (i0) { goto l110; }
+j0 = v2;
+j1 = v12;
+j2 = UINT64_C(1);
+j1 = j1 + j2;
+v12 = j1;
+i0 = (j0 != j1);
+if (i0) { goto l111; }
+j0 = v2;
+v12 = j0;
+l110:;
+j0 = v2;
+j1 = v12;
+j0 = j0 - j1;
+v43 = j0;
+l109:;
+j0 = v43;
+j1 = UINT64_C(2);
+i0 = (j0 < j1);
+if (i0) { goto l66; }
+j0 = v1;
+j1 = v12;
+j0 = j0 + j1;
+v40 = j0;
+p54 = read_at(j0 + UINT64_C(1), m, 1u);
+i0 = load8(p54 + 0);
+i1 = UINT32_C(32);
+i0 = i0 | i1;
+i1 = UINT32_C(109);
+i0 = (i0 != i1);
+if (i0) { goto l66; }
+j0 = v43;
+j1 = UINT64_C(2);
+i0 = (j0 == j1);
+if (i0) { goto l112; }
+j0 = v40;
+j1 = UINT64_C(2);
+j0 = j0 + j1;
+p55 = read_at(j0, m, 1u);
+i0 = load8(p55 + 0);
+v8 = i0;
+i1 = UINT32_C(95);
+i0 = (i0 == i1);
+if (i0) { goto l66; }
+i0 = v8;
+i1 = UINT32_C(48);
+i0 = (i0 < i1);
+if (i0) { goto l112; }
+i0 = v8;
+i1 = UINT32_C(58);
+i0 = (i0 < i1);
+if (i0) { goto l66; }
+i0 = v8;
+i1 = UINT32_C(65);
+i0 = (i0 < i1);
+if (i0) { goto l112; }
+i0 = v8;
+i1 = UINT32_C(91);
+i0 = (i0 < i1);
+if (i0) { goto l66; }
+i0 = v8;
+i1 = UINT32_C(97);
+i0 = (i0 < i1);
+if (i0) { goto l112; }
+i0 = v8;
+i0 = (uint32_t)extend(i0 & 255, 7);
+i1 = UINT32_C(123);
+i0 = (SIGNED32(i0) < SIGNED32(i1));
+if (i0) { goto l66; }
+l112:;
+j0 = v40;
+p56 = read_at(j0, m, 1u);
+i0 = load8(p56 + 0);
+v8 = i0;
+i1 = UINT32_C(4294967231);
+i0 = i0 + i1;
+switch (i0) {
+case 0:
+goto l115;
+case 1:
+goto l66;
+case 2:
+goto l66;
+case 3:
+goto l66;
+case 4:
+goto l66;
+case 5:
+goto l66;
+case 6:
+goto l66;
+case 7:
+goto l66;
+case 8:
+goto l66;
+case 9:
+goto l66;
+case 10:
+goto l66;
+case 11:
+goto l66;
+case 12:
+goto l66;
+case 13:
+goto l66;
+case 14:
+goto l66;
+case 15:
+goto l114;
+default:
+goto l116;
+}
+l116:;
+i0 = v8;
+i1 = UINT32_C(4294967199);
+i0 = i0 + i1;
+switch (i0) {
+case 0:
+goto l115;
+case 1:
+goto l66;
+case 2:
+goto l66;
+case 3:
+goto l66;
+case 4:
+goto l66;
+case 5:
+goto l66;
+case 6:
+goto l66;
+case 7:
+goto l66;
+case 8:
+goto l66;
+case 9:
+goto l66;
+case 10:
+goto l66;
+case 11:
+goto l66;
+case 12:
+goto l66;
+case 13:
+goto l66;
+case 14:
+goto l66;
+case 15:
+goto l114;
+default:
+goto l66;
+}
+l115:;
+j0 = v25;
+j1 = UINT64_C(12);
+j0 = remainder64(j0, j1);
+v25 = j0;
+goto l113;
+l114:;
+j0 = v25;
+j1 = UINT64_C(12);
+j0 = remainder64(j0, j1);
+j1 = UINT64_C(12);
+j0 = j0 + j1;
+v25 = j0;
+l113:;
+j0 = v12;
+j1 = UINT64_C(2);
+j0 = j0 + j1;
+v13 = j0;
+l66:;
+j0 = v25;
+j1 = UINT64_C(24);
+i0 = (j0 < j1);
+j1 = v26;
+j2 = UINT64_C(60);
+i1 = (j1 < j2);
+i0 = i0 & i1;
+j1 = v22;
+j2 = UINT64_C(13);
+i1 = (j1 < j2);
+i0 = i0 & i1;
+v8 = i0;
+j0 = v24;
+i0 = (j0 == 0);
+i0 = (i0 == 0);
+if (i0) { goto l118; }
+j0 = UINT64_C(0);
+v12 = j0;
+goto l117;
+l118:;
+j0 = v22;
+j1 = UINT64_C(2);
+i0 = (j0 > j1);
+if (i0) { goto l120; }
+j0 = v22;
+j1 = UINT64_C(9);
+j0 = j0 + j1;
+v12 = j0;
+j0 = v23;
+j1 = v23;
+j2 = UINT64_C(0);
+i1 = (j1 != j2);
+j1 = (uint64_t)i1;
+j0 = j0 - j1;
+v23 = j0;
+goto l119;
+l120:;
+j0 = v22;
+j1 = UINT64_C(18446744073709551613);
+j0 = j0 + j1;
+v12 = j0;
+l119:;
+j0 = UINT64_C(0);
+j1 = v24;
+j2 = v23;
+j3 = UINT64_C(100);
+j2 = divide64(j2, j3);
+j1 = j1 - j2;
+j2 = v23;
+j3 = UINT64_C(2);
+j2 = j2 >> (j3 & 63);
+j1 = j1 + j2;
+j2 = v23;
+j3 = UINT64_C(400);
+j2 = divide64(j2, j3);
+j1 = j1 + j2;
+j2 = v23;
+j3 = UINT64_C(365);
+j2 = j2 * j3;
+j1 = j1 + j2;
+j2 = v12;
+j3 = UINT64_C(153);
+j2 = j2 * j3;
+j3 = UINT64_C(2);
+j2 = j2 + j3;
+j3 = UINT64_C(5);
+j2 = divide64(j2, j3);
+j1 = j1 + j2;
+v12 = j1;
+j2 = UINT64_C(18446744073708832147);
+j1 = j1 + j2;
+v43 = j1;
+j2 = v43;
+j3 = v12;
+i2 = (j2 > j3);
+j0 = i2 ? j0 : j1;
+j1 = UINT64_C(24);
+j0 = j0 * j1;
+v12 = j0;
+l117:;
+i0 = v8;
+i0 = (i0 == 0);
+if (i0) { goto l14; }
+j0 = v0;
+j1 = UINT64_C(1);
+p57 = write_at(j0, m, 32u);
+store64(p57 + 0, j1);
+j0 = v0;
+j1 = UINT64_C(16);
+j0 = j0 + j1;
+j1 = v13;
+store64(p57 + 16, j1);
+j0 = v0;
+j1 = UINT64_C(8);
+j0 = j0 + j1;
+j1 = v7;
+store64(p57 + 8, j1);
+j0 = v0;
+j1 = UINT64_C(24);
+j0 = j0 + j1;
+j1 = v12;
+j2 = v25;
+j1 = j1 + j2;
+j2 = UINT64_C(60);
+j1 = j1 * j2;
+j2 = v26;
+j1 = j1 + j2;
+j2 = UINT64_C(60);
+j1 = j1 * j2;
+j2 = v27;
+j1 = j1 + j2;
+j2 = UINT64_C(1000000);
+j1 = j1 * j2;
+j2 = v28;
+j1 = j1 + j2;
+store64(p57 + 24, j1);
+j0 = v3;
+m->g0 = j0;
+return;
+l14:;
+j0 = v19;
+j1 = UINT64_C(1);
+j0 = j0 + j1;
+v19 = j0;
+j1 = UINT64_C(9);
+i0 = (j0 != j1);
+if (i0) { goto l13; }
+l5:;
+i0 = v10;
+i1 = UINT32_C(255);
+i0 = i0 & i1;
+v8 = i0;
+i1 = UINT32_C(95);
+i0 = (i0 == i1);
+if (i0) { goto l122; }
+i0 = v8;
+i1 = UINT32_C(48);
+i0 = (i0 < i1);
+if (i0) { goto l124; }
+i0 = v10;
+i1 = UINT32_C(255);
+i0 = i0 & i1;
+v8 = i0;
+i1 = UINT32_C(58);
+i0 = (i0 < i1);
+if (i0) { goto l122; }
+i0 = v8;
+i1 = UINT32_C(65);
+i0 = (i0 < i1);
+if (i0) { goto l125; }
+i0 = v10;
+i1 = UINT32_C(255);
+i0 = i0 & i1;
+v14 = i0;
+i1 = UINT32_C(91);
+i0 = (i0 < i1);
+if (i0) { goto l122; }
+i0 = UINT32_C(1);
+v8 = i0;
+i0 = v14;
+i1 = UINT32_C(97);
+i0 = (i0 < i1);
+if (i0) { goto l121; }
+i0 = v10;
+i0 = (uint32_t)extend(i0 & 255, 7);
+i1 = UINT32_C(122);
+i0 = (SIGNED32(i0) > SIGNED32(i1));
+if (i0) { goto l121; }
+goto l122;
+l125:;
+i0 = v10;
+i1 = UINT32_C(255);
+i0 = i0 & i1;
+i1 = UINT32_C(58);
+i0 = (i0 == i1);
+if (i0) { goto l122; }
+goto l123;
+l124:;
+i0 = v10;
+i1 = UINT32_C(255);
+i0 = i0 & i1;
+i1 = UINT32_C(45);
+i0 = (i0 >= i1);
+if (i0) { goto l122; }
+l123:;
+i0 = UINT32_C(1);
+v8 = i0;
+goto l121;
+l122:;
+i0 = UINT32_C(0);
+v8 = i0;
+l121:;
+j0 = v7;
+j1 = UINT64_C(1);
+j0 = j0 + j1;
+v7 = j0;
+j1 = v4;
+i0 = (j0 != j1);
+if (i0) { goto l4; }
+l3:;
+j0 = v0;
+j1 = UINT64_C(0);
+p58 = write_at(j0, m, 32u);
+store64(p58 + 24, j1);
+j0 = v0;
+j1 = UINT64_C(0);
+store64(p58 + 16, j1);
+j0 = v0;
+j1 = UINT64_C(0);
+store64(p58 + 8, j1);
+j0 = v0;
+j1 = UINT64_C(0);
+store64(p58 + 0, j1);
+j0 = v3;
+m->g0 = j0;
+return;
 l2:;
-i0 = v1;
-r = i0;
-return r;
+trap();
+return;
 }
 static void fio_log_glance_Glance_of(struct machine *m, uint64_t v0, uint64_t v1, uint64_t v2)
 {
@@ -51418,19 +51731,27 @@ uint64_t v10 = 0;
 uint64_t v11 = 0;
 uint64_t v12 = 0;
 uint64_t v13 = 0;
-uint32_t v14 = 0;
-uint64_t v15 = 0;
+uint64_t v14 = 0;
+uint32_t v15 = 0;
 uint64_t v16 = 0;
 uint64_t v17 = 0;
 uint64_t v18 = 0;
 uint64_t v19 = 0;
 uint64_t v20 = 0;
+uint32_t v21 = 0;
+uint32_t v22 = 0;
+uint32_t v23 = 0;
+uint64_t v24 = 0;
+uint64_t v25 = 0;
+uint32_t v26 = 0;
 uint32_t i0;
 uint32_t i1;
 uint32_t i2;
+uint32_t i3;
 uint32_t i5;
 uint32_t i6;
 uint32_t i7;
+uint32_t i8;
 uint64_t j0;
 uint64_t j1;
 uint64_t j2;
@@ -51446,6 +51767,9 @@ uint8_t *p5;
 uint8_t *p6;
 uint8_t *p7;
 uint8_t *p8;
+uint8_t *p9;
+uint8_t *p10;
+uint8_t *p11;
 j0 = m->g0;
 j1 = UINT64_C(128);
 j0 = j0 - j1;
@@ -51493,132 +51817,42 @@ i0 = load8(p1 + 0);
 i1 = UINT32_C(1);
 i0 = (i0 != i1);
 if (i0) { goto l3; }
+j0 = v4;
+j1 = UINT64_C(1);
+j0 = j0 + j1;
+v9 = j0;
 j0 = v8;
 j1 = UINT64_C(48);
 j0 = j0 + j1;
 j1 = UINT64_C(8);
 j0 = j0 + j1;
-v9 = j0;
+v10 = j0;
 j0 = v8;
 j1 = UINT64_C(8);
 j0 = j0 + j1;
-v10 = j0;
+v11 = j0;
 l4:;
 j0 = v8;
 j0 = load64(p1 + 24);
-v11 = j0;
+v12 = j0;
 j0 = v1;
 j1 = v8;
 j1 = load64(p1 + 8);
-v12 = j1;
+v13 = j1;
 i0 = (j0 < j1);
-if (i0) { goto l7; }
+if (i0) { goto l8; }
 j0 = v1;
 j1 = v8;
 j1 = load64(p1 + 16);
-v13 = j1;
+v14 = j1;
 i0 = (j0 >= j1);
-j1 = v13;
-j2 = v12;
+j1 = v14;
+j2 = v13;
 i1 = (j1 >= j2);
 i0 = i0 & i1;
-v14 = i0;
+v15 = i0;
 i0 = (i0 == 0);
-if (i0) { goto l7; }
-j0 = v0;
-j1 = v12;
-j0 = j0 + j1;
-v15 = j0;
-j0 = UINT64_C(0);
-v7 = j0;
-j0 = v13;
-j1 = v12;
-j0 = j0 - j1;
-v16 = j0;
-j1 = UINT64_C(0);
-i2 = v14;
-j0 = i2 ? j0 : j1;
-v17 = j0;
-i0 = (j0 == 0);
 if (i0) { goto l8; }
-l9:;
-j0 = v15;
-j1 = v7;
-j0 = j0 + j1;
-p3 = read_at(j0, m, 1u);
-i0 = load8(p3 + 0);
-v14 = i0;
-i1 = UINT32_C(48);
-i0 = (i0 < i1);
-if (i0) { goto l8; }
-i0 = v14;
-i1 = UINT32_C(58);
-i0 = (i0 < i1);
-if (i0) { goto l10; }
-i0 = v14;
-i1 = UINT32_C(65);
-i0 = (i0 < i1);
-if (i0) { goto l8; }
-i0 = v14;
-i1 = UINT32_C(71);
-i0 = (i0 < i1);
-if (i0) { goto l10; }
-i0 = v14;
-i1 = UINT32_C(4294967199);
-i0 = i0 + i1;
-i1 = UINT32_C(255);
-i0 = i0 & i1;
-i1 = UINT32_C(5);
-i0 = (i0 > i1);
-if (i0) { goto l8; }
-l10:;
-j0 = v17;
-j1 = v7;
-j2 = UINT64_C(1);
-j1 = j1 + j2;
-v7 = j1;
-i0 = (j0 != j1);
-if (i0) { goto l9; }
-j0 = v16;
-v7 = j0;
-l8:;
-j0 = v12;
-j1 = UINT64_C(18446744073709551615);
-j0 = j0 + j1;
-j1 = v1;
-i0 = (j0 >= j1);
-if (i0) { goto l7; }
-j0 = v8;
-i0 = load8(p1 + 33);
-i1 = UINT32_C(255);
-i0 = i0 & i1;
-if (i0) { goto l7; }
-j0 = v8;
-i0 = load8(p1 + 34);
-i1 = UINT32_C(1);
-i0 = i0 & i1;
-if (i0) { goto l7; }
-j0 = v7;
-j1 = v17;
-i0 = (j0 >= j1);
-if (i0) { goto l7; }
-j0 = UINT64_C(0);
-j1 = v1;
-j2 = v13;
-j1 = j1 - j2;
-v17 = j1;
-j2 = v17;
-j3 = v1;
-i2 = (j2 > j3);
-j0 = i2 ? j0 : j1;
-v18 = j0;
-j0 = v0;
-j1 = UINT64_C(0);
-j2 = v1;
-j3 = v12;
-i2 = (j2 >= j3);
-j0 = i2 ? j0 : j1;
-v17 = j0;
 j0 = v0;
 j1 = v13;
 j0 = j0 + j1;
@@ -51626,70 +51860,172 @@ v16 = j0;
 j0 = v4;
 j1 = UINT64_C(784);
 j0 = j0 + j1;
-p4 = read_at(j0, m, 8u);
-j0 = load64(p4 + 0);
+v17 = j0;
+j0 = UINT64_C(0);
+v7 = j0;
+j0 = v14;
+j1 = v13;
+j0 = j0 - j1;
+v18 = j0;
+j1 = UINT64_C(0);
+i2 = v15;
+j0 = i2 ? j0 : j1;
 v19 = j0;
-j0 = v12;
-v20 = j0;
-l12:;
-j0 = v17;
-p5 = read_at(j0, m, 1u);
-i0 = load8(p5 + 0);
-v14 = i0;
-i1 = UINT32_C(95);
-i0 = (i0 == i1);
-if (i0) { goto l11; }
-i0 = v14;
+i0 = (j0 == 0);
+if (i0) { goto l9; }
+l10:;
+j0 = v16;
+j1 = v7;
+j0 = j0 + j1;
+p3 = read_at(j0, m, 1u);
+i0 = load8(p3 + 0);
+v15 = i0;
 i1 = UINT32_C(48);
 i0 = (i0 < i1);
-if (i0) { goto l13; }
-i0 = v14;
+if (i0) { goto l9; }
+i0 = v15;
 i1 = UINT32_C(58);
 i0 = (i0 < i1);
 if (i0) { goto l11; }
-i0 = v14;
+i0 = v15;
 i1 = UINT32_C(65);
 i0 = (i0 < i1);
-if (i0) { goto l13; }
-i0 = v14;
-i1 = UINT32_C(91);
+if (i0) { goto l9; }
+i0 = v15;
+i1 = UINT32_C(71);
 i0 = (i0 < i1);
 if (i0) { goto l11; }
-i0 = v14;
-i1 = UINT32_C(97);
+i0 = v15;
+i1 = UINT32_C(4294967199);
+i0 = i0 + i1;
+i1 = UINT32_C(255);
+i0 = i0 & i1;
+i1 = UINT32_C(5);
+i0 = (i0 > i1);
+if (i0) { goto l9; }
+l11:;
+j0 = v19;
+j1 = v7;
+j2 = UINT64_C(1);
+j1 = j1 + j2;
+v7 = j1;
+i0 = (j0 != j1);
+if (i0) { goto l10; }
+j0 = v18;
+v7 = j0;
+l9:;
+j0 = v17;
+p4 = read_at(j0, m, 8u);
+j0 = load64(p4 + 0);
+v20 = j0;
+j0 = v8;
+i0 = load8(p1 + 34);
+v21 = i0;
+j0 = v8;
+i0 = load8(p1 + 33);
+v22 = i0;
+i0 = UINT32_C(0);
+v23 = i0;
+j0 = v13;
+j1 = UINT64_C(18446744073709551615);
+j0 = j0 + j1;
+j1 = v1;
+i0 = (j0 >= j1);
+if (i0) { goto l12; }
+i0 = v22;
+i1 = UINT32_C(255);
+i0 = i0 & i1;
+if (i0) { goto l12; }
+i0 = v21;
+i1 = UINT32_C(1);
+i0 = i0 & i1;
+if (i0) { goto l12; }
+j0 = v7;
+j1 = v19;
+i0 = (j0 >= j1);
+if (i0) { goto l12; }
+j0 = UINT64_C(0);
+j1 = v1;
+j2 = v14;
+j1 = j1 - j2;
+v17 = j1;
+j2 = v17;
+j3 = v1;
+i2 = (j2 > j3);
+j0 = i2 ? j0 : j1;
+v24 = j0;
+j0 = v0;
+j1 = UINT64_C(0);
+j2 = v1;
+j3 = v13;
+i2 = (j2 >= j3);
+j0 = i2 ? j0 : j1;
+v17 = j0;
+j0 = v0;
+j1 = v14;
+j0 = j0 + j1;
+v18 = j0;
+j0 = v13;
+v25 = j0;
+l14:;
+j0 = v17;
+p5 = read_at(j0, m, 1u);
+i0 = load8(p5 + 0);
+v15 = i0;
+i1 = UINT32_C(95);
+i0 = (i0 == i1);
+if (i0) { goto l13; }
+i0 = v15;
+i1 = UINT32_C(48);
+i0 = (i0 < i1);
+if (i0) { goto l15; }
+i0 = v15;
+i1 = UINT32_C(58);
 i0 = (i0 < i1);
 if (i0) { goto l13; }
-i0 = v14;
+i0 = v15;
+i1 = UINT32_C(65);
+i0 = (i0 < i1);
+if (i0) { goto l15; }
+i0 = v15;
+i1 = UINT32_C(91);
+i0 = (i0 < i1);
+if (i0) { goto l13; }
+i0 = v15;
+i1 = UINT32_C(97);
+i0 = (i0 < i1);
+if (i0) { goto l15; }
+i0 = v15;
 i0 = (uint32_t)extend(i0 & 255, 7);
 i1 = UINT32_C(123);
 i0 = (SIGNED32(i0) < SIGNED32(i1));
-if (i0) { goto l11; }
-l13:;
+if (i0) { goto l13; }
+l15:;
 j0 = v17;
 j1 = UINT64_C(1);
 j0 = j0 + j1;
 v17 = j0;
-j0 = v20;
+j0 = v25;
 j1 = UINT64_C(18446744073709551615);
 j0 = j0 + j1;
-v20 = j0;
+v25 = j0;
 i0 = (j0 == 0);
 i0 = (i0 == 0);
-if (i0) { goto l12; }
-goto l7;
-l11:;
-j0 = v1;
-j1 = v13;
-i0 = (j0 <= j1);
 if (i0) { goto l14; }
-l15:;
-j0 = v16;
+goto l12;
+l13:;
+j0 = v1;
+j1 = v14;
+i0 = (j0 <= j1);
+if (i0) { goto l16; }
+l17:;
+j0 = v18;
 p6 = read_at(j0, m, 1u);
 j0 = load8(p6 + 0);
 v17 = j0;
 j1 = UINT64_C(59);
 i0 = (j0 > j1);
-if (i0) { goto l7; }
+if (i0) { goto l12; }
 j0 = UINT64_C(1);
 j1 = v17;
 j0 = j0 << (j1 & 63);
@@ -51697,53 +52033,30 @@ j1 = UINT64_C(576478348784435712);
 j0 = j0 & j1;
 j1 = UINT64_C(0);
 i0 = (j0 == j1);
-if (i0) { goto l7; }
-j0 = v16;
-j1 = UINT64_C(1);
-j0 = j0 + j1;
-v16 = j0;
+if (i0) { goto l12; }
 j0 = v18;
-j1 = UINT64_C(18446744073709551615);
+j1 = UINT64_C(1);
 j0 = j0 + j1;
 v18 = j0;
-j1 = UINT64_C(0);
-i0 = (j0 != j1);
-if (i0) { goto l15; }
-l14:;
-l16:;
-j0 = v7;
-i0 = (j0 == 0);
-if (i0) { goto l6; }
-j0 = v7;
+j0 = v24;
 j1 = UINT64_C(18446744073709551615);
 j0 = j0 + j1;
-v7 = j0;
-j0 = v15;
-p7 = read_at(j0, m, 1u);
-i0 = load8(p7 + 0);
-v14 = i0;
-j0 = v15;
-j1 = UINT64_C(1);
-j0 = j0 + j1;
-v15 = j0;
-i0 = v14;
-i1 = UINT32_C(4294967248);
-i0 = i0 + i1;
-i1 = UINT32_C(255);
-i0 = i0 & i1;
-i1 = UINT32_C(10);
-i0 = (i0 < i1);
-if (i0) { goto l16; }
-l7:;
-j0 = v0;
-j1 = v1;
-j2 = v10;
-j3 = v4;
-j4 = v5;
-j5 = v6;
-fio_log_line_runs_keep(m, j0, j1, j2, j3, j4, j5);
-goto l5;
-l6:;
+v24 = j0;
+j1 = UINT64_C(0);
+i0 = (j0 != j1);
+if (i0) { goto l17; }
+l16:;
+i0 = UINT32_C(1);
+v23 = i0;
+l12:;
+j0 = v19;
+j1 = v7;
+i0 = (j0 < j1);
+v26 = i0;
+if (i0) { goto l8; }
+j0 = v20;
+i0 = (j0 == 0);
+if (i0) { goto l21; }
 j0 = v8;
 j1 = UINT64_C(0);
 store64(p1 + 72, j1);
@@ -51760,22 +52073,236 @@ j0 = v8;
 j1 = UINT64_C(48);
 j0 = j0 + j1;
 j1 = v4;
-j2 = v19;
+j2 = v20;
 fio_log_sayings_read_saying(m, j0, j1, j2);
 j0 = v8;
 i0 = load8(p1 + 48);
-v14 = i0;
+i1 = UINT32_C(2);
+i0 = (i0 != i1);
+if (i0) { goto l20; }
+j0 = v4;
+p7 = read_at(j0, m, 1u);
+i0 = load8(p7 + 0);
+v15 = i0;
+i1 = UINT32_C(59);
+i0 = (i0 == i1);
+if (i0) { goto l20; }
+i0 = v15;
+i1 = UINT32_C(56);
+i0 = (i0 < i1);
+if (i0) { goto l8; }
+i0 = v15;
+i1 = UINT32_C(58);
+i0 = (i0 < i1);
+if (i0) { goto l20; }
+i0 = v15;
+i1 = UINT32_C(183);
+i0 = (i0 < i1);
+if (i0) { goto l8; }
+i0 = v15;
+i1 = UINT32_C(186);
+i0 = (i0 < i1);
+if (i0) { goto l20; }
+i0 = v23;
+i1 = v15;
+i2 = UINT32_C(186);
+i1 = (i1 != i2);
+i2 = v15;
+i3 = UINT32_C(189);
+i2 = (i2 < i3);
+i1 = i1 & i2;
+i0 = i0 & i1;
+if (i0) { goto l19; }
+goto l8;
+l21:;
+i0 = v23;
+if (i0) { goto l18; }
+goto l8;
+l20:;
+i0 = v23;
+i0 = (i0 == 0);
+if (i0) { goto l8; }
+l19:;
+j0 = v7;
+i0 = (j0 == 0);
+if (i0) { goto l23; }
+j0 = v16;
+j1 = v7;
+j2 = UINT64_C(18446744073709551615);
+j1 = j1 + j2;
+v25 = j1;
+j0 = j0 + j1;
+p8 = read_at(j0, m, 1u);
+i0 = load8(p8 + 0);
+i1 = UINT32_C(32);
+i0 = i0 | i1;
+i1 = UINT32_C(98);
+i0 = (i0 == i1);
+if (i0) { goto l22; }
+l23:;
+j0 = v7;
+v25 = j0;
+l22:;
+j0 = UINT64_C(0);
+v17 = j0;
+j0 = v25;
+i0 = (j0 == 0);
+if (i0) { goto l24; }
+j0 = v16;
+v18 = j0;
+l25:;
+j0 = v18;
+p9 = read_at(j0, m, 1u);
+i0 = load8(p9 + 0);
+i1 = UINT32_C(4294967248);
+i0 = i0 + i1;
+v15 = i0;
+i1 = UINT32_C(255);
+i0 = i0 & i1;
+i1 = UINT32_C(9);
+i0 = (i0 > i1);
+if (i0) { goto l18; }
+j0 = UINT64_C(18446744073709551615);
+j1 = UINT64_C(18446744073709551615);
+i2 = v15;
+j2 = (uint64_t)i2;
+j3 = UINT64_C(255);
+j2 = j2 & j3;
+v19 = j2;
+j3 = v17;
+j4 = UINT64_C(10);
+j3 = j3 * j4;
+j2 = j2 + j3;
+v24 = j2;
+j3 = v24;
+j4 = v19;
+i3 = (j3 < j4);
+j1 = i3 ? j1 : j2;
+j2 = v17;
+j3 = UINT64_C(1844674407370955161);
+i2 = (j2 > j3);
+j0 = i2 ? j0 : j1;
+v17 = j0;
+j0 = v18;
+j1 = UINT64_C(1);
+j0 = j0 + j1;
+v18 = j0;
+j0 = v25;
+j1 = UINT64_C(18446744073709551615);
+j0 = j0 + j1;
+v25 = j0;
+j1 = UINT64_C(0);
+i0 = (j0 != j1);
+if (i0) { goto l25; }
+l24:;
+j0 = v17;
+j1 = v20;
+j2 = UINT64_C(18446744073709551615);
+j1 = j1 + j2;
+v18 = j1;
+i0 = (j0 != j1);
+if (i0) { goto l18; }
+j0 = v8;
+j1 = UINT64_C(0);
+store64(p1 + 72, j1);
+j0 = v8;
+j1 = UINT64_C(0);
+store64(p1 + 64, j1);
+j0 = v8;
+j1 = UINT64_C(0);
+store64(p1 + 56, j1);
+j0 = v8;
+j1 = UINT64_C(0);
+store64(p1 + 48, j1);
+j0 = v8;
+j1 = UINT64_C(48);
+j0 = j0 + j1;
+j1 = v9;
+j2 = v18;
+fio_log_sayings_read_saying(m, j0, j1, j2);
+j0 = v8;
+i0 = load8(p1 + 48);
+i1 = UINT32_C(2);
+i0 = (i0 == i1);
+if (i0) { goto l6; }
+l18:;
+j0 = UINT64_C(0);
+j1 = v7;
+i2 = v26;
+j0 = i2 ? j0 : j1;
+v7 = j0;
+j0 = UINT64_C(0);
+j1 = v16;
+i2 = v26;
+j0 = i2 ? j0 : j1;
+v17 = j0;
+l27:;
+j0 = v7;
+i0 = (j0 == 0);
+if (i0) { goto l26; }
+j0 = v7;
+j1 = UINT64_C(18446744073709551615);
+j0 = j0 + j1;
+v7 = j0;
+j0 = v17;
+p10 = read_at(j0, m, 1u);
+i0 = load8(p10 + 0);
+v15 = i0;
+j0 = v17;
+j1 = UINT64_C(1);
+j0 = j0 + j1;
+v17 = j0;
+i0 = v15;
+i1 = UINT32_C(4294967248);
+i0 = i0 + i1;
+i1 = UINT32_C(255);
+i0 = i0 & i1;
+i1 = UINT32_C(10);
+i0 = (i0 < i1);
+if (i0) { goto l27; }
+goto l8;
+l26:;
+j0 = v8;
+j1 = UINT64_C(0);
+store64(p1 + 72, j1);
+j0 = v8;
+j1 = UINT64_C(0);
+store64(p1 + 64, j1);
+j0 = v8;
+j1 = UINT64_C(0);
+store64(p1 + 56, j1);
+j0 = v8;
+j1 = UINT64_C(0);
+store64(p1 + 48, j1);
+j0 = v8;
+j1 = UINT64_C(48);
+j0 = j0 + j1;
+j1 = v4;
+j2 = v20;
+fio_log_sayings_read_saying(m, j0, j1, j2);
+j0 = v8;
+i0 = load8(p1 + 48);
+i1 = UINT32_C(2);
+i0 = (i0 != i1);
+if (i0) { goto l7; }
+l8:;
 j0 = v0;
 j1 = v1;
-j2 = v10;
+j2 = v11;
 j3 = v4;
 j4 = v5;
 j5 = v6;
 fio_log_line_runs_keep(m, j0, j1, j2, j3, j4, j5);
-i0 = v14;
-i1 = UINT32_C(2);
-i0 = (i0 == i1);
-if (i0) { goto l5; }
+goto l5;
+l7:;
+j0 = v0;
+j1 = v1;
+j2 = v11;
+j3 = v4;
+j4 = v5;
+j5 = v6;
+fio_log_line_runs_keep(m, j0, j1, j2, j3, j4, j5);
+l6:;
 j0 = v8;
 j1 = UINT64_C(0);
 store64(p1 + 88, j1);
@@ -51800,7 +52327,7 @@ j0 = j0 + j1;
 j1 = v0;
 j2 = v1;
 j3 = UINT64_C(18446744073709551615);
-j4 = v12;
+j4 = v13;
 j5 = UINT64_C(1);
 j4 = j4 + j5;
 v7 = j4;
@@ -51811,8 +52338,10 @@ j4 = v5;
 j4 = load64(p2 + 0);
 j5 = v5;
 j5 = load64(p2 + 8);
-i6 = UINT32_C(0);
-i7 = UINT32_C(0);
+i6 = v22;
+i7 = v21;
+i8 = UINT32_C(1);
+i7 = i7 & i8;
 j8 = v4;
 fio_log_found_next_words(m, j0, j1, j2, j3, j4, j5, i6, i7, j8);
 j0 = v8;
@@ -51822,14 +52351,14 @@ i0 = (i0 != i1);
 if (i0) { goto l5; }
 j0 = v8;
 j0 = load64(p1 + 56);
-j1 = v11;
+j1 = v12;
 i0 = (j0 >= j1);
 if (i0) { goto l5; }
 j0 = v4;
 j1 = UINT64_C(784);
 j0 = j0 + j1;
-p8 = read_at(j0, m, 8u);
-j0 = load64(p8 + 0);
+p11 = read_at(j0, m, 8u);
+j0 = load64(p11 + 0);
 v7 = j0;
 j1 = UINT64_C(2);
 i0 = (j0 < j1);
@@ -51859,7 +52388,7 @@ i0 = (i0 != i1);
 if (i0) { goto l5; }
 j0 = v0;
 j1 = v1;
-j2 = v9;
+j2 = v10;
 j3 = v4;
 j4 = v5;
 j5 = v6;
@@ -51868,7 +52397,7 @@ l5:;
 j0 = v8;
 j1 = v0;
 j2 = v1;
-j3 = v11;
+j3 = v12;
 j4 = v5;
 j4 = load64(p2 + 0);
 j5 = v5;
@@ -52621,11 +53150,10 @@ uint64_t v35 = 0;
 uint64_t v36 = 0;
 uint32_t v37 = 0;
 uint64_t v38 = 0;
-uint64_t v39 = 0;
+uint32_t v39 = 0;
 uint32_t v40 = 0;
 uint32_t v41 = 0;
 uint32_t v42 = 0;
-uint32_t v43 = 0;
 uint32_t i0;
 uint32_t i1;
 uint32_t i2;
@@ -52697,6 +53225,7 @@ uint8_t *p58;
 uint8_t *p59;
 uint8_t *p60;
 uint8_t *p61;
+uint8_t *p62;
 j0 = m->g0;
 j1 = UINT64_C(1712);
 j0 = j0 - j1;
@@ -53463,8 +53992,23 @@ j0 = v8;
 j1 = UINT64_C(0);
 store64(p1 + 1680, j1);
 j0 = v17;
-i0 = (j0 == 0);
+j1 = UINT64_C(0);
+i0 = (j0 != j1);
 if (i0) { goto l39; }
+j0 = v8;
+j1 = UINT64_C(0);
+store64(p1 + 1656, j1);
+j0 = v8;
+j1 = UINT64_C(0);
+store64(p1 + 1648, j1);
+j0 = v8;
+j1 = UINT64_C(0);
+store64(p1 + 1640, j1);
+j0 = v8;
+j1 = UINT64_C(0);
+store64(p1 + 1632, j1);
+goto l4;
+l39:;
 j0 = UINT64_C(0);
 v5 = j0;
 j0 = UINT64_C(0);
@@ -53479,9 +54023,9 @@ j0 = v32;
 j1 = UINT64_C(1);
 j0 = j0 + j1;
 v34 = j0;
-v20 = j0;
-j0 = UINT64_C(0);
 v35 = j0;
+j0 = UINT64_C(0);
+v36 = j0;
 l42:;
 j0 = v5;
 v2 = j0;
@@ -53608,65 +54152,64 @@ j0 = v2;
 j1 = v32;
 i0 = (j0 < j1);
 if (i0) { goto l46; }
-j0 = v32;
-j1 = v20;
-j2 = v32;
-j3 = v20;
-i2 = (j2 < j3);
-j0 = i2 ? j0 : j1;
-v36 = j0;
 j0 = UINT64_C(65536);
 j1 = v33;
 j2 = v5;
 j3 = v32;
 i2 = (j2 < j3);
 j0 = i2 ? j0 : j1;
-v3 = j0;
+v19 = j0;
 j0 = v2;
 j1 = v32;
 j2 = v34;
-j3 = v35;
+j3 = v36;
 j2 = j2 + j3;
-v7 = j2;
+v3 = j2;
 j3 = v32;
-j4 = v7;
+j4 = v3;
 i3 = (j3 < j4);
 j1 = i3 ? j1 : j2;
-v19 = j1;
+v7 = j1;
 i0 = (j0 != j1);
 if (i0) { goto l51; }
-j0 = UINT64_C(0);
-v2 = j0;
 i0 = UINT32_C(0);
 v37 = i0;
 j0 = UINT64_C(14695981039346656037);
-v7 = j0;
+v3 = j0;
+j0 = UINT64_C(0);
+v2 = j0;
 goto l50;
 l51:;
-j0 = v20;
-j1 = v36;
-j0 = j0 - j1;
+j0 = UINT64_C(0);
+j1 = v35;
+j2 = v32;
+j1 = j1 - j2;
+v2 = j1;
+j2 = v2;
+j3 = v35;
+i2 = (j2 > j3);
+j0 = i2 ? j0 : j1;
 j1 = UINT64_C(18446744073709551614);
 j0 = j0 & j1;
-v38 = j0;
-j0 = v7;
-j1 = v19;
+v20 = j0;
+j0 = v3;
+j1 = v7;
 j0 = j0 - j1;
 j1 = UINT64_C(1);
 j0 = j0 & j1;
-v39 = j0;
+v38 = j0;
 j0 = UINT64_C(0);
 v2 = j0;
 i0 = UINT32_C(0);
 v37 = i0;
 j0 = UINT64_C(14695981039346656037);
-v7 = j0;
+v3 = j0;
 l52:;
-j0 = v7;
-j1 = v3;
+j0 = v3;
+j1 = v19;
 j2 = v2;
 j1 = j1 + j2;
-v19 = j1;
+v7 = j1;
 p42 = read_at(j1, m, 2u);
 i1 = load8(p42 + 0);
 v18 = i1;
@@ -53687,15 +54230,15 @@ j1 = j1 & j2;
 j0 = j0 ^ j1;
 j1 = UINT64_C(1099511628211);
 j0 = j0 * j1;
-j1 = v19;
+j1 = v7;
 j2 = UINT64_C(1);
 j1 = j1 + j2;
 i1 = load8(p42 + 1);
-v40 = i1;
+v39 = i1;
 i2 = UINT32_C(32);
 i1 = i1 + i2;
-i2 = v40;
-i3 = v40;
+i2 = v39;
+i3 = v39;
 i4 = UINT32_C(4294967231);
 i3 = i3 + i4;
 i4 = UINT32_C(255);
@@ -53709,7 +54252,7 @@ j1 = j1 & j2;
 j0 = j0 ^ j1;
 j1 = UINT64_C(1099511628211);
 j0 = j0 * j1;
-v7 = j0;
+v3 = j0;
 i0 = v37;
 i1 = v18;
 i2 = UINT32_C(4294967248);
@@ -53719,7 +54262,7 @@ i1 = i1 & i2;
 i2 = UINT32_C(10);
 i1 = (i1 < i2);
 i0 = i0 | i1;
-i1 = v40;
+i1 = v39;
 i2 = UINT32_C(4294967248);
 i1 = i1 + i2;
 i2 = UINT32_C(255);
@@ -53728,19 +54271,19 @@ i2 = UINT32_C(10);
 i1 = (i1 < i2);
 i0 = i0 | i1;
 v37 = i0;
-j0 = v38;
+j0 = v20;
 j1 = v2;
 j2 = UINT64_C(2);
 j1 = j1 + j2;
 v2 = j1;
 i0 = (j0 != j1);
 if (i0) { goto l52; }
-j0 = v39;
+j0 = v38;
 i0 = (j0 == 0);
 if (i0) { goto l49; }
 l50:;
-j0 = v7;
-j1 = v3;
+j0 = v3;
+j1 = v19;
 j2 = v2;
 j1 = j1 + j2;
 p43 = read_at(j1, m, 1u);
@@ -53763,7 +54306,7 @@ j1 = j1 & j2;
 j0 = j0 ^ j1;
 j1 = UINT64_C(1099511628211);
 j0 = j0 * j1;
-v7 = j0;
+v3 = j0;
 i0 = v37;
 i1 = v18;
 i2 = UINT32_C(4294967248);
@@ -53780,12 +54323,44 @@ i1 = UINT32_C(1);
 i0 = i0 & i1;
 i0 = (i0 == 0);
 if (i0) { goto l46; }
-j0 = UINT64_C(0);
-v2 = j0;
-l54:;
-j0 = v3;
+j0 = v21;
+j1 = UINT64_C(2);
+i0 = (j0 < j1);
+if (i0) { goto l54; }
+j0 = v19;
+j1 = UINT64_C(0);
+j2 = v5;
+j3 = v32;
+j2 = j2 - j3;
+v2 = j2;
+j3 = v2;
+j4 = v5;
+i3 = (j3 > j4);
+j1 = i3 ? j1 : j2;
+v7 = j1;
+j2 = UINT64_C(18446744073709551615);
+j1 = j1 + j2;
+v2 = j1;
+j0 = j0 + j1;
 p44 = read_at(j0, m, 1u);
 i0 = load8(p44 + 0);
+i1 = UINT32_C(32);
+i0 = i0 | i1;
+i1 = UINT32_C(98);
+i0 = (i0 != i1);
+if (i0) { goto l55; }
+j0 = v2;
+v7 = j0;
+j0 = v2;
+i0 = (j0 == 0);
+if (i0) { goto l54; }
+l55:;
+j0 = UINT64_C(0);
+v2 = j0;
+l56:;
+j0 = v19;
+p45 = read_at(j0, m, 1u);
+i0 = load8(p45 + 0);
 i1 = UINT32_C(4294967248);
 i0 = i0 + i1;
 v18 = i0;
@@ -53793,21 +54368,21 @@ i1 = UINT32_C(255);
 i0 = i0 & i1;
 i1 = UINT32_C(9);
 i0 = (i0 > i1);
-if (i0) { goto l53; }
+if (i0) { goto l54; }
 j0 = UINT64_C(18446744073709551615);
 j1 = UINT64_C(18446744073709551615);
 i2 = v18;
 j2 = (uint64_t)i2;
 j3 = UINT64_C(255);
 j2 = j2 & j3;
-v19 = j2;
+v20 = j2;
 j3 = v2;
 j4 = UINT64_C(10);
 j3 = j3 * j4;
 j2 = j2 + j3;
 v38 = j2;
 j3 = v38;
-j4 = v19;
+j4 = v20;
 i3 = (j3 < j4);
 j1 = i3 ? j1 : j2;
 j2 = v2;
@@ -53815,24 +54390,26 @@ j3 = UINT64_C(1844674407370955161);
 i2 = (j2 > j3);
 j0 = i2 ? j0 : j1;
 v2 = j0;
-j0 = v3;
+j0 = UINT64_C(1);
+v20 = j0;
+j0 = v19;
 j1 = UINT64_C(1);
 j0 = j0 + j1;
-v3 = j0;
-j0 = v20;
-j1 = v36;
-j2 = UINT64_C(1);
-j1 = j1 + j2;
-v36 = j1;
-i0 = (j0 != j1);
-if (i0) { goto l54; }
-j0 = UINT64_C(1);
-j1 = v7;
-j2 = v2;
-j3 = v21;
-i2 = (j2 == j3);
-j0 = i2 ? j0 : j1;
+v19 = j0;
+j0 = v7;
+j1 = UINT64_C(18446744073709551615);
+j0 = j0 + j1;
 v7 = j0;
+j1 = UINT64_C(0);
+i0 = (j0 != j1);
+if (i0) { goto l56; }
+j0 = v2;
+j1 = v21;
+i0 = (j0 == j1);
+if (i0) { goto l53; }
+l54:;
+j0 = v3;
+v20 = j0;
 l53:;
 j0 = v8;
 j1 = UINT64_C(1680);
@@ -53841,22 +54418,22 @@ j1 = v31;
 j2 = UINT64_C(3);
 j1 = j1 << (j2 & 63);
 j0 = j0 + j1;
-j1 = v7;
-p45 = write_at(j0, m, 8u);
-store64(p45 + 0, j1);
+j1 = v20;
+p46 = write_at(j0, m, 8u);
+store64(p46 + 0, j1);
 j0 = v31;
 j1 = UINT64_C(1);
 j0 = j0 + j1;
 v31 = j0;
 l46:;
-j0 = v20;
-j1 = UINT64_C(1);
-j0 = j0 + j1;
-v20 = j0;
 j0 = v35;
 j1 = UINT64_C(1);
 j0 = j0 + j1;
 v35 = j0;
+j0 = v36;
+j1 = UINT64_C(1);
+j0 = j0 + j1;
+v36 = j0;
 j0 = v5;
 j1 = v17;
 i0 = (j0 < j1);
@@ -53887,86 +54464,86 @@ v2 = j0;
 j0 = UINT64_C(0);
 v20 = j0;
 i0 = UINT32_C(0);
-v41 = i0;
-l55:;
+v40 = i0;
+l57:;
 j0 = v0;
 j1 = v2;
 j0 = j0 + j1;
-p46 = read_at(j0, m, 1u);
-i0 = load8(p46 + 0);
-v40 = i0;
+p47 = read_at(j0, m, 1u);
+i0 = load8(p47 + 0);
+v39 = i0;
 i1 = UINT32_C(95);
 i0 = (i0 == i1);
-if (i0) { goto l58; }
-i0 = v40;
+if (i0) { goto l60; }
+i0 = v39;
 i1 = UINT32_C(48);
 i0 = (i0 < i1);
-if (i0) { goto l59; }
-i0 = v40;
+if (i0) { goto l61; }
+i0 = v39;
 i1 = UINT32_C(58);
 i0 = (i0 < i1);
-if (i0) { goto l58; }
-i0 = v40;
+if (i0) { goto l60; }
+i0 = v39;
 i1 = UINT32_C(65);
 i0 = (i0 < i1);
-if (i0) { goto l57; }
-i0 = v40;
+if (i0) { goto l59; }
+i0 = v39;
 i1 = UINT32_C(91);
 i0 = (i0 < i1);
-if (i0) { goto l58; }
-i0 = v40;
+if (i0) { goto l60; }
+i0 = v39;
 i1 = UINT32_C(97);
 i0 = (i0 < i1);
-if (i0) { goto l57; }
-i0 = v40;
+if (i0) { goto l59; }
+i0 = v39;
 i0 = (uint32_t)extend(i0 & 255, 7);
 i1 = UINT32_C(122);
 i0 = (SIGNED32(i0) <= SIGNED32(i1));
-if (i0) { goto l58; }
-goto l57;
-l59:;
-i0 = v40;
+if (i0) { goto l60; }
+goto l59;
+l61:;
+i0 = v39;
 i1 = UINT32_C(46);
 i0 = (i0 != i1);
-if (i0) { goto l57; }
-l58:;
+if (i0) { goto l59; }
+l60:;
 j0 = v2;
 j1 = UINT64_C(1);
 j0 = j0 + j1;
 v2 = j0;
-goto l56;
-l57:;
+goto l58;
+l59:;
 j0 = v30;
 j1 = v2;
 i0 = (j0 > j1);
-if (i0) { goto l60; }
+if (i0) { goto l62; }
 j0 = v2;
 j1 = v29;
 i0 = (j0 >= j1);
-if (i0) { goto l60; }
+if (i0) { goto l62; }
 j0 = v29;
 v2 = j0;
-goto l56;
-l60:;
+goto l58;
+l62:;
 j0 = v2;
 j1 = v7;
 i0 = (j0 < j1);
-v42 = i0;
+v41 = i0;
 if (i0) { goto l4; }
 i0 = UINT32_C(0);
 v37 = i0;
 j0 = v2;
 j1 = v7;
 i0 = (j0 <= j1);
-if (i0) { goto l63; }
+if (i0) { goto l65; }
 j0 = UINT64_C(0);
 j1 = v0;
 j2 = v7;
 j1 = j1 + j2;
 v5 = j1;
-i2 = v42;
+i2 = v41;
 j0 = i2 ? j0 : j1;
-v38 = j0;
+v36 = j0;
 j0 = UINT64_C(0);
 j1 = v2;
 j2 = v7;
@@ -53976,19 +54553,19 @@ j2 = v3;
 j3 = v2;
 i2 = (j2 > j3);
 j0 = i2 ? j0 : j1;
-v36 = j0;
+v35 = j0;
 v3 = j0;
-l65:;
+l67:;
 j0 = v5;
-p47 = read_at(j0, m, 1u);
-i0 = load8(p47 + 0);
+p48 = read_at(j0, m, 1u);
+i0 = load8(p48 + 0);
 i1 = UINT32_C(4294967248);
 i0 = i0 + i1;
 i1 = UINT32_C(255);
 i0 = i0 & i1;
 i1 = UINT32_C(10);
 i0 = (i0 < i1);
-if (i0) { goto l64; }
+if (i0) { goto l66; }
 j0 = v5;
 j1 = UINT64_C(1);
 j0 = j0 + j1;
@@ -54001,7 +54578,7 @@ j0 = j0 + j1;
 v3 = j0;
 j1 = UINT64_C(0);
 i0 = (j0 != j1);
-if (i0) { goto l65; }
+if (i0) { goto l67; }
 j0 = v7;
 j1 = v2;
 j2 = v7;
@@ -54010,40 +54587,40 @@ i2 = (j2 < j3);
 j0 = i2 ? j0 : j1;
 j1 = v2;
 j0 = j0 - j1;
-v35 = j0;
-l67:;
-j0 = v36;
+v32 = j0;
+l69:;
+j0 = v35;
 j1 = v19;
 j2 = UINT64_C(24);
 j1 = j1 * j2;
 v5 = j1;
 j2 = UINT64_C(65552);
 j1 = j1 + j2;
-p48 = read_at(j1, m, 8u);
-j1 = load64(p48 + 0);
+p49 = read_at(j1, m, 8u);
+j1 = load64(p49 + 0);
 i0 = (j0 != j1);
-if (i0) { goto l68; }
+if (i0) { goto l70; }
 j0 = v5;
 j1 = UINT64_C(65544);
 j0 = j0 + j1;
-p49 = read_at(j0, m, 8u);
-j0 = load64(p49 + 0);
+p50 = read_at(j0, m, 8u);
+j0 = load64(p50 + 0);
 v3 = j0;
-j0 = v35;
+j0 = v32;
 v5 = j0;
-j0 = v38;
+j0 = v36;
 v7 = j0;
-l69:;
+l71:;
 j0 = v5;
 i0 = (j0 == 0);
-if (i0) { goto l66; }
+if (i0) { goto l68; }
 j0 = v7;
-p50 = read_at(j0, m, 1u);
-i0 = load8(p50 + 0);
-v18 = i0;
-j0 = v3;
 p51 = read_at(j0, m, 1u);
 i0 = load8(p51 + 0);
+v18 = i0;
+j0 = v3;
+p52 = read_at(j0, m, 1u);
+i0 = load8(p52 + 0);
 v37 = i0;
 j0 = v5;
 j1 = UINT64_C(1);
@@ -54073,18 +54650,18 @@ i1 = i3 ? i1 : i2;
 i2 = UINT32_C(255);
 i1 = i1 & i2;
 i0 = (i0 == i1);
-if (i0) { goto l69; }
-l68:;
+if (i0) { goto l71; }
+l70:;
 j0 = v19;
 j1 = UINT64_C(1);
 j0 = j0 + j1;
 v19 = j0;
 j1 = UINT64_C(19);
 i0 = (j0 != j1);
-if (i0) { goto l67; }
+if (i0) { goto l69; }
 i0 = UINT32_C(0);
-v41 = i0;
-i0 = v40;
+v40 = i0;
+i0 = v39;
 i1 = UINT32_C(253);
 i0 = i0 & i1;
 i1 = UINT32_C(60);
@@ -54098,14 +54675,14 @@ j0 = UINT64_C(0);
 v20 = j0;
 i0 = UINT32_C(1);
 v37 = i0;
-goto l62;
-l66:;
-i0 = v41;
+goto l64;
+l68:;
+i0 = v40;
 i1 = UINT32_C(255);
 i0 = i0 & i1;
 v18 = i0;
 i0 = UINT32_C(1);
-v41 = i0;
+v40 = i0;
 i0 = v18;
 i1 = UINT32_C(1);
 i0 = (i0 == i1);
@@ -54118,55 +54695,55 @@ i0 = UINT32_C(0);
 v18 = i0;
 j0 = v19;
 v20 = j0;
-goto l63;
-l64:;
+goto l65;
+l66:;
 i0 = UINT32_C(1);
 v18 = i0;
-l63:;
+l65:;
 j0 = v2;
 j1 = UINT64_C(1);
 j0 = j0 + j1;
 v2 = j0;
-i0 = v40;
+i0 = v39;
 i1 = UINT32_C(253);
 i0 = i0 & i1;
 i1 = UINT32_C(60);
 i0 = (i0 != i1);
-if (i0) { goto l61; }
-l62:;
+if (i0) { goto l63; }
+l64:;
 j0 = UINT64_C(8);
 v5 = j0;
 i0 = UINT32_C(0);
-v42 = i0;
+v41 = i0;
 i0 = UINT32_C(0);
 v18 = i0;
-i0 = v40;
+i0 = v39;
 i1 = UINT32_C(4294967236);
 i0 = i0 + i1;
 switch (i0) {
 case 0:
-goto l71;
+goto l73;
 case 1:
 goto l3;
 case 2:
-goto l70;
+goto l72;
 default:
 goto l3;
 }
-l71:;
+l73:;
 j0 = UINT64_C(17);
 v5 = j0;
-l70:;
-i0 = v41;
+l72:;
+i0 = v40;
 i1 = UINT32_C(255);
 i0 = i0 & i1;
-v40 = i0;
+v39 = i0;
 i0 = UINT32_C(1);
-v41 = i0;
+v40 = i0;
 i0 = UINT32_C(0);
 v18 = i0;
 i0 = v37;
-i1 = v40;
+i1 = v39;
 i2 = UINT32_C(1);
 i1 = (i1 == i2);
 j2 = v20;
@@ -54174,36 +54751,36 @@ j3 = v5;
 i2 = (j2 != j3);
 i1 = i1 & i2;
 i0 = i0 | i1;
-if (i0) { goto l72; }
+if (i0) { goto l74; }
 j0 = v5;
 v20 = j0;
 j0 = v2;
 v7 = j0;
-goto l56;
-l72:;
+goto l58;
+l74:;
 i0 = UINT32_C(0);
-v42 = i0;
+v41 = i0;
 goto l3;
-l61:;
+l63:;
 j0 = v2;
 v7 = j0;
 i0 = v37;
 if (i0) { goto l4; }
-l56:;
+l58:;
 j0 = v2;
 j1 = v17;
 i0 = (j0 < j1);
-if (i0) { goto l55; }
+if (i0) { goto l57; }
 j0 = v17;
 j1 = v7;
 i0 = (j0 < j1);
 if (i0) { goto l4; }
 i0 = UINT32_C(0);
-v42 = i0;
+v41 = i0;
 j0 = v0;
 j1 = v7;
 j0 = j0 + j1;
-v38 = j0;
+v36 = j0;
 v2 = j0;
 j0 = UINT64_C(0);
 j1 = v17;
@@ -54214,29 +54791,29 @@ j2 = v5;
 j3 = v17;
 i2 = (j2 > j3);
 j0 = i2 ? j0 : j1;
-v36 = j0;
+v35 = j0;
 v5 = j0;
 j0 = v17;
 j1 = v7;
 i0 = (j0 > j1);
-if (i0) { goto l74; }
+if (i0) { goto l76; }
 j0 = v20;
 v19 = j0;
 i0 = UINT32_C(0);
-v40 = i0;
-goto l73;
-l74:;
-l77:;
+v39 = i0;
+goto l75;
+l76:;
+l79:;
 j0 = v2;
-p52 = read_at(j0, m, 1u);
-i0 = load8(p52 + 0);
+p53 = read_at(j0, m, 1u);
+i0 = load8(p53 + 0);
 i1 = UINT32_C(4294967248);
 i0 = i0 + i1;
 i1 = UINT32_C(255);
 i0 = i0 & i1;
 i1 = UINT32_C(10);
 i0 = (i0 < i1);
-if (i0) { goto l76; }
+if (i0) { goto l78; }
 j0 = v2;
 j1 = UINT64_C(1);
 j0 = j0 + j1;
@@ -54249,7 +54826,7 @@ j0 = j0 + j1;
 v5 = j0;
 j1 = UINT64_C(0);
 i0 = (j0 != j1);
-if (i0) { goto l77; }
+if (i0) { goto l79; }
 j0 = v7;
 j1 = v17;
 j2 = v7;
@@ -54259,40 +54836,40 @@ j0 = i2 ? j0 : j1;
 j1 = v17;
 j0 = j0 - j1;
 v7 = j0;
-l78:;
-j0 = v36;
+l80:;
+j0 = v35;
 j1 = v19;
 j2 = UINT64_C(24);
 j1 = j1 * j2;
 v2 = j1;
 j2 = UINT64_C(65552);
 j1 = j1 + j2;
-p53 = read_at(j1, m, 8u);
-j1 = load64(p53 + 0);
+p54 = read_at(j1, m, 8u);
+j1 = load64(p54 + 0);
 i0 = (j0 != j1);
-if (i0) { goto l79; }
+if (i0) { goto l81; }
 j0 = v2;
 j1 = UINT64_C(65544);
 j0 = j0 + j1;
-p54 = read_at(j0, m, 8u);
-j0 = load64(p54 + 0);
+p55 = read_at(j0, m, 8u);
+j0 = load64(p55 + 0);
 v5 = j0;
 j0 = v7;
 v2 = j0;
-j0 = v38;
+j0 = v36;
 v3 = j0;
-l80:;
+l82:;
 j0 = v2;
 i0 = (j0 == 0);
-if (i0) { goto l75; }
+if (i0) { goto l77; }
 j0 = v3;
-p55 = read_at(j0, m, 1u);
-i0 = load8(p55 + 0);
-v18 = i0;
-j0 = v5;
 p56 = read_at(j0, m, 1u);
 i0 = load8(p56 + 0);
-v40 = i0;
+v18 = i0;
+j0 = v5;
+p57 = read_at(j0, m, 1u);
+i0 = load8(p57 + 0);
+v39 = i0;
 j0 = v2;
 j1 = UINT64_C(1);
 j0 = j0 + j1;
@@ -54305,7 +54882,7 @@ j0 = v3;
 j1 = UINT64_C(1);
 j0 = j0 + j1;
 v3 = j0;
-i0 = v40;
+i0 = v39;
 i1 = v18;
 i2 = UINT32_C(32);
 i1 = i1 + i2;
@@ -54321,29 +54898,29 @@ i1 = i3 ? i1 : i2;
 i2 = UINT32_C(255);
 i1 = i1 & i2;
 i0 = (i0 == i1);
-if (i0) { goto l80; }
-l79:;
+if (i0) { goto l82; }
+l81:;
 j0 = v19;
 j1 = UINT64_C(1);
 j0 = j0 + j1;
 v19 = j0;
 j1 = UINT64_C(19);
 i0 = (j0 != j1);
-if (i0) { goto l78; }
+if (i0) { goto l80; }
 i0 = UINT32_C(0);
 v18 = i0;
 goto l3;
-l76:;
+l78:;
 i0 = UINT32_C(0);
 v18 = i0;
 goto l3;
-l75:;
-i0 = v41;
+l77:;
+i0 = v40;
 i1 = UINT32_C(255);
 i0 = i0 & i1;
 v18 = i0;
 i0 = UINT32_C(1);
-v41 = i0;
+v40 = i0;
 i0 = v18;
 i1 = UINT32_C(1);
 i0 = (i0 == i1);
@@ -54351,36 +54928,36 @@ j1 = v20;
 j2 = v19;
 i1 = (j1 != j2);
 i0 = i0 & i1;
-v40 = i0;
+v39 = i0;
 i0 = UINT32_C(0);
 v18 = i0;
-l73:;
-i0 = v41;
+l75:;
+i0 = v40;
 i1 = UINT32_C(255);
 i0 = i0 & i1;
 i1 = UINT32_C(1);
 i0 = (i0 == i1);
-if (i0) { goto l81; }
-i0 = UINT32_C(0);
-v18 = i0;
-goto l3;
-l81:;
-i0 = v40;
-i0 = (i0 == 0);
-if (i0) { goto l82; }
-i0 = UINT32_C(0);
-v18 = i0;
-goto l3;
-l82:;
-i0 = v18;
-i1 = UINT32_C(1);
-i0 = i0 & i1;
-i0 = (i0 == 0);
 if (i0) { goto l83; }
 i0 = UINT32_C(0);
 v18 = i0;
 goto l3;
 l83:;
+i0 = v39;
+i0 = (i0 == 0);
+if (i0) { goto l84; }
+i0 = UINT32_C(0);
+v18 = i0;
+goto l3;
+l84:;
+i0 = v18;
+i1 = UINT32_C(1);
+i0 = i0 & i1;
+i0 = (i0 == 0);
+if (i0) { goto l85; }
+i0 = UINT32_C(0);
+v18 = i0;
+goto l3;
+l85:;
 i0 = UINT32_C(0);
 v18 = i0;
 j0 = v19;
@@ -54392,31 +54969,17 @@ j1 = UINT64_C(24);
 j0 = j0 * j1;
 j1 = UINT64_C(65560);
 j0 = j0 + j1;
-p57 = read_at(j0, m, 1u);
-i0 = load8(p57 + 0);
-v42 = i0;
+p58 = read_at(j0, m, 1u);
+i0 = load8(p58 + 0);
+v41 = i0;
 i0 = UINT32_C(1);
 v18 = i0;
 goto l3;
-l39:;
-j0 = v8;
-j1 = UINT64_C(0);
-store64(p1 + 1656, j1);
-j0 = v8;
-j1 = UINT64_C(0);
-store64(p1 + 1648, j1);
-j0 = v8;
-j1 = UINT64_C(0);
-store64(p1 + 1640, j1);
-j0 = v8;
-j1 = UINT64_C(0);
-store64(p1 + 1632, j1);
-goto l4;
 l5:;
 trap();
 l4:;
 i0 = UINT32_C(0);
-v42 = i0;
+v41 = i0;
 i0 = UINT32_C(0);
 v18 = i0;
 l3:;
@@ -54430,57 +54993,57 @@ j2 = v1;
 j3 = v17;
 fio_log_sides_said_at(m, j0, j1, j2, j3);
 j0 = v8;
-p58 = read_at(j0, m, 1674u);
-i0 = load8(p58 + 1);
-v40 = i0;
+p59 = read_at(j0, m, 1674u);
+i0 = load8(p59 + 1);
+v39 = i0;
 j0 = v8;
-i0 = load8(p58 + 0);
+i0 = load8(p59 + 0);
 v37 = i0;
 j0 = v8;
-i0 = load8(p58 + 1673);
-v41 = i0;
+i0 = load8(p59 + 1673);
+v40 = i0;
 j0 = v8;
-i0 = load8(p58 + 1672);
-v43 = i0;
+i0 = load8(p59 + 1672);
+v42 = i0;
 i0 = v27;
 i1 = UINT32_C(1);
 i0 = i0 & i1;
-if (i0) { goto l85; }
+if (i0) { goto l87; }
 j0 = v22;
 v24 = j0;
-goto l84;
-l85:;
+goto l86;
+l87:;
 i0 = v25;
 i1 = UINT32_C(1);
 i0 = i0 & i1;
 i0 = (i0 == 0);
-if (i0) { goto l84; }
+if (i0) { goto l86; }
 j0 = v22;
 j1 = UINT64_C(48);
 j0 = j0 ^ j1;
 j1 = UINT64_C(1099511628211);
 j0 = j0 * j1;
 v24 = j0;
-l84:;
+l86:;
 j0 = v8;
 j1 = v8;
-j1 = load64(p58 + 1632);
-p59 = write_at(j0 + UINT64_C(1600), m, 32u);
-store64(p59 + 0, j1);
+j1 = load64(p59 + 1632);
+p60 = write_at(j0 + UINT64_C(1600), m, 32u);
+store64(p60 + 0, j1);
 j0 = v8;
 j1 = v8;
-j1 = load64(p58 + 1640);
-store64(p59 + 8, j1);
+j1 = load64(p59 + 1640);
+store64(p60 + 8, j1);
 j0 = v8;
 j1 = v8;
-j1 = load64(p58 + 1648);
-store64(p59 + 16, j1);
+j1 = load64(p59 + 1648);
+store64(p60 + 16, j1);
 j0 = v8;
 j1 = v8;
-j1 = load64(p58 + 1656);
-store64(p59 + 24, j1);
+j1 = load64(p59 + 1656);
+store64(p60 + 24, j1);
 j0 = v8;
-j0 = load64(p58 + 1664);
+j0 = load64(p59 + 1664);
 v3 = j0;
 j0 = v8;
 j1 = UINT64_C(808);
@@ -54505,22 +55068,22 @@ j1 = v6;
 j2 = UINT64_C(7488);
 j1 = j1 + j2;
 v7 = j1;
-p60 = write_at(j1, m, 8u);
-j1 = load64(p60 + 0);
+p61 = write_at(j1, m, 8u);
+j1 = load64(p61 + 0);
 v19 = j1;
 j2 = UINT64_C(936);
 j1 = j1 * j2;
 j0 = j0 + j1;
 v2 = j0;
 i1 = v15;
-p61 = write_at(j0, m, 936u);
-store8(p61 + 16, i1);
+p62 = write_at(j0, m, 936u);
+store8(p62 + 16, i1);
 j0 = v2;
 j1 = v16;
-store64(p61 + 8, j1);
+store64(p62 + 8, j1);
 j0 = v2;
 j1 = v17;
-store64(p61 + 0, j1);
+store64(p62 + 0, j1);
 j0 = v2;
 j1 = UINT64_C(17);
 j0 = j0 + j1;
@@ -54544,93 +55107,93 @@ v5 = j2;
 j1 = j1 ^ j2;
 j2 = UINT64_C(1099511628211);
 j1 = j1 * j2;
-store64(p61 + 840, j1);
+store64(p62 + 840, j1);
 j0 = v2;
 j1 = v5;
-store64(p61 + 832, j1);
+store64(p62 + 832, j1);
 j0 = v2;
 j1 = v23;
-store64(p61 + 824, j1);
+store64(p62 + 824, j1);
 j0 = v2;
 j1 = v24;
-store64(p61 + 816, j1);
+store64(p62 + 816, j1);
 j0 = v2;
 i1 = UINT32_C(0);
-store32(p61 + 881, i1);
+store32(p62 + 881, i1);
 j0 = v2;
 i1 = v9;
-store8(p61 + 880, i1);
+store8(p62 + 880, i1);
 j0 = v2;
 i1 = UINT32_C(0);
-store32(p61 + 884, i1);
+store32(p62 + 884, i1);
 j0 = v2;
 i1 = v10;
-store8(p61 + 928, i1);
+store8(p62 + 928, i1);
 j0 = v2;
 j1 = v11;
-store64(p61 + 920, j1);
+store64(p62 + 920, j1);
 j0 = v2;
 j1 = v12;
-store64(p61 + 912, j1);
+store64(p62 + 912, j1);
 j0 = v2;
 j1 = v13;
-store64(p61 + 904, j1);
+store64(p62 + 904, j1);
 j0 = v2;
 i1 = UINT32_C(0);
-store8(p61 + 903, i1);
+store8(p62 + 903, i1);
 j0 = v2;
-i1 = v41;
-store8(p61 + 902, i1);
+i1 = v40;
+store8(p62 + 902, i1);
 j0 = v2;
-i1 = v43;
-store8(p61 + 901, i1);
+i1 = v42;
+store8(p62 + 901, i1);
 j0 = v2;
 i1 = v26;
 i2 = UINT32_C(1);
 i1 = i1 & i2;
-store8(p61 + 900, i1);
+store8(p62 + 900, i1);
 j0 = v2;
-i1 = v40;
-store8(p61 + 899, i1);
+i1 = v39;
+store8(p62 + 899, i1);
 j0 = v2;
 i1 = v37;
-store8(p61 + 898, i1);
+store8(p62 + 898, i1);
 j0 = v2;
-i1 = v42;
-store8(p61 + 897, i1);
+i1 = v41;
+store8(p62 + 897, i1);
 j0 = v2;
 i1 = v18;
-store8(p61 + 896, i1);
+store8(p62 + 896, i1);
 j0 = v2;
 j1 = v14;
-store64(p61 + 888, j1);
+store64(p62 + 888, j1);
 j0 = v2;
 j1 = v8;
-j1 = load64(p58 + 1600);
-store64(p61 + 848, j1);
+j1 = load64(p59 + 1600);
+store64(p62 + 848, j1);
 j0 = v2;
 j1 = v8;
-j1 = load64(p58 + 1608);
-store64(p61 + 856, j1);
+j1 = load64(p59 + 1608);
+store64(p62 + 856, j1);
 j0 = v2;
 j1 = v8;
-j1 = load64(p58 + 1616);
-store64(p61 + 864, j1);
+j1 = load64(p59 + 1616);
+store64(p62 + 864, j1);
 j0 = v2;
 j1 = v8;
-j1 = load64(p58 + 1624);
-store64(p61 + 872, j1);
+j1 = load64(p59 + 1624);
+store64(p62 + 872, j1);
 j0 = v2;
 i1 = UINT32_C(0);
-store32(p61 + 932, i1);
+store32(p62 + 932, i1);
 j0 = v2;
 i1 = UINT32_C(0);
-store32(p61 + 929, i1);
+store32(p62 + 929, i1);
 j0 = v7;
 j1 = v19;
 j2 = UINT64_C(1);
 j1 = j1 + j2;
-store64(p60 + 0, j1);
+store64(p61 + 0, j1);
 l2:;
 j0 = v8;
 j1 = UINT64_C(1712);
@@ -57091,6 +57654,89 @@ r = i0;
 return r;
 l2:;
 trap();
+return r;
+}
+static uint32_t fio_log_clock_is_gap(struct machine *m, uint32_t v0)
+{
+uint32_t v1 = 0;
+uint32_t i0;
+uint32_t i1;
+uint64_t j0;
+uint64_t j1;
+uint64_t j2;
+uint32_t r;
+j0 = m->g0;
+j1 = UINT64_C(16);
+i0 = (SIGNED64(j0) < SIGNED64(j1));
+if (i0) { goto l5; }
+i0 = v0;
+i1 = UINT32_C(255);
+i0 = i0 & i1;
+v1 = i0;
+i1 = UINT32_C(59);
+i0 = (i0 > i1);
+if (i0) { goto l4; }
+j0 = UINT64_C(1);
+i1 = v0;
+j1 = (uint64_t)i1;
+j2 = UINT64_C(255);
+j1 = j1 & j2;
+j0 = j0 << (j1 & 63);
+j1 = UINT64_C(576460756598391296);
+j0 = j0 & j1;
+j1 = UINT64_C(0);
+i0 = (j0 == j1);
+if (i0) { goto l4; }
+goto l3;
+l5:;
+trap();
+l4:;
+i0 = v1;
+i1 = UINT32_C(4294967212);
+i0 = i0 + i1;
+switch (i0) {
+case 0:
+goto l3;
+case 1:
+goto l6;
+case 2:
+goto l6;
+case 3:
+goto l6;
+case 4:
+goto l6;
+case 5:
+goto l6;
+case 6:
+goto l6;
+case 7:
+goto l6;
+case 8:
+goto l6;
+case 9:
+goto l6;
+case 10:
+goto l6;
+case 11:
+goto l3;
+default:
+goto l6;
+}
+l6:;
+i0 = UINT32_C(0);
+v1 = i0;
+i0 = v0;
+i1 = UINT32_C(254);
+i0 = i0 & i1;
+i1 = UINT32_C(44);
+i0 = (i0 != i1);
+if (i0) { goto l2; }
+l3:;
+i0 = UINT32_C(1);
+v1 = i0;
+l2:;
+i0 = v1;
+r = i0;
 return r;
 }
 static void fio_log_marks_end_of(struct machine *m, uint64_t v0, uint64_t v1, uint64_t v2, uint64_t v3, uint64_t v4, uint64_t v5)
@@ -80296,6 +80942,7 @@ uint64_t v42 = 0;
 uint64_t v43 = 0;
 uint32_t v44 = 0;
 uint32_t v45 = 0;
+uint32_t v46 = 0;
 uint32_t i0;
 uint32_t i1;
 uint32_t i2;
@@ -80438,10 +81085,13 @@ uint8_t *p129;
 uint8_t *p130;
 uint8_t *p131;
 uint8_t *p132;
+uint8_t *p133;
+uint8_t *p134;
+uint8_t *p135;
 j0 = m->g0;
-j1 = UINT64_C(32);
+j1 = UINT64_C(64);
 j0 = j0 - j1;
-p1 = write_at(j0, m, 32u);
+p1 = write_at(j0, m, 64u);
 v2 = j0;
 m->g0 = j0;
 j0 = v2;
@@ -80496,11 +81146,11 @@ j1 = UINT64_C(306968);
 j0 = j0 + j1;
 v13 = j0;
 j0 = v0;
-j1 = UINT64_C(425304);
+j1 = UINT64_C(407600);
 j0 = j0 + j1;
 v14 = j0;
 j0 = v0;
-j1 = UINT64_C(407600);
+j1 = UINT64_C(425304);
 j0 = j0 + j1;
 v15 = j0;
 j0 = v0;
@@ -81292,7 +81942,7 @@ i0 = UINT32_C(5);
 v44 = i0;
 i0 = v31;
 if (i0) { goto l25; }
-j0 = v14;
+j0 = v15;
 j1 = v35;
 j2 = UINT64_C(264);
 j1 = j1 * j2;
@@ -81303,127 +81953,88 @@ j0 = j0 + j1;
 p58 = read_at(j0, m, 8u);
 j0 = load64(p58 + 0);
 v39 = j0;
-j0 = UINT64_C(0);
-v43 = j0;
 j0 = v3;
 j1 = UINT64_C(0);
 store64(p1 + 24, j1);
 j0 = v3;
-j1 = UINT64_C(14695981039346656037);
+j1 = UINT64_C(0);
 store64(p1 + 16, j1);
 j0 = v3;
-j1 = UINT64_C(14695981039346656037);
+j1 = UINT64_C(0);
 store64(p1 + 8, j1);
 j0 = v3;
-j1 = UINT64_C(14695981039346656037);
+j1 = UINT64_C(0);
 store64(p1 + 0, j1);
+i0 = UINT32_C(1);
+v45 = i0;
+j0 = v0;
+j1 = UINT64_C(446330);
+j0 = j0 + j1;
+i0 = load8(p16 + 3586);
+i1 = UINT32_C(1);
+i0 = (i0 != i1);
+if (i0) { goto l48; }
+j0 = v3;
+j1 = UINT64_C(0);
+store64(p1 + 56, j1);
+j0 = UINT64_C(14695981039346656037);
+v29 = j0;
+j0 = v3;
+j1 = UINT64_C(14695981039346656037);
+store64(p1 + 48, j1);
+j0 = v3;
+j1 = UINT64_C(14695981039346656037);
+store64(p1 + 40, j1);
+j0 = v3;
+j1 = UINT64_C(14695981039346656037);
+store64(p1 + 32, j1);
 j0 = v39;
 i0 = (j0 == 0);
-if (i0) { goto l25; }
-i0 = UINT32_C(0);
-v31 = i0;
-j0 = UINT64_C(3750763034362895578);
-v2 = j0;
-i0 = UINT32_C(1);
-v28 = i0;
-i0 = UINT32_C(1);
-v34 = i0;
-l48:;
-i0 = v28;
-v45 = i0;
-j0 = v2;
-v32 = j0;
-l50:;
-j0 = v37;
-j1 = v43;
+if (i0) { goto l49; }
+j0 = v3;
+j1 = UINT64_C(32);
 j0 = j0 + j1;
-p59 = read_at(j0, m, 1u);
-i0 = load8(p59 + 0);
-v30 = i0;
-i1 = UINT32_C(95);
-i0 = (i0 == i1);
-if (i0) { goto l52; }
-i0 = UINT32_C(0);
-v38 = i0;
-i0 = v30;
-i1 = UINT32_C(48);
-i0 = (i0 < i1);
-if (i0) { goto l51; }
-i0 = v30;
-i1 = UINT32_C(58);
-i0 = (i0 < i1);
-if (i0) { goto l52; }
-i0 = v30;
-i1 = UINT32_C(65);
-i0 = (i0 < i1);
-if (i0) { goto l51; }
-i0 = v30;
-i1 = UINT32_C(91);
-i0 = (i0 < i1);
-if (i0) { goto l52; }
-i0 = v30;
-i1 = UINT32_C(97);
-i0 = (i0 < i1);
-if (i0) { goto l51; }
-i0 = v30;
-i0 = (uint32_t)extend(i0 & 255, 7);
-i1 = UINT32_C(122);
-i0 = (SIGNED32(i0) > SIGNED32(i1));
-if (i0) { goto l51; }
-l52:;
-i0 = v30;
-i1 = UINT32_C(95);
-i0 = (i0 != i1);
-v38 = i0;
-l51:;
-j0 = v3;
-i1 = v30;
+j1 = v37;
+p59 = read_at(j1, m, 1u);
+i1 = load8(p59 + 0);
 fio_log_masks_Mask_add(m, j0, i1);
-i0 = v31;
-i1 = v38;
-i0 = i0 | i1;
-v31 = i0;
-i0 = UINT32_C(1);
-v28 = i0;
-i0 = v34;
+j0 = v3;
+j0 = load64(p1 + 32);
+v29 = j0;
+j0 = v3;
+j0 = load64(p1 + 56);
+v2 = j0;
+i0 = (uint32_t)j0;
 i1 = UINT32_C(1);
 i0 = i0 & i1;
 i0 = (i0 == 0);
-if (i0) { goto l53; }
-j0 = v3;
-j0 = load64(p1 + 0);
-v29 = j0;
-j0 = v3;
-i0 = load8(p1 + 24);
-i1 = UINT32_C(1);
-i0 = i0 & i1;
+if (i0) { goto l49; }
+j0 = v2;
+j1 = UINT64_C(256);
+j0 = j0 & j1;
+i0 = (j0 == 0);
 i0 = (i0 == 0);
-if (i0) { goto l54; }
+if (i0) { goto l50; }
 j0 = v3;
-i0 = load8(p1 + 25);
-i1 = UINT32_C(1);
-i0 = i0 & i1;
-if (i0) { goto l55; }
-j0 = v3;
-j0 = load64(p1 + 16);
+j0 = load64(p1 + 48);
 v29 = j0;
-goto l54;
-l55:;
+goto l49;
+l50:;
 j0 = v29;
 j1 = UINT64_C(48);
 j0 = j0 ^ j1;
 j1 = UINT64_C(1099511628211);
 j0 = j0 * j1;
 v29 = j0;
-l54:;
+l49:;
 j0 = v29;
 j1 = UINT64_C(3);
 j0 = j0 << (j1 & 63);
 v42 = j0;
 j0 = UINT64_C(0);
 v2 = j0;
-l57:;
-j0 = v15;
+l51:;
+j0 = v14;
 j1 = v42;
 j2 = v2;
 j1 = j1 + j2;
@@ -81436,13 +82047,13 @@ j0 = load64(p60 + 0);
 v40 = j0;
 j1 = v29;
 i0 = (j0 == j1);
-v38 = i0;
-if (i0) { goto l56; }
+v45 = i0;
+if (i0) { goto l48; }
 j0 = v40;
 j1 = UINT64_C(0);
 i0 = (j0 == j1);
-if (i0) { goto l56; }
-j0 = v15;
+if (i0) { goto l48; }
+j0 = v14;
 j1 = v41;
 j2 = UINT64_C(8);
 j1 = j1 + j2;
@@ -81454,23 +82065,191 @@ j0 = load64(p61 + 0);
 v40 = j0;
 j1 = v29;
 i0 = (j0 == j1);
-v38 = i0;
-if (i0) { goto l56; }
+v45 = i0;
+if (i0) { goto l48; }
 j0 = v40;
 i0 = (j0 == 0);
+if (i0) { goto l48; }
+j0 = v2;
+j1 = UINT64_C(16);
+j0 = j0 + j1;
+v2 = j0;
+j1 = UINT64_C(256);
+i0 = (j0 != j1);
+if (i0) { goto l51; }
+i0 = UINT32_C(0);
+v45 = i0;
+l48:;
+j0 = v3;
+j1 = UINT64_C(0);
+store64(p1 + 56, j1);
+j0 = v3;
+j1 = UINT64_C(14695981039346656037);
+store64(p1 + 48, j1);
+j0 = v3;
+j1 = UINT64_C(14695981039346656037);
+store64(p1 + 40, j1);
+j0 = v3;
+j1 = UINT64_C(14695981039346656037);
+store64(p1 + 32, j1);
+j0 = v39;
+i0 = (j0 == 0);
+if (i0) { goto l25; }
+j0 = UINT64_C(0);
+v43 = j0;
+i0 = UINT32_C(0);
+v31 = i0;
+j0 = UINT64_C(3750763034362895578);
+v2 = j0;
+i0 = UINT32_C(1);
+v28 = i0;
+i0 = UINT32_C(1);
+v34 = i0;
+l52:;
+i0 = v28;
+v46 = i0;
+j0 = v2;
+v32 = j0;
+l54:;
+j0 = v37;
+j1 = v43;
+j0 = j0 + j1;
+p62 = read_at(j0, m, 1u);
+i0 = load8(p62 + 0);
+v30 = i0;
+i1 = UINT32_C(95);
+i0 = (i0 == i1);
 if (i0) { goto l56; }
+i0 = UINT32_C(0);
+v38 = i0;
+i0 = v30;
+i1 = UINT32_C(48);
+i0 = (i0 < i1);
+if (i0) { goto l55; }
+i0 = v30;
+i1 = UINT32_C(58);
+i0 = (i0 < i1);
+if (i0) { goto l56; }
+i0 = v30;
+i1 = UINT32_C(65);
+i0 = (i0 < i1);
+if (i0) { goto l55; }
+i0 = v30;
+i1 = UINT32_C(91);
+i0 = (i0 < i1);
+if (i0) { goto l56; }
+i0 = v30;
+i1 = UINT32_C(97);
+i0 = (i0 < i1);
+if (i0) { goto l55; }
+i0 = v30;
+i0 = (uint32_t)extend(i0 & 255, 7);
+i1 = UINT32_C(122);
+i0 = (SIGNED32(i0) > SIGNED32(i1));
+if (i0) { goto l55; }
+l56:;
+i0 = v30;
+i1 = UINT32_C(95);
+i0 = (i0 != i1);
+v38 = i0;
+l55:;
+j0 = v3;
+j1 = UINT64_C(32);
+j0 = j0 + j1;
+i1 = v30;
+fio_log_masks_Mask_add(m, j0, i1);
+i0 = v31;
+i1 = v38;
+i0 = i0 | i1;
+v31 = i0;
+i0 = UINT32_C(1);
+v28 = i0;
+i0 = v34;
+i1 = UINT32_C(1);
+i0 = i0 & i1;
+i0 = (i0 == 0);
+if (i0) { goto l57; }
+j0 = v3;
+j0 = load64(p1 + 32);
+v29 = j0;
+j0 = v3;
+i0 = load8(p1 + 56);
+i1 = UINT32_C(1);
+i0 = i0 & i1;
+i0 = (i0 == 0);
+if (i0) { goto l58; }
+j0 = v3;
+i0 = load8(p1 + 57);
+i1 = UINT32_C(1);
+i0 = i0 & i1;
+if (i0) { goto l59; }
+j0 = v3;
+j0 = load64(p1 + 48);
+v29 = j0;
+goto l58;
+l59:;
+j0 = v29;
+j1 = UINT64_C(48);
+j0 = j0 ^ j1;
+j1 = UINT64_C(1099511628211);
+j0 = j0 * j1;
+v29 = j0;
+l58:;
+j0 = v29;
+j1 = UINT64_C(3);
+j0 = j0 << (j1 & 63);
+v42 = j0;
+j0 = UINT64_C(0);
+v2 = j0;
+l61:;
+j0 = v14;
+j1 = v42;
+j2 = v2;
+j1 = j1 + j2;
+v41 = j1;
+j2 = UINT64_C(8184);
+j1 = j1 & j2;
+j0 = j0 + j1;
+p63 = read_at(j0, m, 8u);
+j0 = load64(p63 + 0);
+v40 = j0;
+j1 = v29;
+i0 = (j0 == j1);
+v38 = i0;
+if (i0) { goto l60; }
+j0 = v40;
+j1 = UINT64_C(0);
+i0 = (j0 == j1);
+if (i0) { goto l60; }
+j0 = v14;
+j1 = v41;
+j2 = UINT64_C(8);
+j1 = j1 + j2;
+j2 = UINT64_C(8184);
+j1 = j1 & j2;
+j0 = j0 + j1;
+p64 = read_at(j0, m, 8u);
+j0 = load64(p64 + 0);
+v40 = j0;
+j1 = v29;
+i0 = (j0 == j1);
+v38 = i0;
+if (i0) { goto l60; }
+j0 = v40;
+i0 = (j0 == 0);
+if (i0) { goto l60; }
 j0 = v2;
 j1 = UINT64_C(16);
 j0 = j0 + j1;
 v2 = j0;
 j1 = UINT64_C(256);
 i0 = (j0 == j1);
-if (i0) { goto l53; }
-goto l57;
-l56:;
+if (i0) { goto l57; }
+goto l61;
+l60:;
 i0 = v38;
 i0 = (i0 == 0);
-if (i0) { goto l53; }
+if (i0) { goto l57; }
 i0 = UINT32_C(1);
 v34 = i0;
 j0 = v43;
@@ -81479,41 +82258,41 @@ j0 = j0 + j1;
 v43 = j0;
 j1 = v39;
 i0 = (j0 < j1);
-if (i0) { goto l50; }
-goto l49;
-l53:;
+if (i0) { goto l54; }
+goto l53;
+l57:;
 j0 = UINT64_C(3750763034362895578);
 v2 = j0;
 i0 = v30;
 i1 = UINT32_C(95);
 i0 = (i0 == i1);
-if (i0) { goto l58; }
+if (i0) { goto l62; }
 i0 = v30;
 i1 = UINT32_C(48);
 i0 = (i0 < i1);
-if (i0) { goto l58; }
+if (i0) { goto l62; }
 i0 = v30;
 i1 = UINT32_C(58);
 i0 = (i0 < i1);
-if (i0) { goto l59; }
+if (i0) { goto l63; }
 i0 = v30;
 i1 = UINT32_C(65);
 i0 = (i0 < i1);
-if (i0) { goto l58; }
+if (i0) { goto l62; }
 i0 = v30;
 i1 = UINT32_C(91);
 i0 = (i0 < i1);
-if (i0) { goto l59; }
+if (i0) { goto l63; }
 i0 = v30;
 i1 = UINT32_C(97);
 i0 = (i0 < i1);
-if (i0) { goto l58; }
+if (i0) { goto l62; }
 i0 = v30;
 i0 = (uint32_t)extend(i0 & 255, 7);
 i1 = UINT32_C(123);
 i0 = (SIGNED32(i0) >= SIGNED32(i1));
-if (i0) { goto l58; }
-l59:;
+if (i0) { goto l62; }
+l63:;
 j0 = v32;
 i1 = v30;
 i2 = UINT32_C(32);
@@ -81535,19 +82314,19 @@ v29 = j0;
 j1 = UINT64_C(1099511628211);
 j0 = j0 * j1;
 v2 = j0;
-i0 = v45;
+i0 = v46;
 i1 = UINT32_C(1);
 i0 = i0 & i1;
 i0 = (i0 == 0);
-if (i0) { goto l61; }
+if (i0) { goto l65; }
 j0 = v29;
 j1 = UINT64_C(8796093025688);
 j0 = j0 * j1;
 v42 = j0;
 j0 = UINT64_C(0);
 v29 = j0;
-l63:;
-j0 = v15;
+l67:;
+j0 = v14;
 j1 = v42;
 j2 = v29;
 j1 = j1 + j2;
@@ -81555,69 +82334,69 @@ v41 = j1;
 j2 = UINT64_C(8184);
 j1 = j1 & j2;
 j0 = j0 + j1;
-p62 = read_at(j0, m, 8u);
-j0 = load64(p62 + 0);
+p65 = read_at(j0, m, 8u);
+j0 = load64(p65 + 0);
 v40 = j0;
 j1 = v2;
 i0 = (j0 == j1);
 v28 = i0;
-if (i0) { goto l62; }
+if (i0) { goto l66; }
 j0 = v40;
 j1 = UINT64_C(0);
 i0 = (j0 == j1);
-if (i0) { goto l62; }
-j0 = v15;
+if (i0) { goto l66; }
+j0 = v14;
 j1 = v41;
 j2 = UINT64_C(8);
 j1 = j1 + j2;
 j2 = UINT64_C(8184);
 j1 = j1 & j2;
 j0 = j0 + j1;
-p63 = read_at(j0, m, 8u);
-j0 = load64(p63 + 0);
+p66 = read_at(j0, m, 8u);
+j0 = load64(p66 + 0);
 v40 = j0;
 j1 = v2;
 i0 = (j0 == j1);
 v28 = i0;
-if (i0) { goto l62; }
+if (i0) { goto l66; }
 j0 = v40;
 i0 = (j0 == 0);
-if (i0) { goto l62; }
+if (i0) { goto l66; }
 j0 = v29;
 j1 = UINT64_C(16);
 j0 = j0 + j1;
 v29 = j0;
 j1 = UINT64_C(256);
 i0 = (j0 == j1);
-if (i0) { goto l61; }
-goto l63;
-l62:;
+if (i0) { goto l65; }
+goto l67;
+l66:;
 i0 = v30;
 i1 = UINT32_C(58);
 i0 = (i0 < i1);
-if (i0) { goto l58; }
+if (i0) { goto l62; }
 i0 = v28;
-if (i0) { goto l58; }
-goto l60;
-l61:;
+if (i0) { goto l62; }
+goto l64;
+l65:;
 i0 = v30;
 i1 = UINT32_C(58);
 i0 = (i0 >= i1);
-if (i0) { goto l60; }
+if (i0) { goto l64; }
 i0 = UINT32_C(0);
 v28 = i0;
-goto l58;
-l60:;
+goto l62;
+l64:;
 i0 = v30;
 i1 = UINT32_C(65);
 i0 = (i0 < i1);
-if (i0) { goto l64; }
+if (i0) { goto l68; }
 i0 = UINT32_C(0);
 v28 = i0;
 i0 = v30;
 i1 = UINT32_C(71);
 i0 = (i0 < i1);
-if (i0) { goto l58; }
+if (i0) { goto l62; }
 i0 = v30;
 i1 = UINT32_C(4294967199);
 i0 = i0 + i1;
@@ -81625,8 +82404,8 @@ i1 = UINT32_C(255);
 i0 = i0 & i1;
 i1 = UINT32_C(6);
 i0 = (i0 < i1);
-if (i0) { goto l58; }
-l64:;
+if (i0) { goto l62; }
+l68:;
 i0 = v30;
 i1 = UINT32_C(4294967212);
 i0 = i0 + i1;
@@ -81645,7 +82424,7 @@ i0 = (j0 == j1);
 if (i0) { goto l25; }
 i0 = UINT32_C(0);
 v28 = i0;
-l58:;
+l62:;
 i0 = UINT32_C(0);
 v34 = i0;
 j0 = v43;
@@ -81654,8 +82433,27 @@ j0 = j0 + j1;
 v43 = j0;
 j1 = v39;
 i0 = (j0 < j1);
-if (i0) { goto l48; }
-l49:;
+if (i0) { goto l52; }
+l53:;
+i0 = v45;
+i1 = v31;
+i2 = UINT32_C(4294967295);
+i1 = i1 ^ i2;
+i0 = i0 | i1;
+i1 = UINT32_C(1);
+i0 = i0 & i1;
+if (i0) { goto l69; }
+j0 = v3;
+j1 = v37;
+j2 = v39;
+fio_log_clock_time_in(m, j0, j1, j2);
+j0 = v3;
+i0 = load8(p1 + 0);
+i1 = UINT32_C(1);
+i0 = (i0 != i1);
+if (i0) { goto l26; }
+goto l25;
+l69:;
 i0 = v31;
 i1 = UINT32_C(1);
 i0 = i0 & i1;
@@ -81669,25 +82467,25 @@ j0 = v36;
 j1 = UINT64_C(16);
 j0 = j0 + j1;
 j1 = UINT64_C(0);
-p64 = write_at(j0 + UINT64_C(18446744073709551608), m, 24u);
-store64(p64 + 8, j1);
+p67 = write_at(j0 + UINT64_C(18446744073709551608), m, 24u);
+store64(p67 + 8, j1);
 j0 = v36;
 j1 = UINT64_C(9);
 j0 = j0 + j1;
 i1 = v44;
-store8(p64 + 1, i1);
+store8(p67 + 1, i1);
 i0 = UINT32_C(4);
 v28 = i0;
 j0 = v36;
 j1 = UINT64_C(8);
 j0 = j0 + j1;
 i1 = UINT32_C(4);
-store8(p64 + 0, i1);
+store8(p67 + 0, i1);
 j0 = v36;
 j1 = UINT64_C(24);
 j0 = j0 + j1;
 j1 = UINT64_C(0);
-store64(p64 + 16, j1);
+store64(p67 + 16, j1);
 l22:;
 j0 = v24;
 j1 = v35;
@@ -81700,14 +82498,14 @@ i0 = UINT32_C(0);
 v38 = i0;
 i0 = v27;
 i0 = (i0 == 0);
-if (i0) { goto l68; }
+if (i0) { goto l73; }
 i0 = UINT32_C(0);
 v30 = i0;
-goto l67;
-l68:;
+goto l72;
+l73:;
 j0 = v40;
-p65 = read_at(j0, m, 8u);
-j0 = load64(p65 + 0);
+p68 = read_at(j0, m, 8u);
+j0 = load64(p68 + 0);
 v2 = j0;
 i0 = UINT32_C(5);
 v30 = i0;
@@ -81716,83 +82514,83 @@ v38 = i0;
 i0 = v28;
 switch (i0) {
 case 0:
-goto l67;
+goto l72;
 case 1:
-goto l72;
+goto l77;
 case 2:
-goto l72;
+goto l77;
 case 3:
-goto l72;
+goto l77;
 case 4:
-goto l73;
+goto l78;
 default:
-goto l67;
+goto l72;
 }
-l73:;
+l78:;
 i0 = UINT32_C(1);
 v38 = i0;
 i0 = UINT32_C(1);
 j1 = v36;
 j2 = UINT64_C(9);
 j1 = j1 + j2;
-p66 = read_at(j1, m, 1u);
-i1 = load8(p66 + 0);
+p69 = read_at(j1, m, 1u);
+i1 = load8(p69 + 0);
 v27 = i1;
 i0 = i0 << (i1 & 31);
 i1 = UINT32_C(54);
 i0 = i0 & i1;
-if (i0) { goto l69; }
+if (i0) { goto l74; }
 i0 = v27;
 i0 = (i0 == 0);
-if (i0) { goto l67; }
+if (i0) { goto l72; }
 j0 = v2;
 j1 = v26;
 i0 = (j0 < j1);
-if (i0) { goto l71; }
+if (i0) { goto l76; }
 j0 = v36;
 j1 = UINT64_C(10);
 j0 = j0 + j1;
-p67 = read_at(j0, m, 1u);
-i0 = load8(p67 + 0);
+p70 = read_at(j0, m, 1u);
+i0 = load8(p70 + 0);
 v38 = i0;
 goto l11;
-l72:;
+l77:;
 j0 = v26;
 j1 = v2;
 i0 = (j0 == j1);
-if (i0) { goto l70; }
-l71:;
+if (i0) { goto l75; }
+l76:;
 i0 = UINT32_C(2);
 v30 = i0;
 i0 = UINT32_C(0);
 v38 = i0;
-goto l67;
-l70:;
+goto l72;
+l75:;
 j0 = v36;
 j1 = UINT64_C(16);
 j0 = j0 + j1;
-p68 = read_at(j0, m, 8u);
-j0 = load64(p68 + 0);
+p71 = read_at(j0, m, 8u);
+j0 = load64(p71 + 0);
 v2 = j0;
 i0 = v28;
 i1 = UINT32_C(4294967295);
 i0 = i0 + i1;
 switch (i0) {
 case 0:
-goto l66;
+goto l71;
 case 1:
-goto l75;
+goto l80;
 case 2:
-goto l74;
+goto l79;
 default:
-goto l66;
+goto l71;
 }
-l75:;
+l80:;
 j0 = v36;
 j1 = UINT64_C(24);
 j0 = j0 + j1;
-p69 = read_at(j0, m, 8u);
-j0 = load64(p69 + 0);
+p72 = read_at(j0, m, 8u);
+j0 = load64(p72 + 0);
 v29 = j0;
 j0 = v23;
 j1 = v40;
@@ -81802,20 +82600,20 @@ j0 = v23;
 j1 = v40;
 j2 = v29;
 fio_log_judge_tell_Frames_add(m, j0, j1, j2);
-goto l65;
-l74:;
+goto l70;
+l79:;
 j0 = v0;
 j1 = UINT64_C(451088);
 j0 = j0 + j1;
 i1 = UINT32_C(1);
 store8(p16 + 8344, i1);
-goto l65;
-l69:;
+goto l70;
+l74:;
 j0 = v36;
 j1 = UINT64_C(10);
 j0 = j0 + j1;
-p70 = read_at(j0, m, 1u);
-i0 = load8(p70 + 0);
+p73 = read_at(j0, m, 1u);
+i0 = load8(p73 + 0);
 v38 = i0;
 i0 = v27;
 v30 = i0;
@@ -81823,7 +82621,7 @@ i0 = v27;
 i1 = UINT32_C(3);
 i0 = (i0 == i1);
 if (i0) { goto l11; }
-l67:;
+l72:;
 i0 = UINT32_C(1);
 i1 = v30;
 i0 = i0 << (i1 & 31);
@@ -81832,12 +82630,12 @@ i0 = i0 & i1;
 i0 = (i0 == 0);
 if (i0) { goto l9; }
 goto l8;
-l66:;
+l71:;
 j0 = v23;
 j1 = v40;
 j2 = v2;
 fio_log_judge_tell_Frames_add(m, j0, j1, j2);
-l65:;
+l70:;
 i0 = UINT32_C(0);
 v38 = i0;
 j0 = v0;
@@ -81850,8 +82648,8 @@ i3 = load8(p16 + 8344);
 v27 = i3;
 j1 = i3 ? j1 : j2;
 j0 = j0 + j1;
-p71 = read_at(j0, m, 8u);
-j0 = load64(p71 + 0);
+p74 = read_at(j0, m, 8u);
+j0 = load64(p74 + 0);
 i0 = (j0 == 0);
 if (i0) { goto l9; }
 j0 = v12;
@@ -81866,44 +82664,44 @@ l12:;
 j0 = v0;
 j1 = UINT64_C(451721);
 j0 = j0 + j1;
-p72 = read_at(j0 + UINT64_C(18446744073709551575), m, 42u);
-i0 = load8(p72 + 41);
+p75 = read_at(j0 + UINT64_C(18446744073709551575), m, 42u);
+i0 = load8(p75 + 41);
 v34 = i0;
 j0 = v0;
 j1 = UINT64_C(451720);
 j0 = j0 + j1;
-i0 = load8(p72 + 40);
+i0 = load8(p75 + 40);
 v28 = i0;
 j0 = v0;
 j1 = UINT64_C(451712);
 j0 = j0 + j1;
-j0 = load64(p72 + 32);
+j0 = load64(p75 + 32);
 v33 = j0;
 j0 = v0;
 j1 = UINT64_C(451704);
 j0 = j0 + j1;
-j0 = load8(p72 + 24);
+j0 = load8(p75 + 24);
 v32 = j0;
 j0 = v0;
 j1 = UINT64_C(451681);
 j0 = j0 + j1;
-i0 = load8(p72 + 1);
+i0 = load8(p75 + 1);
 v31 = i0;
 j0 = v0;
 j1 = UINT64_C(451680);
 j0 = j0 + j1;
-i0 = load8(p72 + 0);
+i0 = load8(p75 + 0);
 v30 = i0;
 goto l7;
 l11:;
 j0 = v40;
 j1 = UINT64_C(2744);
 j0 = j0 + j1;
-p73 = read_at(j0, m, 8u);
-j0 = load64(p73 + 0);
+p76 = read_at(j0, m, 8u);
+j0 = load64(p76 + 0);
 v42 = j0;
 i0 = (j0 == 0);
-if (i0) { goto l77; }
+if (i0) { goto l82; }
 j0 = v40;
 j1 = UINT64_C(32);
 j0 = j0 + j1;
@@ -81918,7 +82716,7 @@ i0 = UINT32_C(0);
 v27 = i0;
 j0 = UINT64_C(0);
 v29 = j0;
-l78:;
+l83:;
 j0 = v2;
 v43 = j0;
 i0 = v27;
@@ -81929,17 +82727,17 @@ j2 = UINT64_C(904);
 j1 = j1 * j2;
 j0 = j0 + j1;
 v2 = j0;
-l81:;
+l86:;
 j0 = v2;
 j1 = UINT64_C(18446744073709551615);
 j0 = j0 + j1;
-p74 = read_at(j0, m, 1u);
-i0 = load8(p74 + 0);
-if (i0) { goto l80; }
+p77 = read_at(j0, m, 1u);
+i0 = load8(p77 + 0);
+if (i0) { goto l85; }
 j0 = v2;
-p75 = read_at(j0, m, 1u);
-i0 = load8(p75 + 0);
-if (i0) { goto l80; }
+p78 = read_at(j0, m, 1u);
+i0 = load8(p78 + 0);
+if (i0) { goto l85; }
 j0 = v2;
 j1 = UINT64_C(904);
 j0 = j0 + j1;
@@ -81950,16 +82748,16 @@ j0 = j0 + j1;
 v29 = j0;
 j1 = v42;
 i0 = (j0 < j1);
-if (i0) { goto l81; }
+if (i0) { goto l86; }
 j0 = v43;
 v2 = j0;
 i0 = v30;
 i1 = UINT32_C(1);
 i0 = i0 & i1;
 i0 = (i0 == 0);
-if (i0) { goto l77; }
-goto l79;
-l80:;
+if (i0) { goto l82; }
+goto l84;
+l85:;
 i0 = UINT32_C(1);
 v27 = i0;
 j0 = v29;
@@ -81968,7 +82766,7 @@ i0 = v30;
 i1 = UINT32_C(1);
 i0 = i0 & i1;
 i0 = (i0 == 0);
-if (i0) { goto l82; }
+if (i0) { goto l87; }
 j0 = v43;
 v2 = j0;
 j0 = v39;
@@ -81977,16 +82775,16 @@ j2 = v43;
 j3 = v29;
 i0 = fio_log_judge_entries_say_same(m, j0, j1, j2, j3);
 i0 = (i0 == 0);
-if (i0) { goto l77; }
-l82:;
+if (i0) { goto l82; }
+l87:;
 j0 = v29;
 j1 = UINT64_C(1);
 j0 = j0 + j1;
 v29 = j0;
 j1 = v42;
 i0 = (j0 < j1);
-if (i0) { goto l78; }
-l79:;
+if (i0) { goto l83; }
+l84:;
 j0 = v23;
 j1 = v40;
 j2 = v2;
@@ -81996,28 +82794,28 @@ v27 = i0;
 j0 = v0;
 j1 = UINT64_C(451088);
 j0 = j0 + j1;
-p76 = read_at(j0, m, 1u);
-i0 = load8(p76 + 0);
+p79 = read_at(j0, m, 1u);
+i0 = load8(p79 + 0);
 i1 = UINT32_C(1);
 i0 = i0 & i1;
 i0 = (i0 == 0);
-if (i0) { goto l77; }
+if (i0) { goto l82; }
 j0 = v13;
 v29 = j0;
 j0 = v12;
 v2 = j0;
-goto l76;
-l77:;
+goto l81;
+l82:;
 i0 = UINT32_C(0);
 v27 = i0;
 j0 = v22;
 v29 = j0;
 j0 = v21;
 v2 = j0;
-l76:;
+l81:;
 j0 = v29;
-p77 = read_at(j0, m, 8u);
-j0 = load64(p77 + 0);
+p80 = read_at(j0, m, 8u);
+j0 = load64(p80 + 0);
 j1 = UINT64_C(1);
 i0 = (j0 != j1);
 if (i0) { goto l9; }
@@ -82025,33 +82823,33 @@ i0 = UINT32_C(3);
 v30 = i0;
 l10:;
 j0 = v2;
-p78 = read_at(j0, m, 8u);
-j0 = load64(p78 + 0);
+p81 = read_at(j0, m, 8u);
+j0 = load64(p81 + 0);
 i0 = (j0 == 0);
 if (i0) { goto l9; }
 i0 = v27;
-if (i0) { goto l83; }
+if (i0) { goto l88; }
 j0 = v21;
-p79 = read_at(j0, m, 8u);
-j0 = load64(p79 + 0);
+p82 = read_at(j0, m, 8u);
+j0 = load64(p82 + 0);
 v42 = j0;
 i0 = (j0 == 0);
 if (i0) { goto l8; }
 j0 = v20;
-p80 = read_at(j0, m, 8u);
-j0 = load64(p80 + 0);
+p83 = read_at(j0, m, 8u);
+j0 = load64(p83 + 0);
 j1 = v26;
 i0 = (j0 != j1);
 if (i0) { goto l9; }
 j0 = v0;
 j1 = UINT64_C(447952);
 j0 = j0 + j1;
-p81 = read_at(j0, m, 16u);
-j0 = load64(p81 + 0);
+p84 = read_at(j0, m, 16u);
+j0 = load64(p84 + 0);
 j1 = v0;
 j2 = UINT64_C(447960);
 j1 = j1 + j2;
-j1 = load64(p81 + 8);
+j1 = load64(p84 + 8);
 v43 = j1;
 i0 = (j0 > j1);
 if (i0) { goto l9; }
@@ -82065,13 +82863,13 @@ j0 = j0 + j1;
 v35 = j0;
 i0 = (j0 == 0);
 if (i0) { goto l8; }
-l84:;
+l89:;
 j0 = v29;
 j1 = v2;
 j2 = UINT64_C(18446744073709551600);
 j1 = j1 + j2;
-p82 = read_at(j1, m, 16u);
-j1 = load64(p82 + 0);
+p85 = read_at(j1, m, 16u);
+j1 = load64(p85 + 0);
 v42 = j1;
 i0 = (j0 < j1);
 j1 = v29;
@@ -82081,7 +82879,7 @@ j2 = v43;
 j3 = v2;
 j4 = UINT64_C(18446744073709551608);
 j3 = j3 + j4;
-j3 = load64(p82 + 8);
+j3 = load64(p85 + 8);
 v29 = j3;
 i2 = (j2 <= j3);
 i1 = i1 & i2;
@@ -82091,8 +82889,8 @@ i0 = (i0 != i1);
 if (i0) { goto l9; }
 j0 = v29;
 j1 = v2;
-p83 = read_at(j1, m, 8u);
-j1 = load64(p83 + 0);
+p86 = read_at(j1, m, 8u);
+j1 = load64(p86 + 0);
 v43 = j1;
 i0 = (j0 > j1);
 if (i0) { goto l9; }
@@ -82108,67 +82906,67 @@ j0 = j0 + j1;
 v35 = j0;
 i0 = (j0 == 0);
 if (i0) { goto l8; }
-goto l84;
-l83:;
+goto l89;
+l88:;
 j0 = v0;
 j1 = UINT64_C(282368);
 j0 = j0 + j1;
-p84 = read_at(j0, m, 8u);
-j0 = load64(p84 + 0);
+p87 = read_at(j0, m, 8u);
+j0 = load64(p87 + 0);
 j1 = v26;
 i0 = (j0 == j1);
 if (i0) { goto l8; }
 l9:;
 j0 = v22;
-p85 = read_at(j0, m, 8u);
-j0 = load64(p85 + 0);
+p88 = read_at(j0, m, 8u);
+j0 = load64(p88 + 0);
 v2 = j0;
 i0 = (j0 == 0);
-if (i0) { goto l85; }
+if (i0) { goto l90; }
 j0 = v2;
 j1 = UINT64_C(784);
 j0 = j0 * j1;
 v2 = j0;
 i0 = (j0 == 0);
-if (i0) { goto l86; }
+if (i0) { goto l91; }
 j0 = v23;
 i1 = UINT32_C(0);
 j2 = v2;
 fill(m, j0, i1, j2);
-l86:;
+l91:;
 j0 = v22;
 j1 = UINT64_C(0);
-p86 = write_at(j0, m, 8u);
-store64(p86 + 0, j1);
-l85:;
+p89 = write_at(j0, m, 8u);
+store64(p89 + 0, j1);
+l90:;
 j0 = v21;
-p87 = read_at(j0, m, 8u);
-j0 = load64(p87 + 0);
+p90 = read_at(j0, m, 8u);
+j0 = load64(p90 + 0);
 v2 = j0;
 i0 = (j0 == 0);
-if (i0) { goto l87; }
+if (i0) { goto l92; }
 j0 = v2;
 j1 = UINT64_C(5);
 j0 = j0 << (j1 & 63);
 v2 = j0;
 i0 = (j0 == 0);
-if (i0) { goto l88; }
+if (i0) { goto l93; }
 j0 = v20;
 i1 = UINT32_C(0);
 j2 = v2;
 fill(m, j0, i1, j2);
-l88:;
+l93:;
 j0 = v21;
 j1 = UINT64_C(0);
-p88 = write_at(j0, m, 8u);
-store64(p88 + 0, j1);
-l87:;
+p91 = write_at(j0, m, 8u);
+store64(p91 + 0, j1);
+l92:;
 j0 = v0;
 j1 = UINT64_C(451088);
 j0 = j0 + j1;
 i1 = UINT32_C(0);
-p89 = write_at(j0, m, 1u);
-store8(p89 + 0, i1);
+p92 = write_at(j0, m, 1u);
+store8(p92 + 0, i1);
 i0 = UINT32_C(5);
 v30 = i0;
 l8:;
@@ -82181,61 +82979,61 @@ j0 = j0 & j1;
 i0 = (uint32_t)j0;
 switch (i0) {
 case 0:
-goto l92;
+goto l97;
 case 1:
-goto l94;
+goto l99;
 case 2:
-goto l93;
+goto l98;
 case 3:
-goto l92;
+goto l97;
 case 4:
-goto l92;
+goto l97;
 case 5:
-goto l92;
+goto l97;
 case 6:
-goto l92;
+goto l97;
 case 7:
-goto l92;
+goto l97;
 case 8:
-goto l92;
+goto l97;
 case 9:
-goto l92;
+goto l97;
 case 10:
-goto l91;
+goto l96;
 case 11:
-goto l91;
+goto l96;
 case 12:
-goto l92;
+goto l97;
 default:
-goto l92;
+goto l97;
 }
-l94:;
+l99:;
 i0 = v38;
 v27 = i0;
 j0 = v26;
 j1 = v40;
-p90 = read_at(j1, m, 8u);
-j1 = load64(p90 + 0);
+p93 = read_at(j1, m, 8u);
+j1 = load64(p93 + 0);
 i0 = (j0 != j1);
-if (i0) { goto l91; }
+if (i0) { goto l96; }
 j0 = v40;
 j1 = UINT64_C(24);
 j0 = j0 + j1;
-p91 = read_at(j0, m, 1u);
-i0 = load8(p91 + 0);
+p94 = read_at(j0, m, 1u);
+i0 = load8(p94 + 0);
 v27 = i0;
-goto l91;
-l93:;
+goto l96;
+l98:;
 i0 = v30;
 i1 = UINT32_C(5);
 i0 = (i0 != i1);
-if (i0) { goto l92; }
+if (i0) { goto l97; }
 j0 = v26;
 j1 = v40;
-p92 = read_at(j1, m, 8u);
-j1 = load64(p92 + 0);
+p95 = read_at(j1, m, 8u);
+j1 = load64(p95 + 0);
 i0 = (j0 != j1);
-if (i0) { goto l92; }
+if (i0) { goto l97; }
 i0 = UINT32_C(11);
 v31 = i0;
 i0 = v38;
@@ -82243,16 +83041,16 @@ v27 = i0;
 j0 = v40;
 j1 = UINT64_C(24);
 j0 = j0 + j1;
-p93 = read_at(j0, m, 1u);
-i0 = load8(p93 + 0);
+p96 = read_at(j0, m, 1u);
+i0 = load8(p96 + 0);
 i1 = UINT32_C(11);
 i0 = (i0 != i1);
-if (i0) { goto l91; }
-goto l90;
-l92:;
+if (i0) { goto l96; }
+goto l95;
+l97:;
 i0 = v38;
 v27 = i0;
-l91:;
+l96:;
 i0 = UINT32_C(0);
 v31 = i0;
 i0 = UINT32_C(0);
@@ -82264,21 +83062,21 @@ v28 = i0;
 i0 = v30;
 switch (i0) {
 case 0:
-goto l97;
+goto l102;
 case 1:
-goto l98;
+goto l103;
 case 2:
-goto l97;
+goto l102;
 case 3:
-goto l99;
+goto l104;
 case 4:
-goto l101;
+goto l106;
 case 5:
-goto l100;
+goto l105;
 default:
-goto l97;
+goto l102;
 }
-l101:;
+l106:;
 i0 = UINT32_C(0);
 v28 = i0;
 i0 = v27;
@@ -82291,7 +83089,7 @@ i0 = i0 << (i1 & 31);
 v38 = i0;
 i1 = UINT32_C(4350);
 i0 = i0 & i1;
-if (i0) { goto l90; }
+if (i0) { goto l95; }
 i0 = UINT32_C(0);
 v34 = i0;
 i0 = UINT32_C(2);
@@ -82300,9 +83098,9 @@ i0 = v38;
 i1 = UINT32_C(3073);
 i0 = i0 & i1;
 i0 = (i0 == 0);
-if (i0) { goto l89; }
-goto l95;
-l100:;
+if (i0) { goto l94; }
+goto l100;
+l105:;
 i0 = v27;
 v31 = i0;
 i0 = v27;
@@ -82313,7 +83111,7 @@ i1 = UINT32_C(4294967295);
 i0 = i0 + i1;
 i1 = UINT32_C(11);
 i0 = (i0 < i1);
-if (i0) { goto l90; }
+if (i0) { goto l95; }
 i0 = UINT32_C(2);
 v31 = i0;
 i0 = UINT32_C(0);
@@ -82323,7 +83121,7 @@ v34 = i0;
 i0 = v38;
 switch (i0) {
 case 0:
-goto l95;
+goto l100;
 case 1:
 goto l2;
 case 2:
@@ -82347,53 +83145,53 @@ goto l2;
 case 11:
 goto l2;
 case 12:
-goto l89;
+goto l94;
 default:
-goto l95;
+goto l100;
 }
-l99:;
+l104:;
 i0 = v27;
 j0 = (uint64_t)i0;
 j1 = UINT64_C(255);
 j0 = j0 & j1;
-p94 = read_at(j0 + UINT64_C(68552), m, 1u);
-i0 = load8(p94 + 0);
+p97 = read_at(j0 + UINT64_C(68552), m, 1u);
+i0 = load8(p97 + 0);
 v31 = i0;
-l98:;
+l103:;
 j0 = v36;
 j1 = UINT64_C(16);
 j0 = j0 + j1;
-p95 = read_at(j0 + UINT64_C(18446744073709551608), m, 16u);
-j0 = load64(p95 + 8);
+p98 = read_at(j0 + UINT64_C(18446744073709551608), m, 16u);
+j0 = load64(p98 + 8);
 v2 = j0;
 j0 = v36;
 j1 = UINT64_C(8);
 j0 = j0 + j1;
-j0 = load8(p95 + 0);
+j0 = load8(p98 + 0);
 i0 = (uint32_t)j0;
 switch (i0) {
 case 0:
-goto l103;
+goto l108;
 case 1:
-goto l102;
+goto l107;
 case 2:
-goto l102;
+goto l107;
 case 3:
-goto l96;
+goto l101;
 case 4:
-goto l103;
+goto l108;
 default:
-goto l103;
+goto l108;
 }
-l103:;
+l108:;
 j0 = v40;
 j1 = UINT64_C(2744);
 j0 = j0 + j1;
-p96 = read_at(j0, m, 8u);
-j0 = load64(p96 + 0);
+p99 = read_at(j0, m, 8u);
+j0 = load64(p99 + 0);
 v26 = j0;
 i0 = (j0 == 0);
-if (i0) { goto l90; }
+if (i0) { goto l95; }
 j0 = v40;
 j1 = UINT64_C(32);
 j0 = j0 + j1;
@@ -82408,7 +83206,7 @@ i0 = UINT32_C(0);
 v38 = i0;
 j0 = UINT64_C(0);
 v29 = j0;
-l104:;
+l109:;
 j0 = v2;
 v41 = j0;
 i0 = v38;
@@ -82419,17 +83217,17 @@ j2 = UINT64_C(904);
 j1 = j1 * j2;
 j0 = j0 + j1;
 v2 = j0;
-l108:;
+l113:;
 j0 = v2;
 j1 = UINT64_C(18446744073709551615);
 j0 = j0 + j1;
-p97 = read_at(j0, m, 1u);
-i0 = load8(p97 + 0);
-if (i0) { goto l107; }
+p100 = read_at(j0, m, 1u);
+i0 = load8(p100 + 0);
+if (i0) { goto l112; }
 j0 = v2;
-p98 = read_at(j0, m, 1u);
-i0 = load8(p98 + 0);
-if (i0) { goto l107; }
+p101 = read_at(j0, m, 1u);
+i0 = load8(p101 + 0);
+if (i0) { goto l112; }
 j0 = v2;
 j1 = UINT64_C(904);
 j0 = j0 + j1;
@@ -82440,16 +83238,16 @@ j0 = j0 + j1;
 v29 = j0;
 j1 = v26;
 i0 = (j0 < j1);
-if (i0) { goto l108; }
+if (i0) { goto l113; }
 j0 = v41;
 v2 = j0;
 i0 = v27;
 i1 = UINT32_C(1);
 i0 = i0 & i1;
 i0 = (i0 == 0);
-if (i0) { goto l106; }
-goto l102;
-l107:;
+if (i0) { goto l111; }
+goto l107;
+l112:;
 i0 = UINT32_C(1);
 v38 = i0;
 j0 = v29;
@@ -82458,7 +83256,7 @@ i0 = v27;
 i1 = UINT32_C(1);
 i0 = i0 & i1;
 i0 = (i0 == 0);
-if (i0) { goto l105; }
+if (i0) { goto l110; }
 j0 = v41;
 v2 = j0;
 j0 = v36;
@@ -82466,40 +83264,40 @@ j1 = v26;
 j2 = v41;
 j3 = v29;
 i0 = fio_log_judge_entries_say_same(m, j0, j1, j2, j3);
-if (i0) { goto l105; }
-l106:;
+if (i0) { goto l110; }
+l111:;
 i0 = UINT32_C(0);
 v34 = i0;
 i0 = v31;
 v38 = i0;
 i0 = UINT32_C(0);
 v28 = i0;
-goto l97;
-l105:;
+goto l102;
+l110:;
 j0 = v29;
 j1 = UINT64_C(1);
 j0 = j0 + j1;
 v29 = j0;
 j1 = v26;
 i0 = (j0 < j1);
-if (i0) { goto l104; }
-l102:;
+if (i0) { goto l109; }
+l107:;
 j0 = v2;
 j1 = v40;
 j2 = UINT64_C(2744);
 j1 = j1 + j2;
-p99 = read_at(j1, m, 8u);
-j1 = load64(p99 + 0);
+p102 = read_at(j1, m, 8u);
+j1 = load64(p102 + 0);
 i0 = (j0 < j1);
-if (i0) { goto l109; }
+if (i0) { goto l114; }
 i0 = v31;
 v38 = i0;
 i0 = UINT32_C(0);
 v34 = i0;
 i0 = UINT32_C(0);
 v28 = i0;
-goto l97;
-l109:;
+goto l102;
+l114:;
 j0 = v40;
 j1 = v2;
 j2 = UINT64_C(904);
@@ -82508,24 +83306,24 @@ j0 = j0 + j1;
 v2 = j0;
 j1 = UINT64_C(923);
 j0 = j0 + j1;
-p100 = read_at(j0 + UINT64_C(18446744073709551615), m, 2u);
-i0 = load8(p100 + 1);
+p103 = read_at(j0 + UINT64_C(18446744073709551615), m, 2u);
+i0 = load8(p103 + 1);
 v34 = i0;
 j0 = v2;
 j1 = UINT64_C(922);
 j0 = j0 + j1;
-i0 = load8(p100 + 0);
+i0 = load8(p103 + 0);
 v28 = i0;
 i0 = v31;
 v38 = i0;
-l97:;
+l102:;
 i0 = v30;
 i0 = (i0 == 0);
-if (i0) { goto l110; }
+if (i0) { goto l115; }
 i0 = v38;
 v31 = i0;
-goto l89;
-l110:;
+goto l94;
+l115:;
 j0 = UINT64_C(0);
 v32 = j0;
 i0 = UINT32_C(0);
@@ -82535,38 +83333,38 @@ v31 = i0;
 j0 = UINT64_C(0);
 v33 = j0;
 goto l7;
-l96:;
+l101:;
 j0 = v0;
 j1 = UINT64_C(372603);
 j0 = j0 + j1;
-p101 = read_at(j0 + UINT64_C(18446744073709551615), m, 2u);
-i0 = load8(p101 + 1);
+p104 = read_at(j0 + UINT64_C(18446744073709551615), m, 2u);
+i0 = load8(p104 + 1);
 v34 = i0;
 j0 = v0;
 j1 = UINT64_C(372602);
 j0 = j0 + j1;
-i0 = load8(p101 + 0);
+i0 = load8(p104 + 0);
 v28 = i0;
-goto l89;
-l95:;
+goto l94;
+l100:;
 i0 = UINT32_C(1);
 v31 = i0;
-l90:;
+l95:;
 i0 = UINT32_C(0);
 v28 = i0;
 i0 = UINT32_C(0);
 v34 = i0;
-l89:;
+l94:;
 j0 = v40;
 j1 = UINT64_C(8);
 j0 = j0 + j1;
-p102 = read_at(j0, m, 16u);
-j0 = load8(p102 + 0);
+p105 = read_at(j0, m, 16u);
+j0 = load8(p105 + 0);
 v32 = j0;
 j0 = v40;
 j1 = UINT64_C(16);
 j0 = j0 + j1;
-j0 = load64(p102 + 8);
+j0 = load64(p105 + 8);
 v33 = j0;
 l7:;
 j0 = v0;
@@ -82574,36 +83372,36 @@ j1 = UINT64_C(451736);
 j0 = j0 + j1;
 v2 = j0;
 j1 = v2;
-p103 = write_at(j1 + UINT64_C(18446744073709551536), m, 88u);
-j1 = load64(p103 + 80);
+p106 = write_at(j1 + UINT64_C(18446744073709551536), m, 88u);
+j1 = load64(p106 + 80);
 j2 = UINT64_C(1);
 j1 = j1 + j2;
 v37 = j1;
-store64(p103 + 80, j1);
+store64(p106 + 80, j1);
 j0 = v0;
 j1 = UINT64_C(451656);
 j0 = j0 + j1;
-j0 = load64(p103 + 0);
+j0 = load64(p106 + 0);
 v2 = j0;
 i0 = (j0 == 0);
 i0 = (i0 == 0);
-if (i0) { goto l112; }
+if (i0) { goto l117; }
 j0 = UINT64_C(0);
 v2 = j0;
-goto l111;
-l112:;
+goto l116;
+l117:;
 j0 = v25;
-p104 = read_at(j0, m, 8u);
-j0 = load64(p104 + 0);
+p107 = read_at(j0, m, 8u);
+j0 = load64(p107 + 0);
 j1 = v37;
 i0 = (j0 != j1);
-if (i0) { goto l111; }
+if (i0) { goto l116; }
 j0 = UINT64_C(0);
 v29 = j0;
 j0 = v2;
 j1 = UINT64_C(1);
 i0 = (j0 == j1);
-if (i0) { goto l113; }
+if (i0) { goto l118; }
 j0 = v2;
 j1 = UINT64_C(18446744073709551615);
 j0 = j0 + j1;
@@ -82617,15 +83415,15 @@ v29 = j0;
 j0 = v35;
 j1 = UINT64_C(257);
 i0 = (j0 < j1);
-if (i0) { goto l115; }
+if (i0) { goto l120; }
 j0 = UINT64_C(0);
 v43 = j0;
 j0 = v0;
 v36 = j0;
-l116:;
+l121:;
 j0 = UINT64_C(18446744073709549568);
 v29 = j0;
-l117:;
+l122:;
 j0 = v36;
 j1 = v29;
 j0 = j0 + j1;
@@ -82636,38 +83434,38 @@ j1 = v2;
 j2 = UINT64_C(453152);
 j1 = j1 + j2;
 v26 = j1;
-p105 = write_at(j1 + UINT64_C(18446744073709551608), m, 40u);
-j1 = load64(p105 + 8);
-store64(p105 + 0, j1);
+p108 = write_at(j1 + UINT64_C(18446744073709551608), m, 40u);
+j1 = load64(p108 + 8);
+store64(p108 + 0, j1);
 j0 = v2;
 j1 = UINT64_C(453160);
 j0 = j0 + j1;
 v40 = j0;
-j0 = load64(p105 + 16);
+j0 = load64(p108 + 16);
 v41 = j0;
 j0 = v40;
 j1 = v2;
 j2 = UINT64_C(453168);
 j1 = j1 + j2;
 v42 = j1;
-j1 = load64(p105 + 24);
-store64(p105 + 16, j1);
+j1 = load64(p108 + 24);
+store64(p108 + 16, j1);
 j0 = v26;
 j1 = v41;
-store64(p105 + 8, j1);
+store64(p108 + 8, j1);
 j0 = v42;
 j1 = v2;
 j2 = UINT64_C(453176);
 j1 = j1 + j2;
-j1 = load64(p105 + 32);
-store64(p105 + 24, j1);
+j1 = load64(p108 + 32);
+store64(p108 + 24, j1);
 j0 = v29;
 j1 = UINT64_C(32);
 j0 = j0 + j1;
 v29 = j0;
 j1 = UINT64_C(0);
 i0 = (j0 != j1);
-if (i0) { goto l117; }
+if (i0) { goto l122; }
 j0 = v36;
 j1 = UINT64_C(2048);
 j0 = j0 + j1;
@@ -82681,11 +83479,11 @@ j0 = j0 - j1;
 v2 = j0;
 j1 = UINT64_C(256);
 i0 = (j0 > j1);
-if (i0) { goto l116; }
+if (i0) { goto l121; }
 j0 = v35;
 j1 = v43;
 i0 = (j0 == j1);
-if (i0) { goto l114; }
+if (i0) { goto l119; }
 j0 = v2;
 j1 = UINT64_C(3);
 j0 = j0 << (j1 & 63);
@@ -82696,76 +83494,76 @@ j2 = UINT64_C(3);
 j1 = j1 << (j2 & 63);
 j0 = j0 + j1;
 v29 = j0;
-l115:;
+l120:;
 j0 = v2;
 i0 = (j0 == 0);
-if (i0) { goto l114; }
+if (i0) { goto l119; }
 j0 = v29;
 j1 = v29;
 j2 = UINT64_C(8);
 j1 = j1 + j2;
 j2 = v2;
 copy(m, j0, j1, j2);
-l114:;
+l119:;
 j0 = v25;
 j1 = v39;
 j0 = j0 + j1;
 j1 = v37;
-p106 = write_at(j0, m, 8u);
-store64(p106 + 0, j1);
+p109 = write_at(j0, m, 8u);
+store64(p109 + 0, j1);
 j0 = v0;
 j1 = UINT64_C(451656);
 j0 = j0 + j1;
-j0 = load64(p103 + 0);
+j0 = load64(p106 + 0);
 j1 = UINT64_C(18446744073709551615);
 j0 = j0 + j1;
 v29 = j0;
-l113:;
+l118:;
 j0 = v0;
 j1 = UINT64_C(451656);
 j0 = j0 + j1;
 v2 = j0;
 j1 = v29;
-store64(p103 + 0, j1);
+store64(p106 + 0, j1);
 j0 = v25;
 j1 = v29;
 j2 = UINT64_C(3);
 j1 = j1 << (j2 & 63);
 j0 = j0 + j1;
 j1 = UINT64_C(0);
-p107 = write_at(j0, m, 8u);
-store64(p107 + 0, j1);
+p110 = write_at(j0, m, 8u);
+store64(p110 + 0, j1);
 j0 = v0;
 j1 = UINT64_C(451736);
 j0 = j0 + j1;
-j0 = load64(p103 + 80);
+j0 = load64(p106 + 80);
 v37 = j0;
 j0 = v2;
-j0 = load64(p103 + 0);
+j0 = load64(p106 + 0);
 v2 = j0;
-l111:;
+l116:;
 i0 = UINT32_C(0);
 v38 = i0;
 j0 = v37;
 j1 = v0;
 j2 = UINT64_C(451728);
 j1 = j1 + j2;
-j1 = load64(p103 + 72);
+j1 = load64(p106 + 72);
 i0 = (j0 >= j1);
-if (i0) { goto l118; }
+if (i0) { goto l123; }
 i0 = UINT32_C(1);
 v38 = i0;
 j0 = v0;
 j1 = UINT64_C(451747);
 j0 = j0 + j1;
-p108 = read_at(j0, m, 1u);
-i0 = load8(p108 + 0);
-if (i0) { goto l118; }
+p111 = read_at(j0, m, 1u);
+i0 = load8(p111 + 0);
+if (i0) { goto l123; }
 j0 = v0;
 j1 = UINT64_C(451664);
 j0 = j0 + j1;
-i0 = load8(p103 + 8);
-if (i0) { goto l118; }
+i0 = load8(p106 + 8);
+if (i0) { goto l123; }
 j0 = v2;
 j1 = UINT64_C(18446744073709551547);
 j0 = j0 + j1;
@@ -82776,18 +83574,18 @@ v38 = i0;
 j0 = v0;
 j1 = UINT64_C(442744);
 j0 = j0 + j1;
-p109 = read_at(j0, m, 8u);
-j0 = load64(p109 + 0);
+p112 = read_at(j0, m, 8u);
+j0 = load64(p112 + 0);
 v29 = j0;
 i0 = (j0 == 0);
-if (i0) { goto l118; }
+if (i0) { goto l123; }
 j0 = v37;
 j1 = v19;
 j2 = v0;
 j3 = UINT64_C(442736);
 j2 = j2 + j3;
-p110 = read_at(j2, m, 8u);
-j2 = load64(p110 + 0);
+p113 = read_at(j2, m, 8u);
+j2 = load64(p113 + 0);
 v40 = j2;
 j3 = UINT64_C(66);
 j2 = remainder64(j2, j3);
@@ -82795,14 +83593,14 @@ j3 = UINT64_C(144);
 j2 = j2 * j3;
 v26 = j2;
 j1 = j1 + j2;
-p111 = read_at(j1, m, 8u);
-j1 = load64(p111 + 0);
+p114 = read_at(j1, m, 8u);
+j1 = load64(p114 + 0);
 i0 = (j0 < j1);
-if (i0) { goto l119; }
+if (i0) { goto l124; }
 j0 = v29;
 j1 = UINT64_C(1);
 i0 = (j0 == j1);
-if (i0) { goto l118; }
+if (i0) { goto l123; }
 j0 = v40;
 j1 = UINT64_C(1);
 j0 = j0 + j1;
@@ -82811,7 +83609,7 @@ j0 = remainder64(j0, j1);
 j1 = UINT64_C(144);
 j0 = j0 * j1;
 v26 = j0;
-l119:;
+l124:;
 j0 = v2;
 j1 = UINT64_C(18446744073709551545);
 i0 = (j0 < j1);
@@ -82820,42 +83618,42 @@ j2 = v26;
 j1 = j1 + j2;
 j2 = UINT64_C(8);
 j1 = j1 + j2;
-p112 = read_at(j1, m, 1u);
-i1 = load8(p112 + 0);
+p115 = read_at(j1, m, 1u);
+i1 = load8(p115 + 0);
 i2 = UINT32_C(0);
 i1 = (i1 != i2);
 i0 = i0 | i1;
 v38 = i0;
-l118:;
+l123:;
 j0 = v0;
 j1 = UINT64_C(451746);
 j0 = j0 + j1;
 i1 = v38;
-p113 = write_at(j0 + UINT64_C(18446744073709550958), m, 659u);
-store8(p113 + 658, i1);
+p116 = write_at(j0 + UINT64_C(18446744073709550958), m, 659u);
+store8(p116 + 658, i1);
 j0 = UINT64_C(0);
 v35 = j0;
-l122:;
+l127:;
 j0 = v0;
 j1 = UINT64_C(451088);
 j0 = j0 + j1;
-i0 = load8(p113 + 0);
+i0 = load8(p116 + 0);
 i1 = UINT32_C(1);
 i0 = (i0 != i1);
-if (i0) { goto l124; }
+if (i0) { goto l129; }
 j0 = v13;
-p114 = read_at(j0, m, 8u);
-j0 = load64(p114 + 0);
+p117 = read_at(j0, m, 8u);
+j0 = load64(p117 + 0);
 j1 = v35;
 i0 = (j0 <= j1);
-if (i0) { goto l121; }
+if (i0) { goto l126; }
 j0 = v10;
 j1 = v35;
 j2 = UINT64_C(2);
 j1 = j1 << (j2 & 63);
 j0 = j0 + j1;
-p115 = read_at(j0, m, 4u);
-i0 = load32(p115 + 0);
+p118 = read_at(j0, m, 4u);
+i0 = load32(p118 + 0);
 v38 = i0;
 i1 = UINT32_C(16);
 i0 = i0 >> (i1 & 31);
@@ -82871,14 +83669,14 @@ j0 = v11;
 j1 = v2;
 j0 = j0 + j1;
 v41 = j0;
-goto l123;
-l124:;
+goto l128;
+l129:;
 j0 = v35;
 j1 = v22;
-p116 = read_at(j1, m, 8u);
-j1 = load64(p116 + 0);
+p119 = read_at(j1, m, 8u);
+j1 = load64(p119 + 0);
 i0 = (j0 >= j1);
-if (i0) { goto l121; }
+if (i0) { goto l126; }
 j0 = v23;
 j1 = v35;
 j2 = UINT64_C(784);
@@ -82887,8 +83685,8 @@ j0 = j0 + j1;
 v29 = j0;
 j1 = UINT64_C(776);
 j0 = j0 + j1;
-p117 = read_at(j0, m, 8u);
-j0 = load64(p117 + 0);
+p120 = read_at(j0, m, 8u);
+j0 = load64(p120 + 0);
 v2 = j0;
 j1 = UINT64_C(1);
 j2 = v2;
@@ -82902,7 +83700,7 @@ j2 = v2;
 i2 = (j2 == 0);
 j0 = i2 ? j0 : j1;
 v41 = j0;
-l123:;
+l128:;
 j0 = v9;
 j1 = v1;
 j2 = UINT64_C(4);
@@ -82914,8 +83712,8 @@ j2 = UINT64_C(1);
 j1 = j1 << (j2 & 63);
 j0 = j0 + j1;
 j1 = v43;
-p118 = write_at(j0, m, 2u);
-store16(p118 + 0, j1);
+p121 = write_at(j0, m, 2u);
+store16(p121 + 0, j1);
 j0 = v4;
 j1 = v1;
 j2 = UINT64_C(8);
@@ -82930,7 +83728,7 @@ j1 = v41;
 j0 = j0 - j1;
 j1 = v43;
 i0 = (j0 >= j1);
-if (i0) { goto l126; }
+if (i0) { goto l131; }
 j0 = v43;
 j1 = UINT64_C(3);
 j0 = j0 & j1;
@@ -82940,7 +83738,7 @@ v29 = j0;
 j0 = v43;
 j1 = UINT64_C(4);
 i0 = (j0 < j1);
-if (i0) { goto l127; }
+if (i0) { goto l132; }
 j0 = v1;
 j1 = v39;
 j0 = j0 + j1;
@@ -82951,7 +83749,7 @@ j0 = j0 & j1;
 v36 = j0;
 j0 = UINT64_C(0);
 v29 = j0;
-l128:;
+l133:;
 j0 = v42;
 j1 = v29;
 j0 = j0 + j1;
@@ -82962,45 +83760,45 @@ j1 = v41;
 j2 = v29;
 j1 = j1 + j2;
 v26 = j1;
-p119 = read_at(j1, m, 4u);
-i1 = load8(p119 + 0);
-p120 = write_at(j0, m, 4u);
-store8(p120 + 0, i1);
+p122 = read_at(j1, m, 4u);
+i1 = load8(p122 + 0);
+p123 = write_at(j0, m, 4u);
+store8(p123 + 0, i1);
 j0 = v2;
 j1 = UINT64_C(499729);
 j0 = j0 + j1;
 j1 = v26;
 j2 = UINT64_C(1);
 j1 = j1 + j2;
-i1 = load8(p119 + 1);
-store8(p120 + 1, i1);
+i1 = load8(p122 + 1);
+store8(p123 + 1, i1);
 j0 = v2;
 j1 = UINT64_C(499730);
 j0 = j0 + j1;
 j1 = v26;
 j2 = UINT64_C(2);
 j1 = j1 + j2;
-i1 = load8(p119 + 2);
-store8(p120 + 2, i1);
+i1 = load8(p122 + 2);
+store8(p123 + 2, i1);
 j0 = v2;
 j1 = UINT64_C(499731);
 j0 = j0 + j1;
 j1 = v26;
 j2 = UINT64_C(3);
 j1 = j1 + j2;
-i1 = load8(p119 + 3);
-store8(p120 + 3, i1);
+i1 = load8(p122 + 3);
+store8(p123 + 3, i1);
 j0 = v36;
 j1 = v29;
 j2 = UINT64_C(4);
 j1 = j1 + j2;
 v29 = j1;
 i0 = (j0 != j1);
-if (i0) { goto l128; }
+if (i0) { goto l133; }
 j0 = v40;
 i0 = (j0 == 0);
-if (i0) { goto l125; }
-l127:;
+if (i0) { goto l130; }
+l132:;
 j0 = v41;
 j1 = v29;
 j0 = j0 + j1;
@@ -83011,13 +83809,13 @@ j2 = v39;
 j1 = j1 + j2;
 j0 = j0 + j1;
 v29 = j0;
-l129:;
+l134:;
 j0 = v29;
 j1 = v2;
-p121 = read_at(j1, m, 1u);
-i1 = load8(p121 + 0);
-p122 = write_at(j0, m, 1u);
-store8(p122 + 0, i1);
+p124 = read_at(j1, m, 1u);
+i1 = load8(p124 + 0);
+p125 = write_at(j0, m, 1u);
+store8(p125 + 0, i1);
 j0 = v29;
 j1 = UINT64_C(1);
 j0 = j0 + j1;
@@ -83032,31 +83830,31 @@ j0 = j0 + j1;
 v40 = j0;
 j1 = UINT64_C(0);
 i0 = (j0 != j1);
-if (i0) { goto l129; }
-goto l125;
-l126:;
+if (i0) { goto l134; }
+goto l130;
+l131:;
 j0 = v43;
 i0 = (j0 == 0);
-if (i0) { goto l130; }
+if (i0) { goto l135; }
 j0 = v2;
 j1 = v41;
 j2 = v43;
 copy(m, j0, j1, j2);
-l130:;
+l135:;
 j0 = v1;
 j1 = UINT64_C(4);
 j0 = j0 + j1;
 i0 = load32(p3 + 0);
 v38 = i0;
-l125:;
+l130:;
 j0 = v1;
 j1 = UINT64_C(4);
 j0 = j0 + j1;
 i1 = v38;
 i2 = UINT32_C(1);
 i1 = i1 + i2;
-p123 = write_at(j0, m, 8u);
-store32(p123 + 0, i1);
+p126 = write_at(j0, m, 8u);
+store32(p126 + 0, i1);
 j0 = v1;
 j1 = UINT64_C(8);
 j0 = j0 + j1;
@@ -83064,22 +83862,22 @@ i1 = v27;
 j2 = v43;
 i2 = (uint32_t)j2;
 i1 = i1 + i2;
-store32(p123 + 4, i1);
+store32(p126 + 4, i1);
 j0 = v35;
 j1 = UINT64_C(1);
 j0 = j0 + j1;
 v35 = j0;
 j1 = UINT64_C(20480);
 i0 = (j0 != j1);
-if (i0) { goto l122; }
+if (i0) { goto l127; }
 i0 = UINT32_C(20480);
 v45 = i0;
-goto l120;
-l121:;
+goto l125;
+l126:;
 j0 = v35;
 i0 = (uint32_t)j0;
 v45 = i0;
-l120:;
+l125:;
 i0 = UINT32_C(0);
 v38 = i0;
 j0 = UINT64_C(18446744073709551615);
@@ -83090,43 +83888,43 @@ j0 = UINT64_C(0);
 v41 = j0;
 j0 = UINT64_C(0);
 v2 = j0;
-l132:;
+l137:;
 j0 = v0;
 j1 = UINT64_C(451088);
 j0 = j0 + j1;
-i0 = load8(p113 + 0);
+i0 = load8(p116 + 0);
 i1 = UINT32_C(1);
 i0 = (i0 != i1);
-if (i0) { goto l134; }
+if (i0) { goto l139; }
 j0 = v2;
 j1 = v0;
 j2 = UINT64_C(372512);
 j1 = j1 + j2;
-p124 = read_at(j1, m, 8u);
-j1 = load64(p124 + 0);
+p127 = read_at(j1, m, 8u);
+j1 = load64(p127 + 0);
 i0 = (j0 >= j1);
-if (i0) { goto l131; }
+if (i0) { goto l136; }
 j0 = v0;
 j1 = UINT64_C(282368);
 j0 = j0 + j1;
-p125 = read_at(j0, m, 8u);
-j0 = load64(p125 + 0);
+p128 = read_at(j0, m, 8u);
+j0 = load64(p128 + 0);
 v26 = j0;
 j1 = v40;
 i0 = (j0 > j1);
-if (i0) { goto l131; }
+if (i0) { goto l136; }
 j0 = v0;
 j1 = v42;
 j0 = j0 + j1;
 v29 = j0;
 j1 = UINT64_C(306978);
 j0 = j0 + j1;
-p126 = read_at(j0 + UINT64_C(18446744073709551614), m, 4u);
-j0 = load16(p126 + 2);
+p129 = read_at(j0 + UINT64_C(18446744073709551614), m, 4u);
+j0 = load16(p129 + 2);
 j1 = v29;
 j2 = UINT64_C(306976);
 j1 = j1 + j2;
-j1 = load16(p126 + 0);
+j1 = load16(p129 + 0);
 v36 = j1;
 j0 = j0 + j1;
 v29 = j0;
@@ -83134,22 +83932,22 @@ j0 = v2;
 j1 = v26;
 j0 = j0 + j1;
 v43 = j0;
-goto l133;
-l134:;
+goto l138;
+l139:;
 j0 = v2;
 j1 = v21;
-p127 = read_at(j1, m, 8u);
-j1 = load64(p127 + 0);
+p130 = read_at(j1, m, 8u);
+j1 = load64(p130 + 0);
 i0 = (j0 >= j1);
-if (i0) { goto l131; }
+if (i0) { goto l136; }
 j0 = v0;
 j1 = v41;
 j0 = j0 + j1;
 v26 = j0;
 j1 = UINT64_C(447952);
 j0 = j0 + j1;
-p128 = read_at(j0 + UINT64_C(18446744073709551608), m, 24u);
-j0 = load64(p128 + 8);
+p131 = read_at(j0 + UINT64_C(18446744073709551608), m, 24u);
+j0 = load64(p131 + 8);
 v29 = j0;
 j1 = UINT64_C(4294967295);
 j2 = v29;
@@ -83160,14 +83958,14 @@ v36 = j0;
 j0 = v26;
 j1 = UINT64_C(447960);
 j0 = j0 + j1;
-j0 = load64(p128 + 16);
+j0 = load64(p131 + 16);
 v29 = j0;
 j0 = v26;
 j1 = UINT64_C(447944);
 j0 = j0 + j1;
-j0 = load64(p128 + 0);
+j0 = load64(p131 + 0);
 v43 = j0;
-l133:;
+l138:;
 j0 = v1;
 j1 = UINT64_C(12);
 j0 = j0 + j1;
@@ -83177,8 +83975,8 @@ i1 = load32(p4 + 0);
 v27 = i1;
 i2 = UINT32_C(1);
 i1 = i1 + i2;
-p129 = write_at(j0, m, 4u);
-store32(p129 + 0, i1);
+p132 = write_at(j0, m, 4u);
+store32(p132 + 0, i1);
 j0 = v8;
 i1 = v27;
 j1 = (uint64_t)i1;
@@ -83192,14 +83990,14 @@ j3 = v29;
 j4 = UINT64_C(4294967295);
 i3 = (j3 < j4);
 j1 = i3 ? j1 : j2;
-p130 = write_at(j0, m, 16u);
-store32(p130 + 12, j1);
+p133 = write_at(j0, m, 16u);
+store32(p133 + 12, j1);
 j0 = v26;
 j1 = v36;
-store32(p130 + 8, j1);
+store32(p133 + 8, j1);
 j0 = v26;
 j1 = v43;
-store64(p130 + 0, j1);
+store64(p133 + 0, j1);
 j0 = v42;
 j1 = UINT64_C(4);
 j0 = j0 + j1;
@@ -83222,19 +84020,19 @@ j0 = j0 + j1;
 v40 = j0;
 j1 = UINT64_C(18446744073709531135);
 i0 = (j0 != j1);
-if (i0) { goto l132; }
+if (i0) { goto l137; }
 i0 = UINT32_C(20480);
 v38 = i0;
-l131:;
+l136:;
 j0 = v1;
 j1 = v1;
 i1 = load32(p2 + 0);
 v27 = i1;
 i2 = UINT32_C(1);
 i1 = i1 + i2;
-v44 = i1;
-p131 = write_at(j0, m, 4u);
-store32(p131 + 0, i1);
+v46 = i1;
+p134 = write_at(j0, m, 4u);
+store32(p134 + 0, i1);
 j0 = v7;
 i1 = v27;
 j1 = (uint64_t)i1;
@@ -83243,8 +84041,8 @@ j1 = j1 << (j2 & 63);
 j0 = j0 + j1;
 v2 = j0;
 i1 = UINT32_C(0);
-p132 = write_at(j0, m, 32u);
-store32(p132 + 28, i1);
+p135 = write_at(j0, m, 32u);
+store32(p135 + 28, i1);
 j0 = v2;
 i1 = UINT32_C(2);
 i2 = UINT32_C(1);
@@ -83257,41 +84055,41 @@ i3 = v28;
 i4 = UINT32_C(255);
 i3 = i3 & i4;
 i1 = i3 ? i1 : i2;
-store8(p132 + 27, i1);
+store8(p135 + 27, i1);
 j0 = v2;
 j1 = v32;
 j2 = UINT64_C(1);
 i1 = (j1 == j2);
 v27 = i1;
-store8(p132 + 26, i1);
+store8(p135 + 26, i1);
 j0 = v2;
 i1 = v31;
-store8(p132 + 25, i1);
+store8(p135 + 25, i1);
 j0 = v2;
 i1 = v30;
-store8(p132 + 24, i1);
+store8(p135 + 24, i1);
 j0 = v2;
 i1 = v38;
-store32(p132 + 20, i1);
+store32(p135 + 20, i1);
 j0 = v2;
 i1 = v45;
-store32(p132 + 16, i1);
+store32(p135 + 16, i1);
 j0 = v2;
 j1 = v33;
 j2 = UINT64_C(0);
 i3 = v27;
 j1 = i3 ? j1 : j2;
-store64(p132 + 8, j1);
+store64(p135 + 8, j1);
 j0 = v2;
 j1 = v37;
-store64(p132 + 0, j1);
-i0 = v44;
+store64(p135 + 0, j1);
+i0 = v46;
 i1 = UINT32_C(4096);
 i0 = (i0 < i1);
 if (i0) { goto l4; }
 l3:;
 j0 = v3;
-j1 = UINT64_C(32);
+j1 = UINT64_C(64);
 j0 = j0 + j1;
 m->g0 = j0;
 return;
@@ -90870,10 +91668,10 @@ j0 = j0 + j1;
 j1 = UINT64_C(0);
 store64(p14 + 40, j1);
 j0 = v0;
-j1 = UINT64_C(446328);
+j1 = UINT64_C(446327);
 j0 = j0 + j1;
 i1 = UINT32_C(0);
-store16(p14 + 48, i1);
+store32(p14 + 47, i1);
 j0 = v0;
 j1 = UINT64_C(446336);
 j0 = j0 + j1;
@@ -91655,7 +92453,7 @@ enum { STACK_fio2070_log_counts_lose = 0 };
 enum { STACK_fio2070_log_counts_start = 0 };
 #define TABLE_fio2070_log_counts_start NO_TABLE
 #define call_fio2070_log_counts_start enter_log_counts_start
-enum { STACK_fio2070_log_end = 9184 };
+enum { STACK_fio2070_log_end = 9216 };
 #define TABLE_fio2070_log_end table_65536
 #define call_fio2070_log_end enter_log_end
 enum { STACK_fio2070_log_start = 0 };
@@ -91697,7 +92495,7 @@ enum { STACK_fio2070_log_judge_batch = 3648 };
 enum { STACK_fio2070_log_judge_frame = 2960 };
 #define TABLE_fio2070_log_judge_frame NO_TABLE
 #define call_fio2070_log_judge_frame enter_log_judge_frame
-enum { STACK_fio2070_log_read = 9216 };
+enum { STACK_fio2070_log_read = 9280 };
 #define TABLE_fio2070_log_read table_65536
 #define call_fio2070_log_read enter_log_read
 #endif
@@ -91811,23 +92609,19 @@ size_t fio2070_heard_text(const struct fio2070_heard *heard, char *text, size_t 
     }
 }
 
-size_t fio2070_rule_text(uint8_t rule, char *text, size_t room) {
-    MACHINE(fio2070_rule_text);
-    return (size_t)call_fio2070_rule_text(&machine, rule, WRITES(text, room), room);
-}
-
-size_t fio2070_content_rule_text(uint8_t rule, char *text, size_t room) {
-    MACHINE(fio2070_content_rule_text);
-    return (size_t)call_fio2070_content_rule_text(&machine, rule, WRITES(text, room), room);
-}
-
-size_t fio2070_show(const uint8_t *octets, size_t length, char *text, size_t room) {
-    MACHINE(fio2070_show);
-    {
-        uint64_t a = READS(octets, length), b = WRITES(text, room);
-        return (size_t)call_fio2070_show(&machine, a, length, b, room);
+/* Calls that take numbers and octets, and write to the room that they are given. */
+#define ENCODES(name, takes, ...)                                          \
+    size_t fio2070_##name takes {                                          \
+        MACHINE(fio2070_##name);                                           \
+        {                                                                  \
+            uint64_t to = WRITES(out, room);                               \
+            return (size_t)call_fio2070_##name(&machine, __VA_ARGS__);     \
+        }                                                                  \
     }
-}
+
+ENCODES(rule_text, (uint8_t rule, char *out, size_t room), rule, to, room)
+ENCODES(content_rule_text, (uint8_t rule, char *out, size_t room), rule, to, room)
+ENCODES(show, (const uint8_t *octets, size_t length, char *out, size_t room), READS(octets, length), length, to, room)
 
 uint32_t fio2070_version(void) {
     MACHINE(fio2070_version);
@@ -91836,22 +92630,30 @@ uint32_t fio2070_version(void) {
 
 /* ---- Blocks ---- */
 
-struct fio2070_fault fio2070_read_block(const uint8_t *octets, size_t length, struct fio2070_block_header *header) {
-    uint8_t fault[16] = {0}, into[8] = {0};
-    MACHINE(fio2070_read_block);
-    {
-        uint64_t a = WRITES(fault, 16), b = READS(octets, length), c = WRITES(into, 8);
-        call_fio2070_read_block(&machine, a, b, length, c);
+/* Calls that read so many octets of a message, of which `settle` makes what the caller gets if there is no fault. */
+#define DECODES(name, count, type, settle)                                                         \
+    struct fio2070_fault fio2070_##name(const uint8_t *octets, size_t length, type *it) {          \
+        uint8_t fault[16] = {0}, into[count] = {0};                                                \
+        MACHINE(fio2070_##name);                                                                   \
+        {                                                                                          \
+            uint64_t a = WRITES(fault, 16), b = READS(octets, length), c = WRITES(into, count);    \
+            call_fio2070_##name(&machine, a, b, length, c);                                        \
+        }                                                                                          \
+        if (fault[0] == FIO2070_FAULT_NONE) settle;                                                \
+        return fault_in(fault);                                                                    \
     }
-    if (fault[0] == FIO2070_FAULT_NONE) {
-        memset(header, 0, sizeof *header);
-        header->number = into[0];
-        header->status = into[1];
-        header->count = into[2];
-        header->stamp = get32(into + 4);
-    }
-    return fault_in(fault);
+
+static void settle_header(struct fio2070_block_header *header, const uint8_t *into) {
+    memset(header, 0, sizeof *header);
+    header->number = into[0];
+    header->status = into[1];
+    header->count = into[2];
+    header->stamp = get32(into + 4);
 }
+
+DECODES(read_block, 8, struct fio2070_block_header, settle_header(it, into))
+DECODES(read_outputs_answer, 4, uint32_t, *it = get32(into))
+DECODES(read_identification, 1, uint8_t, *it = into[0])
 
 /* Entries that the module wrote, in the processor's own order of octets. */
 static void settle_entries(struct fio2070_entry *entries, size_t count) {
@@ -91877,27 +92679,20 @@ uint32_t fio2070_widen(uint32_t answer_stamp, uint16_t stamp) {
 
 /* ---- Any message ---- */
 
-struct fio2070_fault fio2070_decode_command(const uint8_t *octets, size_t length, struct fio2070_command *command) {
-    uint8_t fault[16] = {0}, into[28] = {0};
-    MACHINE(fio2070_decode_command);
-    {
-        uint64_t a = WRITES(fault, 16), b = READS(octets, length), c = WRITES(into, 28);
-        call_fio2070_decode_command(&machine, a, b, length, c);
-    }
-    if (fault[0] == FIO2070_FAULT_NONE) {
-        memset(command, 0, sizeof *command);
-        command->code = into[0];
-        command->clear = into[1];
-        command->block = into[2];
-        command->timeout = into[3];
-        command->count = into[4];
-        command->body = get16(into + 6);
-        command->load = get32(into + 8);
-        memcpy(command->levels, into + 12, 8);
-        memcpy(command->controls, into + 20, 8);
-    }
-    return fault_in(fault);
+static void settle_command(struct fio2070_command *command, const uint8_t *into) {
+    memset(command, 0, sizeof *command);
+    command->code = into[0];
+    command->clear = into[1];
+    command->block = into[2];
+    command->timeout = into[3];
+    command->count = into[4];
+    command->body = get16(into + 6);
+    command->load = get32(into + 8);
+    memcpy(command->levels, into + 12, 8);
+    memcpy(command->controls, into + 20, 8);
 }
+
+DECODES(decode_command, 28, struct fio2070_command, settle_command(it, into))
 
 size_t fio2070_command_items(const uint8_t *octets, size_t length, struct fio2070_configuration_item *items,
                              size_t room) {
@@ -91906,60 +92701,23 @@ size_t fio2070_command_items(const uint8_t *octets, size_t length, struct fio207
     return (size_t)call_fio2070_command_items(&machine, a, length, b, room);
 }
 
-struct fio2070_fault fio2070_decode_answer(const uint8_t *octets, size_t length, struct fio2070_answer *answer) {
-    uint8_t fault[16] = {0}, into[24] = {0};
-    MACHINE(fio2070_decode_answer);
-    {
-        uint64_t a = WRITES(fault, 16), b = READS(octets, length), c = WRITES(into, 24);
-        call_fio2070_decode_answer(&machine, a, b, length, c);
-    }
-    if (fault[0] == FIO2070_FAULT_NONE) {
-        memset(answer, 0, sizeof *answer);
-        answer->code = into[0];
-        answer->flags = into[1];
-        answer->receive_errors = into[2];
-        answer->transmit_errors = into[3];
-        answer->status = into[4];
-        answer->block = into[5];
-        answer->count = into[6];
-        answer->body = get16(into + 10);
-        answer->stamp = get32(into + 12);
-        answer->inputs = get64(into + 16);
-    }
-    return fault_in(fault);
+static void settle_answer(struct fio2070_answer *answer, const uint8_t *into) {
+    memset(answer, 0, sizeof *answer);
+    answer->code = into[0];
+    answer->flags = into[1];
+    answer->receive_errors = into[2];
+    answer->transmit_errors = into[3];
+    answer->status = into[4];
+    answer->block = into[5];
+    answer->count = into[6];
+    answer->body = get16(into + 10);
+    answer->stamp = get32(into + 12);
+    answer->inputs = get64(into + 16);
 }
 
-struct fio2070_fault fio2070_read_outputs_answer(const uint8_t *octets, size_t length, uint32_t *stamp) {
-    uint8_t fault[16] = {0}, into[4] = {0};
-    MACHINE(fio2070_read_outputs_answer);
-    {
-        uint64_t a = WRITES(fault, 16), b = READS(octets, length), c = WRITES(into, 4);
-        call_fio2070_read_outputs_answer(&machine, a, b, length, c);
-    }
-    if (fault[0] == FIO2070_FAULT_NONE) *stamp = get32(into);
-    return fault_in(fault);
-}
+DECODES(decode_answer, 24, struct fio2070_answer, settle_answer(it, into))
 
-struct fio2070_fault fio2070_read_identification(const uint8_t *octets, size_t length, uint8_t *id) {
-    uint8_t fault[16] = {0};
-    MACHINE(fio2070_read_identification);
-    {
-        uint64_t a = WRITES(fault, 16), b = READS(octets, length), c = WRITES(id, 1);
-        call_fio2070_read_identification(&machine, a, b, length, c);
-    }
-    return fault_in(fault);
-}
-
-/* ---- Writing: calls that take numbers, and octets to write to ---- */
-
-#define ENCODES(name, takes, ...)                                          \
-    size_t fio2070_##name takes {                                          \
-        MACHINE(fio2070_##name);                                           \
-        {                                                                  \
-            uint64_t to = WRITES(out, room);                               \
-            return (size_t)call_fio2070_##name(&machine, __VA_ARGS__);     \
-        }                                                                  \
-    }
+/* ---- Writing ---- */
 
 ENCODES(encode_status, (uint8_t clear, uint8_t *out, size_t room), clear, to, room)
 ENCODES(encode_load_counter, (uint32_t load, uint8_t *out, size_t room), load, to, room)
@@ -92009,11 +92767,6 @@ size_t fio2070_encode_block_answer(uint8_t block, const struct fio2070_entry *en
 }
 
 /* ---- The CPU's end ---- */
-
-void fio2070_poller_start(struct fio2070_poller *poller, uint8_t number) {
-    MACHINE(fio2070_poller_start);
-    call_fio2070_poller_start(&machine, WRITES(poller, 1), number);
-}
 
 struct fio2070_heard fio2070_poller_hear(struct fio2070_poller *poller, const uint8_t *octets, size_t length,
                                          struct fio2070_record_item *items, size_t room) {
@@ -92067,6 +92820,8 @@ struct fio2070_heard fio2070_poller_hear(struct fio2070_poller *poller, const ui
             return (uint8_t)call_fio2070_##part##_##name(&machine, __VA_ARGS__);                   \
         }                                                                                          \
     }
+
+OVER(poller, start, 1, void, , (struct fio2070_poller * poller, uint8_t number), it, number)
 
 OVER(counter, start, 1, void, , (struct fio2070_counter * counter), it)
 OVER(counter, tick, 1, void, , (struct fio2070_counter * counter), it)
@@ -92341,22 +93096,18 @@ OVER(sized_module, counter, 0, uint32_t, return, (const struct fio2070_sized_mod
 OVER(sized_module, filtered, 0, uint64_t, return, (const struct fio2070_sized_module *sized_module), it)
 OVER(sized_module, waiting, 0, size_t, return (size_t), (const struct fio2070_sized_module *sized_module), it)
 
-struct fio2070_outputs fio2070_sized_module_outputs(const struct fio2070_sized_module *module) {
-    struct fio2070_outputs outputs = {{0}, {0}};
-    MACHINE(fio2070_sized_module_outputs);
-    {
-        uint64_t a = WRITES(&outputs, sizeof outputs), b = READS(module, sizeof *module);
-        call_fio2070_sized_module_outputs(&machine, a, b);
+/* Calls over such a struct that return one of octets. */
+#define RETURNS(part, name, type)                                                                  \
+    struct fio2070_##type fio2070_##part##_##name(const struct fio2070_##part *part) {             \
+        struct fio2070_##type found;                                                               \
+        MACHINE(fio2070_##part##_##name);                                                          \
+        memset(&found, 0, sizeof found);                                                           \
+        {                                                                                          \
+            uint64_t a = WRITES(&found, sizeof found), b = READS(part, sizeof *part);              \
+            call_fio2070_##part##_##name(&machine, a, b);                                          \
+        }                                                                                          \
+        return found;                                                                              \
     }
-    return outputs;
-}
 
-struct fio2070_error_counts fio2070_sized_module_errors(const struct fio2070_sized_module *module) {
-    struct fio2070_error_counts errors = {0, 0};
-    MACHINE(fio2070_sized_module_errors);
-    {
-        uint64_t a = WRITES(&errors, sizeof errors), b = READS(module, sizeof *module);
-        call_fio2070_sized_module_errors(&machine, a, b);
-    }
-    return errors;
-}
+RETURNS(sized_module, outputs, outputs)
+RETURNS(sized_module, errors, error_counts)

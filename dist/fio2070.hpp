@@ -3,7 +3,7 @@
  *
  * The field I/O transition link of the Model 2070: the header for C++17, above fio2070.h.
  *
- * Sources: 686e8e36bd8679a50a64d6cec152a4fddbdb62d9e56b0deafba2da47c19a8a01 (SHA-256; packaging/release-files --sources)
+ * Sources: 2a185048ecbc3ecdef46697b173b2212899c8b25384b860e829b2c929a0addc1 (SHA-256; packaging/release-files --sources)
  * Kit: rattle-kit-13f logic dac8208d650f15bf
  * Proof: logic=proved functions=225 target=wasm64-unknown-unknown sum=dac8208d650f15bf native=nat,char,string
  * Made by `make release-files`: do not edit.
