@@ -88,8 +88,8 @@ def edits_of(crate):
 
 def stanzas_of(crate):
     """The stanzas of a crate, each with the file that the lines between stanzas name."""
-    changed = None
-    for block in read(edits_of(crate)).strip('\n').split('\n\n'):
+    path, changed = edits_of(crate), None
+    for block in read(path).strip('\n').split('\n\n') if os.path.exists(path) else ():
         head, *lines = block.split('\n')
         if lines:
             yield Stanza(crate, head.removeprefix('# '), [head, *lines], changed)
