@@ -59,6 +59,8 @@ def check_decode(check):
                 [row['line'] for row in fiolog('decode', '--json', '--unanswered', text=cut).objects()])
     check.equal('by order a line ends at a carriage return too', ['1:     > wrong length needed 2 got 1', '2:     > unknown type 110'],
                 fiolog('decode', '--format', 'frames', text='36\r6e\r# a remark\n').out.splitlines())
+    check.equal('a time of the day as the log writes it, with thousandths after a colon', ['1:     07:15:02:100 > poll block 5'],
+                fiolog('decode', text='07:15:02:100 TX 36 05\n').out.splitlines()[:1])
     check.holds('colours where they are asked for', '\x1b[' in fiolog('decode', '--color', 'always', text=LOG).out)
     check.holds('no colours in a pipe', '\x1b[' not in fiolog('decode', text=LOG).out)
 

@@ -25,7 +25,7 @@ DATED = 1e8
 # The year 10000, which no time of a log has, in microseconds.
 END_OF_TIME = 253_402_300_800_000_000
 MICRO = 1_000_000
-OF_DAY = re.compile(r'\d{1,2}:\d\d:\d\d(?:[.,]\d{1,9})?')
+OF_DAY = re.compile(r'\d{1,2}:\d\d:\d\d(?:[.,]\d{1,18}|:\d{3}(?!\d))?')
 _COLOURS = re.compile('\x1b\\[[^A-Za-z]*[A-Za-z]')
 _MARKS = dict.fromkeys((0, 0xfeff))
 _LETTERS = 'ABCDEFGHIJKLMNOPQRSTUVWXYZabcdefghijklmnopqrstuvwxyz'
