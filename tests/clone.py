@@ -1,4 +1,4 @@
-#!/usr/bin/env python3
+#!/usr/bin/env -S python3 -B
 """Uses the sources without the Rattle kit, as a new user would: `./fio2070` of a clone with few other commands, where its program
 runs and where it does not; in a copy the library, a program in C, the tester, `fiolog`, the wrappers, `make install`. With `--all`
 also `./test` in the copy, a library for Windows and for ARM, packages, and the same in a new Debian system that first only has git,
@@ -9,12 +9,9 @@ import random
 import re
 import shutil
 import subprocess
-import sys
 import tempfile
 import time
 from pathlib import Path
-
-sys.dont_write_bytecode = True
 
 from support import roots
 from support.browsers import browsers, running

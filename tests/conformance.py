@@ -1,4 +1,4 @@
-#!/usr/bin/env python3
+#!/usr/bin/env -S python3 -B
 """The tester of tools/conformance: it finds no difference in the proved ends and in right ones that are written from
 docs/PROTOCOL.md, and exercises each rule, in 100,000 events; also its reports, scripts, texts and tables. With `--all` in a
 million events; it finds each planted fault, of a module and of a CPU's end, within the 20,000 events of a run over a wire, or the
@@ -18,8 +18,6 @@ import time
 import tty
 from concurrent.futures import ThreadPoolExecutor
 import xml.etree.ElementTree as xml
-
-sys.dont_write_bytecode = True
 
 from support.check import Check
 from support.planted import (BY_BOUNDS, BY_LINES, EVENTS, FAILING, LASTING, LATE, MISSED, NAMED, NOW_AND_THEN, OF_BOUND,

@@ -1,14 +1,11 @@
-#!/usr/bin/env python3
+#!/usr/bin/env -S python3 -B
 """The rules on content as the library has them, on random links (`support/links.py`). Right links are accused in no log, from
 any command on or from the start of both ends. On right logs, and on logs with a fault, verdicts are those of the independent
 model in `support/content.py`. How many single faults are found is what the table of docs/TESTS.md says; `--write` writes the
 table. Last line: `N passed, M failed`."""
 
 import random
-import sys
 from collections import Counter
-
-sys.dont_write_bytecode = True
 
 from support.check import Check
 from support.content import Record

@@ -1,4 +1,4 @@
-#!/usr/bin/env python3
+#!/usr/bin/env -S python3 -B
 """Goes through docs/EMBEDDING.md as its reader would, on a copy of the libraries: runs each command of its blocks marked
 `sh`, compares what it prints, and writes each file of Rust, whose name precedes it. So the crates are proved, built and run.
 Last line: `N passed, M failed`."""
@@ -7,10 +7,7 @@ import os
 import re
 import shutil
 import subprocess
-import sys
 import tempfile
-
-sys.dont_write_bytecode = True
 
 from support.check import Check
 from support.console import row

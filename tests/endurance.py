@@ -1,4 +1,4 @@
-#!/usr/bin/env python3
+#!/usr/bin/env -S python3 -B
 """What is tried for long and at random: both ends of the library in a soak beside an independent model; every call with random
 octets and structs, and the sums of what they return by several builds; both ends of examples/ on a hostile line, and the octets of one. Each row takes
 some seconds, and prints what it ran; `tests/endurance.py --all SECONDS` runs each driver for that time, as `./bench --soak SECONDS`
@@ -12,8 +12,6 @@ import subprocess
 import sys
 import tempfile
 import time
-
-sys.dont_write_bytecode = True
 
 from support import cortex
 from support.check import Check

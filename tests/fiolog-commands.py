@@ -1,4 +1,4 @@
-#!/usr/bin/env python3
+#!/usr/bin/env -S python3 -B
 """The commands of `fiolog`, run as a user runs them: the text of `show`, the rows of docs/PLANNING.md, texts that the
 program reads again, answers while the input goes on; at a terminal too. Last line: `N passed, M failed`."""
 
@@ -13,8 +13,6 @@ import subprocess
 import sys
 import tempfile
 from pathlib import Path
-
-sys.dont_write_bytecode = True
 
 from support.check import Check
 from support.fiolog import ENVIRONMENT, TOOL, fiolog, on_terminal, started, use_library, written

@@ -1,13 +1,10 @@
-#!/usr/bin/env python3
+#!/usr/bin/env -S python3 -B
 """Damaged logs of the proved ends: one answer in fifty is cut in six ways, and no rule is said to be broken; with as many lines
 of other text between, faults that are planted are still found. What is found in a log is the same however its octets come. How
 many single faults are still found in damaged logs is what the table of docs/CAPTURES.md says; `--write` writes the table.
 Last line: `N passed, M failed`."""
 
 import random
-import sys
-
-sys.dont_write_bytecode = True
 
 from support.check import Check
 from support.fiolog import use_library

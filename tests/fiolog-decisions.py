@@ -1,4 +1,4 @@
-#!/usr/bin/env python3
+#!/usr/bin/env -S python3 -B
 """The reader of logs beside an independent model of its decisions, `support/log_decisions.py`, which was written from
 docs/CAPTURES.md by one who had not read the reader: frames, their places and times, what each other line is, and why. Logs of
 other tools, whole and damaged, the captures of `examples/`, and random logs. What is not the same is listed here with its
@@ -6,11 +6,8 @@ cause. Last line: `N passed, M failed`."""
 
 import random
 import re
-import sys
 from pathlib import Path
 from typing import Callable, NamedTuple
-
-sys.dont_write_bytecode = True
 
 from support.check import Check
 from support.damage import damaged

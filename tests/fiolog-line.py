@@ -1,14 +1,11 @@
-#!/usr/bin/env python3
+#!/usr/bin/env -S python3 -B
 """What a line carried, as `fiolog` reads it, beside the model of the line: files of its octets and of its bits, hostile ones too;
 what a file is by its beginning; frames with flags in lines and dumps of a log, and of each side; whose frames are judged; a sample
 clock that is too fast. However the octets come, the events are the same. Last line: `N passed, M failed`."""
 
 import random
-import sys
 import tempfile
 import textwrap
-
-sys.dont_write_bytecode = True
 
 from support import line_model as model
 from support.check import Check

@@ -1,4 +1,4 @@
-#!/usr/bin/env python3
+#!/usr/bin/env -S python3 -B
 """`fiolog live` on lines that carry traffic: a process, a pseudo-terminal, datagrams and a pipe, with the proved module and
 poller on the other side, with losses, damage, a device that babbles, frames of another module, and entries that break a rule
 on content; the status line of a terminal; a capture in a pipe. Last line: `N passed, M failed`."""
@@ -15,8 +15,6 @@ import tempfile
 import termios
 import time
 from pathlib import Path
-
-sys.dont_write_bytecode = True
 
 from support.check import Check
 from support.fiolog import ENVIRONMENT, fiolog, on_terminal, started, use_library, written

@@ -1,13 +1,10 @@
-#!/usr/bin/env python3
+#!/usr/bin/env -S python3 -B
 """Many logs: `fiolog check` and `stats` of several files, what their summaries say is not judged, and summaries in Python, which
 can be added: of parts of a log, of files side by side, and by Dask over 500 files. Last line: `N passed, M failed`."""
 
 import subprocess
-import sys
 import tempfile
 from collections import Counter
-
-sys.dont_write_bytecode = True
 
 from support.check import Check
 from support.fiolog import ENVIRONMENT, fiolog, reading, use_library, written

@@ -1,4 +1,4 @@
-#!/usr/bin/env python3
+#!/usr/bin/env -S python3 -B
 """Logs that have more than one link in them: lines of other ports, other ids and other programs between those of the link. The
 expected frames are those that were written for the link; no right link is accused. And a message that confirms itself, by a count of
 its entries or items or by its frame check, is found: if the lines directly above and below a line are blank, and the line says no
@@ -6,9 +6,6 @@ other message, that message is the one frame of its line, however it is written,
 `N passed, M failed`."""
 
 import random
-import sys
-
-sys.dont_write_bytecode = True
 
 from support.check import Check
 from support.fiolog import frames_in, use_library, verdicts_on

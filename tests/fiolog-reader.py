@@ -1,12 +1,9 @@
-#!/usr/bin/env python3
+#!/usr/bin/env -S python3 -B
 """What the reader of logs finds in logs of other tools, by `fio2070.LogReader`: each form of tests/support/loggers.py, with
 frames of the protocol's tables and with random ones; logs of strangers; forms of lines, one by one; damage, noise and other
 text; right ends, which no cut accuses; and the reference model of the tests says the same. Last line: `N passed, M failed`."""
 
 import random
-import sys
-
-sys.dont_write_bytecode = True
 
 from support.check import Check
 from support.damage import CUT_OR_LOST, DAMAGES, damaged

@@ -1,4 +1,4 @@
-#!/usr/bin/env python3
+#!/usr/bin/env -S python3 -B
 """`fiolog record` with the rules on content: as text exactly what `fio2070 record` writes for the examples and for lossy
 runs with an entry dropped, doubled, turned or swapped, but for restarts; each breach in the table, as JSON, VCD and picture; and
 what goes on after a breach, in the middle of traffic, and in logs of the bus and of the module. Last line: `N passed, M failed`."""
@@ -11,8 +11,6 @@ import re
 import subprocess
 import sys
 import tempfile
-
-sys.dont_write_bytecode = True
 
 from support.check import Check
 from support.faults import FAULTS, changed

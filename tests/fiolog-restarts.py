@@ -1,4 +1,4 @@
-#!/usr/bin/env python3
+#!/usr/bin/env -S python3 -B
 """What `fiolog` says where the module restarted, and what it does not judge where lines are lost: loads of the counter that may
 have been in them, remarks of loss, headings, losses of sync. Logs of right links that restart, with loads, pauses and damage, are
 accused of nothing. Last line: `N passed, M failed`."""
@@ -6,10 +6,7 @@ accused of nothing. Last line: `N passed, M failed`."""
 import os
 import random
 import re
-import sys
 import tempfile
-
-sys.dont_write_bytecode = True
 
 from support.check import Check
 from support.fiolog import copied, fiolog, reading, use_library, written

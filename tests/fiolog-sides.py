@@ -1,13 +1,10 @@
-#!/usr/bin/env python3
+#!/usr/bin/env -S python3 -B
 """`fiolog` on logs of one direction: what is missing is said, and no rule is judged; and on the two files of a line, which `--merge`
 reads as one log in the order of time. Last line: `N passed, M failed`."""
 
 import os
 import re
-import sys
 import tempfile
-
-sys.dont_write_bytecode = True
 
 from support.check import Check
 from support.fiolog import fiolog, use_library, written

@@ -1,12 +1,9 @@
-#!/usr/bin/env python3
+#!/usr/bin/env -S python3 -B
 """What `fiolog` judges and says of a log: where a log begins, which rules are left out, what to try if a log is not
 read, and what is a fault. Last line: `N passed, M failed`."""
 
 import re
-import sys
 import tempfile
-
-sys.dont_write_bytecode = True
 
 from support.check import Check
 from support.fiolog import fiolog, use_library, written

@@ -1,12 +1,9 @@
-#!/usr/bin/env python3
+#!/usr/bin/env -S python3 -B
 """`fiolog check --late-answers` on runs of right ends whose answers come late and twice, whole and from any line on: it
 accuses none. Faults that are planted in an end are found. Last line: `N passed, M failed`."""
 
 import random
 import re
-import sys
-
-sys.dont_write_bytecode = True
 
 from support.check import Check
 from support.fiolog import fiolog, use_library

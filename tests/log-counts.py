@@ -1,14 +1,11 @@
-#!/usr/bin/env python3
+#!/usr/bin/env -S python3 -B
 """What the library counts of a log's frames, beside a model that counts whole lists, and beside the counts of `fiolog`: on the logs
 of examples/, and on random logs in which frames are lost. Last line: `N passed, M failed`."""
 
 import random
-import sys
 from collections import Counter
 from pathlib import Path
 from typing import NamedTuple, Optional
-
-sys.dont_write_bytecode = True
 
 from support.check import Check
 from support.fiolog import use_library, verdicts_on

@@ -1,12 +1,9 @@
-#!/usr/bin/env python3
+#!/usr/bin/env -S python3 -B
 """Runs scripts of tools/lossy-script and reads their reports: the record has the transitions that the scans make, in order,
 each once, on a bus that loses and repeats frames; frames are lost and repeated about as often as was requested. Then what
 tools/transcript writes for runs. Last line: `N passed, M failed`."""
 
 import os
-import sys
-
-sys.dont_write_bytecode = True
 
 from support.check import Check
 from support.lossy_runs import run, transcripts_of

@@ -1,4 +1,4 @@
-#!/usr/bin/env python3
+#!/usr/bin/env -S python3 -B
 """What `fiolog` and the tools beside it do in difficult cases: octets that are no UTF-8 in strict locales, control characters in a
 log or in a file's name, files that are read and written, recordings that are there already, full disks, long lines, processes
 that die, Ctrl-C. Last line: `N passed, M failed`."""
@@ -14,8 +14,6 @@ import sys
 import tempfile
 import time
 from pathlib import Path
-
-sys.dont_write_bytecode = True
 
 from support.check import Check
 from support.fiolog import ENVIRONMENT, TOOL, on_terminal, started, use_library, written

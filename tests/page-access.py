@@ -1,4 +1,4 @@
-#!/usr/bin/env python3
+#!/usr/bin/env -S python3 -B
 """The page that `make page` writes without a pointer, and in older browsers, in headless Chromium, with `--all` in Firefox
 too: the role and the name that each control has in the browser's accessibility tree; that the key Tab reaches each, with a
 mark around it; and what is said if the browser has no memory of 64 bits, or passes no numbers of 64 bits. Last line: `N
@@ -6,10 +6,7 @@ passed, M failed`."""
 
 import os
 import shutil
-import sys
 import tempfile
-
-sys.dont_write_bytecode = True
 
 from support.browsers import ELEMENT, browsers, running
 from support.check import Check
@@ -145,7 +142,6 @@ return [box.left >= 0 && box.right <= innerWidth, box.height > 40, words.scrollW
 Math.round(words.getBoundingClientRect().top) >= Math.round(row.querySelector(".way").getBoundingClientRect().bottom)]"""
 SHEET = """const it = document.querySelector(".detail"), box = it.getBoundingClientRect();
 return [it.open, it.open && document.elementFromPoint(innerWidth / 2, innerHeight - 20).closest(".detail") === it, box.bottom === innerHeight && box.top < innerHeight]"""
-
 
 def on_phone(browser, folder):
     """The page on a phone."""

@@ -1,4 +1,4 @@
-#!/usr/bin/env python3
+#!/usr/bin/env -S python3 -B
 """Drives the page that `make page` writes, in headless Chromium, with `--all` in Firefox too, as a person would: the examples give what
 `show`, `check` and `simulate` give, letter for letter; 100,000 messages open within two seconds and scroll; hostile files
 change nothing but the table; the views follow pointer and keys; the planning table is that of docs/PLANNING.md. With
@@ -9,11 +9,8 @@ import random
 import re
 import shutil
 import subprocess
-import sys
 import tempfile
 import time
-
-sys.dont_write_bytecode = True
 
 from support import page_judged, page_lines, page_logs, page_views
 from support.browsers import KEYS, Chromium, browsers, running

@@ -1,4 +1,4 @@
-#!/usr/bin/env python3
+#!/usr/bin/env -S python3 -B
 """The portable library without its reader of logs, and what a program takes that calls a part of it: the macro FIO2070_NO_LOG, by
 several compilers; what linkers leave out; CMake; a processor whose size_t has 16 bits, under simavr. With `--all` also the
 figures of docs/FIRMWARE.md and tools/portable/README.md, measured again on a Cortex-M4. Without the kit it tests dist/. Last
@@ -8,9 +8,6 @@ import functools
 import os
 import re
 import shutil
-import sys
-
-sys.dont_write_bytecode = True
 
 from support import cortex
 from support.check import Check

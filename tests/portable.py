@@ -1,4 +1,4 @@
-#!/usr/bin/env python3
+#!/usr/bin/env -S python3 -B
 """Builds the portable library of `make portable`, and compares its results for random frames and lossy links with those of
 the library for x86-64: here by one compiler; with `--all` by each compiler and with sanitizers, on two other processors
 under qemu-user and on a Cortex-M4 under qemu-system-arm, and by wrong translators, each of which is found. With `--all
@@ -10,8 +10,6 @@ import re
 import shutil
 import subprocess
 import sys
-
-sys.dont_write_bytecode = True
 
 from support import cortex
 from support.check import Check

@@ -1,13 +1,10 @@
-#!/usr/bin/env python3
+#!/usr/bin/env -S python3 -B
 """`record` by the rules on content: worked transcripts, each with what docs/FORMATS.md requires; random transcripts, and
 runs of `simulate`, as they are, from a later line on, and with an entry dropped, doubled, turned or swapped, against an
 independent model in `support/content.py`. A run that nobody changed breaks no rule, whole or from any line on; most of
 the changed ones are found. Last line: `N passed, M failed`."""
 
 import random
-import sys
-
-sys.dont_write_bytecode = True
 
 from support.check import Check
 from support.content import Record

@@ -1,11 +1,7 @@
-#!/usr/bin/env python3
+#!/usr/bin/env -S python3 -B
 """`simulate` on tables of scripts, each with the report that is written out beside it: runs to the end, refused events,
 faulty scripts, the largest scripts. The scripts of examples/ are run by `tests/examples.sh`, and longer ones, whose reports
 are computed, by `tests/computed-reports.py`. Last line: `N passed, M failed`."""
-
-import sys
-
-sys.dont_write_bytecode = True
 
 from support.check import Check
 from support.tables import MOST_OCTETS, MOST_WAITING, in_short, lines_that_fit, row

@@ -1,11 +1,7 @@
-#!/usr/bin/env python3
+#!/usr/bin/env -S python3 -B
 """`show` on tables of captured frames, each with the text that docs/PROTOCOL.md gives for its octets: each message whole,
 cut after each of its octets, and with one octet too many; wrong counts; the longest frames; the largest inputs. Last line:
 `N passed, M failed`."""
-
-import sys
-
-sys.dont_write_bytecode = True
 
 from support.check import Check
 from support.tables import MOST_OCTETS, in_short, lines_that_fit, row

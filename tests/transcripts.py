@@ -1,11 +1,7 @@
-#!/usr/bin/env python3
+#!/usr/bin/env -S python3 -B
 """`check` and `record` on tables of transcripts, each with what docs/FORMATS.md requires: rules kept and broken, two broken
 by one line, faulty lines, the longest transcripts. A transcript for each rule by itself is in examples/ and is run by
 `tests/examples.sh`. Last line: `N passed, M failed`."""
-
-import sys
-
-sys.dont_write_bytecode = True
 
 from support.check import Check
 from support.tables import MOST_OCTETS, in_short, lines_that_fit, row

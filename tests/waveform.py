@@ -1,4 +1,4 @@
-#!/usr/bin/env python3
+#!/usr/bin/env -S python3 -B
 """Reads back what tools/waveform/vcd writes, and compares it with the text of the program: on all examples, on random runs
 and on random blocks, with overflows, restarts and a counter that wraps around. If GTKWave's vcd2fst and fst2vcd are
 installed, it compares what they make of it too. Last line: `N passed, M failed`."""
@@ -10,10 +10,7 @@ import random
 import re
 import shutil
 import subprocess
-import sys
 import tempfile
-
-sys.dont_write_bytecode = True
 
 from support.check import Check
 from support.tables import TOP, output_of

@@ -1,4 +1,4 @@
-#!/usr/bin/env python3
+#!/usr/bin/env -S python3 -B
 """`fio2070.Wire`, `WireBits` and `wire_frame` against the model of the line (support/line_model.py): frames written and read,
 lines that are damaged in each known way, and hostile lines, in pieces and one by one. Last line: `N passed, M failed`."""
 
@@ -6,8 +6,6 @@ import collections
 import os
 import random
 import sys
-
-sys.dont_write_bytecode = True
 
 from support import line_model as model
 from support.check import Check

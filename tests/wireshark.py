@@ -1,4 +1,4 @@
-#!/usr/bin/env python3
+#!/usr/bin/env -S python3 -B
 """Compares the Wireshark dissector, as tshark runs it, with `show`: frames of the protocol's tables and random ones in each
 way in which a capture carries them; the links between commands and answers of transcripts; frames for which `show` has no
 line; the captures of hex2pcap; and what is between the flags of 2,000 hostile lines with the library. With `--all` ten times
@@ -10,10 +10,7 @@ import os
 import re
 import shutil
 import subprocess
-import sys
 import tempfile
-
-sys.dont_write_bytecode = True
 
 from support.check import Check
 from support.dissection import ENTRY, ITEM, fault_of_frame, fault_of_hostile_lines, fault_of_links, shown, spelled_element, values
