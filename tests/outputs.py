@@ -283,7 +283,11 @@ def check_many(check, folder):
         return command.poll() is not None
     wait_until(has_ended, 600)
     out, err = command.communicate(timeout=60)
-    check.equal('a process that dies', (3, True, 'fiolog: %s: the process that read it died\n' % pipe), (command.returncode, b'all 3 ' in out, err.decode()))
+    # A log whose process was ended before it was read has its line too.
+    died = err.decode().splitlines()
+    each = ['fiolog: %s: the process that read it died' % name for name in (*logs, pipe)]
+    check.equal('a process that dies', (3, True, each[-1:], []),
+                (command.returncode, b'all %d ' % (4 - len(died)) in out, died[-1:], [line for line in died if line not in each]))
     for number in (signal.SIGINT, signal.SIGTERM):
         command = started('check', '--jobs', '2', *logs, pipe)
         wait_until(lambda: children(command.pid))
