@@ -26,6 +26,11 @@ DIST = $(OUT)/release
 CFLAGS ?= -O2
 LDCONFIG = ldconfig
 
+blank := $(subst ,, )
+ifneq ($(words x$(OUT)x),1)
+$(error OUT cannot have a blank: its names are words of rules)
+endif
+
 root = $(DESTDIR)$(PREFIX)
 bin = $(root)/bin
 man = $(root)/share/man/man1
@@ -44,7 +49,7 @@ kit := $(shell command -v rt)
 all:
 	@FIO2070_OUT='$(OUT)' ./fio2070 --version
 
-# Checks what a change can break here; a merge waits for `./test --all`.
+# Proves what changed and checks what that can break; a merge waits for `./test --all`.
 test:
 	@./test
 
@@ -143,6 +148,7 @@ DOC = $(OUT)/doc
 doc:
 	mkdir -p '$(DOC)'
 	tools/generate-glossary >'$(DOC)/GLOSSARY.md'
+	tools/generate-checks >'$(DOC)/CHECKS.md'
 	(cat packaging/Doxyfile; echo 'OUTPUT_DIRECTORY = "$(DOC)"') | doxygen -
 
 # The archive and the Debian packages: the same files give the same octets each time. With TARGET=aarch64 they only have the
@@ -187,7 +193,7 @@ ifneq ($(libraries),)
 	install -m 644 $(libraries) '$(root)/$(LIB)'
 	install -m 644 $(headers) '$(root)/include'
 	umask 022; tools/generate-manual '$(root)/share/man/man3'
-	umask 022; sed -e 's|@PREFIX@|$(PCPREFIX)|' -e 's|@LIB@|$(LIB)|' -e 's|@VERSION@|$(VERSION)|' packaging/fio2070.pc.in \
+	umask 022; sed -e 's|@PREFIX@|$(subst $(blank),\\$(blank),$(PCPREFIX))|' -e 's|@LIB@|$(LIB)|' -e 's|@VERSION@|$(VERSION)|' packaging/fio2070.pc.in \
 	    >'$(pkgconfig)/fio2070.pc'
 	umask 022; for file in fio2070-config fio2070-config-version; do \
 	    sed -e 's|@LIB@|$(LIB)|' -e 's|@VERSION@|$(VERSION)|' "packaging/$$file.cmake.in" >'$(cmake)'/$$file.cmake; done

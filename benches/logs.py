@@ -7,6 +7,7 @@ import itertools
 import os
 import random
 import re
+import resource
 import shlex
 import shutil
 import statistics
@@ -63,9 +64,17 @@ def build(folder):
             **{f'`fiolog {word}`': [*fiolog, word] for word in ('check', 'stats', 'decode')}}
 
 
+def used(bench, words, path):
+    """The milliseconds of a processor that a run takes, which do not depend on what else the machine does."""
+    before = resource.getrusage(resource.RUSAGE_CHILDREN)
+    succeed([bench.runner, path, 1, *words])
+    after = resource.getrusage(resource.RUSAGE_CHILDREN)
+    return 1000 * (after.ru_utime + after.ru_stime - before.ru_utime - before.ru_stime)
+
+
 def milliseconds(bench, programs, path):
-    """The median of each program's times; runs alternate."""
-    runs = [[int(succeed([bench.runner, path, 1, *words]).split()[0]) / 1e6 for words in programs] for _ in range(ROUNDS)]
+    """The median of each program's times of a processor; runs alternate."""
+    runs = [[used(bench, words, path) for words in programs] for _ in range(ROUNDS)]
     return [statistics.median(times) for times in zip(*runs)]
 
 

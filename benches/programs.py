@@ -94,21 +94,6 @@ class Bench:
                  statistics.median(run[1] for run in some) * 1024 / 1e6) for some in runs]
 
 
-def counts(program, function, folder):
-    """The instructions of each call of the function, including all that it calls, in the order of the calls."""
-    parts = folder / 'parts'
-    shutil.rmtree(parts, ignore_errors=True)
-    parts.mkdir()
-    succeed(['valgrind', '--tool=callgrind', f'--toggle-collect=*{function}', f'--dump-after=*{function}',
-             f'--callgrind-out-file={parts}/part', program])
-    found = {}
-    for path in parts.iterdir():
-        text = path.read_text()
-        if 'desc: Trigger: --dump-after' in text:
-            found[int(path.suffix[1:])] = int(re.search(r'^summary: (\d+)', text, re.M).group(1))
-    return [found[part] for part in sorted(found)]
-
-
 def folder_for_work():
     """A folder that lasts until the next start of the machine, so that a second call builds less."""
     folder = Path(tempfile.gettempdir()) / f'fio2070-bench-{os.getuid()}'

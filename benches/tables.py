@@ -106,33 +106,6 @@ def of_profile(bench, program):
     return table(['Input', 'functions'], rows).replace('---:', '---')
 
 
-def of_cases(name, found, digits, calls):
-    """One quantity of each case of these calls."""
-    rows = [[f'`{call}`', case, *compared([one.get((call, case)) for one in found], digits)] for call, case in calls]
-    return table(['Call', 'case', *heads_of(name, found)], rows).replace('| --- | ---: |', '| --- | --- |', 1)
-
-
-def of_calls(counted):
-    """Instructions of each call."""
-    return of_cases('instructions', counted, 0, counted[0])
-
-
-def of_times(timed):
-    """Nanoseconds of the calls that allocate, or are not counted."""
-    return of_cases('ns', timed, 1, [name for name in timed[0] if name[0] in ('Poller::hear', 'World::step')])
-
-
-def of_library(found):
-    """Instructions of each call for C, beside those of the call below it."""
-    rows = [[f'`{call}`', case, *compared(pair, 0)] for (call, case), pair in found.items()]
-    return table(['Call', 'case', 'C', 'crate', 'ratio'], rows).replace('| --- | ---: |', '| --- | --- |', 1)
-
-
-def of_line(found):
-    """Time of an octet of a line, for a plain loop in C and for each call, and its ratio to the loop's."""
-    return table(['Decoder', 'ns an octet', 'ratio'], [[name, figure(time, 2), figure(time / found[0][1], 1)] for name, time in found])
-
-
 def of_logs(found):
     """Time, and instructions of a line, of each program for each log, and their ratios to those of the first, the plain one."""
     rows = []
@@ -141,7 +114,7 @@ def of_logs(found):
         for program, cost in costs.items():
             ratios = [figure(one and one / other, 1) for one, other in zip(cost, plain)]
             rows.append([log, program, figure(cost[0], 0), ratios[0], figure(cost[1], 0), ratios[1]])
-    heads = ['Log', 'program', 'time, ms', 'ratio', 'instructions of a line', 'ratio']
+    heads = ['Log', 'program', 'time of a processor, ms', 'ratio', 'instructions of a line', 'ratio']
     return table(heads, rows).replace('| --- | ---: |', '| --- | --- |', 1)
 
 

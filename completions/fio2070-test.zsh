@@ -17,4 +17,5 @@ _arguments \
     '--first[stops at the first difference]' \
     '--replay[runs the scripts on standard input]' \
     '--rules[the rules, with their sources]' \
-    '--help[print help]'
+    '--help[print help]' \
+    '--version[print the versions]'

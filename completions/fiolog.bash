@@ -16,11 +16,11 @@ _fiolog() {
     'record --on') words='0 1' ;;
     *)
         case $COMP_CWORD:$word in
-        1:*) words='decode check stats plan convert record live -h --help' ;;
+        1:*) words='decode check stats plan convert record live -h --help -V --version' ;;
         *:-*)
             case $command in
             decode) words='-h --help --format --pattern --sdlc --no-check --line --address --merge -v --verbose -q --quiet --json --csv --input --type --block --status --unanswered --direction --lines --color' ;;
-            check) words='-h --help --format --pattern --sdlc --no-check --line --address --merge -v --verbose -q --quiet --at --start-at-poll --whole --limits --rules --except --explain --late-answers --jobs --json' ;;
+            check) words='-h --help --format --pattern --sdlc --no-check --line --address --merge -v --verbose -q --quiet --at --start-at-poll --whole --limits --rules --except --tees --explain --late-answers --jobs --json' ;;
             stats) words='-h --help --format --pattern --sdlc --no-check --line --address --merge -v --verbose -q --quiet --jobs --json' ;;
             plan) words='-h --help --inputs --filter --group --limits --block --waiting --outage --lost --every -v --verbose --json' ;;
             convert) words='-h --help --format --pattern --sdlc --no-check --line --address --merge -v --verbose -q --quiet --to -o --output --times' ;;

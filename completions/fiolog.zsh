@@ -13,7 +13,7 @@ _fiolog() {
     )
     if (( CURRENT == 2 )); then
         _describe command commands
-        _arguments '(-h --help)'{-h,--help}'[print help]'
+        _arguments '(-h --help)'{-h,--help}'[print help]' '(-V --version)'{-V,--version}'[print the versions]' '*:file:_files'
         return
     fi
     local command=$words[2]
@@ -60,6 +60,7 @@ _fiolog() {
     check)
         specs+=(
             '--rules[transcript, only the rules on the order of messages, not those on what entries and answers say]:rules:(all transcript)'
+            '--tees[leave out the rules that are not of TEES 2009, advance, refusal, done, accepted, cleared]'
             '--explain[say what this rule says, and read no log]:rule:(readable pair number advance same sequence limits rest refusal order fresh alternate apart ignored state clock done accepted cleared watchdog)'
             '--json[an object for each breach, with several logs for each log; and one for the summary]') ;|
     check|live)

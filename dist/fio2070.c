@@ -8,9 +8,9 @@
  * access outside the arguments of a call, which the proof excludes, ends in FIO2070_TRAP(). FIO2070_UNCHECKED leaves
  * the tests of accesses out. FIO2070_FAST makes the code longer and faster.
  *
- * Sources: 2a185048ecbc3ecdef46697b173b2212899c8b25384b860e829b2c929a0addc1 (SHA-256; packaging/release-files --sources)
+ * Sources: e7bcd800e015bae25524d4a8698315b8581dd3524b54fe4dddc1fd3708b027d8 (SHA-256; packaging/release-files --sources)
  * Kit: rattle-kit-13f logic dac8208d650f15bf
- * Proof: logic=proved functions=225 target=wasm64-unknown-unknown sum=dac8208d650f15bf native=nat,char,string
+ * Proof: logic=proved functions=213 target=wasm64-unknown-unknown sum=dac8208d650f15bf native=nat,char,string
  * Made by `make release-files`: do not edit.
  *
  * Proved is the module of which fio2070.c was made, for wasm64: each call does what fio2070.h says for all octets,
@@ -56,15 +56,26 @@ m->g1 = 0;
  *
  * Memory is little-endian by WebAssembly's definition, whatever the processor is. */
 
-#if defined(__GNUC__)
-#define HOT static inline __attribute__((always_inline, unused))
-#define COLD __attribute__((noinline, cold, noreturn))
-#else
-#define HOT static inline
 #if defined(_MSC_VER)
-#define COLD __declspec(noreturn)
+/* It names the versions in another way. */
+#elif defined(__cplusplus) && __cplusplus < 201103L || !defined(__cplusplus) && !defined(__STDC_VERSION__)
+#define FIO2070_IS_OLD
+#elif !defined(__cplusplus) && __STDC_VERSION__ < 199901L
+#define FIO2070_IS_OLD
+#endif
+#ifdef FIO2070_IS_OLD
+#error "fio2070.c is C99, or C++11: compile it with -std=c99 or later"
+#endif
+
+#if defined(__GNUC__)
+#define FIO2070_HOT static inline __attribute__((always_inline, unused))
+#define FIO2070_COLD __attribute__((noinline, cold, noreturn))
 #else
-#define COLD
+#define FIO2070_HOT static inline
+#if defined(_MSC_VER)
+#define FIO2070_COLD __declspec(noreturn)
+#else
+#define FIO2070_COLD
 #endif
 #endif
 
@@ -72,7 +83,7 @@ m->g1 = 0;
 #ifndef FIO2070_TRAP
 #define FIO2070_TRAP() ((void)0)
 #endif
-COLD static void trap(void) {
+FIO2070_COLD static void fio2070_trap(void) {
     FIO2070_TRAP();
     for (;;) {
     }
@@ -86,15 +97,15 @@ COLD static void trap(void) {
 
 /* With FIO2070_FAST each access has its own copy of the test: on a Cortex-M4 1.35 times the code, and from a quarter of the time. */
 #ifdef FIO2070_FAST
-#define PLACE HOT
+#define PLACE FIO2070_HOT
 #else
 #define PLACE static
 #endif
 
-HOT uint32_t load8(const uint8_t *p) {
+FIO2070_HOT uint32_t load8(const uint8_t *p) {
     return *p;
 }
-HOT void store8(uint8_t *p, uint64_t value) {
+FIO2070_HOT void store8(uint8_t *p, uint64_t value) {
     *p = (uint8_t)value;
 }
 
@@ -102,42 +113,42 @@ HOT void store8(uint8_t *p, uint64_t value) {
  * then follow a number from its store to its load; else put together from octets. */
 #if defined(__GNUC__) && (defined(__x86_64__) || defined(__i386__) || defined(__ARM_FEATURE_UNALIGNED)) \
     && __BYTE_ORDER__ == __ORDER_LITTLE_ENDIAN__
-#define WHOLE(bits, result)                                   \
-    HOT result load##bits(const uint8_t *p) {                 \
+#define FIO2070_WHOLE(bits, result)                                   \
+    FIO2070_HOT result load##bits(const uint8_t *p) {                 \
         uint##bits##_t number;                                \
         memcpy(&number, p, sizeof number);                    \
         return number;                                        \
     }                                                         \
-    HOT void store##bits(uint8_t *p, uint64_t value) {        \
+    FIO2070_HOT void store##bits(uint8_t *p, uint64_t value) {        \
         uint##bits##_t number = (uint##bits##_t)value;        \
         memcpy(p, &number, sizeof number);                    \
     }
-WHOLE(16, uint32_t)
-WHOLE(32, uint32_t)
-WHOLE(64, uint64_t)
+FIO2070_WHOLE(16, uint32_t)
+FIO2070_WHOLE(32, uint32_t)
+FIO2070_WHOLE(64, uint64_t)
 #else
-HOT uint32_t load16(const uint8_t *p) {
+FIO2070_HOT uint32_t load16(const uint8_t *p) {
     return p[0] | (uint32_t)p[1] << 8;
 }
-HOT uint32_t load32(const uint8_t *p) {
+FIO2070_HOT uint32_t load32(const uint8_t *p) {
     return p[0] | (uint32_t)p[1] << 8 | (uint32_t)p[2] << 16 | (uint32_t)p[3] << 24;
 }
-HOT uint64_t load64(const uint8_t *p) {
+FIO2070_HOT uint64_t load64(const uint8_t *p) {
     return p[0] | (uint32_t)p[1] << 8 | (uint32_t)p[2] << 16 | (uint32_t)p[3] << 24
         | (uint64_t)(p[4] | (uint32_t)p[5] << 8 | (uint32_t)p[6] << 16 | (uint32_t)p[7] << 24) << 32;
 }
-HOT void store16(uint8_t *p, uint64_t value) {
+FIO2070_HOT void store16(uint8_t *p, uint64_t value) {
     p[0] = (uint8_t)value;
     p[1] = (uint8_t)(value >> 8);
 }
-HOT void store32(uint8_t *p, uint64_t value) {
+FIO2070_HOT void store32(uint8_t *p, uint64_t value) {
     uint32_t v = (uint32_t)value;
     p[0] = (uint8_t)v;
     p[1] = (uint8_t)(v >> 8);
     p[2] = (uint8_t)(v >> 16);
     p[3] = (uint8_t)(v >> 24);
 }
-HOT void store64(uint8_t *p, uint64_t value) {
+FIO2070_HOT void store64(uint8_t *p, uint64_t value) {
     uint32_t v = (uint32_t)value, w = (uint32_t)(value >> 32);
     p[0] = (uint8_t)v;
     p[1] = (uint8_t)(v >> 8);
@@ -163,43 +174,43 @@ HOT void store64(uint8_t *p, uint64_t value) {
             uint32_t place = (uint32_t)address - it->first;                                       \
             if (HOLDS((uint64_t)place + size <= it->most)) return it->octets + place;             \
         }                                                                                         \
-        trap();                                                                                   \
+        fio2070_trap();                                                                                   \
         return m->windows[0].octets;                                                              \
     }
 PLACE_IN(read_at, length)
 PLACE_IN(write_at, writable)
 
 /* How many turns a loop takes until a number has reached another, by steps of this size. If it would take 2^64, it is 0. */
-HOT uint64_t turns(uint64_t to, uint64_t from, uint32_t step) { if ((to - from) % step) trap(); return (to - from) / step; }
+FIO2070_HOT uint64_t turns(uint64_t to, uint64_t from, uint32_t step) { if ((to - from) % step) fio2070_trap(); return (to - from) / step; }
 /* How many octets this many turns reach, each some octets beyond the one before. */
-HOT uint32_t run(uint32_t size, uint32_t step, uint64_t turns) { if (turns - 1 > 0xFFFFFFFFu || (turns - 1) * step > 0xFFFFFFFFu - size) trap(); return size + step * (uint32_t)(turns - 1); }
+FIO2070_HOT uint32_t run(uint32_t size, uint32_t step, uint64_t turns) { if (turns - 1 > 0xFFFFFFFFu || (turns - 1) * step > 0xFFFFFFFFu - size) fio2070_trap(); return size + step * (uint32_t)(turns - 1); }
 
 /* memory.copy and memory.fill. At no octets a pointer may lead anywhere. */
 static void copy(struct machine *m, uint64_t to, uint64_t from, uint64_t count) {
-    if (count > 0xFFFFFFFFu) trap();
+    if (count > 0xFFFFFFFFu) fio2070_trap();
     if (count > 0) {
         const uint8_t *source = read_at(from, m, (uint32_t)count);
         memmove(write_at(to, m, (uint32_t)count), source, (size_t)count);
     }
 }
 static void fill(struct machine *m, uint64_t to, uint32_t value, uint64_t count) {
-    if (count > 0xFFFFFFFFu) trap();
+    if (count > 0xFFFFFFFFu) fio2070_trap();
     if (count > 0) memset(write_at(to, m, (uint32_t)count), (int)(value & 255), (size_t)count);
 }
 
 /* A number whose sign is this bit, as 64 bits. */
-HOT uint64_t extend(uint64_t value, int sign) {
+FIO2070_HOT uint64_t extend(uint64_t value, int sign) {
     uint64_t bit = (uint64_t)1 << sign, low = value & (2 * bit - 1);
     return (low ^ bit) - bit;
 }
 #define SIGNED32(x) ((x) ^ 0x80000000u)
 #define SIGNED64(x) ((x) ^ UINT64_C(0x8000000000000000))
 
-HOT uint32_t rotate32(uint32_t x, uint32_t by) { return x << (by & 31) | x >> ((0u - by) & 31); }
-HOT uint64_t rotate64(uint64_t x, uint64_t by) { return x << (by & 63) | x >> ((0u - by) & 63); }
-HOT uint32_t divide32(uint32_t x, uint32_t y) { if (y == 0) trap(); return x / y; }
-HOT uint64_t divide64(uint64_t x, uint64_t y) { if (y == 0) trap(); return x / y; }
-HOT uint64_t remainder64(uint64_t x, uint64_t y) { if (y == 0) trap(); return x % y; }
+FIO2070_HOT uint32_t rotate32(uint32_t x, uint32_t by) { return x << (by & 31) | x >> ((0u - by) & 31); }
+FIO2070_HOT uint64_t rotate64(uint64_t x, uint64_t by) { return x << (by & 63) | x >> ((0u - by) & 63); }
+FIO2070_HOT uint32_t divide32(uint32_t x, uint32_t y) { if (y == 0) fio2070_trap(); return x / y; }
+FIO2070_HOT uint64_t divide64(uint64_t x, uint64_t y) { if (y == 0) fio2070_trap(); return x / y; }
+FIO2070_HOT uint64_t remainder64(uint64_t x, uint64_t y) { if (y == 0) fio2070_trap(); return x % y; }
 
 /* The place of the lowest bit that is set. */
 #if defined(__GNUC__)
@@ -209,27 +220,61 @@ HOT uint64_t remainder64(uint64_t x, uint64_t y) { if (y == 0) trap(); return x 
                      + ((b) & 0xCCCCCCCCu ? 2u : 0u) + ((b) & 0xAAAAAAAAu ? 1u : 0u))
 #define LOWEST(x) PLACE_OF((x) & (0u - (x)))
 #endif
-HOT uint32_t trailing32(uint32_t x) { return x ? LOWEST(x) : 32; }
-HOT uint64_t trailing64(uint64_t x) { return (uint32_t)x ? trailing32((uint32_t)x) : 32 + trailing32((uint32_t)(x >> 32)); }
+FIO2070_HOT uint32_t trailing32(uint32_t x) { return x ? LOWEST(x) : 32; }
+FIO2070_HOT uint64_t trailing64(uint64_t x) { return (uint32_t)x ? trailing32((uint32_t)x) : 32 + trailing32((uint32_t)(x >> 32)); }
 /* How many bits are set: of each two, of each four, of each eight, of all. */
 #define PAIRS(x) ((x) - ((x) >> 1 & 0x55555555u))
 #define FOURS(x) (((x) & 0x33333333u) + ((x) >> 2 & 0x33333333u))
-HOT uint32_t ones32(uint32_t x) { x = PAIRS(x); x = FOURS(x); return (((x + (x >> 4)) & 0x0F0F0F0Fu) * 0x01010101u) >> 24; }
-HOT uint64_t ones64(uint64_t x) { return ones32((uint32_t)x) + ones32((uint32_t)(x >> 32)); }
+FIO2070_HOT uint32_t ones32(uint32_t x) { x = PAIRS(x); x = FOURS(x); return (((x + (x >> 4)) & 0x0F0F0F0Fu) * 0x01010101u) >> 24; }
+FIO2070_HOT uint64_t ones64(uint64_t x) { return ones32((uint32_t)x) + ones32((uint32_t)(x >> 32)); }
 
-static const uint8_t table_67785[1111] = {201,8,1,0,79,4,0,0,99,111,117,110,116,101,114,32,108,111,97,100,99,111,110,102,105,103,117,114,101,114,97,119,119,97,116,99,104,100,111,103,32,115,116,97,109,112,32,32,116,114,97,110,115,109,105,116,32,32,114,101,99,101,105,118,101,32,115,116,97,116,117,115,32,102,108,97,103,115,32,48,48,48,49,48,50,48,51,48,52,48,53,48,54,48,55,48,56,48,57,49,48,49,49,49,50,49,51,49,52,49,53,49,54,49,55,49,56,49,57,50,48,50,49,50,50,50,51,50,52,50,53,50,54,50,55,50,56,50,57,51,48,51,49,51,50,51,51,51,52,51,53,51,54,51,55,51,56,51,57,52,48,52,49,52,50,52,51,52,52,52,53,52,54,52,55,52,56,52,57,53,48,53,49,53,50,53,51,53,52,53,53,53,54,53,55,53,56,53,57,54,48,54,49,54,50,54,51,54,52,54,53,54,54,54,55,54,56,54,57,55,48,55,49,55,50,55,51,55,52,55,53,55,54,55,55,55,56,55,57,56,48,56,49,56,50,56,51,56,52,56,53,56,54,56,55,56,56,56,57,57,48,57,49,57,50,57,51,57,52,57,53,57,54,57,55,57,56,57,57,48,49,50,51,52,53,54,55,56,57,97,98,99,100,101,102,32,101,110,116,114,105,101,115,32,98,108,111,99,107,32,32,98,111,100,121,32,111,116,104,101,114,32,108,111,97,100,32,99,111,117,110,116,101,114,32,114,97,119,32,105,110,112,117,116,115,10,102,105,108,116,101,114,101,100,32,105,110,112,117,116,115,10,112,111,108,108,32,98,108,111,99,107,32,119,97,116,99,104,100,111,103,32,109,115,32,105,100,101,110,116,105,102,121,10,115,116,97,116,117,115,32,99,108,101,97,114,32,99,111,110,102,105,103,117,114,101,32,105,110,112,117,116,115,32,32,99,111,110,116,114,111,108,32,115,101,116,32,111,117,116,112,117,116,115,32,100,97,116,97,32,32,116,114,97,105,108,105,110,103,32,32,108,101,97,100,105,110,103,32,32,119,105,100,101,32,32,115,116,97,116,101,32,105,110,112,117,116,32,45,10,101,109,112,116,121,116,111,111,32,108,111,110,103,32,103,111,116,32,117,110,107,110,111,119,110,32,116,121,112,101,32,119,114,111,110,103,32,108,101,110,103,116,104,32,110,101,101,100,101,100,32,32,103,111,116,32,111,114,100,101,114,102,114,101,115,104,97,108,116,101,114,110,97,116,101,97,112,97,114,116,105,103,110,111,114,101,100,115,116,97,116,101,99,108,111,99,107,100,111,110,101,97,99,99,101,112,116,101,100,99,108,101,97,114,101,100,98,108,111,99,107,32,101,110,116,114,105,101,115,32,115,116,97,108,101,32,117,110,114,101,97,100,97,98,108,101,32,110,111,32,114,111,111,109,32,110,101,101,100,101,100,32,114,101,97,100,97,98,108,101,112,97,105,114,110,117,109,98,101,114,97,100,118,97,110,99,101,115,97,109,101,115,101,113,117,101,110,99,101,108,105,109,105,116,115,114,101,115,116,114,101,102,117,115,97,108,0,0,0,0,0,1,0,0,0,0,0,0,0,1,0,0,0,0,0,0,0,1,0,0,0,0,0,0,0,2,0,0,0,0,0,0,0,253,2,1,0,0,0,0,0,254,2,1,0,0,0,0,0,255,2,1,0,0,0,0,0,0,3,1,0,0,0,0,0,1,1,2,3,4,5,6,7,2,2,1,1,2,0,0,0,5,0,0,0,0,0,0,0,5,0,0,0,0,0,0,0,9,0,0,0,0,0,0,0,5,0,0,0,0,0,0,0,7,0,0,0,0,0,0,0,5,0,0,0,0,0,0,0,5,0,0,0,0,0,0,0,4,0,0,0,0,0,0,0,8,0,0,0,0,0,0,0,7,0,0,0,0,0,0,0,8,0,0,0,0,0,0,0,227,10,1,0,0,0,0,0,232,10,1,0,0,0,0,0,237,10,1,0,0,0,0,0,246,10,1,0,0,0,0,0,251,10,1,0,0,0,0,0,2,11,1,0,0,0,0,0,7,11,1,0,0,0,0,0,12,11,1,0,0,0,0,0,16,11,1,0,0,0,0,0,24,11,1,0,0,0,0,0,225,8,1,0,0,0,0,0,8,0,0,0,0,0,0,0,4,0,0,0,0,0,0,0,6,0,0,0,0,0,0,0,7,0,0,0,0,0,0,0,4,0,0,0,0,0,0,0,8,0,0,0,0,0,0,0,6,0,0,0,0,0,0,0,4,0,0,0,0,0,0,0,7,0,0,0,0,0,0,0,77,11,1,0,0,0,0,0,85,11,1,0,0,0,0,0,89,11,1,0,0,0,0,0,95,11,1,0,0,0,0,0,102,11,1,0,0,0,0,0,106,11,1,0,0,0,0,0,114,11,1,0,0,0,0,0,120,11,1,0,0,0,0,0,124,11,1,0,0,0,0,0};
+static const uint8_t table_67785[1111] = {
+201,8,1,0,79,4,0,0,99,111,117,110,116,101,114,32,108,111,97,100,99,111,110,102,105,103,117,114,101,114,97,119,
+119,97,116,99,104,100,111,103,32,115,116,97,109,112,32,32,116,114,97,110,115,109,105,116,32,32,114,101,99,101,105,118,
+101,32,115,116,97,116,117,115,32,102,108,97,103,115,32,48,48,48,49,48,50,48,51,48,52,48,53,48,54,48,55,48,
+56,48,57,49,48,49,49,49,50,49,51,49,52,49,53,49,54,49,55,49,56,49,57,50,48,50,49,50,50,50,51,50,
+52,50,53,50,54,50,55,50,56,50,57,51,48,51,49,51,50,51,51,51,52,51,53,51,54,51,55,51,56,51,57,52,
+48,52,49,52,50,52,51,52,52,52,53,52,54,52,55,52,56,52,57,53,48,53,49,53,50,53,51,53,52,53,53,53,
+54,53,55,53,56,53,57,54,48,54,49,54,50,54,51,54,52,54,53,54,54,54,55,54,56,54,57,55,48,55,49,55,
+50,55,51,55,52,55,53,55,54,55,55,55,56,55,57,56,48,56,49,56,50,56,51,56,52,56,53,56,54,56,55,56,
+56,56,57,57,48,57,49,57,50,57,51,57,52,57,53,57,54,57,55,57,56,57,57,48,49,50,51,52,53,54,55,56,
+57,97,98,99,100,101,102,32,101,110,116,114,105,101,115,32,98,108,111,99,107,32,32,98,111,100,121,32,111,116,104,101,
+114,32,108,111,97,100,32,99,111,117,110,116,101,114,32,114,97,119,32,105,110,112,117,116,115,10,102,105,108,116,101,114,
+101,100,32,105,110,112,117,116,115,10,112,111,108,108,32,98,108,111,99,107,32,119,97,116,99,104,100,111,103,32,109,115,
+32,105,100,101,110,116,105,102,121,10,115,116,97,116,117,115,32,99,108,101,97,114,32,99,111,110,102,105,103,117,114,101,
+32,105,110,112,117,116,115,32,32,99,111,110,116,114,111,108,32,115,101,116,32,111,117,116,112,117,116,115,32,100,97,116,
+97,32,32,116,114,97,105,108,105,110,103,32,32,108,101,97,100,105,110,103,32,32,119,105,100,101,32,32,115,116,97,116,
+101,32,105,110,112,117,116,32,45,10,101,109,112,116,121,116,111,111,32,108,111,110,103,32,103,111,116,32,117,110,107,110,
+111,119,110,32,116,121,112,101,32,119,114,111,110,103,32,108,101,110,103,116,104,32,110,101,101,100,101,100,32,32,103,111,
+116,32,111,114,100,101,114,102,114,101,115,104,97,108,116,101,114,110,97,116,101,97,112,97,114,116,105,103,110,111,114,101,
+100,115,116,97,116,101,99,108,111,99,107,100,111,110,101,97,99,99,101,112,116,101,100,99,108,101,97,114,101,100,98,108,
+111,99,107,32,101,110,116,114,105,101,115,32,115,116,97,108,101,32,117,110,114,101,97,100,97,98,108,101,32,110,111,32,
+114,111,111,109,32,110,101,101,100,101,100,32,114,101,97,100,97,98,108,101,112,97,105,114,110,117,109,98,101,114,97,100,
+118,97,110,99,101,115,97,109,101,115,101,113,117,101,110,99,101,108,105,109,105,116,115,114,101,115,116,114,101,102,117,115,
+97,108,0,0,0,0,0,1,0,0,0,0,0,0,0,1,0,0,0,0,0,0,0,1,0,0,0,0,0,0,0,2,
+0,0,0,0,0,0,0,253,2,1,0,0,0,0,0,254,2,1,0,0,0,0,0,255,2,1,0,0,0,0,0,0,
+3,1,0,0,0,0,0,1,1,2,3,4,5,6,7,2,2,1,1,2,0,0,0,5,0,0,0,0,0,0,0,5,
+0,0,0,0,0,0,0,9,0,0,0,0,0,0,0,5,0,0,0,0,0,0,0,7,0,0,0,0,0,0,0,5,
+0,0,0,0,0,0,0,5,0,0,0,0,0,0,0,4,0,0,0,0,0,0,0,8,0,0,0,0,0,0,0,7,
+0,0,0,0,0,0,0,8,0,0,0,0,0,0,0,227,10,1,0,0,0,0,0,232,10,1,0,0,0,0,0,237,
+10,1,0,0,0,0,0,246,10,1,0,0,0,0,0,251,10,1,0,0,0,0,0,2,11,1,0,0,0,0,0,7,
+11,1,0,0,0,0,0,12,11,1,0,0,0,0,0,16,11,1,0,0,0,0,0,24,11,1,0,0,0,0,0,225,
+8,1,0,0,0,0,0,8,0,0,0,0,0,0,0,4,0,0,0,0,0,0,0,6,0,0,0,0,0,0,0,7,
+0,0,0,0,0,0,0,4,0,0,0,0,0,0,0,8,0,0,0,0,0,0,0,6,0,0,0,0,0,0,0,4,
+0,0,0,0,0,0,0,7,0,0,0,0,0,0,0,77,11,1,0,0,0,0,0,85,11,1,0,0,0,0,0,89,
+11,1,0,0,0,0,0,95,11,1,0,0,0,0,0,102,11,1,0,0,0,0,0,106,11,1,0,0,0,0,0,114,
+11,1,0,0,0,0,0,120,11,1,0,0,0,0,0,124,11,1,0,0,0,0,0};
 static uint32_t rattle_enter(struct machine *m);
 static void rattle_leave(struct machine *m);
 static void fio_check_content_ContentChecker_heard(struct machine *m, uint64_t v0, uint64_t v1, uint64_t v2, uint64_t v3);
 static void fio_check_content_take_answer(struct machine *m, uint64_t v0, uint64_t v1, uint64_t v2);
 static void fio_check_content_ContentChecker_sent(struct machine *m, uint64_t v0, uint64_t v1, uint64_t v2);
 static uint64_t fio_input_lanes_step_runs(struct machine *m, uint64_t v0, uint64_t v1, uint64_t v2, uint64_t v3, uint64_t v4, uint64_t v5);
-static uint32_t fio_wire_bit_decoder_WireBits_read(struct machine *m, uint64_t v0, uint32_t v1);
-static uint32_t fio_wire_decoder_Wire_read(struct machine *m, uint64_t v0, uint32_t v1);
 static void fio_check_observation_Observation_of(struct machine *m, uint64_t v0, uint32_t v1, uint64_t v2, uint64_t v3);
 static void fio_check_checker_Checker_take(struct machine *m, uint64_t v0, uint64_t v1, uint32_t v2, uint64_t v3);
 static void fio_check_link_judge_LinkJudge_frame(struct machine *m, uint64_t v0, uint64_t v1, uint32_t v2, uint32_t v3, uint64_t v4, uint64_t v5);
 static void fio_check_frame_stamps_any_stamp_in(struct machine *m, uint64_t v0, uint32_t v1, uint64_t v2, uint64_t v3);
+static void fio_check_link_judge_LinkJudge_judge(struct machine *m, uint64_t v0, uint64_t v1, uint32_t v2, uint32_t v3, uint64_t v4, uint64_t v5, uint64_t v6);
 static void fio_check_frame_stamps_stamp_in(struct machine *m, uint64_t v0, uint32_t v1, uint64_t v2, uint64_t v3);
 static void fio_c_judge_take(struct machine *m, uint64_t v0, uint64_t v1, uint32_t v2, uint32_t v3, uint64_t v4, uint64_t v5);
 static void fio_module_state_ModuleState_poll(struct machine *m, uint64_t v0, uint64_t v1, uint32_t v2);
@@ -280,32 +325,18 @@ static void enter_sized_module_count_receive_error(struct machine *m, uint64_t v
 static void proved_sized_module_count_receive_error(struct machine *m, uint64_t v0);
 static void enter_sized_module_count_transmit_error(struct machine *m, uint64_t v0);
 static void proved_sized_module_count_transmit_error(struct machine *m, uint64_t v0);
-static uint32_t enter_sized_module_counter(struct machine *m, uint64_t v0);
-static uint32_t proved_sized_module_counter(struct machine *m, uint64_t v0);
-static void enter_sized_module_errors(struct machine *m, uint64_t v0, uint64_t v1);
-static void proved_sized_module_errors(struct machine *m, uint64_t v0, uint64_t v1);
-static uint64_t enter_sized_module_filtered(struct machine *m, uint64_t v0);
-static uint64_t proved_sized_module_filtered(struct machine *m, uint64_t v0);
-static uint32_t enter_sized_module_flags(struct machine *m, uint64_t v0);
-static uint32_t proved_sized_module_flags(struct machine *m, uint64_t v0);
 static void enter_sized_module_line_sync(struct machine *m, uint64_t v0);
 static void proved_sized_module_line_sync(struct machine *m, uint64_t v0);
-static void enter_sized_module_outputs(struct machine *m, uint64_t v0, uint64_t v1);
-static void proved_sized_module_outputs(struct machine *m, uint64_t v0, uint64_t v1);
 static void enter_sized_module_raise(struct machine *m, uint64_t v0, uint32_t v1);
 static void proved_sized_module_raise(struct machine *m, uint64_t v0, uint32_t v1);
-static uint64_t enter_sized_module_raw(struct machine *m, uint64_t v0);
-static uint64_t proved_sized_module_raw(struct machine *m, uint64_t v0);
 static void enter_sized_module_restart(struct machine *m, uint64_t v0);
 static void proved_sized_module_restart(struct machine *m, uint64_t v0);
 static void enter_sized_module_set_errors(struct machine *m, uint64_t v0, uint32_t v1, uint32_t v2);
 static void proved_sized_module_set_errors(struct machine *m, uint64_t v0, uint32_t v1, uint32_t v2);
 static uint32_t enter_sized_module_start(struct machine *m, uint64_t v0, uint32_t v1, uint64_t v2);
 static uint32_t proved_sized_module_start(struct machine *m, uint64_t v0, uint32_t v1, uint32_t v2, uint32_t v3);
-static uint64_t enter_sized_module_waiting(struct machine *m, uint64_t v0);
-static uint64_t proved_sized_module_waiting(struct machine *m, uint64_t v0);
-static uint32_t enter_sized_module_watchdog_ms(struct machine *m, uint64_t v0);
-static uint32_t proved_sized_module_watchdog_ms(struct machine *m, uint64_t v0);
+static void enter_sized_module_state(struct machine *m, uint64_t v0, uint64_t v1);
+static void proved_sized_module_state(struct machine *m, uint64_t v0, uint64_t v1);
 static uint32_t enter_version(struct machine *m);
 static void proved_version(struct machine *m);
 static uint32_t enter_widen(struct machine *m, uint32_t v0, uint32_t v1);
@@ -332,14 +363,10 @@ static void enter_checker_start(struct machine *m, uint64_t v0);
 static void proved_checker_start(struct machine *m, uint64_t v0);
 static void enter_read_block(struct machine *m, uint64_t v0, uint64_t v1, uint64_t v2, uint64_t v3);
 static void proved_read_block(struct machine *m, uint64_t v0, uint64_t v1, uint64_t v2, uint64_t v3);
-static uint32_t enter_wire_bits_read(struct machine *m, uint64_t v0, uint32_t v1);
-static uint32_t proved_wire_bits_read(struct machine *m, uint64_t v0, uint32_t v1);
-static uint64_t enter_wire_bits_read_many(struct machine *m, uint64_t v0, uint64_t v1, uint64_t v2, uint64_t v3);
-static uint64_t proved_wire_bits_read_many(struct machine *m, uint64_t v0, uint64_t v1, uint64_t v2, uint64_t v3);
-static uint32_t enter_wire_read(struct machine *m, uint64_t v0, uint32_t v1);
-static uint32_t proved_wire_read(struct machine *m, uint64_t v0, uint32_t v1);
-static uint64_t enter_wire_read_many(struct machine *m, uint64_t v0, uint64_t v1, uint64_t v2, uint64_t v3);
-static uint64_t proved_wire_read_many(struct machine *m, uint64_t v0, uint64_t v1, uint64_t v2, uint64_t v3);
+static uint64_t enter_wire_bits_read(struct machine *m, uint64_t v0, uint64_t v1, uint64_t v2, uint64_t v3);
+static uint64_t proved_wire_bits_read(struct machine *m, uint64_t v0, uint64_t v1, uint64_t v2, uint64_t v3);
+static uint64_t enter_wire_read(struct machine *m, uint64_t v0, uint64_t v1, uint64_t v2, uint64_t v3);
+static uint64_t proved_wire_read(struct machine *m, uint64_t v0, uint64_t v1, uint64_t v2, uint64_t v3);
 static uint64_t enter_command_items(struct machine *m, uint64_t v0, uint64_t v1, uint64_t v2, uint64_t v3);
 static uint64_t proved_command_items(struct machine *m, uint64_t v0, uint64_t v1, uint64_t v2, uint64_t v3);
 static uint32_t enter_checker_start_anywhere(struct machine *m, uint64_t v0, uint64_t v1);
@@ -362,40 +389,12 @@ static void enter_judge_lose(struct machine *m, uint64_t v0);
 static void proved_judge_lose(struct machine *m, uint64_t v0);
 static void enter_poller_hear(struct machine *m, uint64_t v0, uint64_t v1, uint64_t v2, uint64_t v3, uint64_t v4, uint64_t v5);
 static void proved_poller_hear(struct machine *m, uint64_t v0, uint64_t v1, uint64_t v2, uint64_t v3, uint64_t v4, uint64_t v5);
-static uint32_t enter_judge_heard(struct machine *m, uint64_t v0, uint32_t v1, uint64_t v2, uint64_t v3, uint64_t v4);
-static uint32_t proved_judge_heard(struct machine *m, uint64_t v0, uint32_t v1, uint64_t v2, uint64_t v3, uint64_t v4);
+static uint32_t enter_judge_heard(struct machine *m, uint64_t v0, uint64_t v1, uint64_t v2, uint64_t v3);
+static uint32_t proved_judge_heard(struct machine *m, uint64_t v0, uint64_t v1, uint64_t v2, uint64_t v3);
 static uint32_t enter_judge_sent(struct machine *m, uint64_t v0, uint32_t v1, uint64_t v2, uint64_t v3, uint64_t v4);
 static uint32_t proved_judge_sent(struct machine *m, uint64_t v0, uint32_t v1, uint64_t v2, uint64_t v3, uint64_t v4);
 static uint64_t enter_sized_module_receive(struct machine *m, uint64_t v0, uint64_t v1, uint64_t v2, uint64_t v3, uint64_t v4, uint64_t v5, uint64_t v6);
 static uint64_t proved_sized_module_receive(struct machine *m, uint64_t v0, uint64_t v1, uint64_t v2, uint64_t v3, uint64_t v4, uint64_t v5, uint64_t v6);
-static uint64_t enter_encode_configure_inputs_answer(struct machine *m, uint32_t v0, uint64_t v1, uint64_t v2);
-static uint64_t proved_encode_configure_inputs_answer(struct machine *m, uint32_t v0, uint64_t v1, uint64_t v2);
-static uint64_t enter_encode_filtered_inputs_answer(struct machine *m, uint64_t v0, uint32_t v1, uint64_t v2, uint64_t v3);
-static uint64_t proved_encode_filtered_inputs_answer(struct machine *m, uint64_t v0, uint32_t v1, uint64_t v2, uint64_t v3);
-static uint64_t enter_encode_load_counter_answer(struct machine *m, uint32_t v0, uint64_t v1, uint64_t v2);
-static uint64_t proved_encode_load_counter_answer(struct machine *m, uint32_t v0, uint64_t v1, uint64_t v2);
-static uint64_t enter_encode_raw_inputs_answer(struct machine *m, uint64_t v0, uint32_t v1, uint64_t v2, uint64_t v3);
-static uint64_t proved_encode_raw_inputs_answer(struct machine *m, uint64_t v0, uint32_t v1, uint64_t v2, uint64_t v3);
-static uint64_t enter_encode_status_answer(struct machine *m, uint32_t v0, uint32_t v1, uint32_t v2, uint32_t v3, uint64_t v4, uint64_t v5);
-static uint64_t proved_encode_status_answer(struct machine *m, uint32_t v0, uint32_t v1, uint32_t v2, uint32_t v3, uint64_t v4, uint64_t v5);
-static uint64_t enter_encode_watchdog_answer(struct machine *m, uint32_t v0, uint64_t v1, uint64_t v2);
-static uint64_t proved_encode_watchdog_answer(struct machine *m, uint32_t v0, uint64_t v1, uint64_t v2);
-static uint64_t enter_encode_filtered_inputs(struct machine *m, uint64_t v0, uint64_t v1);
-static uint64_t proved_encode_filtered_inputs(struct machine *m, uint64_t v0, uint64_t v1);
-static uint64_t enter_encode_identify(struct machine *m, uint64_t v0, uint64_t v1);
-static uint64_t proved_encode_identify(struct machine *m, uint64_t v0, uint64_t v1);
-static uint64_t enter_encode_load_counter(struct machine *m, uint32_t v0, uint64_t v1, uint64_t v2);
-static uint64_t proved_encode_load_counter(struct machine *m, uint32_t v0, uint64_t v1, uint64_t v2);
-static uint64_t enter_encode_poll(struct machine *m, uint32_t v0, uint64_t v1, uint64_t v2);
-static uint64_t proved_encode_poll(struct machine *m, uint32_t v0, uint64_t v1, uint64_t v2);
-static uint64_t enter_encode_raw_inputs(struct machine *m, uint64_t v0, uint64_t v1);
-static uint64_t proved_encode_raw_inputs(struct machine *m, uint64_t v0, uint64_t v1);
-static uint64_t enter_encode_set_outputs(struct machine *m, uint64_t v0, uint64_t v1, uint64_t v2, uint64_t v3);
-static uint64_t proved_encode_set_outputs(struct machine *m, uint64_t v0, uint64_t v1, uint64_t v2, uint64_t v3);
-static uint64_t enter_encode_status(struct machine *m, uint32_t v0, uint64_t v1, uint64_t v2);
-static uint64_t proved_encode_status(struct machine *m, uint32_t v0, uint64_t v1, uint64_t v2);
-static uint64_t enter_encode_watchdog(struct machine *m, uint32_t v0, uint64_t v1, uint64_t v2);
-static uint64_t proved_encode_watchdog(struct machine *m, uint32_t v0, uint64_t v1, uint64_t v2);
 static uint64_t enter_poller_poll(struct machine *m, uint64_t v0, uint64_t v1, uint64_t v2);
 static uint64_t proved_poller_poll(struct machine *m, uint64_t v0, uint64_t v1, uint64_t v2);
 static uint64_t enter_show(struct machine *m, uint64_t v0, uint64_t v1, uint64_t v2, uint64_t v3);
@@ -408,14 +407,10 @@ static uint64_t enter_heard_text(struct machine *m, uint64_t v0, uint64_t v1, ui
 static uint64_t proved_heard_text(struct machine *m, uint64_t v0, uint64_t v1, uint64_t v2);
 static uint64_t enter_rule_text(struct machine *m, uint32_t v0, uint64_t v1, uint64_t v2);
 static uint64_t proved_rule_text(struct machine *m, uint32_t v0, uint64_t v1, uint64_t v2);
-static uint64_t enter_encode_other_answer(struct machine *m, uint32_t v0, uint64_t v1, uint64_t v2, uint64_t v3, uint64_t v4);
-static uint64_t proved_encode_other_answer(struct machine *m, uint32_t v0, uint64_t v1, uint64_t v2, uint64_t v3, uint64_t v4);
-static uint64_t enter_encode_other_command(struct machine *m, uint32_t v0, uint64_t v1, uint64_t v2, uint64_t v3, uint64_t v4);
-static uint64_t proved_encode_other_command(struct machine *m, uint32_t v0, uint64_t v1, uint64_t v2, uint64_t v3, uint64_t v4);
-static uint64_t enter_encode_block_answer(struct machine *m, uint32_t v0, uint64_t v1, uint64_t v2, uint32_t v3, uint32_t v4, uint64_t v5, uint64_t v6);
-static uint64_t proved_encode_block_answer(struct machine *m, uint32_t v0, uint64_t v1, uint64_t v2, uint32_t v3, uint32_t v4, uint64_t v5, uint64_t v6);
-static uint64_t enter_encode_configure_inputs(struct machine *m, uint64_t v0, uint64_t v1, uint64_t v2, uint64_t v3);
-static uint64_t proved_encode_configure_inputs(struct machine *m, uint64_t v0, uint64_t v1, uint64_t v2, uint64_t v3);
+static uint64_t enter_encode_answer(struct machine *m, uint64_t v0, uint64_t v1, uint64_t v2, uint64_t v3, uint64_t v4, uint64_t v5, uint64_t v6);
+static uint64_t proved_encode_answer(struct machine *m, uint64_t v0, uint64_t v1, uint64_t v2, uint64_t v3, uint64_t v4, uint64_t v5, uint64_t v6);
+static uint64_t enter_encode_command(struct machine *m, uint64_t v0, uint64_t v1, uint64_t v2, uint64_t v3, uint64_t v4, uint64_t v5, uint64_t v6);
+static uint64_t proved_encode_command(struct machine *m, uint64_t v0, uint64_t v1, uint64_t v2, uint64_t v3, uint64_t v4, uint64_t v5, uint64_t v6);
 static uint32_t rattle_enter(struct machine *m)
 {
 uint32_t v0 = 0;
@@ -1029,7 +1024,7 @@ i0 = UINT32_C(0);
 v9 = i0;
 goto l4;
 l9:;
-trap();
+fio2070_trap();
 l8:;
 i0 = UINT32_C(0);
 v10 = i0;
@@ -4011,7 +4006,7 @@ i1 = i1 ^ i2;
 store16(p36 + 0, i1);
 return;
 l2:;
-trap();
+fio2070_trap();
 return;
 }
 static void fio_check_content_ContentChecker_sent(struct machine *m, uint64_t v0, uint64_t v1, uint64_t v2)
@@ -4743,7 +4738,7 @@ store8(p22 + 0, i1);
 l3:;
 return;
 l2:;
-trap();
+fio2070_trap();
 return;
 }
 static uint64_t fio_input_lanes_step_runs(struct machine *m, uint64_t v0, uint64_t v1, uint64_t v2, uint64_t v3, uint64_t v4, uint64_t v5)
@@ -5814,929 +5809,10 @@ i0 = (j0 > j1);
 if (i0) { goto l2; }
 goto l8;
 l3:;
-trap();
+fio2070_trap();
 l2:;
 j0 = v7;
 r = j0;
-return r;
-}
-static uint32_t fio_wire_bit_decoder_WireBits_read(struct machine *m, uint64_t v0, uint32_t v1)
-{
-uint64_t v2 = 0;
-uint32_t v3 = 0;
-uint64_t v4 = 0;
-uint32_t v5 = 0;
-uint32_t v6 = 0;
-uint64_t v7 = 0;
-uint32_t v8 = 0;
-uint32_t i0;
-uint32_t i1;
-uint32_t i2;
-uint32_t i3;
-uint64_t j0;
-uint64_t j1;
-uint64_t j2;
-uint64_t j3;
-uint32_t r;
-uint8_t *p1;
-uint8_t *p2;
-uint8_t *p3;
-uint8_t *p4;
-uint8_t *p5;
-uint8_t *p6;
-uint8_t *p7;
-uint8_t *p8;
-uint8_t *p9;
-uint8_t *p10;
-uint8_t *p11;
-uint8_t *p12;
-uint8_t *p13;
-uint8_t *p14;
-uint8_t *p15;
-uint8_t *p16;
-uint8_t *p17;
-uint8_t *p18;
-uint8_t *p19;
-uint8_t *p20;
-uint8_t *p21;
-uint8_t *p22;
-uint8_t *p23;
-uint8_t *p24;
-uint8_t *p25;
-uint8_t *p26;
-uint8_t *p27;
-uint8_t *p28;
-uint8_t *p29;
-uint8_t *p30;
-uint8_t *p31;
-uint8_t *p32;
-j0 = m->g0;
-j1 = UINT64_C(16);
-i0 = (SIGNED64(j0) < SIGNED64(j1));
-if (i0) { goto l2; }
-j0 = v0;
-j1 = UINT64_C(777);
-j0 = j0 + j1;
-v2 = j0;
-p1 = read_at(j0, m, 1u);
-i0 = load8(p1 + 0);
-v3 = i0;
-i1 = UINT32_C(3);
-i0 = (i0 < i1);
-if (i0) { goto l3; }
-j0 = v0;
-j1 = UINT64_C(784);
-j0 = j0 + j1;
-i1 = UINT32_C(4294901760);
-p2 = write_at(j0 + UINT64_C(18446744073709551609), m, 11u);
-store32(p2 + 7, i1);
-j0 = v0;
-j1 = UINT64_C(779);
-j0 = j0 + j1;
-i1 = UINT32_C(0);
-store32(p2 + 2, i1);
-i0 = UINT32_C(1);
-v3 = i0;
-j0 = v2;
-i1 = UINT32_C(1);
-store8(p2 + 0, i1);
-l3:;
-j0 = v0;
-j1 = UINT64_C(778);
-j0 = j0 + j1;
-v4 = j0;
-p3 = read_at(j0, m, 1u);
-i0 = load8(p3 + 0);
-v5 = i0;
-i0 = v1;
-i0 = (i0 == 0);
-if (i0) { goto l5; }
-i0 = v5;
-i1 = UINT32_C(255);
-i0 = i0 & i1;
-i1 = UINT32_C(5);
-i0 = (i0 > i1);
-if (i0) { goto l6; }
-j0 = v4;
-i1 = v5;
-i2 = UINT32_C(1);
-i1 = i1 + i2;
-p4 = write_at(j0, m, 1u);
-store8(p4 + 0, i1);
-i0 = UINT32_C(0);
-r = i0;
-return r;
-l6:;
-j0 = v4;
-i1 = UINT32_C(7);
-p5 = write_at(j0, m, 1u);
-store8(p5 + 0, i1);
-i0 = UINT32_C(0);
-v6 = i0;
-i0 = v3;
-i1 = UINT32_C(1);
-i0 = (i0 != i1);
-if (i0) { goto l4; }
-i0 = UINT32_C(2);
-v3 = i0;
-j0 = v0;
-j1 = UINT64_C(784);
-j0 = j0 + j1;
-p6 = read_at(j0, m, 2u);
-i0 = load16(p6 + 0);
-if (i0) { goto l7; }
-j0 = v0;
-j1 = UINT64_C(781);
-j0 = j0 + j1;
-p7 = read_at(j0, m, 1u);
-i0 = load8(p7 + 0);
-if (i0) { goto l7; }
-j0 = v0;
-j1 = UINT64_C(782);
-j0 = j0 + j1;
-p8 = read_at(j0, m, 1u);
-i0 = load8(p8 + 0);
-if (i0) { goto l7; }
-i0 = UINT32_C(2);
-i1 = UINT32_C(0);
-j2 = v0;
-j3 = UINT64_C(779);
-j2 = j2 + j3;
-p9 = read_at(j2, m, 1u);
-i2 = load8(p9 + 0);
-i0 = i2 ? i0 : i1;
-v3 = i0;
-l7:;
-j0 = v0;
-j1 = UINT64_C(777);
-j0 = j0 + j1;
-i1 = v3;
-p10 = write_at(j0, m, 1u);
-store8(p10 + 0, i1);
-i0 = UINT32_C(0);
-r = i0;
-return r;
-l5:;
-i0 = v5;
-i1 = UINT32_C(255);
-i0 = i0 & i1;
-v1 = i0;
-i1 = UINT32_C(6);
-i0 = (i0 != i1);
-if (i0) { goto l8; }
-i0 = v3;
-switch (i0) {
-case 0:
-goto l10;
-case 1:
-goto l12;
-default:
-goto l11;
-}
-l12:;
-j0 = v0;
-j1 = UINT64_C(781);
-j0 = j0 + j1;
-p11 = read_at(j0, m, 1u);
-i0 = load8(p11 + 0);
-if (i0) { goto l11; }
-i0 = UINT32_C(3);
-v3 = i0;
-j0 = v0;
-j1 = UINT64_C(782);
-j0 = j0 + j1;
-p12 = read_at(j0, m, 1u);
-i0 = load8(p12 + 0);
-if (i0) { goto l10; }
-j0 = v0;
-j1 = UINT64_C(784);
-j0 = j0 + j1;
-p13 = read_at(j0, m, 2u);
-i0 = load16(p13 + 0);
-i1 = UINT32_C(65535);
-i0 = i0 & i1;
-v1 = i0;
-if (i0) { goto l13; }
-i0 = UINT32_C(0);
-v3 = i0;
-goto l10;
-l13:;
-i0 = v1;
-i1 = UINT32_C(5);
-i0 = (i0 < i1);
-if (i0) { goto l10; }
-j0 = v0;
-j1 = UINT64_C(786);
-j0 = j0 + j1;
-p14 = read_at(j0, m, 2u);
-i0 = load16(p14 + 0);
-i1 = UINT32_C(65535);
-i0 = i0 & i1;
-i1 = UINT32_C(61624);
-i0 = (i0 != i1);
-if (i0) { goto l10; }
-j0 = v0;
-j1 = UINT64_C(790);
-j0 = j0 + j1;
-p15 = read_at(j0 + UINT64_C(18446744073709551614), m, 4u);
-i0 = load16(p15 + 2);
-v1 = i0;
-j0 = v0;
-j1 = UINT64_C(788);
-j0 = j0 + j1;
-i0 = load16(p15 + 0);
-v3 = i0;
-i1 = UINT32_C(65535);
-i0 = i0 & i1;
-i1 = UINT32_C(255);
-i0 = (i0 > i1);
-if (i0) { goto l16; }
-i0 = v3;
-i1 = UINT32_C(65535);
-i0 = i0 & i1;
-j1 = v0;
-p16 = read_at(j1, m, 1u);
-i1 = load8(p16 + 0);
-i0 = (i0 != i1);
-if (i0) { goto l15; }
-l16:;
-i0 = UINT32_C(1);
-v3 = i0;
-i0 = v1;
-i1 = UINT32_C(65535);
-i0 = i0 & i1;
-v1 = i0;
-i1 = UINT32_C(255);
-i0 = (i0 > i1);
-if (i0) { goto l14; }
-i0 = v1;
-j1 = v0;
-p17 = read_at(j1 + UINT64_C(1), m, 1u);
-i1 = load8(p17 + 0);
-i0 = (i0 == i1);
-if (i0) { goto l14; }
-l15:;
-i0 = UINT32_C(2);
-v3 = i0;
-l14:;
-j0 = v0;
-j1 = UINT64_C(778);
-j0 = j0 + j1;
-i1 = UINT32_C(0);
-p18 = write_at(j0, m, 2u);
-store16(p18 + 0, i1);
-i0 = UINT32_C(3);
-v1 = i0;
-goto l9;
-l11:;
-i0 = UINT32_C(3);
-v3 = i0;
-l10:;
-j0 = v4;
-i1 = UINT32_C(0);
-p19 = write_at(j0, m, 10u);
-store32(p19 + 0, i1);
-j0 = v4;
-i1 = UINT32_C(0);
-store8(p19 + 4, i1);
-j0 = v0;
-j1 = UINT64_C(784);
-j0 = j0 + j1;
-i1 = UINT32_C(4294901760);
-store32(p19 + 6, i1);
-i0 = UINT32_C(1);
-v1 = i0;
-l9:;
-j0 = v0;
-j1 = UINT64_C(777);
-j0 = j0 + j1;
-i1 = v1;
-p20 = write_at(j0, m, 1u);
-store8(p20 + 0, i1);
-i0 = v3;
-r = i0;
-return r;
-l8:;
-i0 = UINT32_C(0);
-v6 = i0;
-i0 = UINT32_C(0);
-v3 = i0;
-i0 = v1;
-i1 = UINT32_C(5);
-i0 = (i0 > i1);
-if (i0) { goto l17; }
-j0 = v0;
-j1 = UINT64_C(779);
-j0 = j0 + j1;
-p21 = read_at(j0, m, 1u);
-i0 = load8(p21 + 0);
-i0 = (i0 == 0);
-if (i0) { goto l18; }
-j0 = v0;
-j1 = UINT64_C(780);
-j0 = j0 + j1;
-v2 = j0;
-p22 = read_at(j0, m, 2u);
-i0 = load8(p22 + 0);
-i1 = UINT32_C(1);
-i0 = i0 >> (i1 & 31);
-v3 = i0;
-j0 = v0;
-j1 = UINT64_C(781);
-j0 = j0 + j1;
-v7 = j0;
-i0 = load8(p22 + 1);
-v1 = i0;
-i1 = UINT32_C(6);
-i0 = (i0 > i1);
-if (i0) { goto l19; }
-j0 = v7;
-i1 = v1;
-i2 = UINT32_C(1);
-i1 = i1 + i2;
-p23 = write_at(j0 + UINT64_C(18446744073709551615), m, 2u);
-store8(p23 + 1, i1);
-j0 = v2;
-i1 = v3;
-store8(p23 + 0, i1);
-goto l18;
-l19:;
-j0 = v2;
-i1 = UINT32_C(0);
-p24 = write_at(j0, m, 6u);
-store16(p24 + 0, i1);
-j0 = v0;
-j1 = UINT64_C(784);
-j0 = j0 + j1;
-v2 = j0;
-j0 = load16(p24 + 4);
-v7 = j0;
-j1 = UINT64_C(776);
-i0 = (j0 > j1);
-if (i0) { goto l20; }
-j0 = v0;
-j1 = v7;
-j0 = j0 + j1;
-i1 = v3;
-p25 = write_at(j0, m, 1u);
-store8(p25 + 0, i1);
-j0 = v2;
-j1 = v2;
-i1 = load16(p24 + 4);
-i2 = UINT32_C(1);
-i1 = i1 + i2;
-store16(p24 + 4, i1);
-j0 = v0;
-j1 = UINT64_C(786);
-j0 = j0 + j1;
-v2 = j0;
-j1 = v2;
-p26 = write_at(j1, m, 2u);
-i1 = load16(p26 + 0);
-v1 = i1;
-i2 = UINT32_C(255);
-i1 = i1 & i2;
-i2 = v3;
-i1 = i1 ^ i2;
-v3 = i1;
-i2 = UINT32_C(4);
-i1 = i1 << (i2 & 31);
-i2 = UINT32_C(240);
-i1 = i1 & i2;
-i2 = v3;
-i1 = i1 ^ i2;
-v3 = i1;
-i2 = UINT32_C(3);
-i1 = i1 << (i2 & 31);
-i2 = v1;
-i3 = UINT32_C(8);
-i2 = i2 >> (i3 & 31);
-i1 = i1 ^ i2;
-i2 = v3;
-i3 = UINT32_C(8);
-i2 = i2 << (i3 & 31);
-i1 = i1 ^ i2;
-i2 = v3;
-i3 = UINT32_C(4);
-i2 = i2 >> (i3 & 31);
-i1 = i1 ^ i2;
-store16(p26 + 0, i1);
-j0 = v0;
-j1 = UINT64_C(778);
-j0 = j0 + j1;
-i0 = load8(p3 + 0);
-v5 = i0;
-goto l18;
-l20:;
-j0 = v0;
-j1 = UINT64_C(782);
-j0 = j0 + j1;
-i1 = UINT32_C(1);
-store8(p24 + 2, i1);
-l18:;
-i0 = v5;
-i1 = UINT32_C(255);
-i0 = i0 & i1;
-if (i0) { goto l21; }
-i0 = UINT32_C(1);
-v3 = i0;
-goto l17;
-l21:;
-i0 = UINT32_C(0);
-v3 = i0;
-l22:;
-j0 = v0;
-j1 = UINT64_C(780);
-j0 = j0 + j1;
-v2 = j0;
-p27 = read_at(j0, m, 2u);
-i0 = load8(p27 + 0);
-i1 = UINT32_C(1);
-i0 = i0 >> (i1 & 31);
-i1 = UINT32_C(4294967168);
-i0 = i0 | i1;
-v1 = i0;
-j0 = v0;
-j1 = UINT64_C(781);
-j0 = j0 + j1;
-v7 = j0;
-i0 = load8(p27 + 1);
-v8 = i0;
-i1 = UINT32_C(6);
-i0 = (i0 > i1);
-if (i0) { goto l24; }
-j0 = v7;
-i1 = v8;
-i2 = UINT32_C(1);
-i1 = i1 + i2;
-p28 = write_at(j0 + UINT64_C(18446744073709551615), m, 2u);
-store8(p28 + 1, i1);
-j0 = v2;
-i1 = v1;
-store8(p28 + 0, i1);
-goto l23;
-l24:;
-j0 = v2;
-i1 = UINT32_C(0);
-p29 = write_at(j0, m, 6u);
-store16(p29 + 0, i1);
-j0 = v0;
-j1 = UINT64_C(784);
-j0 = j0 + j1;
-v2 = j0;
-j0 = load16(p29 + 4);
-v7 = j0;
-j1 = UINT64_C(776);
-i0 = (j0 > j1);
-if (i0) { goto l25; }
-j0 = v0;
-j1 = v7;
-j0 = j0 + j1;
-i1 = v1;
-p30 = write_at(j0, m, 1u);
-store8(p30 + 0, i1);
-j0 = v2;
-j1 = v2;
-i1 = load16(p29 + 4);
-i2 = UINT32_C(1);
-i1 = i1 + i2;
-store16(p29 + 4, i1);
-j0 = v0;
-j1 = UINT64_C(786);
-j0 = j0 + j1;
-v2 = j0;
-j1 = v2;
-p31 = write_at(j1, m, 2u);
-i1 = load16(p31 + 0);
-v8 = i1;
-i2 = v1;
-i1 = i1 ^ i2;
-v1 = i1;
-i2 = UINT32_C(4);
-i1 = i1 << (i2 & 31);
-i2 = UINT32_C(240);
-i1 = i1 & i2;
-i2 = v1;
-i3 = UINT32_C(255);
-i2 = i2 & i3;
-i1 = i1 ^ i2;
-v1 = i1;
-i2 = UINT32_C(3);
-i1 = i1 << (i2 & 31);
-i2 = v8;
-i3 = UINT32_C(8);
-i2 = i2 >> (i3 & 31);
-i1 = i1 ^ i2;
-i2 = v1;
-i3 = UINT32_C(8);
-i2 = i2 << (i3 & 31);
-i1 = i1 ^ i2;
-i2 = v1;
-i3 = UINT32_C(4);
-i2 = i2 >> (i3 & 31);
-i1 = i1 ^ i2;
-store16(p31 + 0, i1);
-goto l23;
-l25:;
-j0 = v0;
-j1 = UINT64_C(782);
-j0 = j0 + j1;
-i1 = UINT32_C(1);
-store8(p29 + 2, i1);
-l23:;
-i0 = v3;
-i1 = UINT32_C(1);
-i0 = i0 + i1;
-v3 = i0;
-i1 = UINT32_C(255);
-i0 = i0 & i1;
-i1 = v5;
-i2 = UINT32_C(255);
-i1 = i1 & i2;
-i0 = (i0 < i1);
-if (i0) { goto l22; }
-j0 = v4;
-i0 = load8(p3 + 0);
-i1 = UINT32_C(5);
-i0 = (i0 < i1);
-v3 = i0;
-l17:;
-j0 = v0;
-j1 = UINT64_C(778);
-j0 = j0 + j1;
-i1 = UINT32_C(0);
-p32 = write_at(j0, m, 2u);
-store8(p32 + 0, i1);
-j0 = v0;
-j1 = UINT64_C(779);
-j0 = j0 + j1;
-i1 = v3;
-store8(p32 + 1, i1);
-l4:;
-i0 = v6;
-r = i0;
-return r;
-l2:;
-trap();
-return r;
-}
-static uint32_t fio_wire_decoder_Wire_read(struct machine *m, uint64_t v0, uint32_t v1)
-{
-uint32_t v2 = 0;
-uint64_t v3 = 0;
-uint64_t v4 = 0;
-uint32_t v5 = 0;
-uint32_t i0;
-uint32_t i1;
-uint32_t i2;
-uint32_t i3;
-uint64_t j0;
-uint64_t j1;
-uint32_t r;
-uint8_t *p1;
-uint8_t *p2;
-uint8_t *p3;
-uint8_t *p4;
-uint8_t *p5;
-uint8_t *p6;
-uint8_t *p7;
-uint8_t *p8;
-uint8_t *p9;
-uint8_t *p10;
-uint8_t *p11;
-uint8_t *p12;
-uint8_t *p13;
-uint8_t *p14;
-uint8_t *p15;
-uint8_t *p16;
-uint8_t *p17;
-uint8_t *p18;
-j0 = m->g0;
-j1 = UINT64_C(16);
-i0 = (SIGNED64(j0) < SIGNED64(j1));
-if (i0) { goto l8; }
-j0 = v0;
-j1 = UINT64_C(777);
-j0 = j0 + j1;
-p1 = read_at(j0, m, 1u);
-i0 = load8(p1 + 0);
-v2 = i0;
-i1 = UINT32_C(3);
-i0 = (i0 > i1);
-if (i0) { goto l7; }
-i0 = v1;
-i1 = UINT32_C(255);
-i0 = i0 & i1;
-i1 = UINT32_C(126);
-i0 = (i0 != i1);
-if (i0) { goto l9; }
-i0 = v2;
-switch (i0) {
-case 0:
-goto l3;
-case 1:
-goto l4;
-default:
-goto l10;
-}
-l10:;
-i0 = UINT32_C(3);
-v2 = i0;
-goto l3;
-l9:;
-i0 = v2;
-i1 = UINT32_C(4294967295);
-i0 = i0 + i1;
-switch (i0) {
-case 0:
-goto l13;
-case 1:
-goto l12;
-default:
-goto l11;
-}
-l13:;
-i0 = v1;
-i1 = UINT32_C(255);
-i0 = i0 & i1;
-i1 = UINT32_C(125);
-i0 = (i0 != i1);
-if (i0) { goto l6; }
-goto l5;
-l12:;
-i0 = UINT32_C(3);
-v2 = i0;
-j0 = v0;
-j1 = UINT64_C(778);
-j0 = j0 + j1;
-v3 = j0;
-p2 = read_at(j0, m, 2u);
-j0 = load16(p2 + 0);
-v4 = j0;
-j1 = UINT64_C(776);
-i0 = (j0 > j1);
-if (i0) { goto l14; }
-j0 = v0;
-j1 = v4;
-j0 = j0 + j1;
-i1 = v1;
-i2 = UINT32_C(32);
-i1 = i1 ^ i2;
-v1 = i1;
-p3 = write_at(j0, m, 1u);
-store8(p3 + 0, i1);
-i0 = UINT32_C(1);
-v2 = i0;
-j0 = v3;
-j1 = v3;
-i1 = load16(p2 + 0);
-i2 = UINT32_C(1);
-i1 = i1 + i2;
-p4 = write_at(j0, m, 4u);
-store16(p4 + 0, i1);
-j0 = v0;
-j1 = UINT64_C(780);
-j0 = j0 + j1;
-v3 = j0;
-j1 = v3;
-i1 = load16(p4 + 2);
-v5 = i1;
-i2 = v1;
-i1 = i1 ^ i2;
-v1 = i1;
-i2 = UINT32_C(4);
-i1 = i1 << (i2 & 31);
-i2 = UINT32_C(240);
-i1 = i1 & i2;
-i2 = v1;
-i3 = UINT32_C(255);
-i2 = i2 & i3;
-i1 = i1 ^ i2;
-v1 = i1;
-i2 = UINT32_C(3);
-i1 = i1 << (i2 & 31);
-i2 = v5;
-i3 = UINT32_C(8);
-i2 = i2 >> (i3 & 31);
-i1 = i1 ^ i2;
-i2 = v1;
-i3 = UINT32_C(8);
-i2 = i2 << (i3 & 31);
-i1 = i1 ^ i2;
-i2 = v1;
-i3 = UINT32_C(4);
-i2 = i2 >> (i3 & 31);
-i1 = i1 ^ i2;
-store16(p4 + 2, i1);
-l14:;
-j0 = v0;
-j1 = UINT64_C(777);
-j0 = j0 + j1;
-i1 = v2;
-p5 = write_at(j0, m, 1u);
-store8(p5 + 0, i1);
-l11:;
-i0 = UINT32_C(0);
-r = i0;
-return r;
-l8:;
-trap();
-l7:;
-j0 = v0;
-j1 = UINT64_C(778);
-j0 = j0 + j1;
-i1 = UINT32_C(4294901760);
-p6 = write_at(j0, m, 4u);
-store32(p6 + 0, i1);
-i0 = v1;
-i1 = UINT32_C(255);
-i0 = i0 & i1;
-i1 = UINT32_C(4294967171);
-i0 = i0 + i1;
-switch (i0) {
-case 0:
-goto l5;
-case 1:
-goto l4;
-default:
-goto l6;
-}
-l6:;
-i0 = UINT32_C(3);
-v2 = i0;
-j0 = v0;
-j1 = UINT64_C(778);
-j0 = j0 + j1;
-v3 = j0;
-p7 = read_at(j0, m, 2u);
-j0 = load16(p7 + 0);
-v4 = j0;
-j1 = UINT64_C(776);
-i0 = (j0 > j1);
-if (i0) { goto l15; }
-j0 = v0;
-j1 = v4;
-j0 = j0 + j1;
-i1 = v1;
-p8 = write_at(j0, m, 1u);
-store8(p8 + 0, i1);
-i0 = UINT32_C(1);
-v2 = i0;
-j0 = v3;
-j1 = v3;
-i1 = load16(p7 + 0);
-i2 = UINT32_C(1);
-i1 = i1 + i2;
-p9 = write_at(j0, m, 4u);
-store16(p9 + 0, i1);
-j0 = v0;
-j1 = UINT64_C(780);
-j0 = j0 + j1;
-v3 = j0;
-j1 = v3;
-i1 = load16(p9 + 2);
-v5 = i1;
-i2 = v1;
-i1 = i1 ^ i2;
-v1 = i1;
-i2 = UINT32_C(4);
-i1 = i1 << (i2 & 31);
-i2 = UINT32_C(240);
-i1 = i1 & i2;
-i2 = v1;
-i3 = UINT32_C(255);
-i2 = i2 & i3;
-i1 = i1 ^ i2;
-v1 = i1;
-i2 = UINT32_C(3);
-i1 = i1 << (i2 & 31);
-i2 = v5;
-i3 = UINT32_C(8);
-i2 = i2 >> (i3 & 31);
-i1 = i1 ^ i2;
-i2 = v1;
-i3 = UINT32_C(8);
-i2 = i2 << (i3 & 31);
-i1 = i1 ^ i2;
-i2 = v1;
-i3 = UINT32_C(4);
-i2 = i2 >> (i3 & 31);
-i1 = i1 ^ i2;
-store16(p9 + 2, i1);
-l15:;
-j0 = v0;
-j1 = UINT64_C(777);
-j0 = j0 + j1;
-i1 = v2;
-p10 = write_at(j0, m, 1u);
-store8(p10 + 0, i1);
-i0 = UINT32_C(0);
-r = i0;
-return r;
-l5:;
-j0 = v0;
-j1 = UINT64_C(777);
-j0 = j0 + j1;
-i1 = UINT32_C(2);
-p11 = write_at(j0, m, 1u);
-store8(p11 + 0, i1);
-i0 = UINT32_C(0);
-r = i0;
-return r;
-l4:;
-j0 = v0;
-j1 = UINT64_C(778);
-j0 = j0 + j1;
-p12 = read_at(j0, m, 2u);
-i0 = load16(p12 + 0);
-v1 = i0;
-if (i0) { goto l16; }
-i0 = UINT32_C(0);
-v2 = i0;
-goto l3;
-l16:;
-i0 = UINT32_C(3);
-v2 = i0;
-i0 = v1;
-i1 = UINT32_C(5);
-i0 = (i0 < i1);
-if (i0) { goto l3; }
-j0 = v0;
-j1 = UINT64_C(780);
-j0 = j0 + j1;
-p13 = read_at(j0, m, 2u);
-i0 = load16(p13 + 0);
-i1 = UINT32_C(65535);
-i0 = i0 & i1;
-i1 = UINT32_C(61624);
-i0 = (i0 != i1);
-if (i0) { goto l3; }
-j0 = v0;
-j1 = UINT64_C(784);
-j0 = j0 + j1;
-p14 = read_at(j0 + UINT64_C(18446744073709551614), m, 4u);
-i0 = load16(p14 + 2);
-v5 = i0;
-j0 = v0;
-j1 = UINT64_C(782);
-j0 = j0 + j1;
-i0 = load16(p14 + 0);
-v2 = i0;
-i1 = UINT32_C(65535);
-i0 = i0 & i1;
-i1 = UINT32_C(255);
-i0 = (i0 > i1);
-if (i0) { goto l18; }
-i0 = v2;
-i1 = UINT32_C(65535);
-i0 = i0 & i1;
-j1 = v0;
-p15 = read_at(j1, m, 1u);
-i1 = load8(p15 + 0);
-i0 = (i0 != i1);
-if (i0) { goto l17; }
-l18:;
-i0 = UINT32_C(1);
-v2 = i0;
-i0 = UINT32_C(4);
-v1 = i0;
-i0 = v5;
-i1 = UINT32_C(65535);
-i0 = i0 & i1;
-v5 = i0;
-i1 = UINT32_C(255);
-i0 = (i0 > i1);
-if (i0) { goto l2; }
-i0 = v5;
-j1 = v0;
-p16 = read_at(j1 + UINT64_C(1), m, 1u);
-i1 = load8(p16 + 0);
-i0 = (i0 == i1);
-if (i0) { goto l2; }
-l17:;
-i0 = UINT32_C(2);
-v2 = i0;
-i0 = UINT32_C(4);
-v1 = i0;
-goto l2;
-l3:;
-j0 = v0;
-j1 = UINT64_C(778);
-j0 = j0 + j1;
-i1 = UINT32_C(4294901760);
-p17 = write_at(j0, m, 4u);
-store32(p17 + 0, i1);
-i0 = UINT32_C(1);
-v1 = i0;
-l2:;
-j0 = v0;
-j1 = UINT64_C(777);
-j0 = j0 + j1;
-i1 = v1;
-p18 = write_at(j0, m, 1u);
-store8(p18 + 0, i1);
-i0 = v2;
-r = i0;
 return r;
 }
 static void fio_check_observation_Observation_of(struct machine *m, uint64_t v0, uint32_t v1, uint64_t v2, uint64_t v3)
@@ -7258,7 +6334,7 @@ i0 = UINT32_C(179);
 v1 = i0;
 goto l2;
 l4:;
-trap();
+fio2070_trap();
 l3:;
 i0 = UINT32_C(0);
 v9 = i0;
@@ -7861,7 +6937,7 @@ i0 = UINT32_C(0);
 v8 = i0;
 goto l3;
 l7:;
-trap();
+fio2070_trap();
 l6:;
 i0 = v8;
 i1 = UINT32_C(8);
@@ -7940,13 +7016,14 @@ uint32_t i0;
 uint32_t i1;
 uint32_t i2;
 uint32_t i3;
-uint32_t i4;
 uint64_t j0;
 uint64_t j1;
 uint64_t j2;
 uint64_t j3;
 uint64_t j4;
 uint64_t j5;
+uint64_t j6;
+uint64_t j7;
 uint8_t *p1;
 uint8_t *p2;
 uint8_t *p3;
@@ -7974,21 +7051,10 @@ uint8_t *p24;
 uint8_t *p25;
 uint8_t *p26;
 uint8_t *p27;
-uint8_t *p28;
-uint8_t *p29;
-uint8_t *p30;
-uint8_t *p31;
-uint8_t *p32;
-uint8_t *p33;
-uint8_t *p34;
-uint8_t *p35;
-uint8_t *p36;
-uint8_t *p37;
-uint8_t *p38;
 j0 = m->g0;
-j1 = UINT64_C(144);
+j1 = UINT64_C(832);
 j0 = j0 - j1;
-p1 = write_at(j0, m, 144u);
+p1 = write_at(j0, m, 832u);
 v6 = j0;
 m->g0 = j0;
 j0 = v6;
@@ -7998,22 +7064,25 @@ i0 = (SIGNED64(j0) < SIGNED64(j1));
 if (i0) { goto l4; }
 j0 = v6;
 j1 = UINT64_C(0);
-store64(p1 + 56, j1);
+store64(p1 + 24, j1);
 j0 = v6;
 j1 = UINT64_C(0);
 store64(p1 + 48, j1);
 j0 = v6;
 j1 = UINT64_C(0);
+store64(p1 + 32, j1);
+j0 = v6;
+j1 = UINT64_C(0);
 store64(p1 + 40, j1);
 j0 = v6;
-j1 = UINT64_C(40);
+j1 = UINT64_C(24);
 j0 = j0 + j1;
 i1 = v3;
 j2 = v4;
 j3 = v5;
 fio_check_observation_Observation_of(m, j0, i1, j2, j3);
 j0 = v6;
-i0 = load8(p1 + 40);
+i0 = load8(p1 + 24);
 v7 = i0;
 i1 = UINT32_C(1);
 i0 = (i0 == i1);
@@ -8067,32 +7136,27 @@ i1 = UINT32_C(5);
 p4 = write_at(j0, m, 7u);
 store8(p4 + 0, i1);
 j0 = v0;
-j1 = UINT64_C(4);
-j0 = j0 + j1;
-i1 = UINT32_C(0);
-store8(p4 + 4, i1);
-j0 = v0;
 j1 = UINT64_C(2);
 j0 = j0 + j1;
 i1 = UINT32_C(0);
-store16(p4 + 2, i1);
-j0 = v0;
-j1 = UINT64_C(5);
-j0 = j0 + j1;
-i1 = UINT32_C(0);
-store16(p4 + 5, i1);
+store32(p4 + 2, i1);
 j0 = v0;
 j1 = UINT64_C(1);
 j0 = j0 + j1;
 i1 = v3;
 store8(p4 + 1, i1);
+j0 = v0;
+j1 = UINT64_C(6);
+j0 = j0 + j1;
+i1 = UINT32_C(0);
+store8(p4 + 6, i1);
 goto l2;
 l5:;
 i0 = v3;
-if (i0) { goto l3; }
+if (i0) { goto l10; }
 j0 = v5;
 i0 = (j0 == 0);
-if (i0) { goto l3; }
+if (i0) { goto l10; }
 j0 = UINT64_C(8);
 v8 = j0;
 j0 = v4;
@@ -8103,33 +7167,33 @@ i1 = UINT32_C(4294967119);
 i0 = i0 + i1;
 switch (i0) {
 case 0:
-goto l10;
-case 1:
-goto l12;
-case 2:
-goto l12;
-case 3:
-goto l12;
-case 4:
-goto l12;
-case 5:
-goto l13;
-case 6:
-goto l12;
-case 7:
-goto l12;
-case 8:
-goto l12;
-case 9:
 goto l11;
-default:
+case 1:
+goto l13;
+case 2:
+goto l13;
+case 3:
+goto l13;
+case 4:
+goto l13;
+case 5:
+goto l14;
+case 6:
+goto l13;
+case 7:
+goto l13;
+case 8:
+goto l13;
+case 9:
 goto l12;
+default:
+goto l13;
 }
-l13:;
+l14:;
 j0 = v5;
 j1 = UINT64_C(3);
 i0 = (j0 < j1);
-if (i0) { goto l10; }
+if (i0) { goto l11; }
 j0 = v4;
 j1 = UINT64_C(2);
 j0 = j0 + j1;
@@ -8140,41 +7204,41 @@ j0 = j0 * j1;
 j1 = UINT64_C(8);
 j0 = j0 + j1;
 v8 = j0;
-goto l10;
-l12:;
+goto l11;
+l13:;
 i0 = v9;
 i1 = UINT32_C(177);
 i0 = (i0 < i1);
-if (i0) { goto l3; }
+if (i0) { goto l10; }
 i0 = v9;
 i1 = UINT32_C(180);
 i0 = (i0 < i1);
-if (i0) { goto l11; }
+if (i0) { goto l12; }
 j0 = UINT64_C(13);
 v8 = j0;
 i0 = v9;
 i1 = UINT32_C(182);
 i0 = (i0 < i1);
-if (i0) { goto l10; }
+if (i0) { goto l11; }
 j0 = v5;
 v8 = j0;
 i0 = v9;
 i1 = UINT32_C(189);
 i0 = (i0 < i1);
-if (i0) { goto l10; }
-goto l3;
-l11:;
+if (i0) { goto l11; }
+goto l10;
+l12:;
 j0 = UINT64_C(2);
 v8 = j0;
-l10:;
+l11:;
 j0 = v5;
 j1 = UINT64_C(773);
 i0 = (j0 > j1);
-if (i0) { goto l3; }
+if (i0) { goto l10; }
 j0 = v8;
 j1 = v5;
 i0 = (j0 != j1);
-if (i0) { goto l3; }
+if (i0) { goto l10; }
 j0 = v5;
 j1 = UINT64_C(18446744073709551615);
 j0 = j0 + j1;
@@ -8188,33 +7252,33 @@ i1 = UINT32_C(4294967119);
 i0 = i0 + i1;
 switch (i0) {
 case 0:
-goto l17;
-case 1:
-goto l15;
-case 2:
-goto l15;
-case 3:
-goto l20;
-case 4:
-goto l19;
-case 5:
 goto l18;
+case 1:
+goto l16;
+case 2:
+goto l16;
+case 3:
+goto l21;
+case 4:
+goto l20;
+case 5:
+goto l19;
 case 6:
-goto l15;
+goto l16;
 case 7:
-goto l15;
+goto l16;
 case 8:
-goto l15;
+goto l16;
 case 9:
-goto l15;
+goto l16;
 case 10:
-goto l15;
+goto l16;
 case 11:
-goto l15;
+goto l16;
 default:
-goto l17;
+goto l18;
 }
-l20:;
+l21:;
 j0 = v8;
 j1 = UINT64_C(7);
 i0 = (j0 <= j1);
@@ -8236,8 +7300,8 @@ i2 = UINT32_C(16711935);
 i1 = i1 & i2;
 i0 = i0 | i1;
 v11 = i0;
-goto l16;
-l19:;
+goto l17;
+l20:;
 j0 = v8;
 j1 = UINT64_C(7);
 i0 = (j0 <= j1);
@@ -8259,8 +7323,8 @@ i2 = UINT32_C(16711935);
 i1 = i1 & i2;
 i0 = i0 | i1;
 v11 = i0;
-goto l16;
-l18:;
+goto l17;
+l19:;
 j0 = v4;
 j1 = v4;
 j2 = UINT64_C(2);
@@ -8296,7 +7360,7 @@ i0 = load8(p10 + 0);
 i1 = UINT32_C(2);
 i0 = i0 & i1;
 i0 = (i0 == 0);
-if (i0) { goto l15; }
+if (i0) { goto l16; }
 j0 = v1;
 j1 = UINT64_C(724);
 j0 = j0 + j1;
@@ -8307,8 +7371,8 @@ j0 = j0 + j1;
 v8 = j0;
 i0 = UINT32_C(1);
 v10 = i0;
-goto l14;
-l17:;
+goto l15;
+l18:;
 j0 = v4;
 j1 = UINT64_C(4);
 j0 = j0 + j1;
@@ -8326,10 +7390,10 @@ i2 = UINT32_C(16711935);
 i1 = i1 & i2;
 i0 = i0 | i1;
 v11 = i0;
-l16:;
+l17:;
 i0 = UINT32_C(1);
 v10 = i0;
-l15:;
+l16:;
 j0 = v1;
 j1 = UINT64_C(716);
 j0 = j0 + j1;
@@ -8338,10 +7402,10 @@ j0 = v1;
 j1 = UINT64_C(712);
 j0 = j0 + j1;
 v8 = j0;
-l14:;
+l15:;
 i0 = v10;
 i0 = (i0 == 0);
-if (i0) { goto l3; }
+if (i0) { goto l10; }
 j0 = v8;
 p12 = read_at(j0, m, 1u);
 i0 = load8(p12 + 0);
@@ -8349,7 +7413,7 @@ i1 = UINT32_C(255);
 i0 = i0 & i1;
 i1 = UINT32_C(1);
 i0 = (i0 != i1);
-if (i0) { goto l3; }
+if (i0) { goto l10; }
 i0 = v11;
 j1 = v12;
 p13 = read_at(j1, m, 4u);
@@ -8357,370 +7421,23 @@ i1 = load32(p13 + 0);
 i0 = i0 - i1;
 i1 = UINT32_C(4294967295);
 i0 = (SIGNED32(i0) > SIGNED32(i1));
-if (i0) { goto l3; }
-i0 = UINT32_C(3);
-v3 = i0;
+if (i0) { goto l10; }
 j0 = v1;
-j1 = UINT64_C(728);
+j1 = UINT64_C(688);
 j0 = j0 + j1;
-v8 = j0;
-p14 = read_at(j0, m, 1u);
-i0 = load8(p14 + 0);
-if (i0) { goto l21; }
-i0 = UINT32_C(3);
-i1 = UINT32_C(4);
-j2 = v1;
-j3 = UINT64_C(688);
-j2 = j2 + j3;
-p15 = read_at(j2, m, 1u);
-i2 = load8(p15 + 0);
-i0 = i2 ? i0 : i1;
+p14 = write_at(j0 + UINT64_C(18446744073709550929), m, 728u);
+i0 = load8(p14 + 687);
 v3 = i0;
-l21:;
 j0 = v6;
-j1 = UINT64_C(112);
+j1 = UINT64_C(64);
 j0 = j0 + j1;
 j1 = v1;
 j2 = UINT64_C(16);
 j1 = j1 + j2;
-v12 = j1;
+v8 = j1;
 j2 = v4;
 j3 = v5;
 fio_check_content_ContentChecker_heard(m, j0, j1, j2, j3);
-j0 = v6;
-j1 = UINT64_C(32);
-j0 = j0 + j1;
-i1 = UINT32_C(0);
-j2 = v4;
-j3 = v5;
-fio_check_frame_stamps_any_stamp_in(m, j0, i1, j2, j3);
-j0 = v6;
-i0 = load8(p1 + 32);
-v7 = i0;
-j0 = v6;
-i0 = load32(p1 + 36);
-v9 = i0;
-j0 = v1;
-j1 = UINT64_C(0);
-p16 = write_at(j0 + UINT64_C(1), m, 727u);
-store64(p16 + 3, j1);
-j0 = v1;
-i1 = UINT32_C(0);
-store8(p16 + 0, i1);
-j0 = v1;
-i1 = UINT32_C(512);
-store16(p16 + 11, i1);
-j0 = v12;
-i1 = UINT32_C(0);
-j2 = UINT64_C(384);
-fill(m, j0, i1, j2);
-j0 = v1;
-j1 = UINT64_C(400);
-j0 = j0 + j1;
-i1 = UINT32_C(1);
-j2 = UINT64_C(256);
-fill(m, j0, i1, j2);
-j0 = v1;
-j1 = UINT64_C(680);
-j0 = j0 + j1;
-j1 = UINT64_C(0);
-store64(p16 + 679, j1);
-j0 = v1;
-j1 = UINT64_C(672);
-j0 = j0 + j1;
-j1 = UINT64_C(0);
-store64(p16 + 671, j1);
-j0 = v1;
-j1 = UINT64_C(664);
-j0 = j0 + j1;
-j1 = UINT64_C(0);
-store64(p16 + 663, j1);
-j0 = v1;
-j1 = UINT64_C(656);
-j0 = j0 + j1;
-j1 = UINT64_C(0);
-store64(p16 + 655, j1);
-j0 = v1;
-j1 = UINT64_C(689);
-j0 = j0 + j1;
-j1 = UINT64_C(0);
-store64(p16 + 688, j1);
-j0 = v1;
-j1 = UINT64_C(697);
-j0 = j0 + j1;
-j1 = UINT64_C(0);
-store64(p16 + 696, j1);
-j0 = v1;
-j1 = UINT64_C(704);
-j0 = j0 + j1;
-j1 = UINT64_C(0);
-store64(p16 + 703, j1);
-j0 = v1;
-j1 = UINT64_C(720);
-j0 = j0 + j1;
-j1 = UINT64_C(0);
-store64(p16 + 719, j1);
-j0 = v1;
-j1 = UINT64_C(716);
-j0 = j0 + j1;
-i1 = v9;
-store32(p16 + 715, i1);
-j0 = v1;
-j1 = UINT64_C(712);
-j0 = j0 + j1;
-i1 = v7;
-store32(p16 + 711, i1);
-j0 = v8;
-i1 = UINT32_C(0);
-p17 = write_at(j0, m, 1u);
-store8(p17 + 0, i1);
-j0 = v0;
-j1 = UINT64_C(1);
-j0 = j0 + j1;
-i1 = UINT32_C(0);
-p18 = write_at(j0 + UINT64_C(18446744073709551615), m, 7u);
-store32(p18 + 1, i1);
-j0 = v0;
-i1 = v3;
-store8(p18 + 0, i1);
-j0 = v0;
-j1 = UINT64_C(5);
-j0 = j0 + j1;
-i1 = UINT32_C(0);
-store16(p18 + 5, i1);
-goto l2;
-l4:;
-trap();
-l3:;
-j0 = v6;
-j1 = UINT64_C(0);
-p19 = write_at(j0 + UINT64_C(41), m, 95u);
-store64(p19 + 71, j1);
-j0 = v6;
-j1 = UINT64_C(0);
-store64(p19 + 87, j1);
-j0 = v6;
-j1 = v6;
-j1 = load64(p19 + 7);
-store64(p19 + 79, j1);
-j0 = v6;
-j1 = v6;
-i1 = load8(p19 + 0);
-v11 = i1;
-store8(p19 + 72, i1);
-j0 = v6;
-j1 = v6;
-i1 = load8(p19 + 1);
-store8(p19 + 73, i1);
-j0 = v6;
-j1 = v6;
-i1 = load8(p19 + 15);
-store8(p19 + 87, i1);
-i0 = UINT32_C(0);
-v9 = i0;
-j0 = v6;
-i1 = UINT32_C(0);
-store32(p19 + 27, i1);
-j0 = v6;
-i1 = UINT32_C(0);
-store8(p19 + 31, i1);
-j0 = v6;
-i1 = v7;
-store8(p19 + 71, i1);
-i0 = v7;
-i1 = UINT32_C(1);
-i0 = (i0 != i1);
-if (i0) { goto l24; }
-i0 = UINT32_C(0);
-v10 = i0;
-j0 = v1;
-j1 = UINT64_C(7);
-j0 = j0 + j1;
-p20 = read_at(j0, m, 1u);
-i0 = load8(p20 + 0);
-i1 = UINT32_C(1);
-i0 = (i0 != i1);
-if (i0) { goto l22; }
-j0 = v1;
-j1 = UINT64_C(724);
-j2 = UINT64_C(716);
-i3 = v11;
-i4 = UINT32_C(255);
-i3 = i3 & i4;
-j4 = v1;
-j5 = UINT64_C(8);
-j4 = j4 + j5;
-p21 = read_at(j4, m, 1u);
-i4 = load8(p21 + 0);
-i3 = (i3 == i4);
-v9 = i3;
-j1 = i3 ? j1 : j2;
-j0 = j0 + j1;
-v8 = j0;
-j0 = v1;
-j1 = UINT64_C(720);
-j2 = UINT64_C(712);
-i3 = v9;
-j1 = i3 ? j1 : j2;
-j0 = j0 + j1;
-v12 = j0;
-goto l23;
-l24:;
-j0 = v1;
-j1 = UINT64_C(724);
-j0 = j0 + j1;
-v8 = j0;
-j0 = v1;
-j1 = UINT64_C(720);
-j0 = j0 + j1;
-v12 = j0;
-l23:;
-j0 = v12;
-p22 = read_at(j0, m, 1u);
-i0 = load8(p22 + 0);
-v10 = i0;
-j0 = v8;
-p23 = read_at(j0, m, 4u);
-i0 = load32(p23 + 0);
-v9 = i0;
-l22:;
-j0 = v6;
-j1 = v1;
-p24 = read_at(j1, m, 14u);
-j1 = load64(p24 + 6);
-store64(p19 + 61, j1);
-j0 = v6;
-j1 = v1;
-j1 = load64(p24 + 0);
-store64(p19 + 55, j1);
-j0 = v6;
-j1 = UINT64_C(68);
-j0 = j0 + j1;
-j1 = v6;
-j2 = UINT64_C(96);
-j1 = j1 + j2;
-i2 = v3;
-j3 = v6;
-j4 = UINT64_C(112);
-j3 = j3 + j4;
-fio_check_checker_Checker_take(m, j0, j1, i2, j3);
-j0 = v6;
-i0 = load8(p19 + 27);
-if (i0) { goto l29; }
-j0 = v1;
-j1 = UINT64_C(13);
-j0 = j0 + j1;
-i0 = load8(p24 + 13);
-i1 = UINT32_C(2);
-i0 = (i0 != i1);
-if (i0) { goto l30; }
-j0 = v1;
-j1 = UINT64_C(16);
-j0 = j0 + j1;
-i1 = UINT32_C(0);
-j2 = UINT64_C(384);
-fill(m, j0, i1, j2);
-j0 = v1;
-j1 = UINT64_C(400);
-j0 = j0 + j1;
-i1 = UINT32_C(1);
-j2 = UINT64_C(256);
-fill(m, j0, i1, j2);
-j0 = v1;
-j1 = UINT64_C(680);
-j0 = j0 + j1;
-j1 = UINT64_C(0);
-p25 = write_at(j0 + UINT64_C(18446744073709551592), m, 56u);
-store64(p25 + 24, j1);
-j0 = v1;
-j1 = UINT64_C(672);
-j0 = j0 + j1;
-j1 = UINT64_C(0);
-store64(p25 + 16, j1);
-j0 = v1;
-j1 = UINT64_C(664);
-j0 = j0 + j1;
-j1 = UINT64_C(0);
-store64(p25 + 8, j1);
-j0 = v1;
-j1 = UINT64_C(656);
-j0 = j0 + j1;
-j1 = UINT64_C(0);
-store64(p25 + 0, j1);
-j0 = v1;
-j1 = UINT64_C(689);
-j0 = j0 + j1;
-j1 = UINT64_C(0);
-store64(p25 + 33, j1);
-j0 = v1;
-j1 = UINT64_C(697);
-j0 = j0 + j1;
-j1 = UINT64_C(0);
-store64(p25 + 41, j1);
-j0 = v1;
-j1 = UINT64_C(704);
-j0 = j0 + j1;
-j1 = UINT64_C(0);
-store64(p25 + 48, j1);
-l30:;
-j0 = v1;
-j1 = v6;
-j1 = load64(p19 + 61);
-p26 = write_at(j0, m, 728u);
-store64(p26 + 6, j1);
-j0 = v1;
-j1 = v6;
-j1 = load64(p19 + 55);
-store64(p26 + 0, j1);
-j0 = v1;
-j1 = UINT64_C(724);
-j0 = j0 + j1;
-i1 = v9;
-store32(p26 + 724, i1);
-j0 = v1;
-j1 = UINT64_C(720);
-j0 = j0 + j1;
-v12 = j0;
-i1 = v10;
-store32(p26 + 720, i1);
-j0 = v6;
-j1 = UINT64_C(0);
-store64(p19 + 39, j1);
-j0 = v1;
-j1 = UINT64_C(16);
-j0 = j0 + j1;
-v8 = j0;
-i0 = v3;
-i0 = (i0 == 0);
-if (i0) { goto l31; }
-j0 = v8;
-j1 = v4;
-j2 = v5;
-fio_check_content_ContentChecker_sent(m, j0, j1, j2);
-goto l28;
-l31:;
-j0 = v6;
-j1 = UINT64_C(80);
-j0 = j0 + j1;
-j1 = v8;
-j2 = v4;
-j3 = v5;
-fio_check_content_ContentChecker_heard(m, j0, j1, j2, j3);
-j0 = v6;
-i0 = load8(p19 + 39);
-i1 = UINT32_C(1);
-i0 = (i0 != i1);
-if (i0) { goto l28; }
-j0 = v6;
-i0 = load8(p19 + 45);
-v7 = i0;
-i1 = UINT32_C(255);
-i0 = i0 & i1;
-i1 = UINT32_C(10);
-i0 = (i0 != i1);
-if (i0) { goto l32; }
-i0 = UINT32_C(0);
-v3 = i0;
 j0 = v6;
 j1 = UINT64_C(16);
 j0 = j0 + j1;
@@ -8729,212 +7446,414 @@ j2 = v4;
 j3 = v5;
 fio_check_frame_stamps_any_stamp_in(m, j0, i1, j2, j3);
 j0 = v6;
-p27 = read_at(j0 + UINT64_C(16), m, 8u);
-i0 = load8(p27 + 0);
-v7 = i0;
-j0 = v6;
-i0 = load32(p27 + 4);
-v9 = i0;
-j0 = v1;
-j1 = UINT64_C(0);
-store64(p26 + 4, j1);
-j0 = v1;
-i1 = UINT32_C(0);
-store8(p26 + 1, i1);
-j0 = v1;
-i1 = UINT32_C(512);
-store16(p26 + 12, i1);
-j0 = v8;
-i1 = UINT32_C(0);
-j2 = UINT64_C(384);
-fill(m, j0, i1, j2);
-j0 = v1;
-j1 = UINT64_C(400);
-j0 = j0 + j1;
-i1 = UINT32_C(1);
-j2 = UINT64_C(256);
-fill(m, j0, i1, j2);
-j0 = v1;
-j1 = UINT64_C(680);
-j0 = j0 + j1;
-j1 = UINT64_C(0);
-store64(p26 + 680, j1);
-j0 = v1;
-j1 = UINT64_C(672);
-j0 = j0 + j1;
-j1 = UINT64_C(0);
-store64(p26 + 672, j1);
-j0 = v1;
-j1 = UINT64_C(664);
-j0 = j0 + j1;
-j1 = UINT64_C(0);
-store64(p26 + 664, j1);
-j0 = v1;
-j1 = UINT64_C(656);
-j0 = j0 + j1;
-j1 = UINT64_C(0);
-store64(p26 + 656, j1);
-j0 = v1;
-j1 = UINT64_C(689);
-j0 = j0 + j1;
-j1 = UINT64_C(0);
-store64(p26 + 689, j1);
-j0 = v1;
-j1 = UINT64_C(697);
-j0 = j0 + j1;
-j1 = UINT64_C(0);
-store64(p26 + 697, j1);
-j0 = v1;
-j1 = UINT64_C(704);
-j0 = j0 + j1;
-j1 = UINT64_C(0);
-store64(p26 + 704, j1);
-j0 = v1;
-j1 = UINT64_C(716);
-j0 = j0 + j1;
-i1 = v9;
-store32(p26 + 716, i1);
-j0 = v1;
-j1 = UINT64_C(712);
-j0 = j0 + j1;
-i1 = v7;
-store32(p26 + 712, i1);
-j0 = v12;
-j1 = UINT64_C(0);
-store64(p26 + 720, j1);
-j0 = v12;
-i1 = UINT32_C(0);
-p28 = write_at(j0 + UINT64_C(8), m, 1u);
-store8(p28 + 0, i1);
-i0 = UINT32_C(4);
-v9 = i0;
-i0 = UINT32_C(0);
-v10 = i0;
-goto l27;
-l32:;
-j0 = v6;
-i0 = load8(p19 + 44);
+i0 = load8(p1 + 16);
 v2 = i0;
 j0 = v6;
-i0 = load8(p19 + 43);
-v10 = i0;
-j0 = v6;
-i0 = load16(p19 + 41);
-v3 = i0;
-j0 = v6;
-j1 = UINT64_C(24);
-j0 = j0 + j1;
+i0 = load32(p1 + 20);
+v7 = i0;
+j0 = v1;
+j1 = UINT64_C(0);
+store64(p14 + 3, j1);
+j0 = v1;
 i1 = UINT32_C(0);
-j2 = v4;
-j3 = v5;
-fio_check_frame_stamps_stamp_in(m, j0, i1, j2, j3);
-i0 = UINT32_C(2);
-v9 = i0;
-j0 = v6;
-p29 = read_at(j0 + UINT64_C(24), m, 1u);
-i0 = load8(p29 + 0);
-i0 = (i0 == 0);
-if (i0) { goto l26; }
-j0 = v6;
-p30 = read_at(j0 + UINT64_C(28), m, 4u);
-i0 = load32(p30 + 0);
-v11 = i0;
+store8(p14 + 0, i1);
+j0 = v1;
+i1 = UINT32_C(512);
+store16(p14 + 11, i1);
+j0 = v8;
+i1 = UINT32_C(0);
+j2 = UINT64_C(384);
+fill(m, j0, i1, j2);
+j0 = v1;
+j1 = UINT64_C(400);
+j0 = j0 + j1;
+i1 = UINT32_C(1);
+j2 = UINT64_C(256);
+fill(m, j0, i1, j2);
+j0 = v1;
+j1 = UINT64_C(680);
+j0 = j0 + j1;
+j1 = UINT64_C(0);
+store64(p14 + 679, j1);
+j0 = v1;
+j1 = UINT64_C(672);
+j0 = j0 + j1;
+j1 = UINT64_C(0);
+store64(p14 + 671, j1);
+j0 = v1;
+j1 = UINT64_C(664);
+j0 = j0 + j1;
+j1 = UINT64_C(0);
+store64(p14 + 663, j1);
+j0 = v1;
+j1 = UINT64_C(656);
+j0 = j0 + j1;
+j1 = UINT64_C(0);
+store64(p14 + 655, j1);
+j0 = v1;
+j1 = UINT64_C(689);
+j0 = j0 + j1;
+j1 = UINT64_C(0);
+store64(p14 + 688, j1);
+j0 = v1;
+j1 = UINT64_C(697);
+j0 = j0 + j1;
+j1 = UINT64_C(0);
+store64(p14 + 696, j1);
+j0 = v1;
+j1 = UINT64_C(704);
+j0 = j0 + j1;
+j1 = UINT64_C(0);
+store64(p14 + 703, j1);
+j0 = v1;
+j1 = UINT64_C(720);
+j0 = j0 + j1;
+j1 = UINT64_C(0);
+store64(p14 + 719, j1);
+j0 = v1;
+j1 = UINT64_C(716);
+j0 = j0 + j1;
+i1 = v7;
+store32(p14 + 715, i1);
+j0 = v1;
+j1 = UINT64_C(712);
+j0 = j0 + j1;
+i1 = v2;
+store32(p14 + 711, i1);
 j0 = v1;
 j1 = UINT64_C(728);
 j0 = j0 + j1;
 i1 = UINT32_C(0);
-p31 = write_at(j0, m, 1u);
-store8(p31 + 0, i1);
-j0 = v1;
-j1 = UINT64_C(716);
+store8(p14 + 727, i1);
+j0 = v0;
+j1 = UINT64_C(1);
 j0 = j0 + j1;
-i1 = v11;
-store32(p26 + 716, i1);
+i1 = UINT32_C(0);
+p15 = write_at(j0 + UINT64_C(18446744073709551615), m, 7u);
+store32(p15 + 1, i1);
+j0 = v0;
+i1 = UINT32_C(3);
+i2 = UINT32_C(4);
+i3 = v3;
+i1 = i3 ? i1 : i2;
+store8(p15 + 0, i1);
+j0 = v0;
+j1 = UINT64_C(5);
+j0 = j0 + j1;
+i1 = UINT32_C(0);
+store16(p15 + 5, i1);
+goto l2;
+l10:;
+i0 = v3;
+if (i0) { goto l3; }
+j0 = v5;
+i0 = (j0 == 0);
+if (i0) { goto l3; }
+j0 = v1;
+j1 = UINT64_C(728);
+j0 = j0 + j1;
+p16 = read_at(j0, m, 1u);
+i0 = load8(p16 + 0);
+i1 = UINT32_C(255);
+i0 = i0 & i1;
+i1 = UINT32_C(2);
+i0 = (i0 < i1);
+if (i0) { goto l3; }
+j0 = UINT64_C(8);
+v8 = j0;
+j0 = v4;
+p17 = read_at(j0, m, 1u);
+i0 = load8(p17 + 0);
+v9 = i0;
+i1 = UINT32_C(4294967119);
+i0 = i0 + i1;
+switch (i0) {
+case 0:
+goto l22;
+case 1:
+goto l24;
+case 2:
+goto l24;
+case 3:
+goto l24;
+case 4:
+goto l24;
+case 5:
+goto l25;
+case 6:
+goto l24;
+case 7:
+goto l24;
+case 8:
+goto l24;
+case 9:
+goto l23;
+default:
+goto l24;
+}
+l25:;
+j0 = v5;
+j1 = UINT64_C(3);
+i0 = (j0 < j1);
+if (i0) { goto l22; }
+j0 = v4;
+j1 = UINT64_C(2);
+j0 = j0 + j1;
+p18 = read_at(j0, m, 1u);
+j0 = load8(p18 + 0);
+j1 = UINT64_C(3);
+j0 = j0 * j1;
+j1 = UINT64_C(8);
+j0 = j0 + j1;
+v8 = j0;
+goto l22;
+l24:;
+i0 = v9;
+i1 = UINT32_C(177);
+i0 = (i0 < i1);
+if (i0) { goto l3; }
+i0 = v9;
+i1 = UINT32_C(180);
+i0 = (i0 < i1);
+if (i0) { goto l23; }
+j0 = UINT64_C(13);
+v8 = j0;
+i0 = v9;
+i1 = UINT32_C(182);
+i0 = (i0 < i1);
+if (i0) { goto l22; }
+j0 = v5;
+v8 = j0;
+i0 = v9;
+i1 = UINT32_C(189);
+i0 = (i0 < i1);
+if (i0) { goto l22; }
+goto l3;
+l23:;
+j0 = UINT64_C(2);
+v8 = j0;
+l22:;
+j0 = v5;
+j1 = UINT64_C(773);
+i0 = (j0 > j1);
+if (i0) { goto l3; }
+j0 = v8;
+j1 = v5;
+i0 = (j0 != j1);
+if (i0) { goto l3; }
+j0 = v5;
+j1 = UINT64_C(18446744073709551615);
+j0 = j0 + j1;
+v8 = j0;
+i0 = v9;
+i1 = UINT32_C(4294967119);
+i0 = i0 + i1;
+switch (i0) {
+case 0:
+goto l3;
+case 1:
+goto l3;
+case 2:
+goto l3;
+case 3:
+goto l28;
+case 4:
+goto l27;
+case 5:
+goto l26;
+case 6:
+goto l3;
+case 7:
+goto l3;
+case 8:
+goto l3;
+case 9:
+goto l3;
+case 10:
+goto l3;
+case 11:
+goto l3;
+default:
+goto l3;
+}
+l28:;
+j0 = v8;
+j1 = UINT64_C(7);
+i0 = (j0 > j1);
+if (i0) { goto l3; }
+goto l4;
+l27:;
+j0 = v8;
+j1 = UINT64_C(7);
+i0 = (j0 > j1);
+if (i0) { goto l3; }
+goto l4;
+l26:;
 j0 = v1;
 j1 = UINT64_C(712);
 j0 = j0 + j1;
+p19 = read_at(j0, m, 1u);
+i0 = load8(p19 + 0);
 i1 = UINT32_C(1);
-store32(p26 + 712, i1);
-goto l26;
-l29:;
+i0 = (i0 != i1);
+if (i0) { goto l3; }
+j0 = v4;
+j1 = v4;
+j2 = UINT64_C(2);
+j1 = j1 + j2;
+p20 = read_at(j1, m, 1u);
+j1 = load8(p20 + 0);
+j2 = UINT64_C(3);
+j1 = j1 * j2;
+j0 = j0 + j1;
+j1 = UINT64_C(3);
+j0 = j0 + j1;
+v8 = j0;
+p21 = read_at(j0, m, 1u);
+i0 = load8(p21 + 0);
+i1 = UINT32_C(2);
+i0 = i0 & i1;
+i0 = (i0 == 0);
+if (i0) { goto l3; }
+j0 = v8;
+j1 = UINT64_C(1);
+j0 = j0 + j1;
+p22 = read_at(j0, m, 4u);
+i0 = load32(p22 + 0);
+v9 = i0;
+i1 = UINT32_C(16711935);
+i0 = i0 & i1;
+i1 = UINT32_C(8);
+i0 = rotate32(i0, 0u - i1);
+i1 = v9;
+i2 = UINT32_C(24);
+i1 = rotate32(i1, 0u - i2);
+i2 = UINT32_C(16711935);
+i1 = i1 & i2;
+i0 = i0 | i1;
+j1 = v1;
+j2 = UINT64_C(716);
+j1 = j1 + j2;
+p23 = read_at(j1, m, 4u);
+i1 = load32(p23 + 0);
+i0 = i0 - i1;
+i1 = UINT32_C(4294967295);
+i0 = (SIGNED32(i0) > SIGNED32(i1));
+if (i0) { goto l3; }
+j0 = v6;
+j1 = UINT64_C(0);
+store64(p1 + 800, j1);
+j0 = v6;
+j1 = UINT64_C(0);
+store64(p1 + 816, j1);
+j0 = v6;
+j1 = v6;
+j1 = load64(p1 + 32);
+store64(p1 + 808, j1);
+j0 = v6;
+j1 = v6;
+i1 = load16(p1 + 25);
+store16(p1 + 801, i1);
+j0 = v6;
+i1 = v7;
+store8(p1 + 800, i1);
+j0 = v6;
+j1 = v6;
+i1 = load8(p1 + 40);
+store8(p1 + 816, i1);
+j0 = v6;
+j1 = UINT64_C(0);
+store64(p1 + 56, j1);
+j0 = v6;
+j1 = UINT64_C(64);
+j0 = j0 + j1;
+j1 = v1;
+j2 = UINT64_C(736);
+copy(m, j0, j1, j2);
+i0 = UINT32_C(0);
+v3 = i0;
+j0 = v6;
+j1 = UINT64_C(56);
+j0 = j0 + j1;
+j1 = v6;
+j2 = UINT64_C(64);
+j1 = j1 + j2;
+i2 = v2;
+i3 = UINT32_C(0);
+j4 = v4;
+j5 = v5;
+j6 = v6;
+j7 = UINT64_C(800);
+j6 = j6 + j7;
+fio_check_link_judge_LinkJudge_judge(m, j0, j1, i2, i3, j4, j5, j6);
+j0 = v6;
+i0 = load8(p1 + 57);
+v2 = i0;
+j0 = v6;
+i0 = load8(p1 + 56);
+v7 = i0;
+j0 = (uint64_t)i0;
+j1 = UINT64_C(255);
+j0 = j0 & j1;
+i0 = (uint32_t)j0;
+switch (i0) {
+case 0:
+goto l30;
+case 1:
+goto l32;
+case 2:
+goto l31;
+case 3:
+goto l30;
+case 4:
+goto l30;
+case 5:
+goto l30;
+default:
+goto l30;
+}
+l32:;
 i0 = v2;
 i1 = UINT32_C(255);
 i0 = i0 & i1;
-i0 = (i0 == 0);
-if (i0) { goto l34; }
-i0 = v7;
-i1 = UINT32_C(1);
+i1 = UINT32_C(7);
 i0 = (i0 != i1);
-if (i0) { goto l34; }
-j0 = v1;
-j1 = UINT64_C(7);
+if (i0) { goto l30; }
+l31:;
+j0 = v6;
+j1 = UINT64_C(824);
 j0 = j0 + j1;
-i0 = load8(p24 + 7);
-i1 = UINT32_C(1);
-i0 = (i0 != i1);
-if (i0) { goto l34; }
-i0 = v11;
-i1 = UINT32_C(255);
-i0 = i0 & i1;
 j1 = v1;
-j2 = UINT64_C(8);
+j2 = UINT64_C(16);
 j1 = j1 + j2;
-i1 = load8(p24 + 8);
-i2 = UINT32_C(255);
-i1 = i1 & i2;
-i0 = (i0 != i1);
-if (i0) { goto l34; }
+v8 = j1;
+j2 = v4;
+j3 = v5;
+fio_check_content_ContentChecker_heard(m, j0, j1, j2, j3);
 j0 = v6;
-j1 = UINT64_C(0);
-store64(p19 + 43, j1);
-j0 = v6;
-i1 = UINT32_C(0);
-store8(p19 + 40, i1);
-j0 = v6;
-i1 = UINT32_C(0);
-store16(p19 + 51, i1);
-j0 = v6;
-j1 = v1;
-i1 = load16(p24 + 2);
-store16(p19 + 41, i1);
-j0 = v6;
-j1 = v1;
-i1 = load8(p24 + 0);
-store8(p19 + 39, i1);
-j0 = v6;
-j1 = UINT64_C(75);
+j1 = UINT64_C(8);
 j0 = j0 + j1;
-j1 = v6;
-j2 = UINT64_C(80);
-j1 = j1 + j2;
-i2 = v3;
-j3 = v6;
-j4 = UINT64_C(112);
-j3 = j3 + j4;
-fio_check_checker_Checker_take(m, j0, j1, i2, j3);
+i1 = UINT32_C(0);
+j2 = v4;
+j3 = v5;
+fio_check_frame_stamps_any_stamp_in(m, j0, i1, j2, j3);
 j0 = v6;
-j1 = UINT64_C(84);
-j0 = j0 + j1;
-v8 = j0;
-j0 = v6;
-i0 = load16(p19 + 41);
-v7 = i0;
-j0 = v6;
-i0 = load8(p19 + 40);
+i0 = load8(p1 + 8);
 v2 = i0;
 j0 = v6;
-i0 = load8(p19 + 39);
-v11 = i0;
+i0 = load32(p1 + 12);
+v7 = i0;
 j0 = v1;
-j1 = UINT64_C(13);
-j0 = j0 + j1;
-i0 = load8(p24 + 13);
-i1 = UINT32_C(2);
-i0 = (i0 != i1);
-if (i0) { goto l35; }
+j1 = UINT64_C(0);
+p24 = write_at(j0 + UINT64_C(1), m, 728u);
+store64(p24 + 3, j1);
 j0 = v1;
-j1 = UINT64_C(16);
-j0 = j0 + j1;
+i1 = UINT32_C(0);
+store8(p24 + 0, i1);
+j0 = v1;
+i1 = UINT32_C(512);
+store16(p24 + 11, i1);
+j0 = v8;
 i1 = UINT32_C(0);
 j2 = UINT64_C(384);
 fill(m, j0, i1, j2);
@@ -8948,222 +7867,160 @@ j0 = v1;
 j1 = UINT64_C(680);
 j0 = j0 + j1;
 j1 = UINT64_C(0);
-p32 = write_at(j0 + UINT64_C(18446744073709551592), m, 56u);
-store64(p32 + 24, j1);
+store64(p24 + 679, j1);
 j0 = v1;
 j1 = UINT64_C(672);
 j0 = j0 + j1;
 j1 = UINT64_C(0);
-store64(p32 + 16, j1);
+store64(p24 + 671, j1);
 j0 = v1;
 j1 = UINT64_C(664);
 j0 = j0 + j1;
 j1 = UINT64_C(0);
-store64(p32 + 8, j1);
+store64(p24 + 663, j1);
 j0 = v1;
 j1 = UINT64_C(656);
 j0 = j0 + j1;
 j1 = UINT64_C(0);
-store64(p32 + 0, j1);
+store64(p24 + 655, j1);
 j0 = v1;
 j1 = UINT64_C(689);
 j0 = j0 + j1;
 j1 = UINT64_C(0);
-store64(p32 + 33, j1);
+store64(p24 + 688, j1);
 j0 = v1;
 j1 = UINT64_C(697);
 j0 = j0 + j1;
 j1 = UINT64_C(0);
-store64(p32 + 41, j1);
+store64(p24 + 696, j1);
 j0 = v1;
 j1 = UINT64_C(704);
 j0 = j0 + j1;
 j1 = UINT64_C(0);
-store64(p32 + 48, j1);
-l35:;
-j0 = v1;
-i1 = v7;
-p33 = write_at(j0, m, 728u);
-store16(p33 + 2, i1);
-j0 = v1;
-i1 = v2;
-store8(p33 + 1, i1);
-j0 = v1;
-i1 = v11;
-store8(p33 + 0, i1);
-j0 = v1;
-j1 = v8;
-j1 = load64(p19 + 43);
-store64(p33 + 4, j1);
-j0 = v1;
-j1 = v8;
-i1 = load16(p19 + 51);
-store16(p33 + 12, i1);
-j0 = v1;
-j1 = UINT64_C(724);
-j0 = j0 + j1;
-i1 = v9;
-store32(p33 + 724, i1);
+store64(p24 + 703, j1);
 j0 = v1;
 j1 = UINT64_C(720);
 j0 = j0 + j1;
-i1 = v10;
-store32(p33 + 720, i1);
+j1 = UINT64_C(0);
+store64(p24 + 719, j1);
 j0 = v1;
-j1 = UINT64_C(16);
+j1 = UINT64_C(716);
 j0 = j0 + j1;
-v1 = j0;
-i0 = v3;
-i0 = (i0 == 0);
-if (i0) { goto l37; }
+i1 = v7;
+store32(p24 + 715, i1);
 j0 = v1;
-j1 = v4;
-j2 = v5;
-fio_check_content_ContentChecker_sent(m, j0, j1, j2);
-goto l36;
-l37:;
-j0 = v6;
-j1 = UINT64_C(136);
+j1 = UINT64_C(712);
 j0 = j0 + j1;
-j1 = v1;
-j2 = v4;
-j3 = v5;
-fio_check_content_ContentChecker_heard(m, j0, j1, j2, j3);
-l36:;
-i0 = UINT32_C(3);
-v9 = i0;
-i0 = UINT32_C(1);
-v10 = i0;
-i0 = UINT32_C(0);
-v7 = i0;
-i0 = UINT32_C(0);
-v3 = i0;
-goto l33;
-l34:;
-j0 = v1;
-j1 = v6;
-j1 = load64(p19 + 55);
-p34 = write_at(j0, m, 14u);
-store64(p34 + 0, j1);
-j0 = v1;
-j1 = v6;
-j1 = load64(p19 + 61);
-store64(p34 + 6, j1);
-j0 = v6;
-i0 = load16(p19 + 30);
-i1 = UINT32_C(8);
-i0 = i0 << (i1 & 31);
-j1 = v6;
-i1 = load8(p19 + 29);
-i0 = i0 | i1;
-v3 = i0;
-i0 = UINT32_C(1);
-v9 = i0;
-i0 = UINT32_C(0);
-v7 = i0;
-j0 = v6;
-i0 = load8(p19 + 28);
-v10 = i0;
-l33:;
-i0 = UINT32_C(0);
-v2 = i0;
-goto l25;
-l28:;
-j0 = v6;
-j1 = UINT64_C(8);
-j0 = j0 + j1;
-i1 = v3;
-j2 = v4;
-j3 = v5;
-fio_check_frame_stamps_stamp_in(m, j0, i1, j2, j3);
-j0 = v6;
-p35 = read_at(j0 + UINT64_C(8), m, 1u);
-i0 = load8(p35 + 0);
-if (i0) { goto l39; }
-i0 = UINT32_C(0);
-v3 = i0;
-i0 = UINT32_C(0);
-v10 = i0;
-goto l38;
-l39:;
-j0 = v6;
-p36 = read_at(j0 + UINT64_C(12), m, 4u);
-i0 = load32(p36 + 0);
-v3 = i0;
-i0 = UINT32_C(0);
-v10 = i0;
+i1 = v2;
+store32(p24 + 711, i1);
 j0 = v1;
 j1 = UINT64_C(728);
 j0 = j0 + j1;
 i1 = UINT32_C(0);
-p37 = write_at(j0 + UINT64_C(18446744073709551600), m, 17u);
-store8(p37 + 16, i1);
-j0 = v1;
-j1 = UINT64_C(716);
-j0 = j0 + j1;
-i1 = v3;
-store32(p37 + 4, i1);
-j0 = v1;
-j1 = UINT64_C(712);
-j0 = j0 + j1;
-i1 = UINT32_C(1);
-store32(p37 + 0, i1);
-i0 = UINT32_C(0);
-v3 = i0;
-l38:;
+store8(p24 + 727, i1);
+j0 = v6;
+i1 = UINT32_C(0);
+store32(p1 + 49, i1);
+j0 = v6;
+i1 = UINT32_C(0);
+store16(p1 + 53, i1);
+i0 = UINT32_C(4);
+v7 = i0;
 i0 = UINT32_C(0);
 v9 = i0;
-l27:;
 i0 = UINT32_C(0);
 v2 = i0;
-i0 = UINT32_C(0);
-v7 = i0;
-l26:;
-i0 = v10;
-i1 = UINT32_C(16);
-i0 = i0 << (i1 & 31);
-i1 = v3;
-i2 = UINT32_C(65535);
-i1 = i1 & i2;
-i0 = i0 | i1;
+goto l29;
+l30:;
+j0 = v1;
+j1 = v6;
+j2 = UINT64_C(64);
+j1 = j1 + j2;
+j2 = UINT64_C(736);
+copy(m, j0, j1, j2);
+j0 = v6;
+j1 = v6;
+i1 = load16(p1 + 58);
+store16(p1 + 50, i1);
+j0 = v6;
+j1 = v6;
+i1 = load8(p1 + 60);
+store8(p1 + 52, i1);
+j0 = v6;
+i0 = load8(p1 + 62);
 v3 = i0;
-i0 = UINT32_C(0);
-v10 = i0;
-l25:;
-j0 = v0;
-j1 = UINT64_C(4);
-j0 = j0 + j1;
-i1 = v3;
-i2 = UINT32_C(16);
-i1 = i1 >> (i2 & 31);
-p38 = write_at(j0 + UINT64_C(18446744073709551612), m, 7u);
-store8(p38 + 4, i1);
-j0 = v0;
-j1 = UINT64_C(2);
-j0 = j0 + j1;
-i1 = v3;
-store16(p38 + 2, i1);
-j0 = v0;
-j1 = UINT64_C(6);
-j0 = j0 + j1;
-i1 = v7;
-store8(p38 + 6, i1);
-j0 = v0;
-j1 = UINT64_C(5);
-j0 = j0 + j1;
-i1 = v2;
-store8(p38 + 5, i1);
+j0 = v6;
+i0 = load8(p1 + 61);
+v9 = i0;
+l29:;
 j0 = v0;
 j1 = UINT64_C(1);
 j0 = j0 + j1;
-i1 = v10;
-store8(p38 + 1, i1);
+i1 = v2;
+p25 = write_at(j0 + UINT64_C(18446744073709551615), m, 7u);
+store8(p25 + 1, i1);
 j0 = v0;
+i1 = v7;
+store8(p25 + 0, i1);
+j0 = v0;
+j1 = UINT64_C(2);
+j0 = j0 + j1;
+j1 = v6;
+i1 = load16(p1 + 50);
+store16(p25 + 2, i1);
+j0 = v0;
+j1 = UINT64_C(4);
+j0 = j0 + j1;
+j1 = v6;
+i1 = load8(p1 + 52);
+store8(p25 + 4, i1);
+j0 = v0;
+j1 = UINT64_C(6);
+j0 = j0 + j1;
+i1 = v3;
+store8(p25 + 6, i1);
+j0 = v0;
+j1 = UINT64_C(5);
+j0 = j0 + j1;
 i1 = v9;
-store8(p38 + 0, i1);
+store8(p25 + 5, i1);
+goto l2;
+l4:;
+fio2070_trap();
+l3:;
+j0 = v6;
+j1 = UINT64_C(48);
+j0 = j0 + j1;
+j1 = v1;
+i2 = v2;
+i3 = v3;
+j4 = v4;
+j5 = v5;
+j6 = v6;
+j7 = UINT64_C(24);
+j6 = j6 + j7;
+fio_check_link_judge_LinkJudge_judge(m, j0, j1, i2, i3, j4, j5, j6);
+j0 = v0;
+j1 = v6;
+p26 = read_at(j1 + UINT64_C(48), m, 7u);
+i1 = load32(p26 + 0);
+p27 = write_at(j0, m, 7u);
+store32(p27 + 0, i1);
+j0 = v0;
+j1 = UINT64_C(4);
+j0 = j0 + j1;
+j1 = v6;
+i1 = load8(p26 + 4);
+store8(p27 + 4, i1);
+j0 = v0;
+j1 = UINT64_C(5);
+j0 = j0 + j1;
+j1 = v6;
+i1 = load16(p26 + 5);
+store16(p27 + 5, i1);
 l2:;
 j0 = v6;
-j1 = UINT64_C(144);
+j1 = UINT64_C(832);
 j0 = j0 + j1;
 m->g0 = j0;
 return;
@@ -9444,7 +8301,762 @@ i1 = v1;
 store8(p8 + 0, i1);
 return;
 l2:;
-trap();
+fio2070_trap();
+return;
+}
+static void fio_check_link_judge_LinkJudge_judge(struct machine *m, uint64_t v0, uint64_t v1, uint32_t v2, uint32_t v3, uint64_t v4, uint64_t v5, uint64_t v6)
+{
+uint64_t v7 = 0;
+uint32_t v8 = 0;
+uint32_t v9 = 0;
+uint32_t v10 = 0;
+uint64_t v11 = 0;
+uint32_t v12 = 0;
+uint32_t i0;
+uint32_t i1;
+uint32_t i2;
+uint32_t i3;
+uint32_t i4;
+uint64_t j0;
+uint64_t j1;
+uint64_t j2;
+uint64_t j3;
+uint64_t j4;
+uint64_t j5;
+uint8_t *p1;
+uint8_t *p2;
+uint8_t *p3;
+uint8_t *p4;
+uint8_t *p5;
+uint8_t *p6;
+uint8_t *p7;
+uint8_t *p8;
+uint8_t *p9;
+uint8_t *p10;
+uint8_t *p11;
+uint8_t *p12;
+uint8_t *p13;
+uint8_t *p14;
+uint8_t *p15;
+uint8_t *p16;
+j0 = m->g0;
+j1 = UINT64_C(96);
+j0 = j0 - j1;
+p1 = write_at(j0, m, 96u);
+v7 = j0;
+m->g0 = j0;
+j0 = v7;
+v7 = j0;
+j1 = UINT64_C(0);
+store64(p1 + 64, j1);
+j0 = v7;
+j1 = UINT64_C(0);
+store64(p1 + 80, j1);
+j0 = v7;
+j1 = v6;
+p2 = read_at(j1, m, 17u);
+i1 = load8(p2 + 0);
+v8 = i1;
+store8(p1 + 64, i1);
+j0 = v7;
+j1 = v6;
+j2 = UINT64_C(1);
+j1 = j1 + j2;
+i1 = load8(p2 + 1);
+v9 = i1;
+store8(p1 + 65, i1);
+j0 = v7;
+j1 = v6;
+j2 = UINT64_C(2);
+j1 = j1 + j2;
+i1 = load8(p2 + 2);
+store8(p1 + 66, i1);
+j0 = v7;
+j1 = v6;
+j2 = UINT64_C(8);
+j1 = j1 + j2;
+j1 = load64(p2 + 8);
+store64(p1 + 72, j1);
+j0 = v7;
+j1 = v6;
+j2 = UINT64_C(16);
+j1 = j1 + j2;
+i1 = load8(p2 + 16);
+store8(p1 + 80, i1);
+j0 = v7;
+j1 = UINT64_C(16);
+i0 = (SIGNED64(j0) < SIGNED64(j1));
+if (i0) { goto l6; }
+j0 = v7;
+i1 = UINT32_C(0);
+store8(p1 + 28, i1);
+j0 = v7;
+i1 = UINT32_C(0);
+store32(p1 + 24, i1);
+j0 = v7;
+j1 = v1;
+p3 = read_at(j1, m, 14u);
+j1 = load64(p3 + 0);
+store64(p1 + 48, j1);
+j0 = v7;
+j1 = v1;
+j1 = load64(p3 + 6);
+store64(p1 + 54, j1);
+j0 = v7;
+j1 = UINT64_C(24);
+j0 = j0 + j1;
+j1 = v7;
+j2 = UINT64_C(48);
+j1 = j1 + j2;
+i2 = v3;
+j3 = v7;
+j4 = UINT64_C(64);
+j3 = j3 + j4;
+fio_check_checker_Checker_take(m, j0, j1, i2, j3);
+j0 = v7;
+i0 = load8(p1 + 24);
+if (i0) { goto l7; }
+i0 = v8;
+i1 = UINT32_C(255);
+i0 = i0 & i1;
+i1 = UINT32_C(1);
+i0 = (i0 != i1);
+if (i0) { goto l10; }
+i0 = UINT32_C(0);
+v2 = i0;
+i0 = UINT32_C(0);
+v10 = i0;
+j0 = v1;
+j1 = UINT64_C(7);
+j0 = j0 + j1;
+i0 = load8(p3 + 7);
+i1 = UINT32_C(1);
+i0 = (i0 != i1);
+if (i0) { goto l8; }
+j0 = v1;
+j1 = UINT64_C(724);
+j2 = UINT64_C(716);
+i3 = v9;
+i4 = UINT32_C(255);
+i3 = i3 & i4;
+j4 = v1;
+j5 = UINT64_C(8);
+j4 = j4 + j5;
+i4 = load8(p3 + 8);
+i3 = (i3 == i4);
+v2 = i3;
+j1 = i3 ? j1 : j2;
+j0 = j0 + j1;
+v6 = j0;
+j0 = v1;
+j1 = UINT64_C(720);
+j2 = UINT64_C(712);
+i3 = v2;
+j1 = i3 ? j1 : j2;
+j0 = j0 + j1;
+v11 = j0;
+goto l9;
+l10:;
+j0 = v1;
+j1 = UINT64_C(724);
+j0 = j0 + j1;
+v6 = j0;
+j0 = v1;
+j1 = UINT64_C(720);
+j0 = j0 + j1;
+v11 = j0;
+l9:;
+j0 = v11;
+p4 = read_at(j0, m, 1u);
+i0 = load8(p4 + 0);
+v10 = i0;
+j0 = v6;
+p5 = read_at(j0, m, 4u);
+i0 = load32(p5 + 0);
+v2 = i0;
+l8:;
+j0 = v1;
+j1 = UINT64_C(724);
+j0 = j0 + j1;
+i1 = v2;
+p6 = write_at(j0 + UINT64_C(18446744073709551612), m, 9u);
+store32(p6 + 4, i1);
+j0 = v1;
+j1 = UINT64_C(720);
+j0 = j0 + j1;
+v11 = j0;
+i1 = v10;
+store32(p6 + 0, i1);
+j0 = v1;
+j1 = UINT64_C(728);
+j0 = j0 + j1;
+v6 = j0;
+i1 = UINT32_C(2);
+i2 = UINT32_C(1);
+j3 = v6;
+i3 = load8(p6 + 8);
+v2 = i3;
+i1 = i3 ? i1 : i2;
+i2 = v2;
+i3 = v8;
+i4 = UINT32_C(255);
+i3 = i3 & i4;
+i4 = UINT32_C(1);
+i3 = (i3 == i4);
+i1 = i3 ? i1 : i2;
+store8(p6 + 8, i1);
+j0 = v1;
+j1 = UINT64_C(13);
+j0 = j0 + j1;
+i0 = load8(p3 + 13);
+i1 = UINT32_C(2);
+i0 = (i0 != i1);
+if (i0) { goto l11; }
+j0 = v1;
+j1 = UINT64_C(16);
+j0 = j0 + j1;
+i1 = UINT32_C(0);
+j2 = UINT64_C(384);
+fill(m, j0, i1, j2);
+j0 = v1;
+j1 = UINT64_C(400);
+j0 = j0 + j1;
+i1 = UINT32_C(1);
+j2 = UINT64_C(256);
+fill(m, j0, i1, j2);
+j0 = v1;
+j1 = UINT64_C(680);
+j0 = j0 + j1;
+j1 = UINT64_C(0);
+p7 = write_at(j0 + UINT64_C(18446744073709551592), m, 56u);
+store64(p7 + 24, j1);
+j0 = v1;
+j1 = UINT64_C(672);
+j0 = j0 + j1;
+j1 = UINT64_C(0);
+store64(p7 + 16, j1);
+j0 = v1;
+j1 = UINT64_C(664);
+j0 = j0 + j1;
+j1 = UINT64_C(0);
+store64(p7 + 8, j1);
+j0 = v1;
+j1 = UINT64_C(656);
+j0 = j0 + j1;
+j1 = UINT64_C(0);
+store64(p7 + 0, j1);
+j0 = v1;
+j1 = UINT64_C(689);
+j0 = j0 + j1;
+j1 = UINT64_C(0);
+store64(p7 + 33, j1);
+j0 = v1;
+j1 = UINT64_C(697);
+j0 = j0 + j1;
+j1 = UINT64_C(0);
+store64(p7 + 41, j1);
+j0 = v1;
+j1 = UINT64_C(704);
+j0 = j0 + j1;
+j1 = UINT64_C(0);
+store64(p7 + 48, j1);
+l11:;
+j0 = v1;
+j1 = v7;
+j1 = load64(p1 + 54);
+p8 = write_at(j0, m, 14u);
+store64(p8 + 6, j1);
+j0 = v1;
+j1 = v7;
+j1 = load64(p1 + 48);
+store64(p8 + 0, j1);
+j0 = v7;
+j1 = UINT64_C(0);
+store64(p1 + 88, j1);
+j0 = v1;
+j1 = UINT64_C(16);
+j0 = j0 + j1;
+v6 = j0;
+i0 = v3;
+i0 = (i0 == 0);
+if (i0) { goto l12; }
+j0 = v6;
+j1 = v4;
+j2 = v5;
+fio_check_content_ContentChecker_sent(m, j0, j1, j2);
+goto l5;
+l12:;
+j0 = v7;
+j1 = UINT64_C(88);
+j0 = j0 + j1;
+j1 = v6;
+j2 = v4;
+j3 = v5;
+fio_check_content_ContentChecker_heard(m, j0, j1, j2, j3);
+j0 = v7;
+i0 = load8(p1 + 88);
+i1 = UINT32_C(1);
+i0 = (i0 != i1);
+if (i0) { goto l5; }
+j0 = v7;
+i0 = load8(p1 + 94);
+v8 = i0;
+i1 = UINT32_C(255);
+i0 = i0 & i1;
+i1 = UINT32_C(10);
+i0 = (i0 != i1);
+if (i0) { goto l13; }
+i0 = UINT32_C(0);
+v3 = i0;
+j0 = v7;
+j1 = UINT64_C(8);
+j0 = j0 + j1;
+i1 = UINT32_C(0);
+j2 = v4;
+j3 = v5;
+fio_check_frame_stamps_any_stamp_in(m, j0, i1, j2, j3);
+j0 = v7;
+i0 = load8(p1 + 8);
+v8 = i0;
+j0 = v7;
+i0 = load32(p1 + 12);
+v2 = i0;
+j0 = v1;
+j1 = UINT64_C(0);
+store64(p8 + 4, j1);
+j0 = v1;
+i1 = UINT32_C(0);
+store8(p8 + 1, i1);
+j0 = v1;
+i1 = UINT32_C(512);
+store16(p8 + 12, i1);
+j0 = v6;
+i1 = UINT32_C(0);
+j2 = UINT64_C(384);
+fill(m, j0, i1, j2);
+j0 = v1;
+j1 = UINT64_C(400);
+j0 = j0 + j1;
+i1 = UINT32_C(1);
+j2 = UINT64_C(256);
+fill(m, j0, i1, j2);
+j0 = v1;
+j1 = UINT64_C(680);
+j0 = j0 + j1;
+j1 = UINT64_C(0);
+p9 = write_at(j0 + UINT64_C(18446744073709551592), m, 64u);
+store64(p9 + 24, j1);
+j0 = v1;
+j1 = UINT64_C(672);
+j0 = j0 + j1;
+j1 = UINT64_C(0);
+store64(p9 + 16, j1);
+j0 = v1;
+j1 = UINT64_C(664);
+j0 = j0 + j1;
+j1 = UINT64_C(0);
+store64(p9 + 8, j1);
+j0 = v1;
+j1 = UINT64_C(656);
+j0 = j0 + j1;
+j1 = UINT64_C(0);
+store64(p9 + 0, j1);
+j0 = v1;
+j1 = UINT64_C(689);
+j0 = j0 + j1;
+j1 = UINT64_C(0);
+store64(p9 + 33, j1);
+j0 = v1;
+j1 = UINT64_C(697);
+j0 = j0 + j1;
+j1 = UINT64_C(0);
+store64(p9 + 41, j1);
+j0 = v1;
+j1 = UINT64_C(704);
+j0 = j0 + j1;
+j1 = UINT64_C(0);
+store64(p9 + 48, j1);
+j0 = v1;
+j1 = UINT64_C(716);
+j0 = j0 + j1;
+i1 = v2;
+store32(p9 + 60, i1);
+j0 = v1;
+j1 = UINT64_C(712);
+j0 = j0 + j1;
+i1 = v8;
+store32(p9 + 56, i1);
+j0 = v11;
+j1 = UINT64_C(0);
+store64(p6 + 0, j1);
+j0 = v11;
+i1 = UINT32_C(0);
+store8(p6 + 8, i1);
+i0 = UINT32_C(4);
+v2 = i0;
+i0 = UINT32_C(0);
+v10 = i0;
+goto l4;
+l13:;
+j0 = v7;
+i0 = load8(p1 + 93);
+v9 = i0;
+j0 = v7;
+i0 = load8(p1 + 92);
+v10 = i0;
+j0 = v7;
+i0 = load16(p1 + 90);
+v3 = i0;
+j0 = v7;
+j1 = UINT64_C(16);
+j0 = j0 + j1;
+i1 = UINT32_C(0);
+j2 = v4;
+j3 = v5;
+fio_check_frame_stamps_stamp_in(m, j0, i1, j2, j3);
+i0 = UINT32_C(2);
+v2 = i0;
+j0 = v7;
+i0 = load8(p1 + 16);
+i0 = (i0 == 0);
+if (i0) { goto l3; }
+j0 = v7;
+i0 = load32(p1 + 20);
+v12 = i0;
+j0 = v1;
+j1 = UINT64_C(728);
+j0 = j0 + j1;
+i1 = UINT32_C(0);
+store8(p6 + 8, i1);
+j0 = v1;
+j1 = UINT64_C(716);
+j0 = j0 + j1;
+i1 = v12;
+p10 = write_at(j0 + UINT64_C(18446744073709551612), m, 8u);
+store32(p10 + 4, i1);
+j0 = v1;
+j1 = UINT64_C(712);
+j0 = j0 + j1;
+i1 = UINT32_C(1);
+store32(p10 + 0, i1);
+goto l3;
+l7:;
+i0 = v2;
+i1 = UINT32_C(255);
+i0 = i0 & i1;
+i0 = (i0 == 0);
+if (i0) { goto l15; }
+i0 = v8;
+i1 = UINT32_C(255);
+i0 = i0 & i1;
+i1 = UINT32_C(1);
+i0 = (i0 != i1);
+if (i0) { goto l15; }
+j0 = v1;
+j1 = UINT64_C(7);
+j0 = j0 + j1;
+i0 = load8(p3 + 7);
+i1 = UINT32_C(1);
+i0 = (i0 != i1);
+if (i0) { goto l15; }
+i0 = v9;
+i1 = UINT32_C(255);
+i0 = i0 & i1;
+j1 = v1;
+j2 = UINT64_C(8);
+j1 = j1 + j2;
+i1 = load8(p3 + 8);
+i2 = UINT32_C(255);
+i1 = i1 & i2;
+i0 = (i0 != i1);
+if (i0) { goto l15; }
+j0 = v7;
+j1 = UINT64_C(0);
+store64(p1 + 38, j1);
+j0 = v7;
+i1 = UINT32_C(0);
+store8(p1 + 35, i1);
+j0 = v7;
+i1 = UINT32_C(0);
+store16(p1 + 46, i1);
+j0 = v7;
+j1 = v1;
+i1 = load16(p3 + 2);
+store16(p1 + 36, i1);
+j0 = v7;
+j1 = v1;
+i1 = load8(p3 + 0);
+store8(p1 + 34, i1);
+j0 = v7;
+j1 = UINT64_C(29);
+j0 = j0 + j1;
+j1 = v7;
+j2 = UINT64_C(34);
+j1 = j1 + j2;
+i2 = v3;
+j3 = v7;
+j4 = UINT64_C(64);
+j3 = j3 + j4;
+fio_check_checker_Checker_take(m, j0, j1, i2, j3);
+j0 = v1;
+j1 = UINT64_C(720);
+j0 = j0 + j1;
+v6 = j0;
+j1 = v6;
+p11 = write_at(j1, m, 9u);
+i1 = load8(p11 + 0);
+store32(p11 + 0, i1);
+j0 = v1;
+j1 = UINT64_C(728);
+j0 = j0 + j1;
+v6 = j0;
+i1 = UINT32_C(2);
+i2 = UINT32_C(1);
+j3 = v6;
+i3 = load8(p11 + 8);
+i1 = i3 ? i1 : i2;
+store8(p11 + 8, i1);
+j0 = v7;
+j1 = UINT64_C(38);
+j0 = j0 + j1;
+v6 = j0;
+j0 = v7;
+i0 = load16(p1 + 36);
+v8 = i0;
+j0 = v7;
+i0 = load8(p1 + 35);
+v2 = i0;
+j0 = v7;
+i0 = load8(p1 + 34);
+v9 = i0;
+j0 = v1;
+j1 = UINT64_C(13);
+j0 = j0 + j1;
+i0 = load8(p3 + 13);
+i1 = UINT32_C(2);
+i0 = (i0 != i1);
+if (i0) { goto l16; }
+j0 = v1;
+j1 = UINT64_C(16);
+j0 = j0 + j1;
+i1 = UINT32_C(0);
+j2 = UINT64_C(384);
+fill(m, j0, i1, j2);
+j0 = v1;
+j1 = UINT64_C(400);
+j0 = j0 + j1;
+i1 = UINT32_C(1);
+j2 = UINT64_C(256);
+fill(m, j0, i1, j2);
+j0 = v1;
+j1 = UINT64_C(680);
+j0 = j0 + j1;
+j1 = UINT64_C(0);
+p12 = write_at(j0 + UINT64_C(18446744073709551592), m, 56u);
+store64(p12 + 24, j1);
+j0 = v1;
+j1 = UINT64_C(672);
+j0 = j0 + j1;
+j1 = UINT64_C(0);
+store64(p12 + 16, j1);
+j0 = v1;
+j1 = UINT64_C(664);
+j0 = j0 + j1;
+j1 = UINT64_C(0);
+store64(p12 + 8, j1);
+j0 = v1;
+j1 = UINT64_C(656);
+j0 = j0 + j1;
+j1 = UINT64_C(0);
+store64(p12 + 0, j1);
+j0 = v1;
+j1 = UINT64_C(689);
+j0 = j0 + j1;
+j1 = UINT64_C(0);
+store64(p12 + 33, j1);
+j0 = v1;
+j1 = UINT64_C(697);
+j0 = j0 + j1;
+j1 = UINT64_C(0);
+store64(p12 + 41, j1);
+j0 = v1;
+j1 = UINT64_C(704);
+j0 = j0 + j1;
+j1 = UINT64_C(0);
+store64(p12 + 48, j1);
+l16:;
+j0 = v1;
+i1 = v8;
+p13 = write_at(j0, m, 14u);
+store16(p13 + 2, i1);
+j0 = v1;
+i1 = v2;
+store8(p13 + 1, i1);
+j0 = v1;
+i1 = v9;
+store8(p13 + 0, i1);
+j0 = v1;
+j1 = v6;
+j1 = load64(p1 + 38);
+store64(p13 + 4, j1);
+j0 = v1;
+j1 = v6;
+i1 = load16(p1 + 46);
+store16(p13 + 12, i1);
+j0 = v1;
+j1 = UINT64_C(16);
+j0 = j0 + j1;
+v1 = j0;
+i0 = v3;
+i0 = (i0 == 0);
+if (i0) { goto l18; }
+j0 = v1;
+j1 = v4;
+j2 = v5;
+fio_check_content_ContentChecker_sent(m, j0, j1, j2);
+goto l17;
+l18:;
+j0 = v7;
+j1 = UINT64_C(88);
+j0 = j0 + j1;
+j1 = v1;
+j2 = v4;
+j3 = v5;
+fio_check_content_ContentChecker_heard(m, j0, j1, j2, j3);
+l17:;
+i0 = UINT32_C(3);
+v2 = i0;
+i0 = UINT32_C(1);
+v10 = i0;
+i0 = UINT32_C(0);
+v3 = i0;
+i0 = UINT32_C(0);
+v8 = i0;
+goto l14;
+l15:;
+j0 = v1;
+j1 = v7;
+j1 = load64(p1 + 48);
+p14 = write_at(j0, m, 14u);
+store64(p14 + 0, j1);
+j0 = v1;
+j1 = v7;
+j1 = load64(p1 + 54);
+store64(p14 + 6, j1);
+j0 = v7;
+i0 = load16(p1 + 27);
+i1 = UINT32_C(8);
+i0 = i0 << (i1 & 31);
+j1 = v7;
+i1 = load8(p1 + 26);
+i0 = i0 | i1;
+v3 = i0;
+i0 = UINT32_C(1);
+v2 = i0;
+i0 = UINT32_C(0);
+v8 = i0;
+j0 = v7;
+i0 = load8(p1 + 25);
+v10 = i0;
+l14:;
+i0 = UINT32_C(0);
+v9 = i0;
+goto l2;
+l6:;
+fio2070_trap();
+l5:;
+j0 = v7;
+i1 = v3;
+j2 = v4;
+j3 = v5;
+fio_check_frame_stamps_stamp_in(m, j0, i1, j2, j3);
+j0 = v7;
+i0 = load8(p1 + 0);
+if (i0) { goto l20; }
+i0 = UINT32_C(0);
+v3 = i0;
+i0 = UINT32_C(0);
+v10 = i0;
+goto l19;
+l20:;
+j0 = v7;
+i0 = load32(p1 + 4);
+v3 = i0;
+i0 = UINT32_C(0);
+v10 = i0;
+j0 = v1;
+j1 = UINT64_C(728);
+j0 = j0 + j1;
+i1 = UINT32_C(0);
+p15 = write_at(j0 + UINT64_C(18446744073709551600), m, 17u);
+store8(p15 + 16, i1);
+j0 = v1;
+j1 = UINT64_C(716);
+j0 = j0 + j1;
+i1 = v3;
+store32(p15 + 4, i1);
+j0 = v1;
+j1 = UINT64_C(712);
+j0 = j0 + j1;
+i1 = UINT32_C(1);
+store32(p15 + 0, i1);
+i0 = UINT32_C(0);
+v3 = i0;
+l19:;
+i0 = UINT32_C(0);
+v2 = i0;
+l4:;
+i0 = UINT32_C(0);
+v9 = i0;
+i0 = UINT32_C(0);
+v8 = i0;
+l3:;
+i0 = v10;
+i1 = UINT32_C(16);
+i0 = i0 << (i1 & 31);
+i1 = v3;
+i2 = UINT32_C(65535);
+i1 = i1 & i2;
+i0 = i0 | i1;
+v3 = i0;
+i0 = UINT32_C(0);
+v10 = i0;
+l2:;
+j0 = v0;
+i1 = v2;
+p16 = write_at(j0, m, 7u);
+store8(p16 + 0, i1);
+j0 = v0;
+j1 = UINT64_C(4);
+j0 = j0 + j1;
+i1 = v3;
+i2 = UINT32_C(16);
+i1 = i1 >> (i2 & 31);
+store8(p16 + 4, i1);
+j0 = v0;
+j1 = UINT64_C(2);
+j0 = j0 + j1;
+i1 = v3;
+store16(p16 + 2, i1);
+j0 = v0;
+j1 = UINT64_C(6);
+j0 = j0 + j1;
+i1 = v8;
+store8(p16 + 6, i1);
+j0 = v0;
+j1 = UINT64_C(5);
+j0 = j0 + j1;
+i1 = v9;
+store8(p16 + 5, i1);
+j0 = v0;
+j1 = UINT64_C(1);
+j0 = j0 + j1;
+i1 = v10;
+store8(p16 + 1, i1);
+j0 = v7;
+j1 = UINT64_C(96);
+j0 = j0 + j1;
+m->g0 = j0;
 return;
 }
 static void fio_check_frame_stamps_stamp_in(struct machine *m, uint64_t v0, uint32_t v1, uint64_t v2, uint64_t v3)
@@ -9732,7 +9344,7 @@ i1 = v1;
 store8(p9 + 0, i1);
 return;
 l2:;
-trap();
+fio2070_trap();
 return;
 }
 static void fio_c_judge_take(struct machine *m, uint64_t v0, uint64_t v1, uint32_t v2, uint32_t v3, uint64_t v4, uint64_t v5)
@@ -9905,8 +9517,6 @@ j2 = UINT64_C(696);
 copy(m, j0, j1, j2);
 j0 = v6;
 i1 = v37;
-i2 = UINT32_C(0);
-i1 = (i1 != i2);
 store8(p1 + 736, i1);
 j0 = v6;
 i1 = v35;
@@ -10322,7 +9932,7 @@ j0 = j0 + j1;
 m->g0 = j0;
 return;
 l2:;
-trap();
+fio2070_trap();
 return;
 }
 static void fio_module_state_ModuleState_poll(struct machine *m, uint64_t v0, uint64_t v1, uint32_t v2)
@@ -10974,7 +10584,7 @@ store8(p20 + 0, i1);
 l16:;
 return;
 l2:;
-trap();
+fio2070_trap();
 return;
 }
 static uint64_t fio_c_answering_obey(struct machine *m, uint64_t v0, uint64_t v1, uint64_t v2, uint64_t v3, uint64_t v4, uint64_t v5)
@@ -11528,7 +11138,7 @@ i0 = UINT32_C(188);
 v17 = i0;
 goto l4;
 l8:;
-trap();
+fio2070_trap();
 l7:;
 j0 = v0;
 j1 = UINT64_C(232);
@@ -15888,7 +15498,7 @@ j0 = v1;
 r = j0;
 return r;
 l2:;
-trap();
+fio2070_trap();
 return r;
 }
 static void hex_encode_to_slice(struct machine *m, uint64_t v0, uint64_t v1, uint64_t v2, uint64_t v3, uint64_t v4)
@@ -15992,7 +15602,7 @@ j1 = UINT64_C(0);
 store64(p6 + 16, j1);
 return;
 l2:;
-trap();
+fio2070_trap();
 return;
 }
 static uint64_t itoa_digits_write_digits(struct machine *m, uint64_t v0, uint64_t v1, uint64_t v2)
@@ -16191,7 +15801,7 @@ j0 = v2;
 r = j0;
 return r;
 l2:;
-trap();
+fio2070_trap();
 return r;
 }
 static void fio_show_commands_put_configuration(struct machine *m, uint64_t v0, uint64_t v1, uint64_t v2, uint64_t v3)
@@ -16451,7 +16061,7 @@ j1 = UINT64_C(1);
 store64(p15 + 8, j1);
 return;
 l2:;
-trap();
+fio2070_trap();
 return;
 }
 static void fio_show_commands_put_other(struct machine *m, uint64_t v0, uint64_t v1, uint32_t v2, uint64_t v3, uint64_t v4)
@@ -16596,7 +16206,7 @@ j1 = v6;
 store64(p10 + 0, j1);
 return;
 l2:;
-trap();
+fio2070_trap();
 return;
 }
 static void fio_message_faults_DecodeError_words(struct machine *m, uint64_t v0, uint64_t v1)
@@ -16721,7 +16331,7 @@ j0 = j0 + j1;
 m->g0 = j0;
 return;
 l2:;
-trap();
+fio2070_trap();
 return;
 }
 static uint64_t fio_show_entry_lines_put_ending(struct machine *m, uint64_t v0, uint32_t v1, uint32_t v2)
@@ -17216,7 +16826,7 @@ j0 = j0 - j1;
 r = j0;
 return r;
 l2:;
-trap();
+fio2070_trap();
 return r;
 }
 static void fio_message_faults_push_number(struct machine *m, uint64_t v0, uint64_t v1, uint64_t v2, uint64_t v3)
@@ -17596,7 +17206,7 @@ j1 = j1 + j2;
 store64(p7 + 0, j1);
 return;
 l2:;
-trap();
+fio2070_trap();
 return;
 }
 static uint64_t enter_block_entries(struct machine *m, uint64_t v0, uint64_t v1, uint64_t v2, uint64_t v3)
@@ -17610,8 +17220,8 @@ uint64_t r;
 i0 = rattle_enter(m);
 i0 = (i0 == 0);
 if (i0) { goto l2; }
-trap();
-trap();
+fio2070_trap();
+fio2070_trap();
 l2:;
 j0 = v0;
 j1 = v1;
@@ -17780,7 +17390,7 @@ j0 = v4;
 r = j0;
 return r;
 l2:;
-trap();
+fio2070_trap();
 return r;
 }
 static uint32_t enter_content_heard(struct machine *m, uint64_t v0, uint64_t v1, uint64_t v2, uint64_t v3)
@@ -17795,8 +17405,8 @@ uint32_t r;
 i0 = rattle_enter(m);
 i0 = (i0 == 0);
 if (i0) { goto l2; }
-trap();
-trap();
+fio2070_trap();
+fio2070_trap();
 l2:;
 j0 = v0;
 j1 = v1;
@@ -17838,7 +17448,7 @@ v4 = j0;
 j1 = UINT64_C(15);
 i0 = (SIGNED64(j0) > SIGNED64(j1));
 if (i0) { goto l2; }
-trap();
+fio2070_trap();
 l2:;
 j0 = v4;
 j1 = UINT64_C(0);
@@ -17913,8 +17523,8 @@ uint64_t j2;
 i0 = rattle_enter(m);
 i0 = (i0 == 0);
 if (i0) { goto l2; }
-trap();
-trap();
+fio2070_trap();
+fio2070_trap();
 l2:;
 j0 = v0;
 j1 = v1;
@@ -17938,7 +17548,7 @@ v3 = j0;
 j1 = UINT64_C(15);
 i0 = (SIGNED64(j0) > SIGNED64(j1));
 if (i0) { goto l2; }
-trap();
+fio2070_trap();
 l2:;
 j0 = v0;
 j1 = v1;
@@ -17961,8 +17571,8 @@ uint64_t j0;
 i0 = rattle_enter(m);
 i0 = (i0 == 0);
 if (i0) { goto l2; }
-trap();
-trap();
+fio2070_trap();
+fio2070_trap();
 l2:;
 j0 = v0;
 proved_content_start(m, j0);
@@ -17981,7 +17591,7 @@ j0 = m->g0;
 j1 = UINT64_C(15);
 i0 = (SIGNED64(j0) > SIGNED64(j1));
 if (i0) { goto l2; }
-trap();
+fio2070_trap();
 l2:;
 j0 = v0;
 i1 = UINT32_C(0);
@@ -18024,8 +17634,8 @@ uint64_t j0;
 i0 = rattle_enter(m);
 i0 = (i0 == 0);
 if (i0) { goto l2; }
-trap();
-trap();
+fio2070_trap();
+fio2070_trap();
 l2:;
 j0 = v0;
 proved_content_start_begun(m, j0);
@@ -18044,7 +17654,7 @@ j0 = m->g0;
 j1 = UINT64_C(15);
 i0 = (SIGNED64(j0) > SIGNED64(j1));
 if (i0) { goto l2; }
-trap();
+fio2070_trap();
 l2:;
 j0 = v0;
 j1 = UINT64_C(18446744073709551615);
@@ -18144,8 +17754,8 @@ uint64_t j0;
 i0 = rattle_enter(m);
 i0 = (i0 == 0);
 if (i0) { goto l2; }
-trap();
-trap();
+fio2070_trap();
+fio2070_trap();
 l2:;
 j0 = v0;
 i1 = v1;
@@ -18164,7 +17774,7 @@ j0 = m->g0;
 j1 = UINT64_C(15);
 i0 = (SIGNED64(j0) > SIGNED64(j1));
 if (i0) { goto l2; }
-trap();
+fio2070_trap();
 l2:;
 j0 = v0;
 j1 = UINT64_C(8);
@@ -18186,8 +17796,8 @@ uint64_t j0;
 i0 = rattle_enter(m);
 i0 = (i0 == 0);
 if (i0) { goto l2; }
-trap();
-trap();
+fio2070_trap();
+fio2070_trap();
 l2:;
 j0 = v0;
 proved_counter_line_sync(m, j0);
@@ -18229,7 +17839,7 @@ store32(p2 + 0, i1);
 l3:;
 return;
 l2:;
-trap();
+fio2070_trap();
 return;
 }
 static uint32_t enter_counter_now(struct machine *m, uint64_t v0)
@@ -18241,8 +17851,8 @@ uint32_t r;
 i0 = rattle_enter(m);
 i0 = (i0 == 0);
 if (i0) { goto l2; }
-trap();
-trap();
+fio2070_trap();
+fio2070_trap();
 l2:;
 j0 = v0;
 i0 = proved_counter_now(m, j0);
@@ -18263,7 +17873,7 @@ j0 = m->g0;
 j1 = UINT64_C(15);
 i0 = (SIGNED64(j0) > SIGNED64(j1));
 if (i0) { goto l2; }
-trap();
+fio2070_trap();
 l2:;
 j0 = v0;
 p1 = read_at(j0, m, 4u);
@@ -18278,8 +17888,8 @@ uint64_t j0;
 i0 = rattle_enter(m);
 i0 = (i0 == 0);
 if (i0) { goto l2; }
-trap();
-trap();
+fio2070_trap();
+fio2070_trap();
 l2:;
 j0 = v0;
 proved_counter_start(m, j0);
@@ -18297,7 +17907,7 @@ j0 = m->g0;
 j1 = UINT64_C(15);
 i0 = (SIGNED64(j0) > SIGNED64(j1));
 if (i0) { goto l2; }
-trap();
+fio2070_trap();
 l2:;
 j0 = v0;
 i1 = UINT32_C(0);
@@ -18315,8 +17925,8 @@ uint64_t j0;
 i0 = rattle_enter(m);
 i0 = (i0 == 0);
 if (i0) { goto l2; }
-trap();
-trap();
+fio2070_trap();
+fio2070_trap();
 l2:;
 j0 = v0;
 proved_counter_tick(m, j0);
@@ -18335,7 +17945,7 @@ j0 = m->g0;
 j1 = UINT64_C(15);
 i0 = (SIGNED64(j0) > SIGNED64(j1));
 if (i0) { goto l2; }
-trap();
+fio2070_trap();
 l2:;
 j0 = v0;
 j1 = v0;
@@ -18354,8 +17964,8 @@ uint64_t r;
 i0 = rattle_enter(m);
 i0 = (i0 == 0);
 if (i0) { goto l2; }
-trap();
-trap();
+fio2070_trap();
+fio2070_trap();
 l2:;
 j0 = v0;
 j0 = proved_filters_filtered(m, j0);
@@ -18376,7 +17986,7 @@ j0 = m->g0;
 j1 = UINT64_C(15);
 i0 = (SIGNED64(j0) > SIGNED64(j1));
 if (i0) { goto l2; }
-trap();
+fio2070_trap();
 l2:;
 j0 = v0;
 j1 = UINT64_C(200);
@@ -18394,8 +18004,8 @@ uint64_t r;
 i0 = rattle_enter(m);
 i0 = (i0 == 0);
 if (i0) { goto l2; }
-trap();
-trap();
+fio2070_trap();
+fio2070_trap();
 l2:;
 j0 = v0;
 j0 = proved_filters_raw(m, j0);
@@ -18416,7 +18026,7 @@ j0 = m->g0;
 j1 = UINT64_C(15);
 i0 = (SIGNED64(j0) > SIGNED64(j1));
 if (i0) { goto l2; }
-trap();
+fio2070_trap();
 l2:;
 j0 = v0;
 j1 = UINT64_C(208);
@@ -18435,8 +18045,8 @@ uint64_t r;
 i0 = rattle_enter(m);
 i0 = (i0 == 0);
 if (i0) { goto l2; }
-trap();
-trap();
+fio2070_trap();
+fio2070_trap();
 l2:;
 j0 = v0;
 j1 = v1;
@@ -18529,7 +18139,7 @@ j0 = v3;
 r = j0;
 return r;
 l2:;
-trap();
+fio2070_trap();
 return r;
 }
 static void enter_filters_start(struct machine *m, uint64_t v0)
@@ -18539,8 +18149,8 @@ uint64_t j0;
 i0 = rattle_enter(m);
 i0 = (i0 == 0);
 if (i0) { goto l2; }
-trap();
-trap();
+fio2070_trap();
+fio2070_trap();
 l2:;
 j0 = v0;
 proved_filters_start(m, j0);
@@ -18566,7 +18176,7 @@ v1 = j0;
 j1 = UINT64_C(15);
 i0 = (SIGNED64(j0) > SIGNED64(j1));
 if (i0) { goto l2; }
-trap();
+fio2070_trap();
 l2:;
 j0 = v1;
 j1 = UINT64_C(0);
@@ -18636,8 +18246,8 @@ uint64_t j0;
 i0 = rattle_enter(m);
 i0 = (i0 == 0);
 if (i0) { goto l2; }
-trap();
-trap();
+fio2070_trap();
+fio2070_trap();
 l2:;
 j0 = v0;
 i1 = v1;
@@ -18656,7 +18266,7 @@ j0 = m->g0;
 j1 = UINT64_C(15);
 i0 = (SIGNED64(j0) > SIGNED64(j1));
 if (i0) { goto l2; }
-trap();
+fio2070_trap();
 l2:;
 j0 = v0;
 i1 = v1;
@@ -18674,8 +18284,8 @@ uint64_t j3;
 i0 = rattle_enter(m);
 i0 = (i0 == 0);
 if (i0) { goto l2; }
-trap();
-trap();
+fio2070_trap();
+fio2070_trap();
 l2:;
 j0 = v0;
 j1 = v1;
@@ -18766,7 +18376,7 @@ j0 = v2;
 v4 = j0;
 goto l2;
 l4:;
-trap();
+fio2070_trap();
 l3:;
 j0 = v3;
 j1 = v1;
@@ -18811,8 +18421,8 @@ uint64_t j3;
 i0 = rattle_enter(m);
 i0 = (i0 == 0);
 if (i0) { goto l2; }
-trap();
-trap();
+fio2070_trap();
+fio2070_trap();
 l2:;
 j0 = v0;
 j1 = v1;
@@ -18904,7 +18514,7 @@ j0 = v2;
 v4 = j0;
 goto l2;
 l4:;
-trap();
+fio2070_trap();
 l3:;
 j0 = v3;
 j1 = v1;
@@ -18957,8 +18567,8 @@ uint64_t j0;
 i0 = rattle_enter(m);
 i0 = (i0 == 0);
 if (i0) { goto l2; }
-trap();
-trap();
+fio2070_trap();
+fio2070_trap();
 l2:;
 j0 = v0;
 proved_sized_module_count_receive_error(m, j0);
@@ -18980,7 +18590,7 @@ j0 = m->g0;
 j1 = UINT64_C(15);
 i0 = (SIGNED64(j0) > SIGNED64(j1));
 if (i0) { goto l2; }
-trap();
+fio2070_trap();
 l2:;
 j0 = v0;
 j1 = UINT64_C(1036);
@@ -19007,8 +18617,8 @@ uint64_t j0;
 i0 = rattle_enter(m);
 i0 = (i0 == 0);
 if (i0) { goto l2; }
-trap();
-trap();
+fio2070_trap();
+fio2070_trap();
 l2:;
 j0 = v0;
 proved_sized_module_count_transmit_error(m, j0);
@@ -19030,7 +18640,7 @@ j0 = m->g0;
 j1 = UINT64_C(15);
 i0 = (SIGNED64(j0) > SIGNED64(j1));
 if (i0) { goto l2; }
-trap();
+fio2070_trap();
 l2:;
 j0 = v0;
 j1 = UINT64_C(1037);
@@ -19050,170 +18660,6 @@ i1 = i3 ? i1 : i2;
 store8(p1 + 0, i1);
 return;
 }
-static uint32_t enter_sized_module_counter(struct machine *m, uint64_t v0)
-{
-uint32_t v1 = 0;
-uint32_t i0;
-uint64_t j0;
-uint32_t r;
-i0 = rattle_enter(m);
-i0 = (i0 == 0);
-if (i0) { goto l2; }
-trap();
-trap();
-l2:;
-j0 = v0;
-i0 = proved_sized_module_counter(m, j0);
-v1 = i0;
-rattle_leave(m);
-i0 = v1;
-r = i0;
-return r;
-}
-static uint32_t proved_sized_module_counter(struct machine *m, uint64_t v0)
-{
-uint32_t i0;
-uint64_t j0;
-uint64_t j1;
-uint32_t r;
-uint8_t *p1;
-j0 = m->g0;
-j1 = UINT64_C(15);
-i0 = (SIGNED64(j0) > SIGNED64(j1));
-if (i0) { goto l2; }
-trap();
-l2:;
-j0 = v0;
-j1 = UINT64_C(12);
-j0 = j0 + j1;
-p1 = read_at(j0, m, 4u);
-i0 = load32(p1 + 0);
-r = i0;
-return r;
-}
-static void enter_sized_module_errors(struct machine *m, uint64_t v0, uint64_t v1)
-{
-uint32_t i0;
-uint64_t j0;
-uint64_t j1;
-i0 = rattle_enter(m);
-i0 = (i0 == 0);
-if (i0) { goto l2; }
-trap();
-trap();
-l2:;
-j0 = v0;
-j1 = v1;
-proved_sized_module_errors(m, j0, j1);
-rattle_leave(m);
-return;
-}
-static void proved_sized_module_errors(struct machine *m, uint64_t v0, uint64_t v1)
-{
-uint32_t i0;
-uint32_t i1;
-uint64_t j0;
-uint64_t j1;
-uint64_t j2;
-uint8_t *p1;
-uint8_t *p2;
-j0 = m->g0;
-j1 = UINT64_C(15);
-i0 = (SIGNED64(j0) > SIGNED64(j1));
-if (i0) { goto l2; }
-trap();
-l2:;
-j0 = v0;
-j1 = v1;
-j2 = UINT64_C(1036);
-j1 = j1 + j2;
-p1 = read_at(j1, m, 2u);
-i1 = load16(p1 + 0);
-p2 = write_at(j0, m, 2u);
-store16(p2 + 0, i1);
-return;
-}
-static uint64_t enter_sized_module_filtered(struct machine *m, uint64_t v0)
-{
-uint32_t i0;
-uint64_t j0;
-uint64_t r;
-i0 = rattle_enter(m);
-i0 = (i0 == 0);
-if (i0) { goto l2; }
-trap();
-trap();
-l2:;
-j0 = v0;
-j0 = proved_sized_module_filtered(m, j0);
-v0 = j0;
-rattle_leave(m);
-j0 = v0;
-r = j0;
-return r;
-}
-static uint64_t proved_sized_module_filtered(struct machine *m, uint64_t v0)
-{
-uint32_t i0;
-uint64_t j0;
-uint64_t j1;
-uint64_t r;
-uint8_t *p1;
-j0 = m->g0;
-j1 = UINT64_C(15);
-i0 = (SIGNED64(j0) > SIGNED64(j1));
-if (i0) { goto l2; }
-trap();
-l2:;
-j0 = v0;
-j1 = UINT64_C(240);
-j0 = j0 + j1;
-p1 = read_at(j0, m, 8u);
-j0 = load64(p1 + 0);
-r = j0;
-return r;
-}
-static uint32_t enter_sized_module_flags(struct machine *m, uint64_t v0)
-{
-uint32_t v1 = 0;
-uint32_t i0;
-uint64_t j0;
-uint32_t r;
-i0 = rattle_enter(m);
-i0 = (i0 == 0);
-if (i0) { goto l2; }
-trap();
-trap();
-l2:;
-j0 = v0;
-i0 = proved_sized_module_flags(m, j0);
-v1 = i0;
-rattle_leave(m);
-i0 = v1;
-r = i0;
-return r;
-}
-static uint32_t proved_sized_module_flags(struct machine *m, uint64_t v0)
-{
-uint32_t i0;
-uint64_t j0;
-uint64_t j1;
-uint32_t r;
-uint8_t *p1;
-j0 = m->g0;
-j1 = UINT64_C(15);
-i0 = (SIGNED64(j0) > SIGNED64(j1));
-if (i0) { goto l2; }
-trap();
-l2:;
-j0 = v0;
-j1 = UINT64_C(2);
-j0 = j0 + j1;
-p1 = read_at(j0, m, 1u);
-i0 = load8(p1 + 0);
-r = i0;
-return r;
-}
 static void enter_sized_module_line_sync(struct machine *m, uint64_t v0)
 {
 uint32_t i0;
@@ -19221,8 +18667,8 @@ uint64_t j0;
 i0 = rattle_enter(m);
 i0 = (i0 == 0);
 if (i0) { goto l2; }
-trap();
-trap();
+fio2070_trap();
+fio2070_trap();
 l2:;
 j0 = v0;
 proved_sized_module_line_sync(m, j0);
@@ -19266,57 +18712,7 @@ store32(p2 + 0, i1);
 l3:;
 return;
 l2:;
-trap();
-return;
-}
-static void enter_sized_module_outputs(struct machine *m, uint64_t v0, uint64_t v1)
-{
-uint32_t i0;
-uint64_t j0;
-uint64_t j1;
-i0 = rattle_enter(m);
-i0 = (i0 == 0);
-if (i0) { goto l2; }
-trap();
-trap();
-l2:;
-j0 = v0;
-j1 = v1;
-proved_sized_module_outputs(m, j0, j1);
-rattle_leave(m);
-return;
-}
-static void proved_sized_module_outputs(struct machine *m, uint64_t v0, uint64_t v1)
-{
-uint64_t v2 = 0;
-uint32_t i0;
-uint64_t j0;
-uint64_t j1;
-uint64_t j2;
-uint8_t *p1;
-uint8_t *p2;
-j0 = m->g0;
-j1 = UINT64_C(15);
-i0 = (SIGNED64(j0) > SIGNED64(j1));
-if (i0) { goto l2; }
-trap();
-l2:;
-j0 = v1;
-j1 = UINT64_C(24);
-j0 = j0 + j1;
-p1 = read_at(j0, m, 16u);
-j0 = load64(p1 + 0);
-v2 = j0;
-j0 = v0;
-j1 = v1;
-j2 = UINT64_C(32);
-j1 = j1 + j2;
-j1 = load64(p1 + 8);
-p2 = write_at(j0, m, 16u);
-store64(p2 + 8, j1);
-j0 = v0;
-j1 = v2;
-store64(p2 + 0, j1);
+fio2070_trap();
 return;
 }
 static void enter_sized_module_raise(struct machine *m, uint64_t v0, uint32_t v1)
@@ -19327,8 +18723,8 @@ uint64_t j0;
 i0 = rattle_enter(m);
 i0 = (i0 == 0);
 if (i0) { goto l2; }
-trap();
-trap();
+fio2070_trap();
+fio2070_trap();
 l2:;
 j0 = v0;
 i1 = v1;
@@ -19348,7 +18744,7 @@ j0 = m->g0;
 j1 = UINT64_C(15);
 i0 = (SIGNED64(j0) > SIGNED64(j1));
 if (i0) { goto l2; }
-trap();
+fio2070_trap();
 l2:;
 j0 = v0;
 j1 = UINT64_C(2);
@@ -19362,46 +18758,6 @@ i1 = i1 | i2;
 store8(p1 + 0, i1);
 return;
 }
-static uint64_t enter_sized_module_raw(struct machine *m, uint64_t v0)
-{
-uint32_t i0;
-uint64_t j0;
-uint64_t r;
-i0 = rattle_enter(m);
-i0 = (i0 == 0);
-if (i0) { goto l2; }
-trap();
-trap();
-l2:;
-j0 = v0;
-j0 = proved_sized_module_raw(m, j0);
-v0 = j0;
-rattle_leave(m);
-j0 = v0;
-r = j0;
-return r;
-}
-static uint64_t proved_sized_module_raw(struct machine *m, uint64_t v0)
-{
-uint32_t i0;
-uint64_t j0;
-uint64_t j1;
-uint64_t r;
-uint8_t *p1;
-j0 = m->g0;
-j1 = UINT64_C(15);
-i0 = (SIGNED64(j0) > SIGNED64(j1));
-if (i0) { goto l2; }
-trap();
-l2:;
-j0 = v0;
-j1 = UINT64_C(248);
-j0 = j0 + j1;
-p1 = read_at(j0, m, 8u);
-j0 = load64(p1 + 0);
-r = j0;
-return r;
-}
 static void enter_sized_module_restart(struct machine *m, uint64_t v0)
 {
 uint32_t i0;
@@ -19409,8 +18765,8 @@ uint64_t j0;
 i0 = rattle_enter(m);
 i0 = (i0 == 0);
 if (i0) { goto l2; }
-trap();
-trap();
+fio2070_trap();
+fio2070_trap();
 l2:;
 j0 = v0;
 proved_sized_module_restart(m, j0);
@@ -19437,7 +18793,7 @@ v1 = j0;
 j1 = UINT64_C(15);
 i0 = (SIGNED64(j0) > SIGNED64(j1));
 if (i0) { goto l2; }
-trap();
+fio2070_trap();
 l2:;
 j0 = v0;
 j1 = UINT64_C(20);
@@ -19557,8 +18913,8 @@ uint64_t j0;
 i0 = rattle_enter(m);
 i0 = (i0 == 0);
 if (i0) { goto l2; }
-trap();
-trap();
+fio2070_trap();
+fio2070_trap();
 l2:;
 j0 = v0;
 i1 = v1;
@@ -19578,7 +18934,7 @@ j0 = m->g0;
 j1 = UINT64_C(15);
 i0 = (SIGNED64(j0) > SIGNED64(j1));
 if (i0) { goto l2; }
-trap();
+fio2070_trap();
 l2:;
 j0 = v0;
 j1 = UINT64_C(1037);
@@ -19608,8 +18964,8 @@ uint8_t *p1;
 i0 = rattle_enter(m);
 i0 = (i0 == 0);
 if (i0) { goto l2; }
-trap();
-trap();
+fio2070_trap();
+fio2070_trap();
 l2:;
 j0 = v0;
 i1 = v1;
@@ -19771,106 +19127,135 @@ i0 = v5;
 r = i0;
 return r;
 l2:;
-trap();
+fio2070_trap();
 return r;
 }
-static uint64_t enter_sized_module_waiting(struct machine *m, uint64_t v0)
+static void enter_sized_module_state(struct machine *m, uint64_t v0, uint64_t v1)
 {
 uint32_t i0;
 uint64_t j0;
-uint64_t r;
+uint64_t j1;
 i0 = rattle_enter(m);
 i0 = (i0 == 0);
 if (i0) { goto l2; }
-trap();
-trap();
+fio2070_trap();
+fio2070_trap();
 l2:;
 j0 = v0;
-j0 = proved_sized_module_waiting(m, j0);
-v0 = j0;
+j1 = v1;
+proved_sized_module_state(m, j0, j1);
 rattle_leave(m);
-j0 = v0;
-r = j0;
-return r;
+return;
 }
-static uint64_t proved_sized_module_waiting(struct machine *m, uint64_t v0)
+static void proved_sized_module_state(struct machine *m, uint64_t v0, uint64_t v1)
 {
-uint32_t v1 = 0;
 uint32_t v2 = 0;
+uint32_t v3 = 0;
+uint32_t v4 = 0;
+uint32_t v5 = 0;
+uint64_t v6 = 0;
+uint64_t v7 = 0;
+uint64_t v8 = 0;
+uint64_t v9 = 0;
 uint32_t i0;
 uint32_t i1;
 uint32_t i2;
 uint32_t i3;
+uint32_t i4;
 uint64_t j0;
 uint64_t j1;
 uint64_t j2;
-uint64_t r;
-uint8_t *p1;
+uint8_t *p2;
+uint8_t *p3;
 j0 = m->g0;
+j1 = UINT64_C(16);
+j0 = j0 - j1;
 j1 = UINT64_C(15);
 i0 = (SIGNED64(j0) > SIGNED64(j1));
 if (i0) { goto l2; }
-trap();
+fio2070_trap();
 l2:;
-j0 = v0;
+j0 = v1;
 j1 = UINT64_C(1038);
 j0 = j0 + j1;
-p1 = read_at(j0 + UINT64_C(18446744073709551612), m, 6u);
-i0 = load16(p1 + 4);
-v1 = i0;
-j1 = v0;
-j2 = UINT64_C(1034);
-j1 = j1 + j2;
-i1 = load16(p1 + 0);
-v2 = i1;
-i2 = v1;
-i3 = v2;
-i2 = (i2 < i3);
-i0 = i2 ? i0 : i1;
-j0 = (uint64_t)i0;
-r = j0;
-return r;
-}
-static uint32_t enter_sized_module_watchdog_ms(struct machine *m, uint64_t v0)
-{
-uint32_t v1 = 0;
-uint32_t i0;
-uint64_t j0;
-uint32_t r;
-i0 = rattle_enter(m);
-i0 = (i0 == 0);
-if (i0) { goto l2; }
-trap();
-trap();
-l2:;
-j0 = v0;
-i0 = proved_sized_module_watchdog_ms(m, j0);
-v1 = i0;
-rattle_leave(m);
-i0 = v1;
-r = i0;
-return r;
-}
-static uint32_t proved_sized_module_watchdog_ms(struct machine *m, uint64_t v0)
-{
-uint32_t i0;
-uint64_t j0;
-uint64_t j1;
-uint32_t r;
-uint8_t *p1;
-j0 = m->g0;
-j1 = UINT64_C(15);
-i0 = (SIGNED64(j0) > SIGNED64(j1));
-if (i0) { goto l2; }
-trap();
-l2:;
-j0 = v0;
-j1 = UINT64_C(3);
+p2 = read_at(j0 + UINT64_C(18446744073709550580), m, 1038u);
+i0 = load16(p2 + 1036);
+v2 = i0;
+j0 = v1;
+j1 = UINT64_C(1034);
 j0 = j0 + j1;
-p1 = read_at(j0, m, 1u);
-i0 = load8(p1 + 0);
-r = i0;
-return r;
+i0 = load16(p2 + 1032);
+v3 = i0;
+j0 = v1;
+j1 = UINT64_C(2);
+j0 = j0 + j1;
+i0 = load16(p2 + 0);
+v4 = i0;
+j0 = v1;
+j1 = UINT64_C(1036);
+j0 = j0 + j1;
+i0 = load16(p2 + 1034);
+v5 = i0;
+j0 = v1;
+j1 = UINT64_C(32);
+j0 = j0 + j1;
+j0 = load64(p2 + 30);
+v6 = j0;
+j0 = v1;
+j1 = UINT64_C(24);
+j0 = j0 + j1;
+j0 = load64(p2 + 22);
+v7 = j0;
+j0 = v1;
+j1 = UINT64_C(240);
+j0 = j0 + j1;
+j0 = load64(p2 + 238);
+v8 = j0;
+j0 = v1;
+j1 = UINT64_C(248);
+j0 = j0 + j1;
+j0 = load64(p2 + 246);
+v9 = j0;
+j0 = v0;
+j1 = v1;
+j2 = UINT64_C(12);
+j1 = j1 + j2;
+i1 = load32(p2 + 10);
+p3 = write_at(j0, m, 48u);
+store32(p3 + 32, i1);
+j0 = v0;
+j1 = v9;
+store64(p3 + 8, j1);
+j0 = v0;
+j1 = v8;
+store64(p3 + 0, j1);
+j0 = v0;
+j1 = v7;
+store64(p3 + 16, j1);
+j0 = v0;
+j1 = v6;
+store64(p3 + 24, j1);
+j0 = v0;
+i1 = UINT32_C(0);
+store32(p3 + 42, i1);
+j0 = v0;
+i1 = v5;
+store16(p3 + 40, i1);
+j0 = v0;
+i1 = UINT32_C(0);
+store16(p3 + 46, i1);
+j0 = v0;
+i1 = v4;
+store16(p3 + 38, i1);
+j0 = v0;
+i1 = v2;
+i2 = v3;
+i3 = v2;
+i4 = v3;
+i3 = (i3 < i4);
+i1 = i3 ? i1 : i2;
+store16(p3 + 36, i1);
+return;
 }
 static uint32_t enter_version(struct machine *m)
 {
@@ -19879,8 +19264,8 @@ uint32_t r;
 i0 = rattle_enter(m);
 i0 = (i0 == 0);
 if (i0) { goto l2; }
-trap();
-trap();
+fio2070_trap();
+fio2070_trap();
 l2:;
 proved_version(m);
 rattle_leave(m);
@@ -19897,7 +19282,7 @@ j0 = m->g0;
 j1 = UINT64_C(15);
 i0 = (SIGNED64(j0) > SIGNED64(j1));
 if (i0) { goto l2; }
-trap();
+fio2070_trap();
 l2:;
 return;
 }
@@ -19909,8 +19294,8 @@ uint32_t r;
 i0 = rattle_enter(m);
 i0 = (i0 == 0);
 if (i0) { goto l2; }
-trap();
-trap();
+fio2070_trap();
+fio2070_trap();
 l2:;
 i0 = v0;
 i1 = v1;
@@ -19933,7 +19318,7 @@ j0 = m->g0;
 j1 = UINT64_C(15);
 i0 = (SIGNED64(j0) > SIGNED64(j1));
 if (i0) { goto l2; }
-trap();
+fio2070_trap();
 l2:;
 i0 = v0;
 i1 = v0;
@@ -19953,8 +19338,8 @@ uint64_t r;
 i0 = rattle_enter(m);
 i0 = (i0 == 0);
 if (i0) { goto l2; }
-trap();
-trap();
+fio2070_trap();
+fio2070_trap();
 l2:;
 j0 = v0;
 j0 = proved_wire_bits_message_length(m, j0);
@@ -20021,7 +19406,7 @@ j0 = v1;
 r = j0;
 return r;
 l2:;
-trap();
+fio2070_trap();
 return r;
 }
 static void enter_wire_bits_start(struct machine *m, uint64_t v0, uint32_t v1, uint32_t v2)
@@ -20033,8 +19418,8 @@ uint64_t j0;
 i0 = rattle_enter(m);
 i0 = (i0 == 0);
 if (i0) { goto l2; }
-trap();
-trap();
+fio2070_trap();
+fio2070_trap();
 l2:;
 j0 = v0;
 i1 = v1;
@@ -20055,7 +19440,7 @@ j0 = m->g0;
 j1 = UINT64_C(15);
 i0 = (SIGNED64(j0) > SIGNED64(j1));
 if (i0) { goto l2; }
-trap();
+fio2070_trap();
 l2:;
 j0 = v0;
 i1 = UINT32_C(0);
@@ -20092,8 +19477,8 @@ uint32_t r;
 i0 = rattle_enter(m);
 i0 = (i0 == 0);
 if (i0) { goto l2; }
-trap();
-trap();
+fio2070_trap();
+fio2070_trap();
 l2:;
 j0 = v0;
 j1 = v1;
@@ -20195,7 +19580,7 @@ i0 = i0 & i1;
 r = i0;
 return r;
 l2:;
-trap();
+fio2070_trap();
 return r;
 }
 static void enter_wire_lose(struct machine *m, uint64_t v0)
@@ -20205,8 +19590,8 @@ uint64_t j0;
 i0 = rattle_enter(m);
 i0 = (i0 == 0);
 if (i0) { goto l2; }
-trap();
-trap();
+fio2070_trap();
+fio2070_trap();
 l2:;
 j0 = v0;
 proved_wire_lose(m, j0);
@@ -20257,7 +19642,7 @@ store8(p3 + 0, i1);
 l3:;
 return;
 l2:;
-trap();
+fio2070_trap();
 return;
 }
 static uint64_t enter_wire_message_length(struct machine *m, uint64_t v0)
@@ -20268,8 +19653,8 @@ uint64_t r;
 i0 = rattle_enter(m);
 i0 = (i0 == 0);
 if (i0) { goto l2; }
-trap();
-trap();
+fio2070_trap();
+fio2070_trap();
 l2:;
 j0 = v0;
 j0 = proved_wire_message_length(m, j0);
@@ -20336,7 +19721,7 @@ j0 = v1;
 r = j0;
 return r;
 l2:;
-trap();
+fio2070_trap();
 return r;
 }
 static void enter_wire_start(struct machine *m, uint64_t v0, uint32_t v1, uint32_t v2)
@@ -20348,8 +19733,8 @@ uint64_t j0;
 i0 = rattle_enter(m);
 i0 = (i0 == 0);
 if (i0) { goto l2; }
-trap();
-trap();
+fio2070_trap();
+fio2070_trap();
 l2:;
 j0 = v0;
 i1 = v1;
@@ -20370,7 +19755,7 @@ j0 = m->g0;
 j1 = UINT64_C(15);
 i0 = (SIGNED64(j0) > SIGNED64(j1));
 if (i0) { goto l2; }
-trap();
+fio2070_trap();
 l2:;
 j0 = v0;
 i1 = UINT32_C(0);
@@ -20401,8 +19786,8 @@ uint64_t r;
 i0 = rattle_enter(m);
 i0 = (i0 == 0);
 if (i0) { goto l2; }
-trap();
-trap();
+fio2070_trap();
+fio2070_trap();
 l2:;
 i0 = v0;
 i1 = v1;
@@ -20798,7 +20183,7 @@ j0 = v6;
 r = j0;
 return r;
 l2:;
-trap();
+fio2070_trap();
 return r;
 }
 static void enter_decode_answer(struct machine *m, uint64_t v0, uint64_t v1, uint64_t v2, uint64_t v3)
@@ -20811,8 +20196,8 @@ uint64_t j3;
 i0 = rattle_enter(m);
 i0 = (i0 == 0);
 if (i0) { goto l2; }
-trap();
-trap();
+fio2070_trap();
+fio2070_trap();
 l2:;
 j0 = v0;
 j1 = v1;
@@ -21366,7 +20751,7 @@ i0 = UINT32_C(0);
 v6 = i0;
 goto l3;
 l4:;
-trap();
+fio2070_trap();
 l3:;
 i0 = UINT32_C(0);
 v8 = i0;
@@ -21401,8 +20786,8 @@ uint64_t j3;
 i0 = rattle_enter(m);
 i0 = (i0 == 0);
 if (i0) { goto l2; }
-trap();
-trap();
+fio2070_trap();
+fio2070_trap();
 l2:;
 j0 = v0;
 j1 = v1;
@@ -21776,7 +21161,7 @@ i0 = UINT32_C(3);
 v5 = i0;
 goto l2;
 l9:;
-trap();
+fio2070_trap();
 l8:;
 i0 = UINT32_C(0);
 v11 = i0;
@@ -21856,8 +21241,8 @@ uint64_t j0;
 i0 = rattle_enter(m);
 i0 = (i0 == 0);
 if (i0) { goto l2; }
-trap();
-trap();
+fio2070_trap();
+fio2070_trap();
 l2:;
 j0 = v0;
 proved_checker_start(m, j0);
@@ -21874,7 +21259,7 @@ j0 = m->g0;
 j1 = UINT64_C(15);
 i0 = (SIGNED64(j0) > SIGNED64(j1));
 if (i0) { goto l2; }
-trap();
+fio2070_trap();
 l2:;
 j0 = v0;
 j1 = UINT64_C(0);
@@ -21895,8 +21280,8 @@ uint64_t j3;
 i0 = rattle_enter(m);
 i0 = (i0 == 0);
 if (i0) { goto l2; }
-trap();
-trap();
+fio2070_trap();
+fio2070_trap();
 l2:;
 j0 = v0;
 j1 = v1;
@@ -22062,7 +21447,7 @@ i0 = UINT32_C(4);
 v5 = i0;
 goto l4;
 l6:;
-trap();
+fio2070_trap();
 l5:;
 i0 = UINT32_C(0);
 v6 = i0;
@@ -22098,58 +21483,7 @@ i1 = v5;
 store8(p6 + 0, i1);
 return;
 }
-static uint32_t enter_wire_bits_read(struct machine *m, uint64_t v0, uint32_t v1)
-{
-uint32_t i0;
-uint32_t i1;
-uint64_t j0;
-uint32_t r;
-i0 = rattle_enter(m);
-i0 = (i0 == 0);
-if (i0) { goto l2; }
-trap();
-trap();
-l2:;
-j0 = v0;
-i1 = v1;
-i0 = proved_wire_bits_read(m, j0, i1);
-v1 = i0;
-rattle_leave(m);
-i0 = v1;
-r = i0;
-return r;
-}
-static uint32_t proved_wire_bits_read(struct machine *m, uint64_t v0, uint32_t v1)
-{
-uint64_t v2 = 0;
-uint32_t i0;
-uint32_t i1;
-uint32_t i2;
-uint64_t j0;
-uint64_t j1;
-uint32_t r;
-j0 = m->g0;
-v2 = j0;
-j1 = UINT64_C(15);
-i0 = (SIGNED64(j0) > SIGNED64(j1));
-if (i0) { goto l2; }
-trap();
-l2:;
-j0 = v0;
-i1 = v1;
-i2 = UINT32_C(1);
-i1 = i1 & i2;
-i0 = fio_wire_bit_decoder_WireBits_read(m, j0, i1);
-v1 = i0;
-j0 = v2;
-m->g0 = j0;
-i0 = v1;
-i1 = UINT32_C(255);
-i0 = i0 & i1;
-r = i0;
-return r;
-}
-static uint64_t enter_wire_bits_read_many(struct machine *m, uint64_t v0, uint64_t v1, uint64_t v2, uint64_t v3)
+static uint64_t enter_wire_bits_read(struct machine *m, uint64_t v0, uint64_t v1, uint64_t v2, uint64_t v3)
 {
 uint32_t i0;
 uint64_t j0;
@@ -22160,27 +21494,31 @@ uint64_t r;
 i0 = rattle_enter(m);
 i0 = (i0 == 0);
 if (i0) { goto l2; }
-trap();
-trap();
+fio2070_trap();
+fio2070_trap();
 l2:;
 j0 = v0;
 j1 = v1;
 j2 = v2;
 j3 = v3;
-j0 = proved_wire_bits_read_many(m, j0, j1, j2, j3);
+j0 = proved_wire_bits_read(m, j0, j1, j2, j3);
 v3 = j0;
 rattle_leave(m);
 j0 = v3;
 r = j0;
 return r;
 }
-static uint64_t proved_wire_bits_read_many(struct machine *m, uint64_t v0, uint64_t v1, uint64_t v2, uint64_t v3)
+static uint64_t proved_wire_bits_read(struct machine *m, uint64_t v0, uint64_t v1, uint64_t v2, uint64_t v3)
 {
 uint64_t v4 = 0;
 uint64_t v5 = 0;
 uint64_t v6 = 0;
 uint32_t v7 = 0;
-uint64_t v8 = 0;
+uint32_t v8 = 0;
+uint32_t v9 = 0;
+uint32_t v10 = 0;
+uint64_t v11 = 0;
+uint32_t v12 = 0;
 uint32_t i0;
 uint32_t i1;
 uint32_t i2;
@@ -22192,13 +21530,45 @@ uint64_t j3;
 uint64_t r;
 uint8_t *p1;
 uint8_t *p2;
+uint8_t *p3;
+uint8_t *p4;
+uint8_t *p5;
+uint8_t *p6;
+uint8_t *p7;
+uint8_t *p8;
+uint8_t *p9;
+uint8_t *p10;
+uint8_t *p11;
+uint8_t *p12;
+uint8_t *p13;
+uint8_t *p14;
+uint8_t *p15;
+uint8_t *p16;
+uint8_t *p17;
+uint8_t *p18;
+uint8_t *p19;
+uint8_t *p20;
+uint8_t *p21;
+uint8_t *p22;
+uint8_t *p23;
+uint8_t *p24;
+uint8_t *p25;
+uint8_t *p26;
+uint8_t *p27;
+uint8_t *p28;
+uint8_t *p29;
+uint8_t *p30;
+uint8_t *p31;
+uint8_t *p32;
+uint8_t *p33;
+uint8_t *p34;
+uint8_t *p35;
 j0 = m->g0;
-v4 = j0;
 j1 = UINT64_C(16);
 i0 = (SIGNED64(j0) < SIGNED64(j1));
 if (i0) { goto l2; }
 j0 = UINT64_C(0);
-v5 = j0;
+v4 = j0;
 j0 = v1;
 j1 = UINT64_C(4096);
 j2 = UINT64_C(0);
@@ -22206,102 +21576,545 @@ j3 = v1;
 i3 = (j3 == 0);
 j1 = i3 ? j1 : j2;
 j0 = j0 + j1;
-v6 = j0;
-l4:;
-j0 = v2;
-j1 = v5;
-i0 = (j0 != j1);
-if (i0) { goto l5; }
-i0 = UINT32_C(0);
-v7 = i0;
-j0 = v2;
-v8 = j0;
-goto l3;
-l5:;
-j0 = v6;
-j1 = v5;
-j0 = j0 + j1;
-v1 = j0;
-j0 = v5;
-j1 = UINT64_C(1);
-j0 = j0 + j1;
-v8 = j0;
 v5 = j0;
 j0 = v0;
-j1 = v1;
-p1 = read_at(j1, m, 1u);
-i1 = load8(p1 + 0);
+j1 = UINT64_C(778);
+j0 = j0 + j1;
+v6 = j0;
+l3:;
+j0 = v4;
+j1 = v2;
+i0 = (j0 != j1);
+if (i0) { goto l4; }
+j0 = v3;
+i1 = UINT32_C(0);
+p1 = write_at(j0, m, 1u);
+store8(p1 + 0, i1);
+j0 = v2;
+r = j0;
+return r;
+l4:;
+j0 = v5;
+j1 = v4;
+j0 = j0 + j1;
+p2 = read_at(j0, m, 1u);
+i0 = load8(p2 + 0);
+i1 = UINT32_C(1);
+i0 = i0 & i1;
+v7 = i0;
+j0 = v0;
+j1 = UINT64_C(777);
+j0 = j0 + j1;
+v1 = j0;
+p3 = read_at(j0, m, 1u);
+i0 = load8(p3 + 0);
+v8 = i0;
+i1 = UINT32_C(3);
+i0 = (i0 < i1);
+if (i0) { goto l5; }
+j0 = v0;
+j1 = UINT64_C(784);
+j0 = j0 + j1;
+i1 = UINT32_C(4294901760);
+p4 = write_at(j0 + UINT64_C(18446744073709551609), m, 11u);
+store32(p4 + 7, i1);
+j0 = v0;
+j1 = UINT64_C(779);
+j0 = j0 + j1;
+i1 = UINT32_C(0);
+store32(p4 + 2, i1);
+j0 = v1;
+i1 = UINT32_C(1);
+store8(p4 + 0, i1);
+i0 = UINT32_C(1);
+v8 = i0;
+l5:;
+j0 = v6;
+p5 = read_at(j0, m, 1u);
+i0 = load8(p5 + 0);
+v9 = i0;
+i0 = v7;
+i0 = (i0 == 0);
+if (i0) { goto l7; }
+i0 = v9;
+i1 = UINT32_C(255);
+i0 = i0 & i1;
+i1 = UINT32_C(5);
+i0 = (i0 > i1);
+if (i0) { goto l8; }
+j0 = v6;
+i1 = v9;
 i2 = UINT32_C(1);
-i1 = i1 & i2;
-i0 = fio_wire_bit_decoder_WireBits_read(m, j0, i1);
+i1 = i1 + i2;
+p6 = write_at(j0, m, 1u);
+store8(p6 + 0, i1);
+i0 = UINT32_C(0);
+v8 = i0;
+goto l6;
+l8:;
+j0 = v6;
+i1 = UINT32_C(7);
+p7 = write_at(j0, m, 1u);
+store8(p7 + 0, i1);
+i0 = v8;
+i1 = UINT32_C(1);
+i0 = (i0 != i1);
+v7 = i0;
+i0 = UINT32_C(0);
+v8 = i0;
+i0 = v7;
+if (i0) { goto l6; }
+i0 = UINT32_C(2);
+v7 = i0;
+j0 = v0;
+j1 = UINT64_C(784);
+j0 = j0 + j1;
+p8 = read_at(j0, m, 2u);
+i0 = load16(p8 + 0);
+if (i0) { goto l9; }
+j0 = v0;
+j1 = UINT64_C(781);
+j0 = j0 + j1;
+p9 = read_at(j0, m, 1u);
+i0 = load8(p9 + 0);
+if (i0) { goto l9; }
+j0 = v0;
+j1 = UINT64_C(782);
+j0 = j0 + j1;
+p10 = read_at(j0, m, 1u);
+i0 = load8(p10 + 0);
+if (i0) { goto l9; }
+i0 = UINT32_C(2);
+i1 = UINT32_C(0);
+j2 = v0;
+j3 = UINT64_C(779);
+j2 = j2 + j3;
+p11 = read_at(j2, m, 1u);
+i2 = load8(p11 + 0);
+i0 = i2 ? i0 : i1;
+v7 = i0;
+l9:;
+j0 = v0;
+j1 = UINT64_C(777);
+j0 = j0 + j1;
+i1 = v7;
+p12 = write_at(j0, m, 1u);
+store8(p12 + 0, i1);
+goto l6;
+l7:;
+i0 = v9;
 i1 = UINT32_C(255);
 i0 = i0 & i1;
 v7 = i0;
-i0 = (i0 == 0);
-if (i0) { goto l4; }
-l3:;
-j0 = v3;
+i1 = UINT32_C(6);
+i0 = (i0 != i1);
+if (i0) { goto l10; }
+i0 = v8;
+switch (i0) {
+case 0:
+goto l12;
+case 1:
+goto l14;
+default:
+goto l13;
+}
+l14:;
+j0 = v0;
+j1 = UINT64_C(781);
+j0 = j0 + j1;
+p13 = read_at(j0, m, 1u);
+i0 = load8(p13 + 0);
+if (i0) { goto l13; }
+i0 = UINT32_C(3);
+v8 = i0;
+j0 = v0;
+j1 = UINT64_C(782);
+j0 = j0 + j1;
+p14 = read_at(j0, m, 1u);
+i0 = load8(p14 + 0);
+if (i0) { goto l12; }
+j0 = v0;
+j1 = UINT64_C(784);
+j0 = j0 + j1;
+p15 = read_at(j0, m, 2u);
+i0 = load16(p15 + 0);
+i1 = UINT32_C(65535);
+i0 = i0 & i1;
+v7 = i0;
+if (i0) { goto l15; }
+i0 = UINT32_C(0);
+v8 = i0;
+goto l12;
+l15:;
+i0 = v7;
+i1 = UINT32_C(5);
+i0 = (i0 < i1);
+if (i0) { goto l12; }
+j0 = v0;
+j1 = UINT64_C(786);
+j0 = j0 + j1;
+p16 = read_at(j0, m, 2u);
+i0 = load16(p16 + 0);
+i1 = UINT32_C(65535);
+i0 = i0 & i1;
+i1 = UINT32_C(61624);
+i0 = (i0 != i1);
+if (i0) { goto l12; }
+j0 = v0;
+j1 = UINT64_C(790);
+j0 = j0 + j1;
+p17 = read_at(j0 + UINT64_C(18446744073709551614), m, 4u);
+i0 = load16(p17 + 2);
+v10 = i0;
+j0 = v0;
+j1 = UINT64_C(788);
+j0 = j0 + j1;
+i0 = load16(p17 + 0);
+v7 = i0;
+i1 = UINT32_C(65535);
+i0 = i0 & i1;
+i1 = UINT32_C(255);
+i0 = (i0 > i1);
+if (i0) { goto l18; }
+i0 = v7;
+i1 = UINT32_C(65535);
+i0 = i0 & i1;
+j1 = v0;
+p18 = read_at(j1, m, 1u);
+i1 = load8(p18 + 0);
+i0 = (i0 != i1);
+if (i0) { goto l17; }
+l18:;
+i0 = UINT32_C(1);
+v8 = i0;
+i0 = v10;
+i1 = UINT32_C(65535);
+i0 = i0 & i1;
+v7 = i0;
+i1 = UINT32_C(255);
+i0 = (i0 > i1);
+if (i0) { goto l16; }
+i0 = v7;
+j1 = v0;
+p19 = read_at(j1 + UINT64_C(1), m, 1u);
+i1 = load8(p19 + 0);
+i0 = (i0 == i1);
+if (i0) { goto l16; }
+l17:;
+i0 = UINT32_C(2);
+v8 = i0;
+l16:;
+j0 = v0;
+j1 = UINT64_C(778);
+j0 = j0 + j1;
+i1 = UINT32_C(0);
+p20 = write_at(j0, m, 2u);
+store16(p20 + 0, i1);
+i0 = UINT32_C(3);
+v7 = i0;
+goto l11;
+l13:;
+i0 = UINT32_C(3);
+v8 = i0;
+l12:;
+j0 = v6;
+i1 = UINT32_C(0);
+p21 = write_at(j0, m, 10u);
+store32(p21 + 0, i1);
+j0 = v6;
+i1 = UINT32_C(0);
+store8(p21 + 4, i1);
+j0 = v0;
+j1 = UINT64_C(784);
+j0 = j0 + j1;
+i1 = UINT32_C(4294901760);
+store32(p21 + 6, i1);
+i0 = UINT32_C(1);
+v7 = i0;
+l11:;
+j0 = v0;
+j1 = UINT64_C(777);
+j0 = j0 + j1;
 i1 = v7;
-p2 = write_at(j0, m, 1u);
-store8(p2 + 0, i1);
+p22 = write_at(j0, m, 1u);
+store8(p22 + 0, i1);
+goto l6;
+l10:;
+i0 = UINT32_C(0);
+v8 = i0;
+i0 = UINT32_C(0);
+v10 = i0;
+i0 = v7;
+i1 = UINT32_C(5);
+i0 = (i0 > i1);
+if (i0) { goto l19; }
+j0 = v0;
+j1 = UINT64_C(779);
+j0 = j0 + j1;
+p23 = read_at(j0, m, 1u);
+i0 = load8(p23 + 0);
+i0 = (i0 == 0);
+if (i0) { goto l20; }
+j0 = v0;
+j1 = UINT64_C(780);
+j0 = j0 + j1;
+v1 = j0;
+p24 = read_at(j0, m, 2u);
+i0 = load8(p24 + 0);
+i1 = UINT32_C(1);
+i0 = i0 >> (i1 & 31);
+v7 = i0;
+j0 = v0;
+j1 = UINT64_C(781);
+j0 = j0 + j1;
+v11 = j0;
+i0 = load8(p24 + 1);
+v10 = i0;
+i1 = UINT32_C(6);
+i0 = (i0 > i1);
+if (i0) { goto l21; }
+j0 = v11;
+i1 = v10;
+i2 = UINT32_C(1);
+i1 = i1 + i2;
+p25 = write_at(j0 + UINT64_C(18446744073709551615), m, 2u);
+store8(p25 + 1, i1);
+j0 = v1;
+i1 = v7;
+store8(p25 + 0, i1);
+goto l20;
+l21:;
+j0 = v1;
+i1 = UINT32_C(0);
+p26 = write_at(j0, m, 6u);
+store16(p26 + 0, i1);
+j0 = v0;
+j1 = UINT64_C(784);
+j0 = j0 + j1;
+v1 = j0;
+j0 = load16(p26 + 4);
+v11 = j0;
+j1 = UINT64_C(776);
+i0 = (j0 > j1);
+if (i0) { goto l22; }
+j0 = v0;
+j1 = v11;
+j0 = j0 + j1;
+i1 = v7;
+p27 = write_at(j0, m, 1u);
+store8(p27 + 0, i1);
+j0 = v1;
+j1 = v1;
+i1 = load16(p26 + 4);
+i2 = UINT32_C(1);
+i1 = i1 + i2;
+store16(p26 + 4, i1);
+j0 = v0;
+j1 = UINT64_C(786);
+j0 = j0 + j1;
+v1 = j0;
+j1 = v1;
+p28 = write_at(j1, m, 2u);
+i1 = load16(p28 + 0);
+v10 = i1;
+i2 = UINT32_C(255);
+i1 = i1 & i2;
+i2 = v7;
+i1 = i1 ^ i2;
+v7 = i1;
+i2 = UINT32_C(4);
+i1 = i1 << (i2 & 31);
+i2 = UINT32_C(240);
+i1 = i1 & i2;
+i2 = v7;
+i1 = i1 ^ i2;
+v7 = i1;
+i2 = UINT32_C(3);
+i1 = i1 << (i2 & 31);
+i2 = v10;
+i3 = UINT32_C(8);
+i2 = i2 >> (i3 & 31);
+i1 = i1 ^ i2;
+i2 = v7;
+i3 = UINT32_C(8);
+i2 = i2 << (i3 & 31);
+i1 = i1 ^ i2;
+i2 = v7;
+i3 = UINT32_C(4);
+i2 = i2 >> (i3 & 31);
+i1 = i1 ^ i2;
+store16(p28 + 0, i1);
+j0 = v0;
+j1 = UINT64_C(778);
+j0 = j0 + j1;
+i0 = load8(p5 + 0);
+v9 = i0;
+goto l20;
+l22:;
+j0 = v0;
+j1 = UINT64_C(782);
+j0 = j0 + j1;
+i1 = UINT32_C(1);
+store8(p26 + 2, i1);
+l20:;
+i0 = v9;
+i1 = UINT32_C(255);
+i0 = i0 & i1;
+if (i0) { goto l23; }
+i0 = UINT32_C(1);
+v10 = i0;
+goto l19;
+l23:;
+i0 = UINT32_C(0);
+v7 = i0;
+l24:;
+j0 = v0;
+j1 = UINT64_C(780);
+j0 = j0 + j1;
+v1 = j0;
+p29 = read_at(j0, m, 2u);
+i0 = load8(p29 + 0);
+i1 = UINT32_C(1);
+i0 = i0 >> (i1 & 31);
+i1 = UINT32_C(4294967168);
+i0 = i0 | i1;
+v10 = i0;
+j0 = v0;
+j1 = UINT64_C(781);
+j0 = j0 + j1;
+v11 = j0;
+i0 = load8(p29 + 1);
+v12 = i0;
+i1 = UINT32_C(6);
+i0 = (i0 > i1);
+if (i0) { goto l26; }
+j0 = v11;
+i1 = v12;
+i2 = UINT32_C(1);
+i1 = i1 + i2;
+p30 = write_at(j0 + UINT64_C(18446744073709551615), m, 2u);
+store8(p30 + 1, i1);
+j0 = v1;
+i1 = v10;
+store8(p30 + 0, i1);
+goto l25;
+l26:;
+j0 = v1;
+i1 = UINT32_C(0);
+p31 = write_at(j0, m, 6u);
+store16(p31 + 0, i1);
+j0 = v0;
+j1 = UINT64_C(784);
+j0 = j0 + j1;
+v1 = j0;
+j0 = load16(p31 + 4);
+v11 = j0;
+j1 = UINT64_C(776);
+i0 = (j0 > j1);
+if (i0) { goto l27; }
+j0 = v0;
+j1 = v11;
+j0 = j0 + j1;
+i1 = v10;
+p32 = write_at(j0, m, 1u);
+store8(p32 + 0, i1);
+j0 = v1;
+j1 = v1;
+i1 = load16(p31 + 4);
+i2 = UINT32_C(1);
+i1 = i1 + i2;
+store16(p31 + 4, i1);
+j0 = v0;
+j1 = UINT64_C(786);
+j0 = j0 + j1;
+v1 = j0;
+j1 = v1;
+p33 = write_at(j1, m, 2u);
+i1 = load16(p33 + 0);
+v12 = i1;
+i2 = v10;
+i1 = i1 ^ i2;
+v10 = i1;
+i2 = UINT32_C(4);
+i1 = i1 << (i2 & 31);
+i2 = UINT32_C(240);
+i1 = i1 & i2;
+i2 = v10;
+i3 = UINT32_C(255);
+i2 = i2 & i3;
+i1 = i1 ^ i2;
+v10 = i1;
+i2 = UINT32_C(3);
+i1 = i1 << (i2 & 31);
+i2 = v12;
+i3 = UINT32_C(8);
+i2 = i2 >> (i3 & 31);
+i1 = i1 ^ i2;
+i2 = v10;
+i3 = UINT32_C(8);
+i2 = i2 << (i3 & 31);
+i1 = i1 ^ i2;
+i2 = v10;
+i3 = UINT32_C(4);
+i2 = i2 >> (i3 & 31);
+i1 = i1 ^ i2;
+store16(p33 + 0, i1);
+goto l25;
+l27:;
+j0 = v0;
+j1 = UINT64_C(782);
+j0 = j0 + j1;
+i1 = UINT32_C(1);
+store8(p31 + 2, i1);
+l25:;
+i0 = v7;
+i1 = UINT32_C(1);
+i0 = i0 + i1;
+v7 = i0;
+i1 = UINT32_C(255);
+i0 = i0 & i1;
+i1 = v9;
+i2 = UINT32_C(255);
+i1 = i1 & i2;
+i0 = (i0 < i1);
+if (i0) { goto l24; }
+j0 = v6;
+i0 = load8(p5 + 0);
+i1 = UINT32_C(5);
+i0 = (i0 < i1);
+v10 = i0;
+l19:;
+j0 = v0;
+j1 = UINT64_C(778);
+j0 = j0 + j1;
+i1 = UINT32_C(0);
+p34 = write_at(j0, m, 2u);
+store8(p34 + 0, i1);
+j0 = v0;
+j1 = UINT64_C(779);
+j0 = j0 + j1;
+i1 = v10;
+store8(p34 + 1, i1);
+l6:;
 j0 = v4;
-m->g0 = j0;
-j0 = v8;
+j1 = UINT64_C(1);
+j0 = j0 + j1;
+v4 = j0;
+i0 = v8;
+i0 = (i0 == 0);
+if (i0) { goto l3; }
+j0 = v3;
+i1 = v8;
+p35 = write_at(j0, m, 1u);
+store8(p35 + 0, i1);
+j0 = v4;
 r = j0;
 return r;
 l2:;
-trap();
+fio2070_trap();
 return r;
 }
-static uint32_t enter_wire_read(struct machine *m, uint64_t v0, uint32_t v1)
-{
-uint32_t i0;
-uint32_t i1;
-uint64_t j0;
-uint32_t r;
-i0 = rattle_enter(m);
-i0 = (i0 == 0);
-if (i0) { goto l2; }
-trap();
-trap();
-l2:;
-j0 = v0;
-i1 = v1;
-i0 = proved_wire_read(m, j0, i1);
-v1 = i0;
-rattle_leave(m);
-i0 = v1;
-r = i0;
-return r;
-}
-static uint32_t proved_wire_read(struct machine *m, uint64_t v0, uint32_t v1)
-{
-uint64_t v2 = 0;
-uint32_t i0;
-uint32_t i1;
-uint64_t j0;
-uint64_t j1;
-uint32_t r;
-j0 = m->g0;
-v2 = j0;
-j1 = UINT64_C(15);
-i0 = (SIGNED64(j0) > SIGNED64(j1));
-if (i0) { goto l2; }
-trap();
-l2:;
-j0 = v0;
-i1 = v1;
-i0 = fio_wire_decoder_Wire_read(m, j0, i1);
-v1 = i0;
-j0 = v2;
-m->g0 = j0;
-i0 = v1;
-i1 = UINT32_C(255);
-i0 = i0 & i1;
-r = i0;
-return r;
-}
-static uint64_t enter_wire_read_many(struct machine *m, uint64_t v0, uint64_t v1, uint64_t v2, uint64_t v3)
+static uint64_t enter_wire_read(struct machine *m, uint64_t v0, uint64_t v1, uint64_t v2, uint64_t v3)
 {
 uint32_t i0;
 uint64_t j0;
@@ -22312,29 +22125,32 @@ uint64_t r;
 i0 = rattle_enter(m);
 i0 = (i0 == 0);
 if (i0) { goto l2; }
-trap();
-trap();
+fio2070_trap();
+fio2070_trap();
 l2:;
 j0 = v0;
 j1 = v1;
 j2 = v2;
 j3 = v3;
-j0 = proved_wire_read_many(m, j0, j1, j2, j3);
+j0 = proved_wire_read(m, j0, j1, j2, j3);
 v3 = j0;
 rattle_leave(m);
 j0 = v3;
 r = j0;
 return r;
 }
-static uint64_t proved_wire_read_many(struct machine *m, uint64_t v0, uint64_t v1, uint64_t v2, uint64_t v3)
+static uint64_t proved_wire_read(struct machine *m, uint64_t v0, uint64_t v1, uint64_t v2, uint64_t v3)
 {
 uint64_t v4 = 0;
-uint64_t v5 = 0;
-uint64_t v6 = 0;
+uint32_t v5 = 0;
+uint32_t v6 = 0;
 uint32_t v7 = 0;
 uint64_t v8 = 0;
+uint64_t v9 = 0;
+uint32_t v10 = 0;
 uint32_t i0;
 uint32_t i1;
+uint32_t i2;
 uint32_t i3;
 uint64_t j0;
 uint64_t j1;
@@ -22343,13 +22159,31 @@ uint64_t j3;
 uint64_t r;
 uint8_t *p1;
 uint8_t *p2;
+uint8_t *p3;
+uint8_t *p4;
+uint8_t *p5;
+uint8_t *p6;
+uint8_t *p7;
+uint8_t *p8;
+uint8_t *p9;
+uint8_t *p10;
+uint8_t *p11;
+uint8_t *p12;
+uint8_t *p13;
+uint8_t *p14;
+uint8_t *p15;
+uint8_t *p16;
+uint8_t *p17;
+uint8_t *p18;
+uint8_t *p19;
+uint8_t *p20;
+uint8_t *p21;
 j0 = m->g0;
-v4 = j0;
 j1 = UINT64_C(16);
 i0 = (SIGNED64(j0) < SIGNED64(j1));
 if (i0) { goto l2; }
 j0 = UINT64_C(0);
-v5 = j0;
+v4 = j0;
 j0 = v1;
 j1 = UINT64_C(4096);
 j2 = UINT64_C(0);
@@ -22357,49 +22191,361 @@ j3 = v1;
 i3 = (j3 == 0);
 j1 = i3 ? j1 : j2;
 j0 = j0 + j1;
-v6 = j0;
-l4:;
-j0 = v2;
-j1 = v5;
-i0 = (j0 != j1);
-if (i0) { goto l5; }
-i0 = UINT32_C(0);
-v7 = i0;
-j0 = v2;
-v8 = j0;
-goto l3;
-l5:;
-j0 = v6;
-j1 = v5;
-j0 = j0 + j1;
 v1 = j0;
-j0 = v5;
-j1 = UINT64_C(1);
+l3:;
+j0 = v2;
+j1 = v4;
+i0 = (j0 != j1);
+if (i0) { goto l4; }
+j0 = v3;
+i1 = UINT32_C(0);
+p1 = write_at(j0, m, 1u);
+store8(p1 + 0, i1);
+j0 = v2;
+r = j0;
+return r;
+l4:;
+j0 = v1;
+j1 = v4;
 j0 = j0 + j1;
-v8 = j0;
-v5 = j0;
+p2 = read_at(j0, m, 1u);
+i0 = load8(p2 + 0);
+v5 = i0;
 j0 = v0;
-j1 = v1;
-p1 = read_at(j1, m, 1u);
-i1 = load8(p1 + 0);
-i0 = fio_wire_decoder_Wire_read(m, j0, i1);
+j1 = UINT64_C(777);
+j0 = j0 + j1;
+p3 = read_at(j0, m, 1u);
+i0 = load8(p3 + 0);
+v6 = i0;
+i1 = UINT32_C(3);
+i0 = (i0 > i1);
+if (i0) { goto l11; }
+i0 = v5;
+i1 = UINT32_C(126);
+i0 = (i0 != i1);
+if (i0) { goto l12; }
+i0 = v6;
+switch (i0) {
+case 0:
+goto l7;
+case 1:
+goto l14;
+default:
+goto l13;
+}
+l14:;
+j0 = v0;
+j1 = UINT64_C(778);
+j0 = j0 + j1;
+p4 = read_at(j0, m, 2u);
+i0 = load16(p4 + 0);
+v5 = i0;
+if (i0) { goto l15; }
+i0 = UINT32_C(0);
+v6 = i0;
+goto l7;
+l15:;
+i0 = UINT32_C(3);
+v6 = i0;
+i0 = v5;
+i1 = UINT32_C(5);
+i0 = (i0 < i1);
+if (i0) { goto l7; }
+j0 = v0;
+j1 = UINT64_C(780);
+j0 = j0 + j1;
+p5 = read_at(j0, m, 2u);
+i0 = load16(p5 + 0);
+i1 = UINT32_C(65535);
+i0 = i0 & i1;
+i1 = UINT32_C(61624);
+i0 = (i0 != i1);
+if (i0) { goto l7; }
+j0 = v0;
+j1 = UINT64_C(784);
+j0 = j0 + j1;
+p6 = read_at(j0 + UINT64_C(18446744073709551614), m, 4u);
+i0 = load16(p6 + 2);
+v7 = i0;
+j0 = v0;
+j1 = UINT64_C(782);
+j0 = j0 + j1;
+i0 = load16(p6 + 0);
+v6 = i0;
+i1 = UINT32_C(65535);
+i0 = i0 & i1;
 i1 = UINT32_C(255);
+i0 = (i0 > i1);
+if (i0) { goto l17; }
+i0 = v6;
+i1 = UINT32_C(65535);
+i0 = i0 & i1;
+j1 = v0;
+p7 = read_at(j1, m, 1u);
+i1 = load8(p7 + 0);
+i0 = (i0 != i1);
+if (i0) { goto l16; }
+l17:;
+i0 = UINT32_C(1);
+v6 = i0;
+i0 = UINT32_C(4);
+v5 = i0;
+i0 = v7;
+i1 = UINT32_C(65535);
 i0 = i0 & i1;
 v7 = i0;
-i0 = (i0 == 0);
-if (i0) { goto l4; }
-l3:;
-j0 = v3;
-i1 = v7;
-p2 = write_at(j0, m, 1u);
-store8(p2 + 0, i1);
-j0 = v4;
-m->g0 = j0;
+i1 = UINT32_C(255);
+i0 = (i0 > i1);
+if (i0) { goto l6; }
+i0 = v7;
+j1 = v0;
+p8 = read_at(j1 + UINT64_C(1), m, 1u);
+i1 = load8(p8 + 0);
+i0 = (i0 == i1);
+if (i0) { goto l6; }
+l16:;
+i0 = UINT32_C(2);
+v6 = i0;
+i0 = UINT32_C(4);
+v5 = i0;
+goto l6;
+l13:;
+i0 = UINT32_C(3);
+v6 = i0;
+goto l7;
+l12:;
+i0 = v6;
+i1 = UINT32_C(4294967295);
+i0 = i0 + i1;
+v7 = i0;
+i0 = UINT32_C(0);
+v6 = i0;
+i0 = v7;
+switch (i0) {
+case 0:
+goto l19;
+case 1:
+goto l18;
+default:
+goto l5;
+}
+l19:;
+i0 = v5;
+i1 = UINT32_C(125);
+i0 = (i0 == i1);
+if (i0) { goto l8; }
+i0 = UINT32_C(3);
+v7 = i0;
+j0 = v0;
+j1 = UINT64_C(778);
+j0 = j0 + j1;
+p9 = read_at(j0, m, 2u);
+i0 = load16(p9 + 0);
+v6 = i0;
+i1 = UINT32_C(776);
+i0 = (i0 > i1);
+if (i0) { goto l9; }
+goto l10;
+l18:;
+i0 = UINT32_C(3);
+v7 = i0;
+j0 = v0;
+j1 = UINT64_C(778);
+j0 = j0 + j1;
+v8 = j0;
+p10 = read_at(j0, m, 2u);
+j0 = load16(p10 + 0);
+v9 = j0;
+j1 = UINT64_C(776);
+i0 = (j0 > j1);
+if (i0) { goto l20; }
+j0 = v0;
+j1 = v9;
+j0 = j0 + j1;
+i1 = v5;
+i2 = UINT32_C(32);
+i1 = i1 ^ i2;
+v5 = i1;
+p11 = write_at(j0, m, 1u);
+store8(p11 + 0, i1);
+i0 = UINT32_C(1);
+v7 = i0;
 j0 = v8;
+j1 = v8;
+i1 = load16(p10 + 0);
+i2 = UINT32_C(1);
+i1 = i1 + i2;
+p12 = write_at(j0, m, 4u);
+store16(p12 + 0, i1);
+j0 = v0;
+j1 = UINT64_C(780);
+j0 = j0 + j1;
+v8 = j0;
+j1 = v8;
+i1 = load16(p12 + 2);
+v10 = i1;
+i2 = UINT32_C(255);
+i1 = i1 & i2;
+i2 = v5;
+i1 = i1 ^ i2;
+v5 = i1;
+i2 = UINT32_C(4);
+i1 = i1 << (i2 & 31);
+i2 = UINT32_C(240);
+i1 = i1 & i2;
+i2 = v5;
+i1 = i1 ^ i2;
+v5 = i1;
+i2 = UINT32_C(3);
+i1 = i1 << (i2 & 31);
+i2 = v10;
+i3 = UINT32_C(8);
+i2 = i2 >> (i3 & 31);
+i1 = i1 ^ i2;
+i2 = v5;
+i3 = UINT32_C(8);
+i2 = i2 << (i3 & 31);
+i1 = i1 ^ i2;
+i2 = v5;
+i3 = UINT32_C(4);
+i2 = i2 >> (i3 & 31);
+i1 = i1 ^ i2;
+store16(p12 + 2, i1);
+l20:;
+j0 = v0;
+j1 = UINT64_C(777);
+j0 = j0 + j1;
+i1 = v7;
+p13 = write_at(j0, m, 1u);
+store8(p13 + 0, i1);
+goto l5;
+l11:;
+j0 = v0;
+j1 = UINT64_C(778);
+j0 = j0 + j1;
+i1 = UINT32_C(4294901760);
+p14 = write_at(j0, m, 4u);
+store32(p14 + 0, i1);
+i0 = UINT32_C(0);
+v6 = i0;
+i0 = v5;
+i1 = UINT32_C(4294967171);
+i0 = i0 + i1;
+switch (i0) {
+case 0:
+goto l8;
+case 1:
+goto l7;
+default:
+goto l10;
+}
+l10:;
+j0 = v0;
+i1 = v6;
+j1 = (uint64_t)i1;
+j0 = j0 + j1;
+i1 = v5;
+p15 = write_at(j0, m, 1u);
+store8(p15 + 0, i1);
+i0 = UINT32_C(1);
+v7 = i0;
+j0 = v0;
+j1 = UINT64_C(778);
+j0 = j0 + j1;
+v8 = j0;
+j1 = v8;
+p16 = write_at(j1, m, 4u);
+i1 = load16(p16 + 0);
+i2 = UINT32_C(1);
+i1 = i1 + i2;
+store16(p16 + 0, i1);
+j0 = v0;
+j1 = UINT64_C(780);
+j0 = j0 + j1;
+v8 = j0;
+j1 = v8;
+i1 = load16(p16 + 2);
+v10 = i1;
+i2 = UINT32_C(255);
+i1 = i1 & i2;
+i2 = v5;
+i1 = i1 ^ i2;
+v6 = i1;
+i2 = UINT32_C(4);
+i1 = i1 << (i2 & 31);
+i2 = UINT32_C(240);
+i1 = i1 & i2;
+i2 = v6;
+i1 = i1 ^ i2;
+v6 = i1;
+i2 = UINT32_C(3);
+i1 = i1 << (i2 & 31);
+i2 = v10;
+i3 = UINT32_C(8);
+i2 = i2 >> (i3 & 31);
+i1 = i1 ^ i2;
+i2 = v6;
+i3 = UINT32_C(8);
+i2 = i2 << (i3 & 31);
+i1 = i1 ^ i2;
+i2 = v6;
+i3 = UINT32_C(4);
+i2 = i2 >> (i3 & 31);
+i1 = i1 ^ i2;
+store16(p16 + 2, i1);
+l9:;
+j0 = v0;
+j1 = UINT64_C(777);
+j0 = j0 + j1;
+i1 = v7;
+p17 = write_at(j0, m, 1u);
+store8(p17 + 0, i1);
+i0 = UINT32_C(0);
+v6 = i0;
+goto l5;
+l8:;
+j0 = v0;
+j1 = UINT64_C(777);
+j0 = j0 + j1;
+i1 = UINT32_C(2);
+p18 = write_at(j0, m, 1u);
+store8(p18 + 0, i1);
+i0 = UINT32_C(0);
+v6 = i0;
+goto l5;
+l7:;
+j0 = v0;
+j1 = UINT64_C(778);
+j0 = j0 + j1;
+i1 = UINT32_C(4294901760);
+p19 = write_at(j0, m, 4u);
+store32(p19 + 0, i1);
+i0 = UINT32_C(1);
+v5 = i0;
+l6:;
+j0 = v0;
+j1 = UINT64_C(777);
+j0 = j0 + j1;
+i1 = v5;
+p20 = write_at(j0, m, 1u);
+store8(p20 + 0, i1);
+l5:;
+j0 = v4;
+j1 = UINT64_C(1);
+j0 = j0 + j1;
+v4 = j0;
+i0 = v6;
+i0 = (i0 == 0);
+if (i0) { goto l3; }
+j0 = v3;
+i1 = v6;
+p21 = write_at(j0, m, 1u);
+store8(p21 + 0, i1);
+j0 = v4;
 r = j0;
 return r;
 l2:;
-trap();
+fio2070_trap();
 return r;
 }
 static uint64_t enter_command_items(struct machine *m, uint64_t v0, uint64_t v1, uint64_t v2, uint64_t v3)
@@ -22413,8 +22559,8 @@ uint64_t r;
 i0 = rattle_enter(m);
 i0 = (i0 == 0);
 if (i0) { goto l2; }
-trap();
-trap();
+fio2070_trap();
+fio2070_trap();
 l2:;
 j0 = v0;
 j1 = v1;
@@ -22609,7 +22755,7 @@ j1 = UINT64_C(15);
 i0 = (j0 > j1);
 if (i0) { goto l2; }
 l4:;
-trap();
+fio2070_trap();
 l3:;
 j0 = v8;
 j1 = UINT64_C(18446744073709551615);
@@ -22708,8 +22854,8 @@ uint8_t *p1;
 i0 = rattle_enter(m);
 i0 = (i0 == 0);
 if (i0) { goto l2; }
-trap();
-trap();
+fio2070_trap();
+fio2070_trap();
 l2:;
 j0 = v0;
 j1 = v1;
@@ -22777,7 +22923,7 @@ i0 = v2;
 r = i0;
 return r;
 l2:;
-trap();
+fio2070_trap();
 return r;
 }
 static uint32_t enter_checker_start_within(struct machine *m, uint64_t v0, uint64_t v1)
@@ -22792,8 +22938,8 @@ uint8_t *p1;
 i0 = rattle_enter(m);
 i0 = (i0 == 0);
 if (i0) { goto l2; }
-trap();
-trap();
+fio2070_trap();
+fio2070_trap();
 l2:;
 j0 = v0;
 j1 = v1;
@@ -22861,7 +23007,7 @@ i0 = v2;
 r = i0;
 return r;
 l2:;
-trap();
+fio2070_trap();
 return r;
 }
 static uint32_t enter_judge_start_anywhere(struct machine *m, uint64_t v0, uint64_t v1)
@@ -22876,8 +23022,8 @@ uint8_t *p1;
 i0 = rattle_enter(m);
 i0 = (i0 == 0);
 if (i0) { goto l2; }
-trap();
-trap();
+fio2070_trap();
+fio2070_trap();
 l2:;
 j0 = v0;
 j1 = v1;
@@ -23006,7 +23152,7 @@ i0 = v3;
 r = i0;
 return r;
 l2:;
-trap();
+fio2070_trap();
 return r;
 }
 static uint32_t enter_judge_start_begun(struct machine *m, uint64_t v0, uint64_t v1)
@@ -23021,8 +23167,8 @@ uint8_t *p1;
 i0 = rattle_enter(m);
 i0 = (i0 == 0);
 if (i0) { goto l2; }
-trap();
-trap();
+fio2070_trap();
+fio2070_trap();
 l2:;
 j0 = v0;
 j1 = v1;
@@ -23178,7 +23324,7 @@ i0 = v2;
 r = i0;
 return r;
 l2:;
-trap();
+fio2070_trap();
 return r;
 }
 static void enter_filters_configure(struct machine *m, uint64_t v0, uint64_t v1, uint64_t v2, uint64_t v3)
@@ -23191,8 +23337,8 @@ uint64_t j3;
 i0 = rattle_enter(m);
 i0 = (i0 == 0);
 if (i0) { goto l2; }
-trap();
-trap();
+fio2070_trap();
+fio2070_trap();
 l2:;
 j0 = v0;
 j1 = v1;
@@ -23416,7 +23562,7 @@ j0 = load64(p11 + 0);
 v4 = j0;
 goto l3;
 l4:;
-trap();
+fio2070_trap();
 l3:;
 j0 = v9;
 j1 = v4;
@@ -23442,8 +23588,8 @@ uint64_t j3;
 i0 = rattle_enter(m);
 i0 = (i0 == 0);
 if (i0) { goto l2; }
-trap();
-trap();
+fio2070_trap();
+fio2070_trap();
 l2:;
 j0 = v0;
 j1 = v1;
@@ -23704,7 +23850,7 @@ i0 = (i0 == 0);
 if (i0) { goto l5; }
 goto l2;
 l4:;
-trap();
+fio2070_trap();
 l3:;
 j0 = v0;
 j1 = UINT64_C(4);
@@ -23739,8 +23885,8 @@ uint32_t r;
 i0 = rattle_enter(m);
 i0 = (i0 == 0);
 if (i0) { goto l2; }
-trap();
-trap();
+fio2070_trap();
+fio2070_trap();
 l2:;
 j0 = v0;
 j1 = v1;
@@ -24065,7 +24211,7 @@ i0 = i0 & i1;
 r = i0;
 return r;
 l2:;
-trap();
+fio2070_trap();
 return r;
 }
 static uint32_t enter_checker_sent(struct machine *m, uint64_t v0, uint64_t v1, uint64_t v2, uint64_t v3)
@@ -24080,8 +24226,8 @@ uint32_t r;
 i0 = rattle_enter(m);
 i0 = (i0 == 0);
 if (i0) { goto l2; }
-trap();
-trap();
+fio2070_trap();
+fio2070_trap();
 l2:;
 j0 = v0;
 j1 = v1;
@@ -24406,7 +24552,7 @@ i0 = i0 & i1;
 r = i0;
 return r;
 l2:;
-trap();
+fio2070_trap();
 return r;
 }
 static void enter_judge_lose(struct machine *m, uint64_t v0)
@@ -24416,8 +24562,8 @@ uint64_t j0;
 i0 = rattle_enter(m);
 i0 = (i0 == 0);
 if (i0) { goto l2; }
-trap();
-trap();
+fio2070_trap();
+fio2070_trap();
 l2:;
 j0 = v0;
 proved_judge_lose(m, j0);
@@ -24595,11 +24741,6 @@ store32(p2 + 36, i1);
 j0 = v0;
 i1 = UINT32_C(0);
 store8(p2 + 55, i1);
-j0 = v0;
-j1 = UINT64_C(722);
-j0 = j0 + j1;
-i1 = UINT32_C(1);
-store8(p2 + 50, i1);
 j0 = v19;
 i1 = v16;
 p3 = write_at(j0, m, 1u);
@@ -24685,7 +24826,7 @@ i1 = i3 ? i1 : i2;
 store8(p2 + 0, i1);
 return;
 l2:;
-trap();
+fio2070_trap();
 return;
 }
 static void enter_poller_hear(struct machine *m, uint64_t v0, uint64_t v1, uint64_t v2, uint64_t v3, uint64_t v4, uint64_t v5)
@@ -24700,8 +24841,8 @@ uint64_t j5;
 i0 = rattle_enter(m);
 i0 = (i0 == 0);
 if (i0) { goto l2; }
-trap();
-trap();
+fio2070_trap();
+fio2070_trap();
 l2:;
 j0 = v0;
 j1 = v1;
@@ -25371,39 +25512,38 @@ i1 = v12;
 store8(p13 + 16, i1);
 return;
 l2:;
-trap();
+fio2070_trap();
 return;
 }
-static uint32_t enter_judge_heard(struct machine *m, uint64_t v0, uint32_t v1, uint64_t v2, uint64_t v3, uint64_t v4)
+static uint32_t enter_judge_heard(struct machine *m, uint64_t v0, uint64_t v1, uint64_t v2, uint64_t v3)
 {
+uint32_t v4 = 0;
 uint32_t i0;
-uint32_t i1;
 uint64_t j0;
+uint64_t j1;
 uint64_t j2;
 uint64_t j3;
-uint64_t j4;
 uint32_t r;
 i0 = rattle_enter(m);
 i0 = (i0 == 0);
 if (i0) { goto l2; }
-trap();
-trap();
+fio2070_trap();
+fio2070_trap();
 l2:;
 j0 = v0;
-i1 = v1;
+j1 = v1;
 j2 = v2;
 j3 = v3;
-j4 = v4;
-i0 = proved_judge_heard(m, j0, i1, j2, j3, j4);
-v1 = i0;
+i0 = proved_judge_heard(m, j0, j1, j2, j3);
+v4 = i0;
 rattle_leave(m);
-i0 = v1;
+i0 = v4;
 r = i0;
 return r;
 }
-static uint32_t proved_judge_heard(struct machine *m, uint64_t v0, uint32_t v1, uint64_t v2, uint64_t v3, uint64_t v4)
+static uint32_t proved_judge_heard(struct machine *m, uint64_t v0, uint64_t v1, uint64_t v2, uint64_t v3)
 {
-uint64_t v5 = 0;
+uint64_t v4 = 0;
 uint32_t i0;
 uint32_t i1;
 uint32_t i2;
@@ -25421,50 +25561,50 @@ uint8_t *p3;
 j0 = m->g0;
 j1 = UINT64_C(16);
 j0 = j0 - j1;
-v5 = j0;
+v4 = j0;
 m->g0 = j0;
-j0 = v5;
-v5 = j0;
+j0 = v4;
+v4 = j0;
 j1 = UINT64_C(15);
 i0 = (SIGNED64(j0) > SIGNED64(j1));
 if (i0) { goto l2; }
-trap();
+fio2070_trap();
 l2:;
-j0 = v5;
+j0 = v4;
 i1 = UINT32_C(0);
 p2 = write_at(j0, m, 10u);
 store16(p2 + 8, i1);
-j0 = v5;
+j0 = v4;
 j1 = UINT64_C(0);
 store64(p2 + 0, j1);
-j0 = v5;
+j0 = v4;
 j1 = v0;
-i2 = v1;
+i2 = UINT32_C(0);
 i3 = UINT32_C(0);
-j4 = v2;
+j4 = v1;
 j5 = UINT64_C(4096);
 j6 = UINT64_C(0);
-j7 = v2;
+j7 = v1;
 i7 = (j7 == 0);
 j5 = i7 ? j5 : j6;
 j4 = j4 + j5;
-j5 = v3;
+j5 = v2;
 fio_c_judge_take(m, j0, j1, i2, i3, j4, j5);
-j0 = v4;
-j1 = v5;
+j0 = v3;
+j1 = v4;
 i1 = load16(p2 + 8);
 p3 = write_at(j0, m, 10u);
 store16(p3 + 8, i1);
-j0 = v4;
-j1 = v5;
+j0 = v3;
+j1 = v4;
 j1 = load64(p2 + 0);
-v2 = j1;
+v1 = j1;
 store64(p3 + 0, j1);
-j0 = v5;
+j0 = v4;
 j1 = UINT64_C(16);
 j0 = j0 + j1;
 m->g0 = j0;
-j0 = v2;
+j0 = v1;
 i0 = (uint32_t)j0;
 i1 = UINT32_C(255);
 i0 = i0 & i1;
@@ -25483,8 +25623,8 @@ uint32_t r;
 i0 = rattle_enter(m);
 i0 = (i0 == 0);
 if (i0) { goto l2; }
-trap();
-trap();
+fio2070_trap();
+fio2070_trap();
 l2:;
 j0 = v0;
 i1 = v1;
@@ -25525,7 +25665,7 @@ v5 = j0;
 j1 = UINT64_C(15);
 i0 = (SIGNED64(j0) > SIGNED64(j1));
 if (i0) { goto l2; }
-trap();
+fio2070_trap();
 l2:;
 j0 = v5;
 i1 = UINT32_C(0);
@@ -25582,8 +25722,8 @@ uint64_t r;
 i0 = rattle_enter(m);
 i0 = (i0 == 0);
 if (i0) { goto l2; }
-trap();
-trap();
+fio2070_trap();
+fio2070_trap();
 l2:;
 j0 = v0;
 j1 = v1;
@@ -25989,7 +26129,7 @@ i0 = UINT32_C(0);
 v13 = i0;
 goto l3;
 l7:;
-trap();
+fio2070_trap();
 l6:;
 i0 = UINT32_C(9);
 v14 = i0;
@@ -26229,982 +26369,6 @@ j0 = v7;
 r = j0;
 return r;
 }
-static uint64_t enter_encode_configure_inputs_answer(struct machine *m, uint32_t v0, uint64_t v1, uint64_t v2)
-{
-uint32_t i0;
-uint64_t j0;
-uint64_t j1;
-uint64_t j2;
-uint64_t r;
-i0 = rattle_enter(m);
-i0 = (i0 == 0);
-if (i0) { goto l2; }
-trap();
-trap();
-l2:;
-i0 = v0;
-j1 = v1;
-j2 = v2;
-j0 = proved_encode_configure_inputs_answer(m, i0, j1, j2);
-v2 = j0;
-rattle_leave(m);
-j0 = v2;
-r = j0;
-return r;
-}
-static uint64_t proved_encode_configure_inputs_answer(struct machine *m, uint32_t v0, uint64_t v1, uint64_t v2)
-{
-uint32_t i0;
-uint32_t i1;
-uint32_t i2;
-uint32_t i3;
-uint64_t j0;
-uint64_t j1;
-uint64_t j2;
-uint64_t j3;
-uint64_t r;
-uint8_t *p1;
-j0 = m->g0;
-j1 = UINT64_C(16);
-i0 = (SIGNED64(j0) < SIGNED64(j1));
-if (i0) { goto l2; }
-j0 = v2;
-j1 = UINT64_C(2);
-i0 = (j0 < j1);
-if (i0) { goto l3; }
-j0 = v1;
-j1 = UINT64_C(4096);
-j2 = UINT64_C(0);
-j3 = v1;
-i3 = (j3 == 0);
-j1 = i3 ? j1 : j2;
-j0 = j0 + j1;
-i1 = v0;
-i2 = UINT32_C(8);
-i1 = i1 << (i2 & 31);
-i2 = UINT32_C(179);
-i1 = i1 | i2;
-p1 = write_at(j0, m, 2u);
-store16(p1 + 0, i1);
-l3:;
-j0 = UINT64_C(2);
-r = j0;
-return r;
-l2:;
-trap();
-return r;
-}
-static uint64_t enter_encode_filtered_inputs_answer(struct machine *m, uint64_t v0, uint32_t v1, uint64_t v2, uint64_t v3)
-{
-uint32_t i0;
-uint32_t i1;
-uint64_t j0;
-uint64_t j2;
-uint64_t j3;
-uint64_t r;
-i0 = rattle_enter(m);
-i0 = (i0 == 0);
-if (i0) { goto l2; }
-trap();
-trap();
-l2:;
-j0 = v0;
-i1 = v1;
-j2 = v2;
-j3 = v3;
-j0 = proved_encode_filtered_inputs_answer(m, j0, i1, j2, j3);
-v3 = j0;
-rattle_leave(m);
-j0 = v3;
-r = j0;
-return r;
-}
-static uint64_t proved_encode_filtered_inputs_answer(struct machine *m, uint64_t v0, uint32_t v1, uint64_t v2, uint64_t v3)
-{
-uint32_t i0;
-uint32_t i1;
-uint32_t i2;
-uint32_t i3;
-uint64_t j0;
-uint64_t j1;
-uint64_t j2;
-uint64_t j3;
-uint64_t r;
-uint8_t *p1;
-j0 = m->g0;
-j1 = UINT64_C(16);
-i0 = (SIGNED64(j0) < SIGNED64(j1));
-if (i0) { goto l2; }
-j0 = v3;
-j1 = UINT64_C(13);
-i0 = (j0 < j1);
-if (i0) { goto l3; }
-j0 = v2;
-j1 = UINT64_C(4096);
-j2 = UINT64_C(0);
-j3 = v2;
-i3 = (j3 == 0);
-j1 = i3 ? j1 : j2;
-j0 = j0 + j1;
-v2 = j0;
-j1 = v0;
-p1 = write_at(j0, m, 13u);
-store64(p1 + 1, j1);
-j0 = v2;
-i1 = UINT32_C(181);
-store8(p1 + 0, i1);
-j0 = v2;
-i1 = v1;
-i2 = UINT32_C(16711935);
-i1 = i1 & i2;
-i2 = UINT32_C(8);
-i1 = rotate32(i1, 0u - i2);
-i2 = v1;
-i3 = UINT32_C(24);
-i2 = rotate32(i2, 0u - i3);
-i3 = UINT32_C(16711935);
-i2 = i2 & i3;
-i1 = i1 | i2;
-store32(p1 + 9, i1);
-l3:;
-j0 = UINT64_C(13);
-r = j0;
-return r;
-l2:;
-trap();
-return r;
-}
-static uint64_t enter_encode_load_counter_answer(struct machine *m, uint32_t v0, uint64_t v1, uint64_t v2)
-{
-uint32_t i0;
-uint64_t j0;
-uint64_t j1;
-uint64_t j2;
-uint64_t r;
-i0 = rattle_enter(m);
-i0 = (i0 == 0);
-if (i0) { goto l2; }
-trap();
-trap();
-l2:;
-i0 = v0;
-j1 = v1;
-j2 = v2;
-j0 = proved_encode_load_counter_answer(m, i0, j1, j2);
-v2 = j0;
-rattle_leave(m);
-j0 = v2;
-r = j0;
-return r;
-}
-static uint64_t proved_encode_load_counter_answer(struct machine *m, uint32_t v0, uint64_t v1, uint64_t v2)
-{
-uint32_t i0;
-uint32_t i1;
-uint32_t i2;
-uint32_t i3;
-uint64_t j0;
-uint64_t j1;
-uint64_t j2;
-uint64_t j3;
-uint64_t r;
-uint8_t *p1;
-j0 = m->g0;
-j1 = UINT64_C(16);
-i0 = (SIGNED64(j0) < SIGNED64(j1));
-if (i0) { goto l2; }
-j0 = v2;
-j1 = UINT64_C(2);
-i0 = (j0 < j1);
-if (i0) { goto l3; }
-j0 = v1;
-j1 = UINT64_C(4096);
-j2 = UINT64_C(0);
-j3 = v1;
-i3 = (j3 == 0);
-j1 = i3 ? j1 : j2;
-j0 = j0 + j1;
-i1 = v0;
-i2 = UINT32_C(8);
-i1 = i1 << (i2 & 31);
-i2 = UINT32_C(178);
-i1 = i1 | i2;
-p1 = write_at(j0, m, 2u);
-store16(p1 + 0, i1);
-l3:;
-j0 = UINT64_C(2);
-r = j0;
-return r;
-l2:;
-trap();
-return r;
-}
-static uint64_t enter_encode_raw_inputs_answer(struct machine *m, uint64_t v0, uint32_t v1, uint64_t v2, uint64_t v3)
-{
-uint32_t i0;
-uint32_t i1;
-uint64_t j0;
-uint64_t j2;
-uint64_t j3;
-uint64_t r;
-i0 = rattle_enter(m);
-i0 = (i0 == 0);
-if (i0) { goto l2; }
-trap();
-trap();
-l2:;
-j0 = v0;
-i1 = v1;
-j2 = v2;
-j3 = v3;
-j0 = proved_encode_raw_inputs_answer(m, j0, i1, j2, j3);
-v3 = j0;
-rattle_leave(m);
-j0 = v3;
-r = j0;
-return r;
-}
-static uint64_t proved_encode_raw_inputs_answer(struct machine *m, uint64_t v0, uint32_t v1, uint64_t v2, uint64_t v3)
-{
-uint32_t i0;
-uint32_t i1;
-uint32_t i2;
-uint32_t i3;
-uint64_t j0;
-uint64_t j1;
-uint64_t j2;
-uint64_t j3;
-uint64_t r;
-uint8_t *p1;
-j0 = m->g0;
-j1 = UINT64_C(16);
-i0 = (SIGNED64(j0) < SIGNED64(j1));
-if (i0) { goto l2; }
-j0 = v3;
-j1 = UINT64_C(13);
-i0 = (j0 < j1);
-if (i0) { goto l3; }
-j0 = v2;
-j1 = UINT64_C(4096);
-j2 = UINT64_C(0);
-j3 = v2;
-i3 = (j3 == 0);
-j1 = i3 ? j1 : j2;
-j0 = j0 + j1;
-v2 = j0;
-j1 = v0;
-p1 = write_at(j0, m, 13u);
-store64(p1 + 1, j1);
-j0 = v2;
-i1 = UINT32_C(180);
-store8(p1 + 0, i1);
-j0 = v2;
-i1 = v1;
-i2 = UINT32_C(16711935);
-i1 = i1 & i2;
-i2 = UINT32_C(8);
-i1 = rotate32(i1, 0u - i2);
-i2 = v1;
-i3 = UINT32_C(24);
-i2 = rotate32(i2, 0u - i3);
-i3 = UINT32_C(16711935);
-i2 = i2 & i3;
-i1 = i1 | i2;
-store32(p1 + 9, i1);
-l3:;
-j0 = UINT64_C(13);
-r = j0;
-return r;
-l2:;
-trap();
-return r;
-}
-static uint64_t enter_encode_status_answer(struct machine *m, uint32_t v0, uint32_t v1, uint32_t v2, uint32_t v3, uint64_t v4, uint64_t v5)
-{
-uint32_t i0;
-uint32_t i1;
-uint32_t i2;
-uint32_t i3;
-uint64_t j0;
-uint64_t j4;
-uint64_t j5;
-uint64_t r;
-i0 = rattle_enter(m);
-i0 = (i0 == 0);
-if (i0) { goto l2; }
-trap();
-trap();
-l2:;
-i0 = v0;
-i1 = v1;
-i2 = v2;
-i3 = v3;
-j4 = v4;
-j5 = v5;
-j0 = proved_encode_status_answer(m, i0, i1, i2, i3, j4, j5);
-v5 = j0;
-rattle_leave(m);
-j0 = v5;
-r = j0;
-return r;
-}
-static uint64_t proved_encode_status_answer(struct machine *m, uint32_t v0, uint32_t v1, uint32_t v2, uint32_t v3, uint64_t v4, uint64_t v5)
-{
-uint32_t i0;
-uint32_t i1;
-uint32_t i2;
-uint32_t i3;
-uint64_t j0;
-uint64_t j1;
-uint64_t j2;
-uint64_t j3;
-uint64_t r;
-uint8_t *p1;
-j0 = m->g0;
-j1 = UINT64_C(16);
-i0 = (SIGNED64(j0) < SIGNED64(j1));
-if (i0) { goto l2; }
-j0 = v5;
-j1 = UINT64_C(8);
-i0 = (j0 < j1);
-if (i0) { goto l3; }
-j0 = v4;
-j1 = UINT64_C(4096);
-j2 = UINT64_C(0);
-j3 = v4;
-i3 = (j3 == 0);
-j1 = i3 ? j1 : j2;
-j0 = j0 + j1;
-i1 = v3;
-i2 = UINT32_C(16711935);
-i1 = i1 & i2;
-i2 = UINT32_C(8);
-i1 = rotate32(i1, 0u - i2);
-i2 = v3;
-i3 = UINT32_C(24);
-i2 = rotate32(i2, 0u - i3);
-i3 = UINT32_C(16711935);
-i2 = i2 & i3;
-i1 = i1 | i2;
-j1 = (uint64_t)i1;
-j2 = UINT64_C(32);
-j1 = j1 << (j2 & 63);
-i2 = v2;
-j2 = (uint64_t)i2;
-j3 = UINT64_C(255);
-j2 = j2 & j3;
-j3 = UINT64_C(24);
-j2 = j2 << (j3 & 63);
-j1 = j1 | j2;
-i2 = v1;
-j2 = (uint64_t)i2;
-j3 = UINT64_C(255);
-j2 = j2 & j3;
-j3 = UINT64_C(16);
-j2 = j2 << (j3 & 63);
-j1 = j1 | j2;
-i2 = v0;
-j2 = (uint64_t)i2;
-j3 = UINT64_C(255);
-j2 = j2 & j3;
-j3 = UINT64_C(8);
-j2 = j2 << (j3 & 63);
-j1 = j1 | j2;
-j2 = UINT64_C(177);
-j1 = j1 | j2;
-p1 = write_at(j0, m, 8u);
-store64(p1 + 0, j1);
-l3:;
-j0 = UINT64_C(8);
-r = j0;
-return r;
-l2:;
-trap();
-return r;
-}
-static uint64_t enter_encode_watchdog_answer(struct machine *m, uint32_t v0, uint64_t v1, uint64_t v2)
-{
-uint32_t i0;
-uint64_t j0;
-uint64_t j1;
-uint64_t j2;
-uint64_t r;
-i0 = rattle_enter(m);
-i0 = (i0 == 0);
-if (i0) { goto l2; }
-trap();
-trap();
-l2:;
-i0 = v0;
-j1 = v1;
-j2 = v2;
-j0 = proved_encode_watchdog_answer(m, i0, j1, j2);
-v2 = j0;
-rattle_leave(m);
-j0 = v2;
-r = j0;
-return r;
-}
-static uint64_t proved_encode_watchdog_answer(struct machine *m, uint32_t v0, uint64_t v1, uint64_t v2)
-{
-uint32_t i0;
-uint32_t i1;
-uint32_t i2;
-uint32_t i3;
-uint64_t j0;
-uint64_t j1;
-uint64_t j2;
-uint64_t j3;
-uint64_t r;
-uint8_t *p1;
-j0 = m->g0;
-j1 = UINT64_C(16);
-i0 = (SIGNED64(j0) < SIGNED64(j1));
-if (i0) { goto l2; }
-j0 = v2;
-j1 = UINT64_C(2);
-i0 = (j0 < j1);
-if (i0) { goto l3; }
-j0 = v1;
-j1 = UINT64_C(4096);
-j2 = UINT64_C(0);
-j3 = v1;
-i3 = (j3 == 0);
-j1 = i3 ? j1 : j2;
-j0 = j0 + j1;
-i1 = v0;
-i2 = UINT32_C(8);
-i1 = i1 << (i2 & 31);
-i2 = UINT32_C(186);
-i1 = i1 | i2;
-p1 = write_at(j0, m, 2u);
-store16(p1 + 0, i1);
-l3:;
-j0 = UINT64_C(2);
-r = j0;
-return r;
-l2:;
-trap();
-return r;
-}
-static uint64_t enter_encode_filtered_inputs(struct machine *m, uint64_t v0, uint64_t v1)
-{
-uint32_t i0;
-uint64_t j0;
-uint64_t j1;
-uint64_t r;
-i0 = rattle_enter(m);
-i0 = (i0 == 0);
-if (i0) { goto l2; }
-trap();
-trap();
-l2:;
-j0 = v0;
-j1 = v1;
-j0 = proved_encode_filtered_inputs(m, j0, j1);
-v1 = j0;
-rattle_leave(m);
-j0 = v1;
-r = j0;
-return r;
-}
-static uint64_t proved_encode_filtered_inputs(struct machine *m, uint64_t v0, uint64_t v1)
-{
-uint32_t i0;
-uint32_t i1;
-uint32_t i3;
-uint64_t j0;
-uint64_t j1;
-uint64_t j2;
-uint64_t j3;
-uint64_t r;
-uint8_t *p1;
-j0 = m->g0;
-j1 = UINT64_C(16);
-i0 = (SIGNED64(j0) < SIGNED64(j1));
-if (i0) { goto l2; }
-j0 = v1;
-i0 = (j0 == 0);
-if (i0) { goto l3; }
-j0 = v0;
-j1 = UINT64_C(4096);
-j2 = UINT64_C(0);
-j3 = v0;
-i3 = (j3 == 0);
-j1 = i3 ? j1 : j2;
-j0 = j0 + j1;
-i1 = UINT32_C(53);
-p1 = write_at(j0, m, 1u);
-store8(p1 + 0, i1);
-l3:;
-j0 = UINT64_C(1);
-r = j0;
-return r;
-l2:;
-trap();
-return r;
-}
-static uint64_t enter_encode_identify(struct machine *m, uint64_t v0, uint64_t v1)
-{
-uint32_t i0;
-uint64_t j0;
-uint64_t j1;
-uint64_t r;
-i0 = rattle_enter(m);
-i0 = (i0 == 0);
-if (i0) { goto l2; }
-trap();
-trap();
-l2:;
-j0 = v0;
-j1 = v1;
-j0 = proved_encode_identify(m, j0, j1);
-v1 = j0;
-rattle_leave(m);
-j0 = v1;
-r = j0;
-return r;
-}
-static uint64_t proved_encode_identify(struct machine *m, uint64_t v0, uint64_t v1)
-{
-uint32_t i0;
-uint32_t i1;
-uint32_t i3;
-uint64_t j0;
-uint64_t j1;
-uint64_t j2;
-uint64_t j3;
-uint64_t r;
-uint8_t *p1;
-j0 = m->g0;
-j1 = UINT64_C(16);
-i0 = (SIGNED64(j0) < SIGNED64(j1));
-if (i0) { goto l2; }
-j0 = v1;
-i0 = (j0 == 0);
-if (i0) { goto l3; }
-j0 = v0;
-j1 = UINT64_C(4096);
-j2 = UINT64_C(0);
-j3 = v0;
-i3 = (j3 == 0);
-j1 = i3 ? j1 : j2;
-j0 = j0 + j1;
-i1 = UINT32_C(60);
-p1 = write_at(j0, m, 1u);
-store8(p1 + 0, i1);
-l3:;
-j0 = UINT64_C(1);
-r = j0;
-return r;
-l2:;
-trap();
-return r;
-}
-static uint64_t enter_encode_load_counter(struct machine *m, uint32_t v0, uint64_t v1, uint64_t v2)
-{
-uint32_t i0;
-uint64_t j0;
-uint64_t j1;
-uint64_t j2;
-uint64_t r;
-i0 = rattle_enter(m);
-i0 = (i0 == 0);
-if (i0) { goto l2; }
-trap();
-trap();
-l2:;
-i0 = v0;
-j1 = v1;
-j2 = v2;
-j0 = proved_encode_load_counter(m, i0, j1, j2);
-v2 = j0;
-rattle_leave(m);
-j0 = v2;
-r = j0;
-return r;
-}
-static uint64_t proved_encode_load_counter(struct machine *m, uint32_t v0, uint64_t v1, uint64_t v2)
-{
-uint32_t i0;
-uint32_t i1;
-uint32_t i2;
-uint32_t i3;
-uint64_t j0;
-uint64_t j1;
-uint64_t j2;
-uint64_t j3;
-uint64_t r;
-uint8_t *p1;
-j0 = m->g0;
-j1 = UINT64_C(16);
-i0 = (SIGNED64(j0) < SIGNED64(j1));
-if (i0) { goto l2; }
-j0 = v2;
-j1 = UINT64_C(5);
-i0 = (j0 < j1);
-if (i0) { goto l3; }
-j0 = v1;
-j1 = UINT64_C(4096);
-j2 = UINT64_C(0);
-j3 = v1;
-i3 = (j3 == 0);
-j1 = i3 ? j1 : j2;
-j0 = j0 + j1;
-v1 = j0;
-i1 = UINT32_C(50);
-p1 = write_at(j0, m, 5u);
-store8(p1 + 0, i1);
-j0 = v1;
-i1 = v0;
-i2 = UINT32_C(16711935);
-i1 = i1 & i2;
-i2 = UINT32_C(8);
-i1 = rotate32(i1, 0u - i2);
-i2 = v0;
-i3 = UINT32_C(24);
-i2 = rotate32(i2, 0u - i3);
-i3 = UINT32_C(16711935);
-i2 = i2 & i3;
-i1 = i1 | i2;
-store32(p1 + 1, i1);
-l3:;
-j0 = UINT64_C(5);
-r = j0;
-return r;
-l2:;
-trap();
-return r;
-}
-static uint64_t enter_encode_poll(struct machine *m, uint32_t v0, uint64_t v1, uint64_t v2)
-{
-uint32_t i0;
-uint64_t j0;
-uint64_t j1;
-uint64_t j2;
-uint64_t r;
-i0 = rattle_enter(m);
-i0 = (i0 == 0);
-if (i0) { goto l2; }
-trap();
-trap();
-l2:;
-i0 = v0;
-j1 = v1;
-j2 = v2;
-j0 = proved_encode_poll(m, i0, j1, j2);
-v2 = j0;
-rattle_leave(m);
-j0 = v2;
-r = j0;
-return r;
-}
-static uint64_t proved_encode_poll(struct machine *m, uint32_t v0, uint64_t v1, uint64_t v2)
-{
-uint32_t i0;
-uint32_t i1;
-uint32_t i2;
-uint32_t i3;
-uint64_t j0;
-uint64_t j1;
-uint64_t j2;
-uint64_t j3;
-uint64_t r;
-uint8_t *p1;
-j0 = m->g0;
-j1 = UINT64_C(16);
-i0 = (SIGNED64(j0) < SIGNED64(j1));
-if (i0) { goto l2; }
-j0 = v2;
-j1 = UINT64_C(2);
-i0 = (j0 < j1);
-if (i0) { goto l3; }
-j0 = v1;
-j1 = UINT64_C(4096);
-j2 = UINT64_C(0);
-j3 = v1;
-i3 = (j3 == 0);
-j1 = i3 ? j1 : j2;
-j0 = j0 + j1;
-i1 = v0;
-i2 = UINT32_C(8);
-i1 = i1 << (i2 & 31);
-i2 = UINT32_C(54);
-i1 = i1 | i2;
-p1 = write_at(j0, m, 2u);
-store16(p1 + 0, i1);
-l3:;
-j0 = UINT64_C(2);
-r = j0;
-return r;
-l2:;
-trap();
-return r;
-}
-static uint64_t enter_encode_raw_inputs(struct machine *m, uint64_t v0, uint64_t v1)
-{
-uint32_t i0;
-uint64_t j0;
-uint64_t j1;
-uint64_t r;
-i0 = rattle_enter(m);
-i0 = (i0 == 0);
-if (i0) { goto l2; }
-trap();
-trap();
-l2:;
-j0 = v0;
-j1 = v1;
-j0 = proved_encode_raw_inputs(m, j0, j1);
-v1 = j0;
-rattle_leave(m);
-j0 = v1;
-r = j0;
-return r;
-}
-static uint64_t proved_encode_raw_inputs(struct machine *m, uint64_t v0, uint64_t v1)
-{
-uint32_t i0;
-uint32_t i1;
-uint32_t i3;
-uint64_t j0;
-uint64_t j1;
-uint64_t j2;
-uint64_t j3;
-uint64_t r;
-uint8_t *p1;
-j0 = m->g0;
-j1 = UINT64_C(16);
-i0 = (SIGNED64(j0) < SIGNED64(j1));
-if (i0) { goto l2; }
-j0 = v1;
-i0 = (j0 == 0);
-if (i0) { goto l3; }
-j0 = v0;
-j1 = UINT64_C(4096);
-j2 = UINT64_C(0);
-j3 = v0;
-i3 = (j3 == 0);
-j1 = i3 ? j1 : j2;
-j0 = j0 + j1;
-i1 = UINT32_C(52);
-p1 = write_at(j0, m, 1u);
-store8(p1 + 0, i1);
-l3:;
-j0 = UINT64_C(1);
-r = j0;
-return r;
-l2:;
-trap();
-return r;
-}
-static uint64_t enter_encode_set_outputs(struct machine *m, uint64_t v0, uint64_t v1, uint64_t v2, uint64_t v3)
-{
-uint32_t i0;
-uint64_t j0;
-uint64_t j1;
-uint64_t j2;
-uint64_t j3;
-uint64_t r;
-i0 = rattle_enter(m);
-i0 = (i0 == 0);
-if (i0) { goto l2; }
-trap();
-trap();
-l2:;
-j0 = v0;
-j1 = v1;
-j2 = v2;
-j3 = v3;
-j0 = proved_encode_set_outputs(m, j0, j1, j2, j3);
-v3 = j0;
-rattle_leave(m);
-j0 = v3;
-r = j0;
-return r;
-}
-static uint64_t proved_encode_set_outputs(struct machine *m, uint64_t v0, uint64_t v1, uint64_t v2, uint64_t v3)
-{
-uint32_t i0;
-uint32_t i1;
-uint32_t i3;
-uint64_t j0;
-uint64_t j1;
-uint64_t j2;
-uint64_t j3;
-uint64_t r;
-uint8_t *p1;
-uint8_t *p2;
-uint8_t *p3;
-j0 = m->g0;
-j1 = UINT64_C(16);
-i0 = (SIGNED64(j0) < SIGNED64(j1));
-if (i0) { goto l2; }
-j0 = v3;
-j1 = UINT64_C(17);
-i0 = (j0 < j1);
-if (i0) { goto l3; }
-j0 = v0;
-p1 = read_at(j0, m, 8u);
-j0 = load64(p1 + 0);
-v3 = j0;
-j0 = v2;
-j1 = UINT64_C(4096);
-j2 = UINT64_C(0);
-j3 = v2;
-i3 = (j3 == 0);
-j1 = i3 ? j1 : j2;
-j0 = j0 + j1;
-v2 = j0;
-j1 = v1;
-p2 = read_at(j1, m, 8u);
-j1 = load64(p2 + 0);
-p3 = write_at(j0, m, 17u);
-store64(p3 + 9, j1);
-j0 = v2;
-j1 = v3;
-store64(p3 + 1, j1);
-j0 = v2;
-i1 = UINT32_C(55);
-store8(p3 + 0, i1);
-l3:;
-j0 = UINT64_C(17);
-r = j0;
-return r;
-l2:;
-trap();
-return r;
-}
-static uint64_t enter_encode_status(struct machine *m, uint32_t v0, uint64_t v1, uint64_t v2)
-{
-uint32_t i0;
-uint64_t j0;
-uint64_t j1;
-uint64_t j2;
-uint64_t r;
-i0 = rattle_enter(m);
-i0 = (i0 == 0);
-if (i0) { goto l2; }
-trap();
-trap();
-l2:;
-i0 = v0;
-j1 = v1;
-j2 = v2;
-j0 = proved_encode_status(m, i0, j1, j2);
-v2 = j0;
-rattle_leave(m);
-j0 = v2;
-r = j0;
-return r;
-}
-static uint64_t proved_encode_status(struct machine *m, uint32_t v0, uint64_t v1, uint64_t v2)
-{
-uint32_t i0;
-uint32_t i1;
-uint32_t i2;
-uint32_t i3;
-uint64_t j0;
-uint64_t j1;
-uint64_t j2;
-uint64_t j3;
-uint64_t r;
-uint8_t *p1;
-j0 = m->g0;
-j1 = UINT64_C(16);
-i0 = (SIGNED64(j0) < SIGNED64(j1));
-if (i0) { goto l2; }
-j0 = v2;
-j1 = UINT64_C(2);
-i0 = (j0 < j1);
-if (i0) { goto l3; }
-j0 = v1;
-j1 = UINT64_C(4096);
-j2 = UINT64_C(0);
-j3 = v1;
-i3 = (j3 == 0);
-j1 = i3 ? j1 : j2;
-j0 = j0 + j1;
-i1 = v0;
-i2 = UINT32_C(8);
-i1 = i1 << (i2 & 31);
-i2 = UINT32_C(49);
-i1 = i1 | i2;
-p1 = write_at(j0, m, 2u);
-store16(p1 + 0, i1);
-l3:;
-j0 = UINT64_C(2);
-r = j0;
-return r;
-l2:;
-trap();
-return r;
-}
-static uint64_t enter_encode_watchdog(struct machine *m, uint32_t v0, uint64_t v1, uint64_t v2)
-{
-uint32_t i0;
-uint64_t j0;
-uint64_t j1;
-uint64_t j2;
-uint64_t r;
-i0 = rattle_enter(m);
-i0 = (i0 == 0);
-if (i0) { goto l2; }
-trap();
-trap();
-l2:;
-i0 = v0;
-j1 = v1;
-j2 = v2;
-j0 = proved_encode_watchdog(m, i0, j1, j2);
-v2 = j0;
-rattle_leave(m);
-j0 = v2;
-r = j0;
-return r;
-}
-static uint64_t proved_encode_watchdog(struct machine *m, uint32_t v0, uint64_t v1, uint64_t v2)
-{
-uint32_t i0;
-uint32_t i1;
-uint32_t i2;
-uint32_t i3;
-uint64_t j0;
-uint64_t j1;
-uint64_t j2;
-uint64_t j3;
-uint64_t r;
-uint8_t *p1;
-j0 = m->g0;
-j1 = UINT64_C(16);
-i0 = (SIGNED64(j0) < SIGNED64(j1));
-if (i0) { goto l2; }
-j0 = v2;
-j1 = UINT64_C(2);
-i0 = (j0 < j1);
-if (i0) { goto l3; }
-j0 = v1;
-j1 = UINT64_C(4096);
-j2 = UINT64_C(0);
-j3 = v1;
-i3 = (j3 == 0);
-j1 = i3 ? j1 : j2;
-j0 = j0 + j1;
-i1 = v0;
-i2 = UINT32_C(8);
-i1 = i1 << (i2 & 31);
-i2 = UINT32_C(58);
-i1 = i1 | i2;
-p1 = write_at(j0, m, 2u);
-store16(p1 + 0, i1);
-l3:;
-j0 = UINT64_C(2);
-r = j0;
-return r;
-l2:;
-trap();
-return r;
-}
 static uint64_t enter_poller_poll(struct machine *m, uint64_t v0, uint64_t v1, uint64_t v2)
 {
 uint32_t i0;
@@ -27215,8 +26379,8 @@ uint64_t r;
 i0 = rattle_enter(m);
 i0 = (i0 == 0);
 if (i0) { goto l2; }
-trap();
-trap();
+fio2070_trap();
+fio2070_trap();
 l2:;
 j0 = v0;
 j1 = v1;
@@ -27270,7 +26434,7 @@ j0 = UINT64_C(2);
 r = j0;
 return r;
 l2:;
-trap();
+fio2070_trap();
 return r;
 }
 static uint64_t enter_show(struct machine *m, uint64_t v0, uint64_t v1, uint64_t v2, uint64_t v3)
@@ -27284,8 +26448,8 @@ uint64_t r;
 i0 = rattle_enter(m);
 i0 = (i0 == 0);
 if (i0) { goto l2; }
-trap();
-trap();
+fio2070_trap();
+fio2070_trap();
 l2:;
 j0 = v0;
 j1 = v1;
@@ -27370,7 +26534,7 @@ j0 = v0;
 r = j0;
 return r;
 l2:;
-trap();
+fio2070_trap();
 return r;
 }
 static uint64_t enter_content_rule_text(struct machine *m, uint32_t v0, uint64_t v1, uint64_t v2)
@@ -27383,8 +26547,8 @@ uint64_t r;
 i0 = rattle_enter(m);
 i0 = (i0 == 0);
 if (i0) { goto l2; }
-trap();
-trap();
+fio2070_trap();
+fio2070_trap();
 l2:;
 i0 = v0;
 j1 = v1;
@@ -27591,7 +26755,7 @@ j0 = v5;
 r = j0;
 return r;
 l2:;
-trap();
+fio2070_trap();
 return r;
 }
 static uint64_t enter_fault_text(struct machine *m, uint64_t v0, uint64_t v1, uint64_t v2)
@@ -27604,8 +26768,8 @@ uint64_t r;
 i0 = rattle_enter(m);
 i0 = (i0 == 0);
 if (i0) { goto l2; }
-trap();
-trap();
+fio2070_trap();
+fio2070_trap();
 l2:;
 j0 = v0;
 j1 = v1;
@@ -27786,7 +26950,7 @@ j0 = v0;
 r = j0;
 return r;
 l2:;
-trap();
+fio2070_trap();
 return r;
 }
 static uint64_t enter_heard_text(struct machine *m, uint64_t v0, uint64_t v1, uint64_t v2)
@@ -27799,8 +26963,8 @@ uint64_t r;
 i0 = rattle_enter(m);
 i0 = (i0 == 0);
 if (i0) { goto l2; }
-trap();
-trap();
+fio2070_trap();
+fio2070_trap();
 l2:;
 j0 = v0;
 j1 = v1;
@@ -28497,7 +27661,7 @@ j0 = v0;
 r = j0;
 return r;
 l2:;
-trap();
+fio2070_trap();
 return r;
 }
 static uint64_t enter_rule_text(struct machine *m, uint32_t v0, uint64_t v1, uint64_t v2)
@@ -28510,8 +27674,8 @@ uint64_t r;
 i0 = rattle_enter(m);
 i0 = (i0 == 0);
 if (i0) { goto l2; }
-trap();
-trap();
+fio2070_trap();
+fio2070_trap();
 l2:;
 i0 = v0;
 j1 = v1;
@@ -28718,10 +27882,10 @@ j0 = v5;
 r = j0;
 return r;
 l2:;
-trap();
+fio2070_trap();
 return r;
 }
-static uint64_t enter_encode_other_answer(struct machine *m, uint32_t v0, uint64_t v1, uint64_t v2, uint64_t v3, uint64_t v4)
+static uint64_t enter_encode_answer(struct machine *m, uint64_t v0, uint64_t v1, uint64_t v2, uint64_t v3, uint64_t v4, uint64_t v5, uint64_t v6)
 {
 uint32_t i0;
 uint64_t j0;
@@ -28729,509 +27893,48 @@ uint64_t j1;
 uint64_t j2;
 uint64_t j3;
 uint64_t j4;
-uint64_t r;
-i0 = rattle_enter(m);
-i0 = (i0 == 0);
-if (i0) { goto l2; }
-trap();
-trap();
-l2:;
-i0 = v0;
-j1 = v1;
-j2 = v2;
-j3 = v3;
-j4 = v4;
-j0 = proved_encode_other_answer(m, i0, j1, j2, j3, j4);
-v4 = j0;
-rattle_leave(m);
-j0 = v4;
-r = j0;
-return r;
-}
-static uint64_t proved_encode_other_answer(struct machine *m, uint32_t v0, uint64_t v1, uint64_t v2, uint64_t v3, uint64_t v4)
-{
-uint64_t v5 = 0;
-uint32_t v6 = 0;
-uint64_t v7 = 0;
-uint64_t v8 = 0;
-uint64_t v9 = 0;
-uint64_t v10 = 0;
-uint64_t v11 = 0;
-uint64_t v12 = 0;
-uint64_t v13 = 0;
-uint32_t i0;
-uint32_t i1;
-uint32_t i3;
-uint32_t i4;
-uint64_t j0;
-uint64_t j1;
-uint64_t j2;
-uint64_t j3;
-uint64_t j4;
-uint64_t r;
-uint8_t *p1;
-uint8_t *p2;
-uint8_t *p3;
-uint8_t *p4;
-uint8_t *p5;
-j0 = m->g0;
-j1 = UINT64_C(16);
-i0 = (SIGNED64(j0) < SIGNED64(j1));
-if (i0) { goto l2; }
-j0 = UINT64_C(18446744073709551615);
-v5 = j0;
-i0 = v0;
-i1 = UINT32_C(255);
-i0 = i0 & i1;
-i1 = UINT32_C(4294967113);
-i0 = i0 + i1;
-v6 = i0;
-i1 = UINT32_C(5);
-i0 = (i0 > i1);
-if (i0) { goto l3; }
-i0 = v6;
-i1 = UINT32_C(3);
-i0 = (i0 == i1);
-if (i0) { goto l3; }
-j0 = v2;
-j1 = UINT64_C(772);
-i0 = (j0 > j1);
-if (i0) { goto l3; }
-j0 = v2;
-j1 = UINT64_C(1);
-j0 = j0 + j1;
-v5 = j0;
-j0 = v2;
-j1 = v4;
-i0 = (j0 >= j1);
-if (i0) { goto l3; }
-j0 = v3;
-j1 = UINT64_C(4096);
-j2 = UINT64_C(0);
-j3 = v3;
-i3 = (j3 == 0);
-j1 = i3 ? j1 : j2;
-v7 = j1;
-j0 = j0 + j1;
-v8 = j0;
-i1 = v0;
-p1 = write_at(j0, m, 1u);
-store8(p1 + 0, i1);
-j0 = v8;
-j1 = UINT64_C(1);
-j0 = j0 + j1;
-v4 = j0;
-j1 = v1;
-j2 = UINT64_C(4096);
-j3 = UINT64_C(0);
-j4 = v1;
-i4 = (j4 == 0);
-j2 = i4 ? j2 : j3;
-v9 = j2;
-j1 = j1 + j2;
-v10 = j1;
-j0 = j0 - j1;
-j1 = v2;
-i0 = (j0 >= j1);
-if (i0) { goto l4; }
-j0 = v2;
-j1 = UINT64_C(3);
-j0 = j0 & j1;
-v11 = j0;
-j0 = UINT64_C(0);
-v4 = j0;
-j0 = v2;
-j1 = UINT64_C(4);
-i0 = (j0 < j1);
-if (i0) { goto l5; }
-j0 = v2;
-j1 = UINT64_C(1020);
-j0 = j0 & j1;
-v12 = j0;
-j0 = UINT64_C(0);
-v4 = j0;
-l6:;
-j0 = v8;
-j1 = v4;
-j0 = j0 + j1;
-v2 = j0;
-j1 = UINT64_C(1);
-j0 = j0 + j1;
-j1 = v10;
-j2 = v4;
-j1 = j1 + j2;
-v13 = j1;
-p2 = read_at(j1, m, 4u);
-i1 = load8(p2 + 0);
-p3 = write_at(j0, m, 4u);
-store8(p3 + 0, i1);
-j0 = v2;
-j1 = UINT64_C(2);
-j0 = j0 + j1;
-j1 = v13;
-j2 = UINT64_C(1);
-j1 = j1 + j2;
-i1 = load8(p2 + 1);
-store8(p3 + 1, i1);
-j0 = v2;
-j1 = UINT64_C(3);
-j0 = j0 + j1;
-j1 = v13;
-j2 = UINT64_C(2);
-j1 = j1 + j2;
-i1 = load8(p2 + 2);
-store8(p3 + 2, i1);
-j0 = v2;
-j1 = UINT64_C(4);
-j0 = j0 + j1;
-j1 = v13;
-j2 = UINT64_C(3);
-j1 = j1 + j2;
-i1 = load8(p2 + 3);
-store8(p3 + 3, i1);
-j0 = v12;
-j1 = v4;
-j2 = UINT64_C(4);
-j1 = j1 + j2;
-v4 = j1;
-i0 = (j0 != j1);
-if (i0) { goto l6; }
-j0 = v11;
-i0 = (j0 == 0);
-if (i0) { goto l3; }
-l5:;
-j0 = v1;
-j1 = v9;
-j2 = v4;
-j1 = j1 + j2;
-j0 = j0 + j1;
-v2 = j0;
-j0 = v7;
-j1 = v4;
-j0 = j0 + j1;
-j1 = v3;
-j0 = j0 + j1;
-j1 = UINT64_C(1);
-j0 = j0 + j1;
-v4 = j0;
-l7:;
-j0 = v4;
-j1 = v2;
-p4 = read_at(j1, m, 1u);
-i1 = load8(p4 + 0);
-p5 = write_at(j0, m, 1u);
-store8(p5 + 0, i1);
-j0 = v4;
-j1 = UINT64_C(1);
-j0 = j0 + j1;
-v4 = j0;
-j0 = v2;
-j1 = UINT64_C(1);
-j0 = j0 + j1;
-v2 = j0;
-j0 = v11;
-j1 = UINT64_C(18446744073709551615);
-j0 = j0 + j1;
-v11 = j0;
-j1 = UINT64_C(0);
-i0 = (j0 != j1);
-if (i0) { goto l7; }
-goto l3;
-l4:;
-j0 = v2;
-i0 = (j0 == 0);
-if (i0) { goto l3; }
-j0 = v4;
-j1 = v10;
-j2 = v2;
-copy(m, j0, j1, j2);
-l3:;
-j0 = v5;
-r = j0;
-return r;
-l2:;
-trap();
-return r;
-}
-static uint64_t enter_encode_other_command(struct machine *m, uint32_t v0, uint64_t v1, uint64_t v2, uint64_t v3, uint64_t v4)
-{
-uint32_t i0;
-uint64_t j0;
-uint64_t j1;
-uint64_t j2;
-uint64_t j3;
-uint64_t j4;
-uint64_t r;
-i0 = rattle_enter(m);
-i0 = (i0 == 0);
-if (i0) { goto l2; }
-trap();
-trap();
-l2:;
-i0 = v0;
-j1 = v1;
-j2 = v2;
-j3 = v3;
-j4 = v4;
-j0 = proved_encode_other_command(m, i0, j1, j2, j3, j4);
-v4 = j0;
-rattle_leave(m);
-j0 = v4;
-r = j0;
-return r;
-}
-static uint64_t proved_encode_other_command(struct machine *m, uint32_t v0, uint64_t v1, uint64_t v2, uint64_t v3, uint64_t v4)
-{
-uint64_t v5 = 0;
-uint64_t v6 = 0;
-uint64_t v7 = 0;
-uint64_t v8 = 0;
-uint64_t v9 = 0;
-uint64_t v10 = 0;
-uint64_t v11 = 0;
-uint64_t v12 = 0;
-uint32_t i0;
-uint32_t i1;
-uint32_t i3;
-uint32_t i4;
-uint64_t j0;
-uint64_t j1;
-uint64_t j2;
-uint64_t j3;
-uint64_t j4;
-uint64_t r;
-uint8_t *p1;
-uint8_t *p2;
-uint8_t *p3;
-uint8_t *p4;
-uint8_t *p5;
-j0 = m->g0;
-j1 = UINT64_C(16);
-i0 = (SIGNED64(j0) < SIGNED64(j1));
-if (i0) { goto l2; }
-j0 = UINT64_C(18446744073709551615);
-v5 = j0;
-i0 = v0;
-i1 = UINT32_C(255);
-i0 = i0 & i1;
-i1 = UINT32_C(59);
-i0 = (i0 > i1);
-if (i0) { goto l3; }
-j0 = UINT64_C(1);
-i1 = v0;
-j1 = (uint64_t)i1;
-j2 = UINT64_C(255);
-j1 = j1 & j2;
-j0 = j0 << (j1 & 63);
-j1 = UINT64_C(792633534417207296);
-j0 = j0 & j1;
-j1 = UINT64_C(0);
-i0 = (j0 == j1);
-if (i0) { goto l3; }
-j0 = v2;
-j1 = UINT64_C(772);
-i0 = (j0 > j1);
-if (i0) { goto l3; }
-j0 = v2;
-j1 = UINT64_C(1);
-j0 = j0 + j1;
-v5 = j0;
-j0 = v2;
-j1 = v4;
-i0 = (j0 >= j1);
-if (i0) { goto l3; }
-j0 = v3;
-j1 = UINT64_C(4096);
-j2 = UINT64_C(0);
-j3 = v3;
-i3 = (j3 == 0);
-j1 = i3 ? j1 : j2;
-v6 = j1;
-j0 = j0 + j1;
-v7 = j0;
-i1 = v0;
-p1 = write_at(j0, m, 1u);
-store8(p1 + 0, i1);
-j0 = v7;
-j1 = UINT64_C(1);
-j0 = j0 + j1;
-v4 = j0;
-j1 = v1;
-j2 = UINT64_C(4096);
-j3 = UINT64_C(0);
-j4 = v1;
-i4 = (j4 == 0);
-j2 = i4 ? j2 : j3;
-v8 = j2;
-j1 = j1 + j2;
-v9 = j1;
-j0 = j0 - j1;
-j1 = v2;
-i0 = (j0 >= j1);
-if (i0) { goto l4; }
-j0 = v2;
-j1 = UINT64_C(3);
-j0 = j0 & j1;
-v10 = j0;
-j0 = UINT64_C(0);
-v4 = j0;
-j0 = v2;
-j1 = UINT64_C(4);
-i0 = (j0 < j1);
-if (i0) { goto l5; }
-j0 = v2;
-j1 = UINT64_C(1020);
-j0 = j0 & j1;
-v11 = j0;
-j0 = UINT64_C(0);
-v4 = j0;
-l6:;
-j0 = v7;
-j1 = v4;
-j0 = j0 + j1;
-v2 = j0;
-j1 = UINT64_C(1);
-j0 = j0 + j1;
-j1 = v9;
-j2 = v4;
-j1 = j1 + j2;
-v12 = j1;
-p2 = read_at(j1, m, 4u);
-i1 = load8(p2 + 0);
-p3 = write_at(j0, m, 4u);
-store8(p3 + 0, i1);
-j0 = v2;
-j1 = UINT64_C(2);
-j0 = j0 + j1;
-j1 = v12;
-j2 = UINT64_C(1);
-j1 = j1 + j2;
-i1 = load8(p2 + 1);
-store8(p3 + 1, i1);
-j0 = v2;
-j1 = UINT64_C(3);
-j0 = j0 + j1;
-j1 = v12;
-j2 = UINT64_C(2);
-j1 = j1 + j2;
-i1 = load8(p2 + 2);
-store8(p3 + 2, i1);
-j0 = v2;
-j1 = UINT64_C(4);
-j0 = j0 + j1;
-j1 = v12;
-j2 = UINT64_C(3);
-j1 = j1 + j2;
-i1 = load8(p2 + 3);
-store8(p3 + 3, i1);
-j0 = v11;
-j1 = v4;
-j2 = UINT64_C(4);
-j1 = j1 + j2;
-v4 = j1;
-i0 = (j0 != j1);
-if (i0) { goto l6; }
-j0 = v10;
-i0 = (j0 == 0);
-if (i0) { goto l3; }
-l5:;
-j0 = v1;
-j1 = v8;
-j2 = v4;
-j1 = j1 + j2;
-j0 = j0 + j1;
-v2 = j0;
-j0 = v6;
-j1 = v4;
-j0 = j0 + j1;
-j1 = v3;
-j0 = j0 + j1;
-j1 = UINT64_C(1);
-j0 = j0 + j1;
-v4 = j0;
-l7:;
-j0 = v4;
-j1 = v2;
-p4 = read_at(j1, m, 1u);
-i1 = load8(p4 + 0);
-p5 = write_at(j0, m, 1u);
-store8(p5 + 0, i1);
-j0 = v4;
-j1 = UINT64_C(1);
-j0 = j0 + j1;
-v4 = j0;
-j0 = v2;
-j1 = UINT64_C(1);
-j0 = j0 + j1;
-v2 = j0;
-j0 = v10;
-j1 = UINT64_C(18446744073709551615);
-j0 = j0 + j1;
-v10 = j0;
-j1 = UINT64_C(0);
-i0 = (j0 != j1);
-if (i0) { goto l7; }
-goto l3;
-l4:;
-j0 = v2;
-i0 = (j0 == 0);
-if (i0) { goto l3; }
-j0 = v4;
-j1 = v9;
-j2 = v2;
-copy(m, j0, j1, j2);
-l3:;
-j0 = v5;
-r = j0;
-return r;
-l2:;
-trap();
-return r;
-}
-static uint64_t enter_encode_block_answer(struct machine *m, uint32_t v0, uint64_t v1, uint64_t v2, uint32_t v3, uint32_t v4, uint64_t v5, uint64_t v6)
-{
-uint32_t i0;
-uint32_t i3;
-uint32_t i4;
-uint64_t j0;
-uint64_t j1;
-uint64_t j2;
 uint64_t j5;
 uint64_t j6;
 uint64_t r;
 i0 = rattle_enter(m);
 i0 = (i0 == 0);
 if (i0) { goto l2; }
-trap();
-trap();
+fio2070_trap();
+fio2070_trap();
 l2:;
-i0 = v0;
+j0 = v0;
 j1 = v1;
 j2 = v2;
-i3 = v3;
-i4 = v4;
+j3 = v3;
+j4 = v4;
 j5 = v5;
 j6 = v6;
-j0 = proved_encode_block_answer(m, i0, j1, j2, i3, i4, j5, j6);
+j0 = proved_encode_answer(m, j0, j1, j2, j3, j4, j5, j6);
 v6 = j0;
 rattle_leave(m);
 j0 = v6;
 r = j0;
 return r;
 }
-static uint64_t proved_encode_block_answer(struct machine *m, uint32_t v0, uint64_t v1, uint64_t v2, uint32_t v3, uint32_t v4, uint64_t v5, uint64_t v6)
+static uint64_t proved_encode_answer(struct machine *m, uint64_t v0, uint64_t v1, uint64_t v2, uint64_t v3, uint64_t v4, uint64_t v5, uint64_t v6)
 {
 uint64_t v7 = 0;
 uint64_t v8 = 0;
-uint64_t v9 = 0;
-uint64_t v10 = 0;
+uint32_t v9 = 0;
+uint32_t v10 = 0;
 uint32_t v11 = 0;
-uint64_t v12 = 0;
-uint64_t v13 = 0;
+uint32_t v12 = 0;
+uint32_t v13 = 0;
 uint32_t v14 = 0;
-uint64_t v15 = 0;
+uint32_t v15 = 0;
 uint64_t v16 = 0;
 uint32_t v17 = 0;
+uint32_t v18 = 0;
+uint32_t v19 = 0;
+uint32_t v20 = 0;
+uint64_t v21 = 0;
+uint64_t v22 = 0;
+uint64_t v23 = 0;
 uint32_t i0;
 uint32_t i1;
 uint32_t i2;
@@ -29253,74 +27956,426 @@ uint8_t *p7;
 uint8_t *p8;
 uint8_t *p9;
 uint8_t *p10;
+uint8_t *p11;
+uint8_t *p12;
+uint8_t *p13;
+uint8_t *p14;
+uint8_t *p15;
+uint8_t *p16;
+uint8_t *p17;
+uint8_t *p18;
+uint8_t *p19;
+uint8_t *p20;
+uint8_t *p21;
+uint8_t *p22;
+uint8_t *p23;
+uint8_t *p24;
+uint8_t *p25;
+uint8_t *p26;
+uint8_t *p27;
+uint8_t *p28;
+uint8_t *p29;
+uint8_t *p30;
+uint8_t *p31;
 j0 = m->g0;
-j1 = UINT64_C(16);
+j1 = UINT64_C(1568);
 j0 = j0 - j1;
-p1 = write_at(j0, m, 16u);
+p1 = write_at(j0, m, 1568u);
+v7 = j0;
+m->g0 = j0;
+j0 = v7;
 v7 = j0;
 j1 = UINT64_C(16);
 i0 = (SIGNED64(j0) < SIGNED64(j1));
-if (i0) { goto l2; }
+if (i0) { goto l5; }
 j0 = UINT64_C(18446744073709551615);
 v8 = j0;
 j0 = v2;
-j1 = UINT64_C(255);
-i0 = (j0 > j1);
-if (i0) { goto l3; }
+j1 = v0;
+j2 = UINT64_C(6);
+j1 = j1 + j2;
+p2 = read_at(j1, m, 1u);
+i1 = load8(p2 + 0);
+v9 = i1;
+j1 = (uint64_t)i1;
+j2 = UINT64_C(255);
+j1 = j1 & j2;
+i0 = (j0 != j1);
+if (i0) { goto l2; }
+j0 = v4;
+j1 = v0;
+j2 = UINT64_C(10);
+j1 = j1 + j2;
+p3 = read_at(j1, m, 2u);
+i1 = load16(p3 + 0);
+v10 = i1;
+j1 = (uint64_t)i1;
+j2 = UINT64_C(65535);
+j1 = j1 & j2;
+i0 = (j0 != j1);
+if (i0) { goto l2; }
+j0 = v0;
+p4 = read_at(j0, m, 1u);
+i0 = load8(p4 + 0);
+v11 = i0;
+i1 = UINT32_C(4294967119);
+i0 = i0 + i1;
+switch (i0) {
+case 0:
+goto l12;
+case 1:
+goto l10;
+case 2:
+goto l10;
+case 3:
+goto l10;
+case 4:
+goto l10;
+case 5:
+goto l11;
+case 6:
+goto l10;
+case 7:
+goto l10;
+case 8:
+goto l10;
+case 9:
+goto l8;
+default:
+goto l10;
+}
+l12:;
+j0 = v0;
+j1 = UINT64_C(12);
+j0 = j0 + j1;
+p5 = read_at(j0 + UINT64_C(18446744073709551605), m, 15u);
+i0 = load32(p5 + 11);
+v12 = i0;
+j0 = v0;
+j1 = UINT64_C(3);
+j0 = j0 + j1;
+i0 = load8(p5 + 2);
+v13 = i0;
+j0 = v0;
+j1 = UINT64_C(2);
+j0 = j0 + j1;
+i0 = load8(p5 + 1);
+v14 = i0;
+j0 = v0;
+j1 = UINT64_C(1);
+j0 = j0 + j1;
+i0 = load8(p5 + 0);
+v15 = i0;
+j0 = UINT64_C(0);
+v16 = j0;
+goto l9;
+l11:;
+j0 = v0;
+j1 = UINT64_C(12);
+j0 = j0 + j1;
+p6 = read_at(j0 + UINT64_C(18446744073709551608), m, 12u);
+i0 = load32(p6 + 8);
+v12 = i0;
+j0 = v0;
+j1 = UINT64_C(4);
+j0 = j0 + j1;
+i0 = load8(p6 + 0);
+v17 = i0;
+j0 = v0;
+j1 = UINT64_C(5);
+j0 = j0 + j1;
+i0 = load8(p6 + 1);
+v18 = i0;
+j0 = UINT64_C(0);
+v16 = j0;
+i0 = UINT32_C(0);
+v15 = i0;
+i0 = UINT32_C(0);
+v14 = i0;
+i0 = UINT32_C(0);
+v13 = i0;
+i0 = v9;
+v19 = i0;
+i0 = UINT32_C(0);
+v20 = i0;
+goto l6;
+l10:;
+j0 = UINT64_C(0);
+v16 = j0;
+i0 = UINT32_C(0);
+v15 = i0;
+i0 = v11;
+i1 = UINT32_C(177);
+i0 = (i0 >= i1);
+if (i0) { goto l13; }
+i0 = UINT32_C(0);
+v14 = i0;
+i0 = UINT32_C(0);
+v13 = i0;
+i0 = UINT32_C(0);
+v17 = i0;
+i0 = UINT32_C(0);
+v18 = i0;
+i0 = UINT32_C(0);
+v19 = i0;
+i0 = v10;
+v20 = i0;
+goto l7;
+l13:;
+i0 = v11;
+i1 = UINT32_C(180);
+i0 = (i0 < i1);
+if (i0) { goto l8; }
+i0 = UINT32_C(0);
+v15 = i0;
+i0 = UINT32_C(0);
+v14 = i0;
+i0 = UINT32_C(0);
+v13 = i0;
+i0 = UINT32_C(0);
+v17 = i0;
+i0 = UINT32_C(0);
+v18 = i0;
+i0 = UINT32_C(0);
+v19 = i0;
+i0 = v10;
+v20 = i0;
+i0 = UINT32_C(0);
+v12 = i0;
+i0 = v11;
+i1 = UINT32_C(181);
+i0 = (i0 > i1);
+if (i0) { goto l6; }
+j0 = v0;
+j1 = UINT64_C(12);
+j0 = j0 + j1;
+p7 = read_at(j0, m, 12u);
+i0 = load32(p7 + 0);
+v12 = i0;
+j0 = v0;
+j1 = UINT64_C(16);
+j0 = j0 + j1;
+j0 = load64(p7 + 4);
+v16 = j0;
+i0 = UINT32_C(0);
+v15 = i0;
+i0 = UINT32_C(0);
+v14 = i0;
+i0 = UINT32_C(0);
+v13 = i0;
+l9:;
+i0 = UINT32_C(0);
+v17 = i0;
+i0 = UINT32_C(0);
+v18 = i0;
+i0 = UINT32_C(0);
+v19 = i0;
+i0 = UINT32_C(0);
+v20 = i0;
+goto l6;
+l8:;
+j0 = v0;
+j1 = UINT64_C(4);
+j0 = j0 + j1;
+p8 = read_at(j0, m, 1u);
+i0 = load8(p8 + 0);
+v17 = i0;
+j0 = UINT64_C(0);
+v16 = j0;
+i0 = UINT32_C(0);
+v15 = i0;
+i0 = UINT32_C(0);
+v14 = i0;
+i0 = UINT32_C(0);
+v13 = i0;
+i0 = UINT32_C(0);
+v18 = i0;
+i0 = UINT32_C(0);
+v19 = i0;
+i0 = UINT32_C(0);
+v20 = i0;
+l7:;
+i0 = UINT32_C(0);
+v12 = i0;
+l6:;
+j0 = v0;
+j1 = UINT64_C(1);
+j0 = j0 + j1;
+p9 = read_at(j0, m, 1u);
+i0 = load8(p9 + 0);
+i1 = v15;
+i2 = UINT32_C(255);
+i1 = i1 & i2;
+i0 = (i0 != i1);
+if (i0) { goto l2; }
+j0 = v0;
+j1 = UINT64_C(2);
+j0 = j0 + j1;
+p10 = read_at(j0, m, 1u);
+i0 = load8(p10 + 0);
+i1 = v14;
+i2 = UINT32_C(255);
+i1 = i1 & i2;
+i0 = (i0 != i1);
+if (i0) { goto l2; }
+j0 = v0;
+j1 = UINT64_C(3);
+j0 = j0 + j1;
+p11 = read_at(j0, m, 1u);
+i0 = load8(p11 + 0);
+i1 = v13;
+i2 = UINT32_C(255);
+i1 = i1 & i2;
+i0 = (i0 != i1);
+if (i0) { goto l2; }
+j0 = v0;
+j1 = UINT64_C(4);
+j0 = j0 + j1;
+p12 = read_at(j0, m, 1u);
+i0 = load8(p12 + 0);
+i1 = v17;
+i2 = UINT32_C(255);
+i1 = i1 & i2;
+i0 = (i0 != i1);
+if (i0) { goto l2; }
+i0 = v10;
+i1 = UINT32_C(65535);
+i0 = i0 & i1;
+i1 = v20;
+i2 = UINT32_C(65535);
+i1 = i1 & i2;
+i0 = (i0 != i1);
+if (i0) { goto l2; }
+i0 = v9;
+i1 = UINT32_C(255);
+i0 = i0 & i1;
+i1 = v19;
+i2 = UINT32_C(255);
+i1 = i1 & i2;
+i0 = (i0 != i1);
+if (i0) { goto l2; }
+j0 = v0;
+j1 = UINT64_C(5);
+j0 = j0 + j1;
+p13 = read_at(j0, m, 1u);
+i0 = load8(p13 + 0);
+i1 = UINT32_C(255);
+i0 = i0 & i1;
+i1 = v18;
+i2 = UINT32_C(255);
+i1 = i1 & i2;
+i0 = (i0 != i1);
+if (i0) { goto l2; }
+j0 = v0;
+j1 = UINT64_C(12);
+j0 = j0 + j1;
+p14 = read_at(j0, m, 4u);
+i0 = load32(p14 + 0);
+i1 = v12;
+i0 = (i0 != i1);
+if (i0) { goto l2; }
+j0 = v0;
+j1 = UINT64_C(16);
+j0 = j0 + j1;
+p15 = read_at(j0, m, 8u);
+j0 = load64(p15 + 0);
+j1 = v16;
+i0 = (j0 != j1);
+if (i0) { goto l2; }
+j0 = v0;
+j1 = UINT64_C(8);
+j0 = j0 + j1;
+p16 = read_at(j0 + UINT64_C(18446744073709551615), m, 3u);
+i0 = load8(p16 + 1);
+j1 = v0;
+j2 = UINT64_C(7);
+j1 = j1 + j2;
+i1 = load8(p16 + 0);
+i0 = i0 | i1;
+j1 = v0;
+j2 = UINT64_C(9);
+j1 = j1 + j2;
+i1 = load8(p16 + 2);
+i0 = i0 | i1;
+if (i0) { goto l2; }
+j0 = v5;
+j1 = UINT64_C(4096);
+j2 = UINT64_C(0);
+j3 = v5;
+i3 = (j3 == 0);
+j1 = i3 ? j1 : j2;
+v21 = j1;
+j0 = j0 + j1;
+v22 = j0;
+i0 = v11;
+i1 = UINT32_C(4294967114);
+i0 = i0 + i1;
+v9 = i0;
+i1 = UINT32_C(6);
+i0 = (i0 > i1);
+if (i0) { goto l14; }
+i0 = UINT32_C(1);
+i1 = v9;
+i0 = i0 << (i1 & 31);
+i1 = UINT32_C(110);
+i0 = i0 & i1;
+if (i0) { goto l15; }
+i0 = v9;
+if (i0) { goto l14; }
 j0 = v1;
 j1 = UINT64_C(4096);
 j2 = UINT64_C(0);
 j3 = v1;
 i3 = (j3 == 0);
 j1 = i3 ? j1 : j2;
-v9 = j1;
+v16 = j1;
 j0 = j0 + j1;
-v10 = j0;
+v4 = j0;
 j0 = v2;
 i0 = (j0 == 0);
-v11 = i0;
-if (i0) { goto l4; }
+v10 = i0;
+if (i0) { goto l16; }
 j0 = v2;
 j1 = UINT64_C(3);
 j0 = j0 & j1;
-v12 = j0;
+v8 = j0;
 j0 = v2;
 j1 = UINT64_C(4);
 i0 = (j0 >= j1);
-if (i0) { goto l7; }
+if (i0) { goto l19; }
 j0 = UINT64_C(0);
-v13 = j0;
+v5 = j0;
 i0 = UINT32_C(1);
-v14 = i0;
-goto l6;
-l7:;
+v9 = i0;
+goto l18;
+l19:;
 j0 = v2;
-j1 = UINT64_C(252);
+j1 = UINT64_C(18446744073709551612);
 j0 = j0 & j1;
-v15 = j0;
+v3 = j0;
 j0 = UINT64_C(0);
-v13 = j0;
+v5 = j0;
 i0 = UINT32_C(1);
-v14 = i0;
-j0 = v10;
-v16 = j0;
-p2 = read_at(v16 + UINT64_C(0), m, run(13u, 16u, turns(v15, v13, 4u)));
-l8:;
-i0 = v14;
-j1 = v16;
+v9 = i0;
+j0 = v4;
+v0 = j0;
+p17 = read_at(v0 + UINT64_C(0), m, run(13u, 16u, turns(v3, v5, 4u)));
+l20:;
+i0 = v9;
+j1 = v0;
 j2 = UINT64_C(12);
 j1 = j1 + j2;
-i1 = load8(p2 + 12);
-j2 = v16;
+i1 = load8(p17 + 12);
+j2 = v0;
 j3 = UINT64_C(8);
 j2 = j2 + j3;
-i2 = load8(p2 + 8);
-j3 = v16;
+i2 = load8(p17 + 8);
+j3 = v0;
 j4 = UINT64_C(4);
 j3 = j3 + j4;
-i3 = load8(p2 + 4);
-j4 = v16;
-i4 = load8(p2 + 0);
+i3 = load8(p17 + 4);
+j4 = v0;
+i4 = load8(p17 + 0);
 i3 = i3 | i4;
 i2 = i2 | i3;
 i1 = i1 | i2;
@@ -29328,271 +28383,667 @@ i1 = (uint32_t)extend(i1 & 255, 7);
 i2 = UINT32_C(4294967295);
 i1 = (SIGNED32(i1) > SIGNED32(i2));
 i0 = i0 & i1;
-v14 = i0;
-j0 = v16;
+v9 = i0;
+j0 = v0;
 j1 = UINT64_C(16);
 j0 = j0 + j1;
-v16 = j0;
-j0 = v15;
-j1 = v13;
+v0 = j0;
+j0 = v3;
+j1 = v5;
 j2 = UINT64_C(4);
 j1 = j1 + j2;
-v13 = j1;
+v5 = j1;
 i0 = (j0 != j1);
-if (i0) { p2 += 16; goto l8; }
-j0 = v12;
+if (i0) { p17 += 16; goto l20; }
+j0 = v8;
 i0 = (j0 == 0);
-if (i0) { goto l5; }
-l6:;
+if (i0) { goto l17; }
+l18:;
 j0 = v1;
-j1 = v9;
-j2 = v13;
+j1 = v16;
+j2 = v5;
 j3 = UINT64_C(2);
 j2 = j2 << (j3 & 63);
 j1 = j1 + j2;
 j0 = j0 + j1;
-v16 = j0;
-p3 = read_at(v16 + UINT64_C(0), m, run(1u, 4u, turns(v12, UINT64_C(0), 1u)));
-l9:;
-i0 = v14;
-j1 = v16;
-i1 = (uint32_t)extend(load8(p3 + 0), 7);
+v0 = j0;
+p18 = read_at(v0 + UINT64_C(0), m, run(1u, 4u, turns(v8, UINT64_C(0), 1u)));
+l21:;
+i0 = v9;
+j1 = v0;
+i1 = (uint32_t)extend(load8(p18 + 0), 7);
 i2 = UINT32_C(4294967295);
 i1 = (SIGNED32(i1) > SIGNED32(i2));
 i0 = i0 & i1;
-v14 = i0;
-j0 = v16;
+v9 = i0;
+j0 = v0;
 j1 = UINT64_C(4);
 j0 = j0 + j1;
-v16 = j0;
-j0 = v12;
+v0 = j0;
+j0 = v8;
 j1 = UINT64_C(18446744073709551615);
 j0 = j0 + j1;
-v12 = j0;
+v8 = j0;
 j1 = UINT64_C(0);
 i0 = (j0 != j1);
-if (i0) { p3 += 4; goto l9; }
-l5:;
-i0 = v14;
+if (i0) { p18 += 4; goto l21; }
+l17:;
+j0 = UINT64_C(18446744073709551615);
+v8 = j0;
+i0 = v9;
 i0 = (i0 == 0);
-if (i0) { goto l3; }
-l4:;
+if (i0) { goto l2; }
+l16:;
 j0 = v7;
-i1 = v0;
+i1 = v18;
 store8(p1 + 14, i1);
 j0 = v7;
 i1 = UINT32_C(182);
 store8(p1 + 13, i1);
 j0 = v7;
-i1 = v3;
-store8(p1 + 8, i1);
+i1 = v17;
+store8(p1 + 16, i1);
 j0 = v7;
 j1 = v2;
 i1 = (uint32_t)j1;
-v14 = i1;
+v9 = i1;
 store8(p1 + 15, i1);
 j0 = v7;
-i1 = v4;
+i1 = v12;
 i2 = UINT32_C(16711935);
 i1 = i1 & i2;
 i2 = UINT32_C(8);
 i1 = rotate32(i1, 0u - i2);
-i2 = v4;
+i2 = v12;
 i3 = UINT32_C(24);
 i2 = rotate32(i2, 0u - i3);
 i3 = UINT32_C(16711935);
 i2 = i2 & i3;
 i1 = i1 | i2;
-v17 = i1;
-store32(p1 + 9, i1);
+v14 = i1;
+store32(p1 + 17, i1);
 j0 = v2;
 j1 = UINT64_C(3);
 j0 = j0 * j1;
-v13 = j0;
+v5 = j0;
 j1 = UINT64_C(8);
 j0 = j0 + j1;
 v8 = j0;
 j1 = v6;
 i0 = (j0 > j1);
-if (i0) { goto l3; }
-j0 = v5;
-j1 = UINT64_C(4096);
-j2 = UINT64_C(0);
-j3 = v5;
-i3 = (j3 == 0);
-j1 = i3 ? j1 : j2;
-j0 = j0 + j1;
-v12 = j0;
+if (i0) { goto l2; }
+j0 = v22;
 j1 = v7;
 j2 = UINT64_C(13);
 j1 = j1 + j2;
 j0 = j0 - j1;
 j1 = UINT64_C(2);
 i0 = (j0 > j1);
-if (i0) { goto l11; }
-j0 = v12;
-i1 = v14;
-p4 = write_at(j0, m, 3u);
-store8(p4 + 2, i1);
-j0 = v12;
-i1 = v0;
-store8(p4 + 1, i1);
-j0 = v12;
+if (i0) { goto l23; }
+j0 = v22;
+i1 = v9;
+p19 = write_at(j0, m, 3u);
+store8(p19 + 2, i1);
+j0 = v22;
+i1 = v18;
+store8(p19 + 1, i1);
+j0 = v22;
 i1 = UINT32_C(182);
-store8(p4 + 0, i1);
-goto l10;
-l11:;
-j0 = v12;
+store8(p19 + 0, i1);
+goto l22;
+l23:;
+j0 = v22;
 j1 = v7;
 i1 = load8(p1 + 15);
-p5 = write_at(j0, m, 3u);
-store8(p5 + 2, i1);
-j0 = v12;
+p20 = write_at(j0, m, 3u);
+store8(p20 + 2, i1);
+j0 = v22;
 j1 = v7;
 i1 = load16(p1 + 13);
-store16(p5 + 0, i1);
-l10:;
-i0 = v11;
-if (i0) { goto l12; }
-j0 = v12;
+store16(p20 + 0, i1);
+l22:;
+i0 = v10;
+if (i0) { goto l24; }
+j0 = v22;
 j1 = UINT64_C(4);
 j0 = j0 + j1;
-v16 = j0;
-l13:;
-j0 = v10;
-p6 = read_at(j0, m, 1u);
-i0 = (uint32_t)extend(load8(p6 + 0), 7);
-v14 = i0;
+v0 = j0;
+l25:;
+j0 = v4;
+p21 = read_at(j0, m, 1u);
+i0 = (uint32_t)extend(load8(p21 + 0), 7);
+v9 = i0;
 i1 = UINT32_C(4294967295);
 i0 = (SIGNED32(i0) <= SIGNED32(i1));
-if (i0) { goto l2; }
-j0 = v10;
+if (i0) { goto l5; }
+j0 = v4;
 j1 = UINT64_C(1);
 j0 = j0 + j1;
-p7 = read_at(j0, m, 3u);
-i0 = load8(p7 + 0);
-v4 = i0;
-j0 = v16;
-j1 = v10;
+p22 = read_at(j0, m, 3u);
+i0 = load8(p22 + 0);
+v10 = i0;
+j0 = v0;
+j1 = v4;
 j2 = UINT64_C(2);
 j1 = j1 + j2;
-i1 = load16(p7 + 1);
-v0 = i1;
+i1 = load16(p22 + 1);
+v15 = i1;
 i2 = UINT32_C(8);
 i1 = i1 << (i2 & 31);
-i2 = v0;
+i2 = v15;
 i3 = UINT32_C(8);
 i2 = i2 >> (i3 & 31);
 i1 = i1 | i2;
-p8 = write_at(j0 + UINT64_C(18446744073709551615), m, 3u);
-store16(p8 + 1, i1);
-j0 = v16;
+p23 = write_at(j0 + UINT64_C(18446744073709551615), m, 3u);
+store16(p23 + 1, i1);
+j0 = v0;
 j1 = UINT64_C(18446744073709551615);
 j0 = j0 + j1;
 i1 = UINT32_C(4294967168);
 i2 = UINT32_C(0);
-i3 = v4;
+i3 = v10;
 i1 = i3 ? i1 : i2;
-i2 = v14;
+i2 = v9;
 i1 = i1 | i2;
-store8(p8 + 0, i1);
-j0 = v10;
+store8(p23 + 0, i1);
+j0 = v4;
 j1 = UINT64_C(4);
 j0 = j0 + j1;
-v10 = j0;
-j0 = v16;
+v4 = j0;
+j0 = v0;
 j1 = UINT64_C(3);
 j0 = j0 + j1;
-v16 = j0;
+v0 = j0;
 j0 = v2;
 j1 = UINT64_C(18446744073709551615);
 j0 = j0 + j1;
 v2 = j0;
 j1 = UINT64_C(0);
 i0 = (j0 != j1);
-if (i0) { goto l13; }
-l12:;
-j0 = v12;
-j1 = v13;
+if (i0) { goto l25; }
+l24:;
+j0 = v22;
+j1 = v5;
 j0 = j0 + j1;
-v10 = j0;
+v2 = j0;
 j1 = UINT64_C(3);
 j0 = j0 + j1;
-v16 = j0;
+v0 = j0;
 j1 = v7;
-j2 = UINT64_C(8);
+j2 = UINT64_C(16);
 j1 = j1 + j2;
 j0 = j0 - j1;
 j1 = UINT64_C(4);
 i0 = (j0 > j1);
-if (i0) { goto l14; }
-j0 = v10;
+if (i0) { goto l26; }
+j0 = v2;
 j1 = UINT64_C(4);
 j0 = j0 + j1;
+i1 = v14;
+p24 = write_at(j0 + UINT64_C(18446744073709551615), m, 5u);
+store32(p24 + 1, i1);
+j0 = v0;
 i1 = v17;
-p9 = write_at(j0 + UINT64_C(18446744073709551615), m, 5u);
-store32(p9 + 1, i1);
+store8(p24 + 0, i1);
+goto l2;
+l26:;
+j0 = v0;
+j1 = v7;
+i1 = load8(p1 + 20);
+p25 = write_at(j0, m, 5u);
+store8(p25 + 4, i1);
+j0 = v0;
+j1 = v7;
+i1 = load32(p1 + 16);
+store32(p25 + 0, i1);
+goto l2;
+l15:;
+j0 = v4;
+j1 = UINT64_C(772);
+i0 = (j0 > j1);
+if (i0) { goto l2; }
+j0 = v4;
+j1 = UINT64_C(1);
+j0 = j0 + j1;
+v8 = j0;
+j0 = v4;
+j1 = v6;
+i0 = (j0 >= j1);
+if (i0) { goto l2; }
+j0 = v22;
+i1 = v11;
+p26 = write_at(j0, m, 1u);
+store8(p26 + 0, i1);
+j0 = v22;
+j1 = UINT64_C(1);
+j0 = j0 + j1;
+v0 = j0;
+j1 = v3;
+j2 = UINT64_C(4096);
+j3 = UINT64_C(0);
+j4 = v3;
+i4 = (j4 == 0);
+j2 = i4 ? j2 : j3;
+v23 = j2;
+j1 = j1 + j2;
+v1 = j1;
+j0 = j0 - j1;
+j1 = v4;
+i0 = (j0 >= j1);
+if (i0) { goto l27; }
+j0 = v4;
+j1 = UINT64_C(3);
+j0 = j0 & j1;
+v6 = j0;
+j0 = UINT64_C(0);
+v2 = j0;
+j0 = v4;
+j1 = UINT64_C(4);
+i0 = (j0 < j1);
+if (i0) { goto l28; }
+j0 = v4;
+j1 = UINT64_C(1020);
+j0 = j0 & j1;
+v16 = j0;
+j0 = UINT64_C(0);
+v2 = j0;
+l29:;
+j0 = v22;
+j1 = v2;
+j0 = j0 + j1;
+v0 = j0;
+j1 = UINT64_C(1);
+j0 = j0 + j1;
+j1 = v1;
+j2 = v2;
+j1 = j1 + j2;
+v4 = j1;
+p27 = read_at(j1, m, 4u);
+i1 = load8(p27 + 0);
+p28 = write_at(j0, m, 4u);
+store8(p28 + 0, i1);
+j0 = v0;
+j1 = UINT64_C(2);
+j0 = j0 + j1;
+j1 = v4;
+j2 = UINT64_C(1);
+j1 = j1 + j2;
+i1 = load8(p27 + 1);
+store8(p28 + 1, i1);
+j0 = v0;
+j1 = UINT64_C(3);
+j0 = j0 + j1;
+j1 = v4;
+j2 = UINT64_C(2);
+j1 = j1 + j2;
+i1 = load8(p27 + 2);
+store8(p28 + 2, i1);
+j0 = v0;
+j1 = UINT64_C(4);
+j0 = j0 + j1;
+j1 = v4;
+j2 = UINT64_C(3);
+j1 = j1 + j2;
+i1 = load8(p27 + 3);
+store8(p28 + 3, i1);
 j0 = v16;
-i1 = v3;
-store8(p9 + 0, i1);
-j0 = v8;
-r = j0;
-return r;
+j1 = v2;
+j2 = UINT64_C(4);
+j1 = j1 + j2;
+v2 = j1;
+i0 = (j0 != j1);
+if (i0) { goto l29; }
+j0 = v6;
+i0 = (j0 == 0);
+if (i0) { goto l2; }
+l28:;
+j0 = v3;
+j1 = v23;
+j2 = v2;
+j1 = j1 + j2;
+j0 = j0 + j1;
+v0 = j0;
+j0 = v21;
+j1 = v2;
+j0 = j0 + j1;
+j1 = v5;
+j0 = j0 + j1;
+j1 = UINT64_C(1);
+j0 = j0 + j1;
+v2 = j0;
+l30:;
+j0 = v2;
+j1 = v0;
+p29 = read_at(j1, m, 1u);
+i1 = load8(p29 + 0);
+p30 = write_at(j0, m, 1u);
+store8(p30 + 0, i1);
+j0 = v2;
+j1 = UINT64_C(1);
+j0 = j0 + j1;
+v2 = j0;
+j0 = v0;
+j1 = UINT64_C(1);
+j0 = j0 + j1;
+v0 = j0;
+j0 = v6;
+j1 = UINT64_C(18446744073709551615);
+j0 = j0 + j1;
+v6 = j0;
+j1 = UINT64_C(0);
+i0 = (j0 != j1);
+if (i0) { goto l30; }
+goto l2;
+l27:;
+j0 = v4;
+i0 = (j0 == 0);
+if (i0) { goto l2; }
+j0 = v0;
+j1 = v1;
+j2 = v4;
+copy(m, j0, j1, j2);
+goto l2;
 l14:;
+j0 = UINT64_C(18446744073709551615);
+v8 = j0;
+i0 = v11;
+i1 = UINT32_C(4294967119);
+i0 = i0 + i1;
+switch (i0) {
+case 0:
+goto l34;
+case 1:
+goto l37;
+case 2:
+goto l36;
+case 3:
+goto l33;
+case 4:
+goto l32;
+case 5:
+goto l2;
+case 6:
+goto l2;
+case 7:
+goto l2;
+case 8:
+goto l2;
+case 9:
+goto l35;
+default:
+goto l2;
+}
+l37:;
+i0 = UINT32_C(0);
+v14 = i0;
+j0 = v7;
+j1 = UINT64_C(805);
+j0 = j0 + j1;
+i1 = UINT32_C(0);
+j2 = UINT64_C(763);
+fill(m, j0, i1, j2);
+goto l4;
+l36:;
+i0 = UINT32_C(0);
+v14 = i0;
+j0 = v7;
+j1 = UINT64_C(805);
+j0 = j0 + j1;
+i1 = UINT32_C(0);
+j2 = UINT64_C(763);
+fill(m, j0, i1, j2);
+goto l4;
+l35:;
+i0 = UINT32_C(0);
+v14 = i0;
+j0 = v7;
+j1 = UINT64_C(805);
+j0 = j0 + j1;
+i1 = UINT32_C(0);
+j2 = UINT64_C(763);
+fill(m, j0, i1, j2);
+goto l4;
+l34:;
+i0 = UINT32_C(0);
+v10 = i0;
+j0 = v7;
+j1 = UINT64_C(805);
+j0 = j0 + j1;
+i1 = UINT32_C(0);
+j2 = UINT64_C(763);
+fill(m, j0, i1, j2);
+i0 = v12;
+i1 = UINT32_C(16711935);
+i0 = i0 & i1;
+i1 = UINT32_C(8);
+i0 = rotate32(i0, 0u - i1);
+i1 = v12;
+i2 = UINT32_C(24);
+i1 = rotate32(i1, 0u - i2);
+i2 = UINT32_C(16711935);
+i1 = i1 & i2;
+i0 = i0 | i1;
+v9 = i0;
+j0 = UINT64_C(8);
+v8 = j0;
+j0 = UINT64_C(0);
+v0 = j0;
+i0 = v15;
+v17 = i0;
+goto l3;
+l33:;
+j0 = v7;
+j1 = UINT64_C(805);
+j0 = j0 + j1;
+i1 = UINT32_C(0);
+j2 = UINT64_C(763);
+fill(m, j0, i1, j2);
+i0 = v12;
+i1 = UINT32_C(16711935);
+i0 = i0 & i1;
+i1 = UINT32_C(8);
+i0 = rotate32(i0, 0u - i1);
+i1 = v12;
+i2 = UINT32_C(24);
+i1 = rotate32(i1, 0u - i2);
+i2 = UINT32_C(16711935);
+i1 = i1 & i2;
+i0 = i0 | i1;
+v10 = i0;
 j0 = v16;
-j1 = v7;
-i1 = load8(p1 + 12);
-p10 = write_at(j0, m, 5u);
-store8(p10 + 4, i1);
+j1 = UINT64_C(18374686479671623680);
+j0 = j0 & j1;
+v0 = j0;
 j0 = v16;
-j1 = v7;
-i1 = load32(p1 + 8);
-store32(p10 + 0, i1);
+j1 = UINT64_C(24);
+j0 = j0 >> (j1 & 63);
+i0 = (uint32_t)j0;
+v9 = i0;
+j0 = v16;
+j1 = UINT64_C(16);
+j0 = j0 >> (j1 & 63);
+i0 = (uint32_t)j0;
+v13 = i0;
+j0 = v16;
+j1 = UINT64_C(8);
+j0 = j0 >> (j1 & 63);
+i0 = (uint32_t)j0;
+v14 = i0;
+goto l31;
+l32:;
+j0 = v7;
+j1 = UINT64_C(805);
+j0 = j0 + j1;
+i1 = UINT32_C(0);
+j2 = UINT64_C(763);
+fill(m, j0, i1, j2);
+i0 = v12;
+i1 = UINT32_C(16711935);
+i0 = i0 & i1;
+i1 = UINT32_C(8);
+i0 = rotate32(i0, 0u - i1);
+i1 = v12;
+i2 = UINT32_C(24);
+i1 = rotate32(i1, 0u - i2);
+i2 = UINT32_C(16711935);
+i1 = i1 & i2;
+i0 = i0 | i1;
+v10 = i0;
+j0 = v16;
+j1 = UINT64_C(18374686479671623680);
+j0 = j0 & j1;
+v0 = j0;
+j0 = v16;
+j1 = UINT64_C(24);
+j0 = j0 >> (j1 & 63);
+i0 = (uint32_t)j0;
+v9 = i0;
+j0 = v16;
+j1 = UINT64_C(16);
+j0 = j0 >> (j1 & 63);
+i0 = (uint32_t)j0;
+v13 = i0;
+j0 = v16;
+j1 = UINT64_C(8);
+j0 = j0 >> (j1 & 63);
+i0 = (uint32_t)j0;
+v14 = i0;
+l31:;
+j0 = v16;
+i0 = (uint32_t)j0;
+v17 = i0;
+j0 = UINT64_C(13);
+v8 = j0;
+goto l3;
+l5:;
+fio2070_trap();
+l4:;
+j0 = UINT64_C(2);
+v8 = j0;
+j0 = UINT64_C(0);
+v0 = j0;
+i0 = UINT32_C(0);
+v13 = i0;
+i0 = UINT32_C(0);
+v9 = i0;
+i0 = UINT32_C(0);
+v10 = i0;
 l3:;
+j0 = v7;
+i1 = v10;
+p31 = write_at(j0 + UINT64_C(16), m, 784u);
+store32(p31 + 9, i1);
+j0 = v7;
+i1 = v11;
+store8(p31 + 0, i1);
+j0 = v7;
+i1 = v9;
+j1 = (uint64_t)i1;
+j2 = UINT64_C(24);
+j1 = j1 << (j2 & 63);
+j2 = v0;
+j1 = j1 | j2;
+i2 = v13;
+j2 = (uint64_t)i2;
+j3 = UINT64_C(255);
+j2 = j2 & j3;
+j3 = UINT64_C(16);
+j2 = j2 << (j3 & 63);
+j1 = j1 | j2;
+i2 = v14;
+j2 = (uint64_t)i2;
+j3 = UINT64_C(255);
+j2 = j2 & j3;
+j3 = UINT64_C(8);
+j2 = j2 << (j3 & 63);
+j1 = j1 | j2;
+i2 = v17;
+j2 = (uint64_t)i2;
+j3 = UINT64_C(255);
+j2 = j2 & j3;
+j1 = j1 | j2;
+store64(p31 + 1, j1);
+j0 = v7;
+j1 = UINT64_C(29);
+j0 = j0 + j1;
+j1 = v7;
+j2 = UINT64_C(805);
+j1 = j1 + j2;
+j2 = UINT64_C(763);
+copy(m, j0, j1, j2);
+j0 = v7;
+j1 = v8;
+store64(p31 + 776, j1);
+j0 = v8;
+j1 = v6;
+i0 = (j0 > j1);
+if (i0) { goto l2; }
+j0 = v8;
+i0 = (j0 == 0);
+if (i0) { goto l2; }
+j0 = v22;
+j1 = v7;
+j2 = UINT64_C(16);
+j1 = j1 + j2;
+j2 = v8;
+copy(m, j0, j1, j2);
+l2:;
+j0 = v7;
+j1 = UINT64_C(1568);
+j0 = j0 + j1;
+m->g0 = j0;
 j0 = v8;
 r = j0;
-return r;
-l2:;
-trap();
 return r;
 }
-static uint64_t enter_encode_configure_inputs(struct machine *m, uint64_t v0, uint64_t v1, uint64_t v2, uint64_t v3)
+static uint64_t enter_encode_command(struct machine *m, uint64_t v0, uint64_t v1, uint64_t v2, uint64_t v3, uint64_t v4, uint64_t v5, uint64_t v6)
 {
 uint32_t i0;
 uint64_t j0;
 uint64_t j1;
 uint64_t j2;
 uint64_t j3;
+uint64_t j4;
+uint64_t j5;
+uint64_t j6;
 uint64_t r;
 i0 = rattle_enter(m);
 i0 = (i0 == 0);
 if (i0) { goto l2; }
-trap();
-trap();
+fio2070_trap();
+fio2070_trap();
 l2:;
 j0 = v0;
 j1 = v1;
 j2 = v2;
 j3 = v3;
-j0 = proved_encode_configure_inputs(m, j0, j1, j2, j3);
-v3 = j0;
+j4 = v4;
+j5 = v5;
+j6 = v6;
+j0 = proved_encode_command(m, j0, j1, j2, j3, j4, j5, j6);
+v6 = j0;
 rattle_leave(m);
-j0 = v3;
+j0 = v6;
 r = j0;
 return r;
 }
-static uint64_t proved_encode_configure_inputs(struct machine *m, uint64_t v0, uint64_t v1, uint64_t v2, uint64_t v3)
+static uint64_t proved_encode_command(struct machine *m, uint64_t v0, uint64_t v1, uint64_t v2, uint64_t v3, uint64_t v4, uint64_t v5, uint64_t v6)
 {
-uint64_t v4 = 0;
-uint64_t v5 = 0;
-uint64_t v6 = 0;
 uint64_t v7 = 0;
-uint32_t v8 = 0;
-uint64_t v9 = 0;
-uint64_t v10 = 0;
-uint32_t v11 = 0;
-uint64_t v12 = 0;
-uint64_t v13 = 0;
+uint64_t v8 = 0;
+uint32_t v9 = 0;
+uint32_t v10 = 0;
+uint64_t v11 = 0;
+uint32_t v12 = 0;
+uint32_t v13 = 0;
+uint32_t v14 = 0;
+uint32_t v15 = 0;
+uint32_t v16 = 0;
+uint32_t v17 = 0;
+uint64_t v18 = 0;
+uint32_t v19 = 0;
+uint64_t v20 = 0;
+uint64_t v21 = 0;
 uint32_t i0;
 uint32_t i1;
 uint32_t i2;
@@ -29611,73 +29062,637 @@ uint8_t *p5;
 uint8_t *p6;
 uint8_t *p7;
 uint8_t *p8;
+uint8_t *p9;
+uint8_t *p10;
+uint8_t *p11;
+uint8_t *p12;
+uint8_t *p13;
+uint8_t *p14;
+uint8_t *p15;
+uint8_t *p16;
+uint8_t *p17;
+uint8_t *p18;
+uint8_t *p19;
+uint8_t *p20;
+uint8_t *p21;
+uint8_t *p22;
+uint8_t *p23;
+uint8_t *p24;
+uint8_t *p25;
+uint8_t *p26;
+uint8_t *p27;
+uint8_t *p28;
+uint8_t *p29;
+uint8_t *p30;
+uint8_t *p31;
+uint8_t *p32;
+uint8_t *p33;
+uint8_t *p34;
+uint8_t *p35;
+uint8_t *p36;
+uint8_t *p37;
+uint8_t *p38;
+uint8_t *p39;
+uint8_t *p40;
+uint8_t *p41;
+uint8_t *p42;
+uint8_t *p43;
+uint8_t *p44;
 j0 = m->g0;
-j1 = UINT64_C(16);
+j1 = UINT64_C(2304);
 j0 = j0 - j1;
-v4 = j0;
+v7 = j0;
+m->g0 = j0;
+j0 = v7;
+v7 = j0;
 j1 = UINT64_C(16);
 i0 = (SIGNED64(j0) < SIGNED64(j1));
-if (i0) { goto l2; }
+if (i0) { goto l6; }
 j0 = UINT64_C(18446744073709551615);
-v5 = j0;
-j0 = v1;
-j1 = UINT64_C(255);
-i0 = (j0 > j1);
-if (i0) { goto l3; }
+v8 = j0;
+j0 = v2;
+j1 = v0;
+j2 = UINT64_C(4);
+j1 = j1 + j2;
+p2 = read_at(j1, m, 1u);
+i1 = load8(p2 + 0);
+v9 = i1;
+j1 = (uint64_t)i1;
+j2 = UINT64_C(255);
+j1 = j1 & j2;
+i0 = (j0 != j1);
+if (i0) { goto l2; }
+j0 = v4;
+j1 = v0;
+j2 = UINT64_C(6);
+j1 = j1 + j2;
+p3 = read_at(j1, m, 2u);
+i1 = load16(p3 + 0);
+v10 = i1;
+j1 = (uint64_t)i1;
+j2 = UINT64_C(65535);
+j1 = j1 & j2;
+i0 = (j0 != j1);
+if (i0) { goto l2; }
+j0 = UINT64_C(0);
+v11 = j0;
+i0 = UINT32_C(0);
+v12 = i0;
+i0 = UINT32_C(0);
+v13 = i0;
+i0 = UINT32_C(0);
+v14 = i0;
+i0 = v9;
+v15 = i0;
+i0 = UINT32_C(0);
+v16 = i0;
+i0 = UINT32_C(0);
+v17 = i0;
+j0 = UINT64_C(0);
+v18 = j0;
 j0 = v0;
+p4 = read_at(j0, m, 1u);
+i0 = load8(p4 + 0);
+v19 = i0;
+i1 = UINT32_C(4294967247);
+i0 = i0 + i1;
+switch (i0) {
+case 0:
+goto l19;
+case 1:
+goto l18;
+case 2:
+goto l7;
+case 3:
+goto l14;
+case 4:
+goto l14;
+case 5:
+goto l17;
+case 6:
+goto l16;
+case 7:
+goto l14;
+case 8:
+goto l14;
+case 9:
+goto l15;
+case 10:
+goto l10;
+default:
+goto l14;
+}
+l19:;
+j0 = v0;
+j1 = UINT64_C(1);
+j0 = j0 + j1;
+p5 = read_at(j0, m, 1u);
+i0 = load8(p5 + 0);
+v12 = i0;
+goto l13;
+l18:;
+j0 = v0;
+j1 = UINT64_C(8);
+j0 = j0 + j1;
+p6 = read_at(j0, m, 4u);
+i0 = load32(p6 + 0);
+v17 = i0;
+i0 = UINT32_C(0);
+v12 = i0;
+i0 = UINT32_C(0);
+v13 = i0;
+i0 = UINT32_C(0);
+v14 = i0;
+i0 = UINT32_C(0);
+v15 = i0;
+i0 = UINT32_C(0);
+v16 = i0;
+goto l8;
+l17:;
+j0 = v0;
+j1 = UINT64_C(2);
+j0 = j0 + j1;
+p7 = read_at(j0, m, 1u);
+i0 = load8(p7 + 0);
+v13 = i0;
+i0 = UINT32_C(0);
+v12 = i0;
+goto l12;
+l16:;
+j0 = v0;
+j1 = UINT64_C(20);
+j0 = j0 + j1;
+p8 = read_at(j0 + UINT64_C(18446744073709551608), m, 16u);
+j0 = load64(p8 + 8);
+v18 = j0;
+j0 = v0;
+j1 = UINT64_C(12);
+j0 = j0 + j1;
+j0 = load64(p8 + 0);
+v11 = j0;
+i0 = UINT32_C(0);
+v12 = i0;
+i0 = UINT32_C(0);
+v13 = i0;
+i0 = UINT32_C(0);
+v14 = i0;
+i0 = UINT32_C(0);
+v15 = i0;
+i0 = UINT32_C(0);
+v16 = i0;
+i0 = UINT32_C(0);
+v17 = i0;
+goto l7;
+l15:;
+j0 = v0;
+j1 = UINT64_C(3);
+j0 = j0 + j1;
+p9 = read_at(j0, m, 1u);
+i0 = load8(p9 + 0);
+v14 = i0;
+i0 = UINT32_C(0);
+v12 = i0;
+i0 = UINT32_C(0);
+v13 = i0;
+goto l11;
+l14:;
+i0 = v19;
+i1 = UINT32_C(4294967242);
+i0 = i0 + i1;
+i1 = UINT32_C(255);
+i0 = i0 & i1;
+i1 = UINT32_C(3);
+i0 = (i0 <= i1);
+if (i0) { goto l10; }
+i0 = UINT32_C(0);
+v12 = i0;
+l13:;
+i0 = UINT32_C(0);
+v13 = i0;
+l12:;
+i0 = UINT32_C(0);
+v14 = i0;
+l11:;
+i0 = UINT32_C(0);
+v15 = i0;
+i0 = UINT32_C(0);
+v16 = i0;
+goto l9;
+l10:;
+i0 = UINT32_C(0);
+v12 = i0;
+i0 = UINT32_C(0);
+v13 = i0;
+i0 = UINT32_C(0);
+v14 = i0;
+i0 = UINT32_C(0);
+v15 = i0;
+i0 = v10;
+v16 = i0;
+l9:;
+i0 = UINT32_C(0);
+v17 = i0;
+l8:;
+j0 = UINT64_C(0);
+v18 = j0;
+l7:;
+j0 = v0;
+j1 = UINT64_C(1);
+j0 = j0 + j1;
+p10 = read_at(j0, m, 1u);
+i0 = load8(p10 + 0);
+i1 = v12;
+i2 = UINT32_C(255);
+i1 = i1 & i2;
+i0 = (i0 != i1);
+if (i0) { goto l2; }
+j0 = v0;
+j1 = UINT64_C(2);
+j0 = j0 + j1;
+p11 = read_at(j0, m, 1u);
+i0 = load8(p11 + 0);
+i1 = v13;
+i2 = UINT32_C(255);
+i1 = i1 & i2;
+i0 = (i0 != i1);
+if (i0) { goto l2; }
+i0 = v9;
+i1 = UINT32_C(255);
+i0 = i0 & i1;
+i1 = v15;
+i2 = UINT32_C(255);
+i1 = i1 & i2;
+i0 = (i0 != i1);
+if (i0) { goto l2; }
+j0 = v0;
+j1 = UINT64_C(3);
+j0 = j0 + j1;
+p12 = read_at(j0, m, 1u);
+i0 = load8(p12 + 0);
+i1 = UINT32_C(255);
+i0 = i0 & i1;
+i1 = v14;
+i2 = UINT32_C(255);
+i1 = i1 & i2;
+i0 = (i0 != i1);
+if (i0) { goto l2; }
+i0 = v10;
+i1 = UINT32_C(65535);
+i0 = i0 & i1;
+i1 = v16;
+i2 = UINT32_C(65535);
+i1 = i1 & i2;
+i0 = (i0 != i1);
+if (i0) { goto l2; }
+j0 = v0;
+j1 = UINT64_C(5);
+j0 = j0 + j1;
+p13 = read_at(j0, m, 1u);
+i0 = load8(p13 + 0);
+i1 = UINT32_C(255);
+i0 = i0 & i1;
+if (i0) { goto l2; }
+j0 = v0;
+j1 = UINT64_C(8);
+j0 = j0 + j1;
+p14 = read_at(j0, m, 4u);
+i0 = load32(p14 + 0);
+i1 = v17;
+i0 = (i0 != i1);
+if (i0) { goto l2; }
+j0 = v0;
+j1 = UINT64_C(12);
+j0 = j0 + j1;
+p15 = read_at(j0, m, 1u);
+i0 = load8(p15 + 0);
+j1 = v11;
+i1 = (uint32_t)j1;
+i2 = UINT32_C(255);
+i1 = i1 & i2;
+i0 = (i0 != i1);
+if (i0) { goto l2; }
+j0 = v0;
+j1 = UINT64_C(13);
+j0 = j0 + j1;
+p16 = read_at(j0, m, 1u);
+i0 = load8(p16 + 0);
+i1 = UINT32_C(255);
+i0 = i0 & i1;
+j1 = v11;
+j2 = UINT64_C(8);
+j1 = j1 >> (j2 & 63);
+i1 = (uint32_t)j1;
+i2 = UINT32_C(255);
+i1 = i1 & i2;
+i0 = (i0 != i1);
+if (i0) { goto l2; }
+j0 = v0;
+j1 = UINT64_C(14);
+j0 = j0 + j1;
+p17 = read_at(j0, m, 1u);
+i0 = load8(p17 + 0);
+i1 = UINT32_C(255);
+i0 = i0 & i1;
+j1 = v11;
+j2 = UINT64_C(16);
+j1 = j1 >> (j2 & 63);
+i1 = (uint32_t)j1;
+i2 = UINT32_C(255);
+i1 = i1 & i2;
+i0 = (i0 != i1);
+if (i0) { goto l2; }
+j0 = v0;
+j1 = UINT64_C(15);
+j0 = j0 + j1;
+p18 = read_at(j0, m, 1u);
+i0 = load8(p18 + 0);
+i1 = UINT32_C(255);
+i0 = i0 & i1;
+j1 = v11;
+j2 = UINT64_C(24);
+j1 = j1 >> (j2 & 63);
+i1 = (uint32_t)j1;
+i2 = UINT32_C(255);
+i1 = i1 & i2;
+i0 = (i0 != i1);
+if (i0) { goto l2; }
+j0 = v0;
+j1 = UINT64_C(16);
+j0 = j0 + j1;
+p19 = read_at(j0, m, 1u);
+i0 = load8(p19 + 0);
+i1 = UINT32_C(255);
+i0 = i0 & i1;
+j1 = v11;
+j2 = UINT64_C(32);
+j1 = j1 >> (j2 & 63);
+i1 = (uint32_t)j1;
+i2 = UINT32_C(255);
+i1 = i1 & i2;
+i0 = (i0 != i1);
+if (i0) { goto l2; }
+j0 = v0;
+j1 = UINT64_C(17);
+j0 = j0 + j1;
+p20 = read_at(j0, m, 1u);
+i0 = load8(p20 + 0);
+i1 = UINT32_C(255);
+i0 = i0 & i1;
+j1 = v11;
+j2 = UINT64_C(40);
+j1 = j1 >> (j2 & 63);
+i1 = (uint32_t)j1;
+i2 = UINT32_C(255);
+i1 = i1 & i2;
+i0 = (i0 != i1);
+if (i0) { goto l2; }
+j0 = v0;
+j1 = UINT64_C(18);
+j0 = j0 + j1;
+p21 = read_at(j0, m, 1u);
+i0 = load8(p21 + 0);
+i1 = UINT32_C(255);
+i0 = i0 & i1;
+j1 = v11;
+j2 = UINT64_C(48);
+j1 = j1 >> (j2 & 63);
+i1 = (uint32_t)j1;
+i2 = UINT32_C(255);
+i1 = i1 & i2;
+i0 = (i0 != i1);
+if (i0) { goto l2; }
+j0 = v0;
+j1 = UINT64_C(19);
+j0 = j0 + j1;
+p22 = read_at(j0, m, 1u);
+i0 = load8(p22 + 0);
+i1 = UINT32_C(255);
+i0 = i0 & i1;
+j1 = v11;
+j2 = UINT64_C(56);
+j1 = j1 >> (j2 & 63);
+i1 = (uint32_t)j1;
+i0 = (i0 != i1);
+if (i0) { goto l2; }
+j0 = v0;
+j1 = UINT64_C(20);
+j0 = j0 + j1;
+p23 = read_at(j0, m, 1u);
+i0 = load8(p23 + 0);
+j1 = v18;
+i1 = (uint32_t)j1;
+i2 = UINT32_C(255);
+i1 = i1 & i2;
+i0 = (i0 != i1);
+if (i0) { goto l2; }
+j0 = v0;
+j1 = UINT64_C(21);
+j0 = j0 + j1;
+p24 = read_at(j0, m, 1u);
+i0 = load8(p24 + 0);
+i1 = UINT32_C(255);
+i0 = i0 & i1;
+j1 = v18;
+j2 = UINT64_C(8);
+j1 = j1 >> (j2 & 63);
+i1 = (uint32_t)j1;
+i2 = UINT32_C(255);
+i1 = i1 & i2;
+i0 = (i0 != i1);
+if (i0) { goto l2; }
+j0 = v0;
+j1 = UINT64_C(22);
+j0 = j0 + j1;
+p25 = read_at(j0, m, 1u);
+i0 = load8(p25 + 0);
+i1 = UINT32_C(255);
+i0 = i0 & i1;
+j1 = v18;
+j2 = UINT64_C(16);
+j1 = j1 >> (j2 & 63);
+i1 = (uint32_t)j1;
+i2 = UINT32_C(255);
+i1 = i1 & i2;
+i0 = (i0 != i1);
+if (i0) { goto l2; }
+j0 = v0;
+j1 = UINT64_C(23);
+j0 = j0 + j1;
+p26 = read_at(j0, m, 1u);
+i0 = load8(p26 + 0);
+i1 = UINT32_C(255);
+i0 = i0 & i1;
+j1 = v18;
+j2 = UINT64_C(24);
+j1 = j1 >> (j2 & 63);
+i1 = (uint32_t)j1;
+i2 = UINT32_C(255);
+i1 = i1 & i2;
+i0 = (i0 != i1);
+if (i0) { goto l2; }
+j0 = v0;
+j1 = UINT64_C(24);
+j0 = j0 + j1;
+p27 = read_at(j0, m, 1u);
+i0 = load8(p27 + 0);
+i1 = UINT32_C(255);
+i0 = i0 & i1;
+j1 = v18;
+j2 = UINT64_C(32);
+j1 = j1 >> (j2 & 63);
+i1 = (uint32_t)j1;
+i2 = UINT32_C(255);
+i1 = i1 & i2;
+i0 = (i0 != i1);
+if (i0) { goto l2; }
+j0 = v0;
+j1 = UINT64_C(25);
+j0 = j0 + j1;
+p28 = read_at(j0, m, 1u);
+i0 = load8(p28 + 0);
+i1 = UINT32_C(255);
+i0 = i0 & i1;
+j1 = v18;
+j2 = UINT64_C(40);
+j1 = j1 >> (j2 & 63);
+i1 = (uint32_t)j1;
+i2 = UINT32_C(255);
+i1 = i1 & i2;
+i0 = (i0 != i1);
+if (i0) { goto l2; }
+j0 = v0;
+j1 = UINT64_C(26);
+j0 = j0 + j1;
+p29 = read_at(j0, m, 1u);
+i0 = load8(p29 + 0);
+i1 = UINT32_C(255);
+i0 = i0 & i1;
+j1 = v18;
+j2 = UINT64_C(48);
+j1 = j1 >> (j2 & 63);
+i1 = (uint32_t)j1;
+i2 = UINT32_C(255);
+i1 = i1 & i2;
+i0 = (i0 != i1);
+if (i0) { goto l2; }
+j0 = v0;
+j1 = UINT64_C(27);
+j0 = j0 + j1;
+p30 = read_at(j0, m, 1u);
+i0 = load8(p30 + 0);
+i1 = UINT32_C(255);
+i0 = i0 & i1;
+j1 = v18;
+j2 = UINT64_C(56);
+j1 = j1 >> (j2 & 63);
+i1 = (uint32_t)j1;
+i0 = (i0 != i1);
+if (i0) { goto l2; }
+j0 = v5;
 j1 = UINT64_C(4096);
 j2 = UINT64_C(0);
-j3 = v0;
+j3 = v5;
 i3 = (j3 == 0);
 j1 = i3 ? j1 : j2;
-v6 = j1;
+v11 = j1;
 j0 = j0 + j1;
-v7 = j0;
+v18 = j0;
+i0 = v19;
+i1 = UINT32_C(4294967247);
+i0 = i0 + i1;
+switch (i0) {
+case 0:
+goto l24;
+case 1:
+goto l23;
+case 2:
+goto l28;
+case 3:
+goto l29;
+case 4:
+goto l26;
+case 5:
+goto l22;
+case 6:
+goto l21;
+case 7:
+goto l27;
+case 8:
+goto l27;
+case 9:
+goto l20;
+case 10:
+goto l27;
+case 11:
+goto l25;
+default:
+goto l2;
+}
+l29:;
+i0 = UINT32_C(0);
+v12 = i0;
+j0 = v7;
+j1 = UINT64_C(1545);
+j0 = j0 + j1;
+i1 = UINT32_C(0);
+j2 = UINT64_C(759);
+fill(m, j0, i1, j2);
+goto l5;
+l28:;
 j0 = v1;
+j1 = UINT64_C(4096);
+j2 = UINT64_C(0);
+j3 = v1;
+i3 = (j3 == 0);
+j1 = i3 ? j1 : j2;
+v11 = j1;
+j0 = j0 + j1;
+v4 = j0;
+j0 = v2;
 i0 = (j0 == 0);
-v8 = i0;
-if (i0) { goto l4; }
-j0 = v1;
+v12 = i0;
+if (i0) { goto l30; }
+j0 = v2;
 j1 = UINT64_C(3);
 j0 = j0 & j1;
-v9 = j0;
-j0 = v1;
+v8 = j0;
+j0 = v2;
 j1 = UINT64_C(4);
 i0 = (j0 >= j1);
-if (i0) { goto l7; }
+if (i0) { goto l33; }
 j0 = UINT64_C(0);
-v10 = j0;
+v5 = j0;
 i0 = UINT32_C(1);
-v11 = i0;
-goto l6;
-l7:;
-j0 = v1;
-j1 = UINT64_C(252);
+v9 = i0;
+goto l32;
+l33:;
+j0 = v2;
+j1 = UINT64_C(18446744073709551612);
 j0 = j0 & j1;
-v12 = j0;
+v3 = j0;
 j0 = UINT64_C(0);
-v10 = j0;
+v5 = j0;
 i0 = UINT32_C(1);
-v11 = i0;
-j0 = v7;
-v13 = j0;
-p2 = read_at(v13 + UINT64_C(0), m, run(13u, 16u, turns(v12, v10, 4u)));
-l8:;
-i0 = v11;
-j1 = v13;
+v9 = i0;
+j0 = v4;
+v0 = j0;
+p31 = read_at(v0 + UINT64_C(0), m, run(13u, 16u, turns(v3, v5, 4u)));
+l34:;
+i0 = v9;
+j1 = v0;
 j2 = UINT64_C(12);
 j1 = j1 + j2;
-i1 = load8(p2 + 12);
-j2 = v13;
+i1 = load8(p31 + 12);
+j2 = v0;
 j3 = UINT64_C(8);
 j2 = j2 + j3;
-i2 = load8(p2 + 8);
-j3 = v13;
+i2 = load8(p31 + 8);
+j3 = v0;
 j4 = UINT64_C(4);
 j3 = j3 + j4;
-i3 = load8(p2 + 4);
-j4 = v13;
-i4 = load8(p2 + 0);
+i3 = load8(p31 + 4);
+j4 = v0;
+i4 = load8(p31 + 0);
 i3 = i3 | i4;
 i2 = i2 | i3;
 i1 = i1 | i2;
@@ -29685,160 +29700,525 @@ i1 = (uint32_t)extend(i1 & 255, 7);
 i2 = UINT32_C(4294967295);
 i1 = (SIGNED32(i1) > SIGNED32(i2));
 i0 = i0 & i1;
-v11 = i0;
-j0 = v13;
+v9 = i0;
+j0 = v0;
 j1 = UINT64_C(16);
 j0 = j0 + j1;
-v13 = j0;
-j0 = v12;
-j1 = v10;
+v0 = j0;
+j0 = v3;
+j1 = v5;
 j2 = UINT64_C(4);
 j1 = j1 + j2;
-v10 = j1;
+v5 = j1;
 i0 = (j0 != j1);
-if (i0) { p2 += 16; goto l8; }
-j0 = v9;
+if (i0) { p31 += 16; goto l34; }
+j0 = v8;
 i0 = (j0 == 0);
-if (i0) { goto l5; }
-l6:;
-j0 = v0;
-j1 = v6;
-j2 = v10;
+if (i0) { goto l31; }
+l32:;
+j0 = v1;
+j1 = v11;
+j2 = v5;
 j3 = UINT64_C(2);
 j2 = j2 << (j3 & 63);
 j1 = j1 + j2;
 j0 = j0 + j1;
-v13 = j0;
-p3 = read_at(v13 + UINT64_C(0), m, run(1u, 4u, turns(v9, UINT64_C(0), 1u)));
-l9:;
-i0 = v11;
-j1 = v13;
-i1 = (uint32_t)extend(load8(p3 + 0), 7);
+v0 = j0;
+p32 = read_at(v0 + UINT64_C(0), m, run(1u, 4u, turns(v8, UINT64_C(0), 1u)));
+l35:;
+i0 = v9;
+j1 = v0;
+i1 = (uint32_t)extend(load8(p32 + 0), 7);
 i2 = UINT32_C(4294967295);
 i1 = (SIGNED32(i1) > SIGNED32(i2));
 i0 = i0 & i1;
-v11 = i0;
-j0 = v13;
+v9 = i0;
+j0 = v0;
 j1 = UINT64_C(4);
 j0 = j0 + j1;
-v13 = j0;
-j0 = v9;
+v0 = j0;
+j0 = v8;
 j1 = UINT64_C(18446744073709551615);
 j0 = j0 + j1;
-v9 = j0;
+v8 = j0;
 j1 = UINT64_C(0);
 i0 = (j0 != j1);
-if (i0) { p3 += 4; goto l9; }
-l5:;
-i0 = v11;
+if (i0) { p32 += 4; goto l35; }
+l31:;
+j0 = UINT64_C(18446744073709551615);
+v8 = j0;
+i0 = v9;
 i0 = (i0 == 0);
-if (i0) { goto l3; }
-l4:;
-j0 = v1;
+if (i0) { goto l2; }
+l30:;
+j0 = v2;
 j1 = UINT64_C(3);
 j0 = j0 * j1;
 j1 = UINT64_C(2);
 j0 = j0 + j1;
-v5 = j0;
-j1 = v3;
+v8 = j0;
+j1 = v6;
 i0 = (j0 > j1);
-if (i0) { goto l3; }
-j0 = v1;
-i0 = (uint32_t)j0;
-v11 = i0;
+if (i0) { goto l2; }
 j0 = v2;
-j1 = UINT64_C(4096);
-j2 = UINT64_C(0);
-j3 = v2;
-i3 = (j3 == 0);
-j1 = i3 ? j1 : j2;
-j0 = j0 + j1;
-v13 = j0;
-j1 = v4;
-j2 = UINT64_C(14);
-j1 = j1 + j2;
+i0 = (uint32_t)j0;
+v9 = i0;
+j0 = v18;
+j1 = v7;
 j0 = j0 - j1;
 j1 = UINT64_C(1);
 i0 = (j0 > j1);
-if (i0) { goto l11; }
-j0 = v13;
-i1 = v11;
-p4 = write_at(j0, m, 2u);
-store8(p4 + 1, i1);
-j0 = v13;
+if (i0) { goto l37; }
+j0 = v18;
+i1 = v9;
+p33 = write_at(j0, m, 2u);
+store8(p33 + 1, i1);
+j0 = v18;
 i1 = UINT32_C(51);
-store8(p4 + 0, i1);
-goto l10;
-l11:;
-j0 = v13;
-i1 = v11;
+store8(p33 + 0, i1);
+goto l36;
+l37:;
+j0 = v18;
+i1 = v9;
 i2 = UINT32_C(8);
 i1 = i1 << (i2 & 31);
 i2 = UINT32_C(51);
 i1 = i1 | i2;
-p5 = write_at(j0, m, 2u);
-store16(p5 + 0, i1);
-l10:;
-i0 = v8;
-if (i0) { goto l3; }
-j0 = v13;
+p34 = write_at(j0, m, 2u);
+store16(p34 + 0, i1);
+l36:;
+i0 = v12;
+if (i0) { goto l2; }
+j0 = v18;
 j1 = UINT64_C(4);
 j0 = j0 + j1;
-v13 = j0;
-l12:;
-j0 = v7;
-p6 = read_at(j0, m, 1u);
-i0 = (uint32_t)extend(load8(p6 + 0), 7);
-v11 = i0;
+v0 = j0;
+l38:;
+j0 = v4;
+p35 = read_at(j0, m, 1u);
+i0 = (uint32_t)extend(load8(p35 + 0), 7);
+v9 = i0;
 i1 = UINT32_C(4294967295);
 i0 = (SIGNED32(i0) <= SIGNED32(i1));
-if (i0) { goto l2; }
-j0 = v7;
+if (i0) { goto l6; }
+j0 = v4;
 j1 = UINT64_C(1);
 j0 = j0 + j1;
-p7 = read_at(j0, m, 3u);
-i0 = load8(p7 + 0);
-v8 = i0;
-j0 = v13;
+p36 = read_at(j0, m, 3u);
+i0 = load8(p36 + 0);
+v12 = i0;
+j0 = v0;
 j1 = UINT64_C(18446744073709551615);
 j0 = j0 + j1;
-j1 = v7;
+j1 = v4;
 j2 = UINT64_C(2);
 j1 = j1 + j2;
-i1 = load16(p7 + 1);
-p8 = write_at(j0 + UINT64_C(18446744073709551615), m, 3u);
-store16(p8 + 1, i1);
-j0 = v13;
+i1 = load16(p36 + 1);
+p37 = write_at(j0 + UINT64_C(18446744073709551615), m, 3u);
+store16(p37 + 1, i1);
+j0 = v0;
 j1 = UINT64_C(18446744073709551614);
 j0 = j0 + j1;
 i1 = UINT32_C(4294967168);
 i2 = UINT32_C(0);
-i3 = v8;
+i3 = v12;
 i1 = i3 ? i1 : i2;
-i2 = v11;
+i2 = v9;
 i1 = i1 | i2;
-store8(p8 + 0, i1);
-j0 = v7;
+store8(p37 + 0, i1);
+j0 = v4;
 j1 = UINT64_C(4);
 j0 = j0 + j1;
-v7 = j0;
-j0 = v13;
+v4 = j0;
+j0 = v0;
 j1 = UINT64_C(3);
 j0 = j0 + j1;
-v13 = j0;
-j0 = v1;
+v0 = j0;
+j0 = v2;
 j1 = UINT64_C(18446744073709551615);
 j0 = j0 + j1;
-v1 = j0;
+v2 = j0;
+j1 = UINT64_C(0);
+i0 = (j0 != j1);
+if (i0) { goto l38; }
+goto l2;
+l27:;
+j0 = v4;
+j1 = UINT64_C(772);
+i0 = (j0 > j1);
+if (i0) { goto l2; }
+j0 = v4;
+j1 = UINT64_C(1);
+j0 = j0 + j1;
+v8 = j0;
+j0 = v4;
+j1 = v6;
+i0 = (j0 >= j1);
+if (i0) { goto l2; }
+j0 = v18;
+i1 = v19;
+p38 = write_at(j0, m, 1u);
+store8(p38 + 0, i1);
+j0 = v18;
+j1 = UINT64_C(1);
+j0 = j0 + j1;
+v0 = j0;
+j1 = v3;
+j2 = UINT64_C(4096);
+j3 = UINT64_C(0);
+j4 = v3;
+i4 = (j4 == 0);
+j2 = i4 ? j2 : j3;
+v20 = j2;
+j1 = j1 + j2;
+v1 = j1;
+j0 = j0 - j1;
+j1 = v4;
+i0 = (j0 >= j1);
+if (i0) { goto l39; }
+j0 = v4;
+j1 = UINT64_C(3);
+j0 = j0 & j1;
+v6 = j0;
+j0 = UINT64_C(0);
+v2 = j0;
+j0 = v4;
+j1 = UINT64_C(4);
+i0 = (j0 < j1);
+if (i0) { goto l40; }
+j0 = v4;
+j1 = UINT64_C(1020);
+j0 = j0 & j1;
+v21 = j0;
+j0 = UINT64_C(0);
+v2 = j0;
+l41:;
+j0 = v18;
+j1 = v2;
+j0 = j0 + j1;
+v0 = j0;
+j1 = UINT64_C(1);
+j0 = j0 + j1;
+j1 = v1;
+j2 = v2;
+j1 = j1 + j2;
+v4 = j1;
+p39 = read_at(j1, m, 4u);
+i1 = load8(p39 + 0);
+p40 = write_at(j0, m, 4u);
+store8(p40 + 0, i1);
+j0 = v0;
+j1 = UINT64_C(2);
+j0 = j0 + j1;
+j1 = v4;
+j2 = UINT64_C(1);
+j1 = j1 + j2;
+i1 = load8(p39 + 1);
+store8(p40 + 1, i1);
+j0 = v0;
+j1 = UINT64_C(3);
+j0 = j0 + j1;
+j1 = v4;
+j2 = UINT64_C(2);
+j1 = j1 + j2;
+i1 = load8(p39 + 2);
+store8(p40 + 2, i1);
+j0 = v0;
+j1 = UINT64_C(4);
+j0 = j0 + j1;
+j1 = v4;
+j2 = UINT64_C(3);
+j1 = j1 + j2;
+i1 = load8(p39 + 3);
+store8(p40 + 3, i1);
+j0 = v21;
+j1 = v2;
+j2 = UINT64_C(4);
+j1 = j1 + j2;
+v2 = j1;
+i0 = (j0 != j1);
+if (i0) { goto l41; }
+j0 = v6;
 i0 = (j0 == 0);
-i0 = (i0 == 0);
-if (i0) { goto l12; }
+if (i0) { goto l2; }
+l40:;
+j0 = v3;
+j1 = v20;
+j2 = v2;
+j1 = j1 + j2;
+j0 = j0 + j1;
+v0 = j0;
+j0 = v11;
+j1 = v2;
+j0 = j0 + j1;
+j1 = v5;
+j0 = j0 + j1;
+j1 = UINT64_C(1);
+j0 = j0 + j1;
+v2 = j0;
+l42:;
+j0 = v2;
+j1 = v0;
+p41 = read_at(j1, m, 1u);
+i1 = load8(p41 + 0);
+p42 = write_at(j0, m, 1u);
+store8(p42 + 0, i1);
+j0 = v2;
+j1 = UINT64_C(1);
+j0 = j0 + j1;
+v2 = j0;
+j0 = v0;
+j1 = UINT64_C(1);
+j0 = j0 + j1;
+v0 = j0;
+j0 = v6;
+j1 = UINT64_C(18446744073709551615);
+j0 = j0 + j1;
+v6 = j0;
+j1 = UINT64_C(0);
+i0 = (j0 != j1);
+if (i0) { goto l42; }
+goto l2;
+l39:;
+j0 = v4;
+i0 = (j0 == 0);
+if (i0) { goto l2; }
+j0 = v0;
+j1 = v1;
+j2 = v4;
+copy(m, j0, j1, j2);
+goto l2;
+l26:;
+i0 = UINT32_C(0);
+v12 = i0;
+j0 = v7;
+j1 = UINT64_C(1545);
+j0 = j0 + j1;
+i1 = UINT32_C(0);
+j2 = UINT64_C(759);
+fill(m, j0, i1, j2);
+goto l5;
+l25:;
+i0 = UINT32_C(0);
+v12 = i0;
+j0 = v7;
+j1 = UINT64_C(786);
+j0 = j0 + j1;
+i1 = UINT32_C(0);
+j2 = UINT64_C(759);
+fill(m, j0, i1, j2);
+j0 = v7;
+i1 = UINT32_C(0);
+j2 = UINT64_C(784);
+fill(m, j0, i1, j2);
+j0 = v7;
+j1 = UINT64_C(1545);
+j0 = j0 + j1;
+i1 = UINT32_C(0);
+j2 = UINT64_C(759);
+fill(m, j0, i1, j2);
+goto l5;
+l24:;
+i0 = UINT32_C(0);
+v9 = i0;
+j0 = v7;
+j1 = UINT64_C(1545);
+j0 = j0 + j1;
+i1 = UINT32_C(0);
+j2 = UINT64_C(759);
+fill(m, j0, i1, j2);
+j0 = UINT64_C(2);
+v8 = j0;
+j0 = UINT64_C(0);
+v0 = j0;
+goto l4;
+l23:;
+j0 = v7;
+j1 = UINT64_C(1545);
+j0 = j0 + j1;
+i1 = UINT32_C(0);
+j2 = UINT64_C(759);
+fill(m, j0, i1, j2);
+i0 = v17;
+i1 = UINT32_C(16711935);
+i0 = i0 & i1;
+i1 = UINT32_C(8);
+i0 = rotate32(i0, 0u - i1);
+i1 = v17;
+i2 = UINT32_C(24);
+i1 = rotate32(i1, 0u - i2);
+i2 = UINT32_C(16711935);
+i1 = i1 & i2;
+i0 = i0 | i1;
+v12 = i0;
+i1 = UINT32_C(4294967040);
+i0 = i0 & i1;
+v9 = i0;
+j0 = UINT64_C(5);
+v8 = j0;
+j0 = UINT64_C(0);
+v0 = j0;
+goto l4;
+l22:;
+i0 = UINT32_C(0);
+v9 = i0;
+j0 = v7;
+j1 = UINT64_C(786);
+j0 = j0 + j1;
+i1 = UINT32_C(0);
+j2 = UINT64_C(759);
+fill(m, j0, i1, j2);
+j0 = v7;
+i1 = UINT32_C(0);
+j2 = UINT64_C(784);
+fill(m, j0, i1, j2);
+j0 = v7;
+j1 = UINT64_C(1545);
+j0 = j0 + j1;
+i1 = UINT32_C(0);
+j2 = UINT64_C(759);
+fill(m, j0, i1, j2);
+j0 = UINT64_C(2);
+v8 = j0;
+j0 = UINT64_C(0);
+v0 = j0;
+i0 = v13;
+v12 = i0;
+goto l4;
+l21:;
+j0 = v0;
+j1 = UINT64_C(20);
+j0 = j0 + j1;
+p43 = read_at(j0 + UINT64_C(18446744073709551608), m, 16u);
+j0 = load64(p43 + 8);
+v2 = j0;
+j0 = v0;
+j1 = UINT64_C(12);
+j0 = j0 + j1;
+j0 = load64(p43 + 0);
+v8 = j0;
+j0 = v7;
+j1 = UINT64_C(786);
+j0 = j0 + j1;
+i1 = UINT32_C(0);
+j2 = UINT64_C(759);
+fill(m, j0, i1, j2);
+j0 = v7;
+i1 = UINT32_C(0);
+j2 = UINT64_C(784);
+fill(m, j0, i1, j2);
+j0 = v7;
+j1 = UINT64_C(1545);
+j0 = j0 + j1;
+i1 = UINT32_C(0);
+j2 = UINT64_C(759);
+fill(m, j0, i1, j2);
+j0 = v8;
+j1 = UINT64_C(18446744069414584320);
+j0 = j0 & j1;
+v0 = j0;
+j0 = v8;
+i0 = (uint32_t)j0;
+v12 = i0;
+i1 = UINT32_C(4294967040);
+i0 = i0 & i1;
+v9 = i0;
+j0 = UINT64_C(17);
+v8 = j0;
+goto l3;
+l20:;
+i0 = UINT32_C(0);
+v9 = i0;
+j0 = v7;
+j1 = UINT64_C(786);
+j0 = j0 + j1;
+i1 = UINT32_C(0);
+j2 = UINT64_C(759);
+fill(m, j0, i1, j2);
+j0 = v7;
+i1 = UINT32_C(0);
+j2 = UINT64_C(784);
+fill(m, j0, i1, j2);
+j0 = v7;
+j1 = UINT64_C(1545);
+j0 = j0 + j1;
+i1 = UINT32_C(0);
+j2 = UINT64_C(759);
+fill(m, j0, i1, j2);
+j0 = UINT64_C(2);
+v8 = j0;
+j0 = UINT64_C(0);
+v0 = j0;
+i0 = v14;
+v12 = i0;
+goto l4;
+l6:;
+fio2070_trap();
+l5:;
+j0 = UINT64_C(1);
+v8 = j0;
+j0 = UINT64_C(0);
+v0 = j0;
+i0 = UINT32_C(0);
+v9 = i0;
+l4:;
+j0 = UINT64_C(0);
+v2 = j0;
 l3:;
-j0 = v5;
-r = j0;
-return r;
+j0 = v7;
+j1 = UINT64_C(786);
+j0 = j0 + j1;
+j1 = v7;
+j2 = UINT64_C(1545);
+j1 = j1 + j2;
+j2 = UINT64_C(759);
+copy(m, j0, j1, j2);
+j0 = v7;
+j1 = v2;
+p44 = write_at(j0, m, 784u);
+store64(p44 + 9, j1);
+j0 = v7;
+i1 = v19;
+store8(p44 + 0, i1);
+j0 = v7;
+j1 = v0;
+i2 = v9;
+i3 = v12;
+i4 = UINT32_C(255);
+i3 = i3 & i4;
+i2 = i2 | i3;
+j2 = (uint64_t)i2;
+j1 = j1 | j2;
+store64(p44 + 1, j1);
+j0 = v7;
+j1 = UINT64_C(17);
+j0 = j0 + j1;
+j1 = v7;
+j2 = UINT64_C(786);
+j1 = j1 + j2;
+j2 = UINT64_C(759);
+copy(m, j0, j1, j2);
+j0 = v7;
+j1 = v8;
+store64(p44 + 776, j1);
+j0 = v8;
+j1 = v6;
+i0 = (j0 > j1);
+if (i0) { goto l2; }
+j0 = v8;
+i0 = (j0 == 0);
+if (i0) { goto l2; }
+j0 = v18;
+j1 = v7;
+j2 = v8;
+copy(m, j0, j1, j2);
 l2:;
-trap();
+j0 = v7;
+j1 = UINT64_C(2304);
+j0 = j0 + j1;
+m->g0 = j0;
+j0 = v8;
+r = j0;
 return r;
 }
 enum { STACK_fio2070_block_entries = 0 };
@@ -29898,30 +30278,12 @@ enum { STACK_fio2070_sized_module_count_receive_error = 0 };
 enum { STACK_fio2070_sized_module_count_transmit_error = 0 };
 #define TABLE_fio2070_sized_module_count_transmit_error NO_TABLE
 #define call_fio2070_sized_module_count_transmit_error enter_sized_module_count_transmit_error
-enum { STACK_fio2070_sized_module_counter = 0 };
-#define TABLE_fio2070_sized_module_counter NO_TABLE
-#define call_fio2070_sized_module_counter enter_sized_module_counter
-enum { STACK_fio2070_sized_module_errors = 0 };
-#define TABLE_fio2070_sized_module_errors NO_TABLE
-#define call_fio2070_sized_module_errors enter_sized_module_errors
-enum { STACK_fio2070_sized_module_filtered = 0 };
-#define TABLE_fio2070_sized_module_filtered NO_TABLE
-#define call_fio2070_sized_module_filtered enter_sized_module_filtered
-enum { STACK_fio2070_sized_module_flags = 0 };
-#define TABLE_fio2070_sized_module_flags NO_TABLE
-#define call_fio2070_sized_module_flags enter_sized_module_flags
 enum { STACK_fio2070_sized_module_line_sync = 0 };
 #define TABLE_fio2070_sized_module_line_sync NO_TABLE
 #define call_fio2070_sized_module_line_sync enter_sized_module_line_sync
-enum { STACK_fio2070_sized_module_outputs = 0 };
-#define TABLE_fio2070_sized_module_outputs NO_TABLE
-#define call_fio2070_sized_module_outputs enter_sized_module_outputs
 enum { STACK_fio2070_sized_module_raise = 0 };
 #define TABLE_fio2070_sized_module_raise NO_TABLE
 #define call_fio2070_sized_module_raise enter_sized_module_raise
-enum { STACK_fio2070_sized_module_raw = 0 };
-#define TABLE_fio2070_sized_module_raw NO_TABLE
-#define call_fio2070_sized_module_raw enter_sized_module_raw
 enum { STACK_fio2070_sized_module_restart = 416 };
 #define TABLE_fio2070_sized_module_restart NO_TABLE
 #define call_fio2070_sized_module_restart enter_sized_module_restart
@@ -29931,12 +30293,9 @@ enum { STACK_fio2070_sized_module_set_errors = 0 };
 enum { STACK_fio2070_sized_module_start = 416 };
 #define TABLE_fio2070_sized_module_start NO_TABLE
 #define call_fio2070_sized_module_start enter_sized_module_start
-enum { STACK_fio2070_sized_module_waiting = 0 };
-#define TABLE_fio2070_sized_module_waiting NO_TABLE
-#define call_fio2070_sized_module_waiting enter_sized_module_waiting
-enum { STACK_fio2070_sized_module_watchdog_ms = 0 };
-#define TABLE_fio2070_sized_module_watchdog_ms NO_TABLE
-#define call_fio2070_sized_module_watchdog_ms enter_sized_module_watchdog_ms
+enum { STACK_fio2070_sized_module_state = 16 };
+#define TABLE_fio2070_sized_module_state NO_TABLE
+#define call_fio2070_sized_module_state enter_sized_module_state
 enum { STACK_fio2070_version = 0 };
 #define TABLE_fio2070_version NO_TABLE
 #define call_fio2070_version enter_version
@@ -29979,15 +30338,9 @@ enum { STACK_fio2070_read_block = 0 };
 enum { STACK_fio2070_wire_bits_read = 0 };
 #define TABLE_fio2070_wire_bits_read NO_TABLE
 #define call_fio2070_wire_bits_read enter_wire_bits_read
-enum { STACK_fio2070_wire_bits_read_many = 0 };
-#define TABLE_fio2070_wire_bits_read_many NO_TABLE
-#define call_fio2070_wire_bits_read_many enter_wire_bits_read_many
 enum { STACK_fio2070_wire_read = 0 };
 #define TABLE_fio2070_wire_read NO_TABLE
 #define call_fio2070_wire_read enter_wire_read
-enum { STACK_fio2070_wire_read_many = 0 };
-#define TABLE_fio2070_wire_read_many NO_TABLE
-#define call_fio2070_wire_read_many enter_wire_read_many
 enum { STACK_fio2070_command_items = 0 };
 #define TABLE_fio2070_command_items NO_TABLE
 #define call_fio2070_command_items enter_command_items
@@ -30021,57 +30374,15 @@ enum { STACK_fio2070_judge_lose = 0 };
 enum { STACK_fio2070_poller_hear = 16 };
 #define TABLE_fio2070_poller_hear NO_TABLE
 #define call_fio2070_poller_hear enter_poller_hear
-enum { STACK_fio2070_judge_heard = 976 };
+enum { STACK_fio2070_judge_heard = 1760 };
 #define TABLE_fio2070_judge_heard NO_TABLE
 #define call_fio2070_judge_heard enter_judge_heard
-enum { STACK_fio2070_judge_sent = 976 };
+enum { STACK_fio2070_judge_sent = 1760 };
 #define TABLE_fio2070_judge_sent NO_TABLE
 #define call_fio2070_judge_sent enter_judge_sent
 enum { STACK_fio2070_sized_module_receive = 96 };
 #define TABLE_fio2070_sized_module_receive NO_TABLE
 #define call_fio2070_sized_module_receive enter_sized_module_receive
-enum { STACK_fio2070_encode_configure_inputs_answer = 0 };
-#define TABLE_fio2070_encode_configure_inputs_answer NO_TABLE
-#define call_fio2070_encode_configure_inputs_answer enter_encode_configure_inputs_answer
-enum { STACK_fio2070_encode_filtered_inputs_answer = 0 };
-#define TABLE_fio2070_encode_filtered_inputs_answer NO_TABLE
-#define call_fio2070_encode_filtered_inputs_answer enter_encode_filtered_inputs_answer
-enum { STACK_fio2070_encode_load_counter_answer = 0 };
-#define TABLE_fio2070_encode_load_counter_answer NO_TABLE
-#define call_fio2070_encode_load_counter_answer enter_encode_load_counter_answer
-enum { STACK_fio2070_encode_raw_inputs_answer = 0 };
-#define TABLE_fio2070_encode_raw_inputs_answer NO_TABLE
-#define call_fio2070_encode_raw_inputs_answer enter_encode_raw_inputs_answer
-enum { STACK_fio2070_encode_status_answer = 0 };
-#define TABLE_fio2070_encode_status_answer NO_TABLE
-#define call_fio2070_encode_status_answer enter_encode_status_answer
-enum { STACK_fio2070_encode_watchdog_answer = 0 };
-#define TABLE_fio2070_encode_watchdog_answer NO_TABLE
-#define call_fio2070_encode_watchdog_answer enter_encode_watchdog_answer
-enum { STACK_fio2070_encode_filtered_inputs = 0 };
-#define TABLE_fio2070_encode_filtered_inputs NO_TABLE
-#define call_fio2070_encode_filtered_inputs enter_encode_filtered_inputs
-enum { STACK_fio2070_encode_identify = 0 };
-#define TABLE_fio2070_encode_identify NO_TABLE
-#define call_fio2070_encode_identify enter_encode_identify
-enum { STACK_fio2070_encode_load_counter = 0 };
-#define TABLE_fio2070_encode_load_counter NO_TABLE
-#define call_fio2070_encode_load_counter enter_encode_load_counter
-enum { STACK_fio2070_encode_poll = 0 };
-#define TABLE_fio2070_encode_poll NO_TABLE
-#define call_fio2070_encode_poll enter_encode_poll
-enum { STACK_fio2070_encode_raw_inputs = 0 };
-#define TABLE_fio2070_encode_raw_inputs NO_TABLE
-#define call_fio2070_encode_raw_inputs enter_encode_raw_inputs
-enum { STACK_fio2070_encode_set_outputs = 0 };
-#define TABLE_fio2070_encode_set_outputs NO_TABLE
-#define call_fio2070_encode_set_outputs enter_encode_set_outputs
-enum { STACK_fio2070_encode_status = 0 };
-#define TABLE_fio2070_encode_status NO_TABLE
-#define call_fio2070_encode_status enter_encode_status
-enum { STACK_fio2070_encode_watchdog = 0 };
-#define TABLE_fio2070_encode_watchdog NO_TABLE
-#define call_fio2070_encode_watchdog enter_encode_watchdog
 enum { STACK_fio2070_poller_poll = 0 };
 #define TABLE_fio2070_poller_poll NO_TABLE
 #define call_fio2070_poller_poll enter_poller_poll
@@ -30090,20 +30401,109 @@ enum { STACK_fio2070_heard_text = 368 };
 enum { STACK_fio2070_rule_text = 0 };
 #define TABLE_fio2070_rule_text table_67785
 #define call_fio2070_rule_text enter_rule_text
-enum { STACK_fio2070_encode_other_answer = 0 };
-#define TABLE_fio2070_encode_other_answer NO_TABLE
-#define call_fio2070_encode_other_answer enter_encode_other_answer
-enum { STACK_fio2070_encode_other_command = 0 };
-#define TABLE_fio2070_encode_other_command NO_TABLE
-#define call_fio2070_encode_other_command enter_encode_other_command
-enum { STACK_fio2070_encode_block_answer = 16 };
-#define TABLE_fio2070_encode_block_answer NO_TABLE
-#define call_fio2070_encode_block_answer enter_encode_block_answer
-enum { STACK_fio2070_encode_configure_inputs = 16 };
-#define TABLE_fio2070_encode_configure_inputs NO_TABLE
-#define call_fio2070_encode_configure_inputs enter_encode_configure_inputs
+enum { STACK_fio2070_encode_answer = 1568 };
+#define TABLE_fio2070_encode_answer NO_TABLE
+#define call_fio2070_encode_answer enter_encode_answer
+enum { STACK_fio2070_encode_command = 2304 };
+#define TABLE_fio2070_encode_command NO_TABLE
+#define call_fio2070_encode_command enter_encode_command
 #ifndef FIO2070_NO_LOG
-static const uint8_t table_65536[3040] = {0,0,1,0,216,11,0,0,27,194,239,239,187,60,62,0,23,2,1,0,0,0,0,0,2,0,0,0,0,0,0,0,0,0,0,0,0,0,0,0,19,2,1,0,0,0,0,0,4,0,0,0,0,0,0,0,0,0,0,0,0,0,0,0,15,2,1,0,0,0,0,0,4,0,0,0,0,0,0,0,0,0,0,0,0,0,0,0,12,2,1,0,0,0,0,0,3,0,0,0,0,0,0,0,0,0,0,0,0,0,0,0,7,2,1,0,0,0,0,0,5,0,0,0,0,0,0,0,0,0,0,0,0,0,0,0,2,2,1,0,0,0,0,0,5,0,0,0,0,0,0,0,0,0,0,0,0,0,0,0,255,1,1,0,0,0,0,0,3,0,0,0,0,0,0,0,0,0,0,0,0,0,0,0,247,1,1,0,0,0,0,0,8,0,0,0,0,0,0,0,0,0,0,0,0,0,0,0,246,1,1,0,0,0,0,0,1,0,0,0,0,0,0,0,0,0,0,0,0,0,0,0,243,1,1,0,0,0,0,0,3,0,0,0,0,0,0,0,0,0,0,0,0,0,0,0,241,1,1,0,0,0,0,0,2,0,0,0,0,0,0,0,1,0,0,0,0,0,0,0,233,1,1,0,0,0,0,0,8,0,0,0,0,0,0,0,1,0,0,0,0,0,0,0,229,1,1,0,0,0,0,0,4,0,0,0,0,0,0,0,1,0,0,0,0,0,0,0,227,1,1,0,0,0,0,0,2,0,0,0,0,0,0,0,1,0,0,0,0,0,0,0,223,1,1,0,0,0,0,0,4,0,0,0,0,0,0,0,1,0,0,0,0,0,0,0,220,1,1,0,0,0,0,0,3,0,0,0,0,0,0,0,1,0,0,0,0,0,0,0,212,1,1,0,0,0,0,0,8,0,0,0,0,0,0,0,1,0,0,0,0,0,0,0,211,1,1,0,0,0,0,0,1,0,0,0,0,0,0,0,1,0,0,0,0,0,0,0,208,1,1,0,0,0,0,0,3,0,0,0,0,0,0,0,1,0,0,0,0,0,0,0,226,134,144,60,105,110,99,111,109,105,110,103,102,105,111,114,101,97,100,105,110,114,101,99,118,114,101,99,101,105,118,101,100,114,120,226,134,146,62,111,117,116,103,111,105,110,103,99,112,117,119,114,111,116,101,119,114,105,116,101,111,117,116,115,101,110,100,115,101,110,116,116,120,0,0,0,0,0,0,0,236,2,1,0,0,0,0,0,11,0,0,0,0,0,0,0,225,2,1,0,0,0,0,0,11,0,0,0,0,0,0,0,214,2,1,0,0,0,0,0,11,0,0,0,0,0,0,0,203,2,1,0,0,0,0,0,11,0,0,0,0,0,0,0,192,2,1,0,0,0,0,0,11,0,0,0,0,0,0,0,183,2,1,0,0,0,0,0,9,0,0,0,0,0,0,0,178,2,1,0,0,0,0,0,5,0,0,0,0,0,0,0,177,2,1,0,0,0,0,0,1,0,0,0,0,0,0,0,176,2,1,0,0,0,0,0,1,0,0,0,0,0,0,0,70,69,104,58,109,58,115,78,95,68,95,104,58,109,58,115,77,47,68,47,89,95,104,58,109,58,115,68,46,77,46,89,95,104,58,109,58,115,89,46,77,46,68,95,104,58,109,58,115,89,47,77,47,68,95,104,58,109,58,115,89,45,77,45,68,95,104,58,109,58,115,0,40,91,123,60,60,41,93,125,62,62,0,0,0,0,0,0,56,4,1,0,0,0,0,0,0,0,0,0,0,0,0,0,56,4,1,0,0,0,0,0,0,0,0,0,0,0,0,0,54,4,1,0,0,0,0,0,2,0,0,0,0,0,0,0,56,4,1,0,0,0,0,0,0,0,0,0,0,0,0,0,52,4,1,0,0,0,0,0,2,0,0,0,0,0,0,0,56,4,1,0,0,0,0,0,0,0,0,0,0,0,0,0,51,4,1,0,0,0,0,0,1,0,0,0,0,0,0,0,56,4,1,0,0,0,0,0,0,0,0,0,0,0,0,0,56,4,1,0,0,0,0,0,0,0,0,0,0,0,0,0,50,4,1,0,0,0,0,0,1,0,0,0,0,0,0,0,49,4,1,0,0,0,0,0,1,0,0,0,0,0,0,0,48,4,1,0,0,0,0,0,1,0,0,0,0,0,0,0,47,4,1,0,0,0,0,0,1,0,0,0,0,0,0,0,46,4,1,0,0,0,0,0,1,0,0,0,0,0,0,0,45,4,1,0,0,0,0,0,1,0,0,0,0,0,0,0,44,4,1,0,0,0,0,0,1,0,0,0,0,0,0,0,41,4,1,0,0,0,0,0,3,0,0,0,0,0,0,0,40,4,1,0,0,0,0,0,1,0,0,0,0,0,0,0,39,39,48,120,125,123,62,60,93,91,104,36,92,120,48,120,52,0,0,0,0,0,0,0,183,5,1,0,0,0,0,0,3,0,0,0,0,0,0,0,179,5,1,0,0,0,0,0,4,0,0,0,0,0,0,0,172,5,1,0,0,0,0,0,7,0,0,0,0,0,0,0,165,5,1,0,0,0,0,0,7,0,0,0,0,0,0,0,159,5,1,0,0,0,0,0,6,0,0,0,0,0,0,0,152,5,1,0,0,0,0,0,7,0,0,0,0,0,0,0,143,5,1,0,0,0,0,0,9,0,0,0,0,0,0,0,138,5,1,0,0,0,0,0,5,0,0,0,0,0,0,0,131,5,1,0,0,0,0,0,7,0,0,0,0,0,0,0,122,5,1,0,0,0,0,0,9,0,0,0,0,0,0,0,118,5,1,0,0,0,0,0,4,0,0,0,0,0,0,0,114,5,1,0,0,0,0,0,4,0,0,0,0,0,0,0,108,5,1,0,0,0,0,0,6,0,0,0,0,0,0,0,101,5,1,0,0,0,0,0,7,0,0,0,0,0,0,0,95,5,1,0,0,0,0,0,6,0,0,0,0,0,0,0,88,5,1,0,0,0,0,0,7,0,0,0,0,0,0,0,80,5,1,0,0,0,0,0,8,0,0,0,0,0,0,0,114,115,121,115,108,111,103,100,115,121,115,108,111,103,100,115,121,115,108,111,103,106,111,117,114,110,97,108,115,99,114,105,112,116,112,111,114,116,102,105,108,101,114,101,99,111,114,100,105,110,103,115,101,115,115,105,111,110,116,114,97,99,101,99,97,112,116,117,114,105,110,103,99,97,112,116,117,114,101,108,111,103,103,101,114,108,111,103,103,105,110,103,108,111,103,102,105,108,101,108,111,103,115,108,111,103,0,0,0,0,0,0,102,7,1,0,0,0,0,0,7,0,0,0,0,0,0,0,94,7,1,0,0,0,0,0,8,0,0,0,0,0,0,0,89,7,1,0,0,0,0,0,5,0,0,0,0,0,0,0,84,7,1,0,0,0,0,0,5,0,0,0,0,0,0,0,78,7,1,0,0,0,0,0,6,0,0,0,0,0,0,0,69,7,1,0,0,0,0,0,9,0,0,0,0,0,0,0,64,7,1,0,0,0,0,0,5,0,0,0,0,0,0,0,59,7,1,0,0,0,0,0,5,0,0,0,0,0,0,0,53,7,1,0,0,0,0,0,6,0,0,0,0,0,0,0,49,7,1,0,0,0,0,0,4,0,0,0,0,0,0,0,46,7,1,0,0,0,0,0,3,0,0,0,0,0,0,0,39,7,1,0,0,0,0,0,7,0,0,0,0,0,0,0,31,7,1,0,0,0,0,0,8,0,0,0,0,0,0,0,24,7,1,0,0,0,0,0,7,0,0,0,0,0,0,0,15,7,1,0,0,0,0,0,9,0,0,0,0,0,0,0,8,7,1,0,0,0,0,0,7,0,0,0,0,0,0,0,0,7,1,0,0,0,0,0,8,0,0,0,0,0,0,0,247,6,1,0,0,0,0,0,9,0,0,0,0,0,0,0,240,6,1,0,0,0,0,0,7,0,0,0,0,0,0,0,114,101,115,116,97,114,116,114,101,115,116,97,114,116,101,100,114,101,111,112,101,110,101,100,99,114,101,97,116,101,100,99,111,110,116,105,110,117,101,100,114,101,115,117,109,101,100,114,111,116,97,116,105,110,103,114,111,116,97,116,101,100,110,101,119,111,112,101,110,111,112,101,110,101,100,98,101,103,117,110,98,101,103,97,110,98,101,103,105,110,110,105,110,103,98,101,103,105,110,115,98,101,103,105,110,115,116,97,114,116,115,116,97,114,116,105,110,103,115,116,97,114,116,101,100,0,0,0,192,8,1,0,0,0,0,0,6,0,0,0,0,0,0,0,185,8,1,0,0,0,0,0,7,0,0,0,0,0,0,0,181,8,1,0,0,0,0,0,4,0,0,0,0,0,0,0,177,8,1,0,0,0,0,0,4,0,0,0,0,0,0,0,173,8,1,0,0,0,0,0,4,0,0,0,0,0,0,0,166,8,1,0,0,0,0,0,7,0,0,0,0,0,0,0,161,8,1,0,0,0,0,0,5,0,0,0,0,0,0,0,152,8,1,0,0,0,0,0,9,0,0,0,0,0,0,0,142,8,1,0,0,0,0,0,10,0,0,0,0,0,0,0,135,8,1,0,0,0,0,0,7,0,0,0,0,0,0,0,127,8,1,0,0,0,0,0,8,0,0,0,0,0,0,0,119,8,1,0,0,0,0,0,8,0,0,0,0,0,0,0,109,8,1,0,0,0,0,0,10,0,0,0,0,0,0,0,105,8,1,0,0,0,0,0,4,0,0,0,0,0,0,0,96,8,1,0,0,0,0,0,9,0,0,0,0,0,0,0,116,114,117,110,99,97,116,101,100,102,117,108,108,111,118,101,114,102,108,111,119,101,100,111,118,101,114,102,108,111,119,111,118,101,114,114,117,110,115,111,118,101,114,114,117,110,115,117,112,112,114,101,115,115,101,100,100,105,115,99,97,114,100,101,100,100,114,111,112,115,100,114,111,112,112,101,100,100,114,111,112,108,111,115,115,108,111,115,116,109,105,115,115,105,110,103,109,105,115,115,101,100,0,0,32,99,111,117,110,116,101,114,32,108,111,97,100,99,111,110,102,105,103,117,114,101,114,97,119,119,97,116,99,104,100,111,103,32,115,116,97,109,112,32,32,116,114,97,110,115,109,105,116,32,32,114,101,99,101,105,118,101,32,115,116,97,116,117,115,32,102,108,97,103,115,32,48,48,48,49,48,50,48,51,48,52,48,53,48,54,48,55,48,56,48,57,49,48,49,49,49,50,49,51,49,52,49,53,49,54,49,55,49,56,49,57,50,48,50,49,50,50,50,51,50,52,50,53,50,54,50,55,50,56,50,57,51,48,51,49,51,50,51,51,51,52,51,53,51,54,51,55,51,56,51,57,52,48,52,49,52,50,52,51,52,52,52,53,52,54,52,55,52,56,52,57,53,48,53,49,53,50,53,51,53,52,53,53,53,54,53,55,53,56,53,57,54,48,54,49,54,50,54,51,54,52,54,53,54,54,54,55,54,56,54,57,55,48,55,49,55,50,55,51,55,52,55,53,55,54,55,55,55,56,55,57,56,48,56,49,56,50,56,51,56,52,56,53,56,54,56,55,56,56,56,57,57,48,57,49,57,50,57,51,57,52,57,53,57,54,57,55,57,56,57,57,48,49,50,51,52,53,54,55,56,57,97,98,99,100,101,102,32,101,110,116,114,105,101,115,32,98,108,111,99,107,32,32,98,111,100,121,32,111,116,104,101,114,32,108,111,97,100,32,99,111,117,110,116,101,114,32,114,97,119,32,105,110,112,117,116,115,10,102,105,108,116,101,114,101,100,32,105,110,112,117,116,115,10,112,111,108,108,32,98,108,111,99,107,32,119,97,116,99,104,100,111,103,32,109,115,32,105,100,101,110,116,105,102,121,10,115,116,97,116,117,115,32,99,108,101,97,114,32,99,111,110,102,105,103,117,114,101,32,105,110,112,117,116,115,32,32,99,111,110,116,114,111,108,32,115,101,116,32,111,117,116,112,117,116,115,32,100,97,116,97,32,32,116,114,97,105,108,105,110,103,32,32,108,101,97,100,105,110,103,32,32,119,105,100,101,32,32,115,116,97,116,101,32,105,110,112,117,116,32,45,10,101,109,112,116,121,116,111,111,32,108,111,110,103,32,103,111,116,32,117,110,107,110,111,119,110,32,116,121,112,101,32,119,114,111,110,103,32,108,101,110,103,116,104,32,110,101,101,100,101,100,32,32,103,111,116,32,111,114,100,101,114,102,114,101,115,104,97,108,116,101,114,110,97,116,101,97,112,97,114,116,105,103,110,111,114,101,100,115,116,97,116,101,99,108,111,99,107,100,111,110,101,97,99,99,101,112,116,101,100,99,108,101,97,114,101,100,98,108,111,99,107,32,101,110,116,114,105,101,115,32,115,116,97,108,101,32,117,110,114,101,97,100,97,98,108,101,32,110,111,32,114,111,111,109,32,110,101,101,100,101,100,32,114,101,97,100,97,98,108,101,112,97,105,114,110,117,109,98,101,114,97,100,118,97,110,99,101,115,97,109,101,115,101,113,117,101,110,99,101,108,105,109,105,116,115,114,101,115,116,114,101,102,117,115,97,108,0,0,0,0,0,1,0,0,0,0,0,0,0,1,0,0,0,0,0,0,0,1,0,0,0,0,0,0,0,2,0,0,0,0,0,0,0,253,2,1,0,0,0,0,0,254,2,1,0,0,0,0,0,255,2,1,0,0,0,0,0,0,3,1,0,0,0,0,0,1,1,2,3,4,5,6,7,2,2,1,1,2,0,0,0};
+static const uint8_t table_65536[3040] = {
+0,0,1,0,216,11,0,0,27,194,239,239,187,60,62,0,23,2,1,0,0,0,0,0,2,0,0,0,0,0,0,0,
+0,0,0,0,0,0,0,0,19,2,1,0,0,0,0,0,4,0,0,0,0,0,0,0,0,0,0,0,0,0,0,0,
+15,2,1,0,0,0,0,0,4,0,0,0,0,0,0,0,0,0,0,0,0,0,0,0,12,2,1,0,0,0,0,0,
+3,0,0,0,0,0,0,0,0,0,0,0,0,0,0,0,7,2,1,0,0,0,0,0,5,0,0,0,0,0,0,0,
+0,0,0,0,0,0,0,0,2,2,1,0,0,0,0,0,5,0,0,0,0,0,0,0,0,0,0,0,0,0,0,0,
+255,1,1,0,0,0,0,0,3,0,0,0,0,0,0,0,0,0,0,0,0,0,0,0,247,1,1,0,0,0,0,0,
+8,0,0,0,0,0,0,0,0,0,0,0,0,0,0,0,246,1,1,0,0,0,0,0,1,0,0,0,0,0,0,0,
+0,0,0,0,0,0,0,0,243,1,1,0,0,0,0,0,3,0,0,0,0,0,0,0,0,0,0,0,0,0,0,0,
+241,1,1,0,0,0,0,0,2,0,0,0,0,0,0,0,1,0,0,0,0,0,0,0,233,1,1,0,0,0,0,0,
+8,0,0,0,0,0,0,0,1,0,0,0,0,0,0,0,229,1,1,0,0,0,0,0,4,0,0,0,0,0,0,0,
+1,0,0,0,0,0,0,0,227,1,1,0,0,0,0,0,2,0,0,0,0,0,0,0,1,0,0,0,0,0,0,0,
+223,1,1,0,0,0,0,0,4,0,0,0,0,0,0,0,1,0,0,0,0,0,0,0,220,1,1,0,0,0,0,0,
+3,0,0,0,0,0,0,0,1,0,0,0,0,0,0,0,212,1,1,0,0,0,0,0,8,0,0,0,0,0,0,0,
+1,0,0,0,0,0,0,0,211,1,1,0,0,0,0,0,1,0,0,0,0,0,0,0,1,0,0,0,0,0,0,0,
+208,1,1,0,0,0,0,0,3,0,0,0,0,0,0,0,1,0,0,0,0,0,0,0,226,134,144,60,105,110,99,111,
+109,105,110,103,102,105,111,114,101,97,100,105,110,114,101,99,118,114,101,99,101,105,118,101,100,114,120,226,134,146,62,111,
+117,116,103,111,105,110,103,99,112,117,119,114,111,116,101,119,114,105,116,101,111,117,116,115,101,110,100,115,101,110,116,116,
+120,0,0,0,0,0,0,0,236,2,1,0,0,0,0,0,11,0,0,0,0,0,0,0,225,2,1,0,0,0,0,0,
+11,0,0,0,0,0,0,0,214,2,1,0,0,0,0,0,11,0,0,0,0,0,0,0,203,2,1,0,0,0,0,0,
+11,0,0,0,0,0,0,0,192,2,1,0,0,0,0,0,11,0,0,0,0,0,0,0,183,2,1,0,0,0,0,0,
+9,0,0,0,0,0,0,0,178,2,1,0,0,0,0,0,5,0,0,0,0,0,0,0,177,2,1,0,0,0,0,0,
+1,0,0,0,0,0,0,0,176,2,1,0,0,0,0,0,1,0,0,0,0,0,0,0,70,69,104,58,109,58,115,78,
+95,68,95,104,58,109,58,115,77,47,68,47,89,95,104,58,109,58,115,68,46,77,46,89,95,104,58,109,58,115,89,46,
+77,46,68,95,104,58,109,58,115,89,47,77,47,68,95,104,58,109,58,115,89,45,77,45,68,95,104,58,109,58,115,0,
+40,91,123,60,60,41,93,125,62,62,0,0,0,0,0,0,56,4,1,0,0,0,0,0,0,0,0,0,0,0,0,0,
+56,4,1,0,0,0,0,0,0,0,0,0,0,0,0,0,54,4,1,0,0,0,0,0,2,0,0,0,0,0,0,0,
+56,4,1,0,0,0,0,0,0,0,0,0,0,0,0,0,52,4,1,0,0,0,0,0,2,0,0,0,0,0,0,0,
+56,4,1,0,0,0,0,0,0,0,0,0,0,0,0,0,51,4,1,0,0,0,0,0,1,0,0,0,0,0,0,0,
+56,4,1,0,0,0,0,0,0,0,0,0,0,0,0,0,56,4,1,0,0,0,0,0,0,0,0,0,0,0,0,0,
+50,4,1,0,0,0,0,0,1,0,0,0,0,0,0,0,49,4,1,0,0,0,0,0,1,0,0,0,0,0,0,0,
+48,4,1,0,0,0,0,0,1,0,0,0,0,0,0,0,47,4,1,0,0,0,0,0,1,0,0,0,0,0,0,0,
+46,4,1,0,0,0,0,0,1,0,0,0,0,0,0,0,45,4,1,0,0,0,0,0,1,0,0,0,0,0,0,0,
+44,4,1,0,0,0,0,0,1,0,0,0,0,0,0,0,41,4,1,0,0,0,0,0,3,0,0,0,0,0,0,0,
+40,4,1,0,0,0,0,0,1,0,0,0,0,0,0,0,39,39,48,120,125,123,62,60,93,91,104,36,92,120,48,120,
+52,0,0,0,0,0,0,0,183,5,1,0,0,0,0,0,3,0,0,0,0,0,0,0,179,5,1,0,0,0,0,0,
+4,0,0,0,0,0,0,0,172,5,1,0,0,0,0,0,7,0,0,0,0,0,0,0,165,5,1,0,0,0,0,0,
+7,0,0,0,0,0,0,0,159,5,1,0,0,0,0,0,6,0,0,0,0,0,0,0,152,5,1,0,0,0,0,0,
+7,0,0,0,0,0,0,0,143,5,1,0,0,0,0,0,9,0,0,0,0,0,0,0,138,5,1,0,0,0,0,0,
+5,0,0,0,0,0,0,0,131,5,1,0,0,0,0,0,7,0,0,0,0,0,0,0,122,5,1,0,0,0,0,0,
+9,0,0,0,0,0,0,0,118,5,1,0,0,0,0,0,4,0,0,0,0,0,0,0,114,5,1,0,0,0,0,0,
+4,0,0,0,0,0,0,0,108,5,1,0,0,0,0,0,6,0,0,0,0,0,0,0,101,5,1,0,0,0,0,0,
+7,0,0,0,0,0,0,0,95,5,1,0,0,0,0,0,6,0,0,0,0,0,0,0,88,5,1,0,0,0,0,0,
+7,0,0,0,0,0,0,0,80,5,1,0,0,0,0,0,8,0,0,0,0,0,0,0,114,115,121,115,108,111,103,100,
+115,121,115,108,111,103,100,115,121,115,108,111,103,106,111,117,114,110,97,108,115,99,114,105,112,116,112,111,114,116,102,105,
+108,101,114,101,99,111,114,100,105,110,103,115,101,115,115,105,111,110,116,114,97,99,101,99,97,112,116,117,114,105,110,103,
+99,97,112,116,117,114,101,108,111,103,103,101,114,108,111,103,103,105,110,103,108,111,103,102,105,108,101,108,111,103,115,108,
+111,103,0,0,0,0,0,0,102,7,1,0,0,0,0,0,7,0,0,0,0,0,0,0,94,7,1,0,0,0,0,0,
+8,0,0,0,0,0,0,0,89,7,1,0,0,0,0,0,5,0,0,0,0,0,0,0,84,7,1,0,0,0,0,0,
+5,0,0,0,0,0,0,0,78,7,1,0,0,0,0,0,6,0,0,0,0,0,0,0,69,7,1,0,0,0,0,0,
+9,0,0,0,0,0,0,0,64,7,1,0,0,0,0,0,5,0,0,0,0,0,0,0,59,7,1,0,0,0,0,0,
+5,0,0,0,0,0,0,0,53,7,1,0,0,0,0,0,6,0,0,0,0,0,0,0,49,7,1,0,0,0,0,0,
+4,0,0,0,0,0,0,0,46,7,1,0,0,0,0,0,3,0,0,0,0,0,0,0,39,7,1,0,0,0,0,0,
+7,0,0,0,0,0,0,0,31,7,1,0,0,0,0,0,8,0,0,0,0,0,0,0,24,7,1,0,0,0,0,0,
+7,0,0,0,0,0,0,0,15,7,1,0,0,0,0,0,9,0,0,0,0,0,0,0,8,7,1,0,0,0,0,0,
+7,0,0,0,0,0,0,0,0,7,1,0,0,0,0,0,8,0,0,0,0,0,0,0,247,6,1,0,0,0,0,0,
+9,0,0,0,0,0,0,0,240,6,1,0,0,0,0,0,7,0,0,0,0,0,0,0,114,101,115,116,97,114,116,114,
+101,115,116,97,114,116,101,100,114,101,111,112,101,110,101,100,99,114,101,97,116,101,100,99,111,110,116,105,110,117,101,100,
+114,101,115,117,109,101,100,114,111,116,97,116,105,110,103,114,111,116,97,116,101,100,110,101,119,111,112,101,110,111,112,101,
+110,101,100,98,101,103,117,110,98,101,103,97,110,98,101,103,105,110,110,105,110,103,98,101,103,105,110,115,98,101,103,105,
+110,115,116,97,114,116,115,116,97,114,116,105,110,103,115,116,97,114,116,101,100,0,0,0,192,8,1,0,0,0,0,0,
+6,0,0,0,0,0,0,0,185,8,1,0,0,0,0,0,7,0,0,0,0,0,0,0,181,8,1,0,0,0,0,0,
+4,0,0,0,0,0,0,0,177,8,1,0,0,0,0,0,4,0,0,0,0,0,0,0,173,8,1,0,0,0,0,0,
+4,0,0,0,0,0,0,0,166,8,1,0,0,0,0,0,7,0,0,0,0,0,0,0,161,8,1,0,0,0,0,0,
+5,0,0,0,0,0,0,0,152,8,1,0,0,0,0,0,9,0,0,0,0,0,0,0,142,8,1,0,0,0,0,0,
+10,0,0,0,0,0,0,0,135,8,1,0,0,0,0,0,7,0,0,0,0,0,0,0,127,8,1,0,0,0,0,0,
+8,0,0,0,0,0,0,0,119,8,1,0,0,0,0,0,8,0,0,0,0,0,0,0,109,8,1,0,0,0,0,0,
+10,0,0,0,0,0,0,0,105,8,1,0,0,0,0,0,4,0,0,0,0,0,0,0,96,8,1,0,0,0,0,0,
+9,0,0,0,0,0,0,0,116,114,117,110,99,97,116,101,100,102,117,108,108,111,118,101,114,102,108,111,119,101,100,111,
+118,101,114,102,108,111,119,111,118,101,114,114,117,110,115,111,118,101,114,114,117,110,115,117,112,112,114,101,115,115,101,100,
+100,105,115,99,97,114,100,101,100,100,114,111,112,115,100,114,111,112,112,101,100,100,114,111,112,108,111,115,115,108,111,115,
+116,109,105,115,115,105,110,103,109,105,115,115,101,100,0,0,32,99,111,117,110,116,101,114,32,108,111,97,100,99,111,110,
+102,105,103,117,114,101,114,97,119,119,97,116,99,104,100,111,103,32,115,116,97,109,112,32,32,116,114,97,110,115,109,105,
+116,32,32,114,101,99,101,105,118,101,32,115,116,97,116,117,115,32,102,108,97,103,115,32,48,48,48,49,48,50,48,51,
+48,52,48,53,48,54,48,55,48,56,48,57,49,48,49,49,49,50,49,51,49,52,49,53,49,54,49,55,49,56,49,57,
+50,48,50,49,50,50,50,51,50,52,50,53,50,54,50,55,50,56,50,57,51,48,51,49,51,50,51,51,51,52,51,53,
+51,54,51,55,51,56,51,57,52,48,52,49,52,50,52,51,52,52,52,53,52,54,52,55,52,56,52,57,53,48,53,49,
+53,50,53,51,53,52,53,53,53,54,53,55,53,56,53,57,54,48,54,49,54,50,54,51,54,52,54,53,54,54,54,55,
+54,56,54,57,55,48,55,49,55,50,55,51,55,52,55,53,55,54,55,55,55,56,55,57,56,48,56,49,56,50,56,51,
+56,52,56,53,56,54,56,55,56,56,56,57,57,48,57,49,57,50,57,51,57,52,57,53,57,54,57,55,57,56,57,57,
+48,49,50,51,52,53,54,55,56,57,97,98,99,100,101,102,32,101,110,116,114,105,101,115,32,98,108,111,99,107,32,32,
+98,111,100,121,32,111,116,104,101,114,32,108,111,97,100,32,99,111,117,110,116,101,114,32,114,97,119,32,105,110,112,117,
+116,115,10,102,105,108,116,101,114,101,100,32,105,110,112,117,116,115,10,112,111,108,108,32,98,108,111,99,107,32,119,97,
+116,99,104,100,111,103,32,109,115,32,105,100,101,110,116,105,102,121,10,115,116,97,116,117,115,32,99,108,101,97,114,32,
+99,111,110,102,105,103,117,114,101,32,105,110,112,117,116,115,32,32,99,111,110,116,114,111,108,32,115,101,116,32,111,117,
+116,112,117,116,115,32,100,97,116,97,32,32,116,114,97,105,108,105,110,103,32,32,108,101,97,100,105,110,103,32,32,119,
+105,100,101,32,32,115,116,97,116,101,32,105,110,112,117,116,32,45,10,101,109,112,116,121,116,111,111,32,108,111,110,103,
+32,103,111,116,32,117,110,107,110,111,119,110,32,116,121,112,101,32,119,114,111,110,103,32,108,101,110,103,116,104,32,110,
+101,101,100,101,100,32,32,103,111,116,32,111,114,100,101,114,102,114,101,115,104,97,108,116,101,114,110,97,116,101,97,112,
+97,114,116,105,103,110,111,114,101,100,115,116,97,116,101,99,108,111,99,107,100,111,110,101,97,99,99,101,112,116,101,100,
+99,108,101,97,114,101,100,98,108,111,99,107,32,101,110,116,114,105,101,115,32,115,116,97,108,101,32,117,110,114,101,97,
+100,97,98,108,101,32,110,111,32,114,111,111,109,32,110,101,101,100,101,100,32,114,101,97,100,97,98,108,101,112,97,105,
+114,110,117,109,98,101,114,97,100,118,97,110,99,101,115,97,109,101,115,101,113,117,101,110,99,101,108,105,109,105,116,115,
+114,101,115,116,114,101,102,117,115,97,108,0,0,0,0,0,1,0,0,0,0,0,0,0,1,0,0,0,0,0,0,0,
+1,0,0,0,0,0,0,0,2,0,0,0,0,0,0,0,253,2,1,0,0,0,0,0,254,2,1,0,0,0,0,0,
+255,2,1,0,0,0,0,0,0,3,1,0,0,0,0,0,1,1,2,3,4,5,6,7,2,2,1,1,2,0,0,0};
 static void fio_log_reader_Reader_count_line(struct machine *m, uint64_t v0);
 static void fio_log_sayings_spelled(struct machine *m, uint64_t v0, uint64_t v1, uint64_t v2);
 static void fio_log_sides_said_at(struct machine *m, uint64_t v0, uint64_t v1, uint64_t v2, uint64_t v3);
@@ -31492,7 +31892,7 @@ j0 = j0 + j1;
 m->g0 = j0;
 return;
 l2:;
-trap();
+fio2070_trap();
 return;
 }
 static void fio_log_sayings_spelled(struct machine *m, uint64_t v0, uint64_t v1, uint64_t v2)
@@ -31882,7 +32282,7 @@ j1 = UINT64_C(0);
 store64(p5 + 24, j1);
 return;
 l3:;
-trap();
+fio2070_trap();
 l2:;
 j0 = v0;
 i1 = UINT32_C(1);
@@ -32870,7 +33270,7 @@ j0 = v4;
 m->g0 = j0;
 return;
 l2:;
-trap();
+fio2070_trap();
 return;
 }
 static uint32_t core_slice_reads_slice_T_contains_i8_31_core_cmp_numbers_U8PartialEq(struct machine *m, uint64_t v0, uint64_t v1, uint64_t v2)
@@ -34475,7 +34875,7 @@ i0 = i0 & i1;
 r = i0;
 return r;
 l2:;
-trap();
+fio2070_trap();
 return r;
 }
 static uint32_t core_slice_scan_any_in_quarters(struct machine *m, uint64_t v0, uint64_t v1, uint64_t v2)
@@ -34791,7 +35191,7 @@ i0 = i0 | i1;
 r = i0;
 return r;
 l2:;
-trap();
+fio2070_trap();
 return r;
 }
 static void fio_log_reader_Reader_refresh(struct machine *m, uint64_t v0)
@@ -35327,7 +35727,7 @@ j0 = v1;
 m->g0 = j0;
 return;
 l2:;
-trap();
+fio2070_trap();
 return;
 }
 static void fio_log_reader_Reader_read_unread(struct machine *m, uint64_t v0)
@@ -36469,7 +36869,7 @@ i0 = (j0 <= j1);
 if (i0) { goto l4; }
 goto l3;
 l7:;
-trap();
+fio2070_trap();
 l6:;
 j0 = v17;
 i0 = (j0 == 0);
@@ -40483,7 +40883,7 @@ i0 = (j0 != j1);
 if (i0) { goto l46; }
 goto l3;
 l5:;
-trap();
+fio2070_trap();
 l4:;
 i0 = UINT32_C(1);
 v16 = i0;
@@ -42741,7 +43141,7 @@ j0 = v3;
 m->g0 = j0;
 return;
 l3:;
-trap();
+fio2070_trap();
 l2:;
 j0 = v0;
 j1 = v5;
@@ -43517,7 +43917,7 @@ i1 = UINT32_C(0);
 store32(p1 + 960, i1);
 goto l5;
 l8:;
-trap();
+fio2070_trap();
 l7:;
 j0 = v0;
 j1 = v4;
@@ -46820,7 +47220,7 @@ i0 = v8;
 r = i0;
 return r;
 l2:;
-trap();
+fio2070_trap();
 return r;
 }
 static void fio_log_clock_time_in(struct machine *m, uint64_t v0, uint64_t v1, uint64_t v2)
@@ -49563,7 +49963,7 @@ j0 = v3;
 m->g0 = j0;
 return;
 l2:;
-trap();
+fio2070_trap();
 return;
 }
 static void fio_log_glance_Glance_of(struct machine *m, uint64_t v0, uint64_t v1, uint64_t v2)
@@ -49721,7 +50121,7 @@ i0 = (i0 == 0);
 v4 = i0;
 goto l3;
 l5:;
-trap();
+fio2070_trap();
 l4:;
 i0 = UINT32_C(0);
 v4 = i0;
@@ -50959,7 +51359,7 @@ i0 = (i0 == i1);
 if (i0) { goto l8; }
 goto l5;
 l9:;
-trap();
+fio2070_trap();
 l8:;
 j0 = UINT64_C(66298);
 v10 = j0;
@@ -51719,7 +52119,7 @@ j0 = j0 + j1;
 m->g0 = j0;
 return;
 l2:;
-trap();
+fio2070_trap();
 return;
 }
 static void fio_log_line_runs_find_marked(struct machine *m, uint64_t v0, uint64_t v1, uint32_t v2, uint32_t v3, uint64_t v4, uint64_t v5, uint64_t v6)
@@ -52418,7 +52818,7 @@ j0 = j0 + j1;
 m->g0 = j0;
 return;
 l2:;
-trap();
+fio2070_trap();
 return;
 }
 static void fio_log_found_next_words(struct machine *m, uint64_t v0, uint64_t v1, uint64_t v2, uint64_t v3, uint64_t v4, uint64_t v5, uint32_t v6, uint32_t v7, uint64_t v8)
@@ -52741,7 +53141,7 @@ j1 = UINT64_C(0);
 store64(p5 + 0, j1);
 goto l2;
 l3:;
-trap();
+fio2070_trap();
 l2:;
 j0 = v9;
 j1 = UINT64_C(160);
@@ -53108,7 +53508,7 @@ j1 = UINT64_C(0);
 store64(p10 + 8, j1);
 goto l2;
 l3:;
-trap();
+fio2070_trap();
 l2:;
 j0 = v4;
 j1 = UINT64_C(64);
@@ -54976,7 +55376,7 @@ i0 = UINT32_C(1);
 v18 = i0;
 goto l3;
 l5:;
-trap();
+fio2070_trap();
 l4:;
 i0 = UINT32_C(0);
 v41 = i0;
@@ -55578,7 +55978,7 @@ j0 = UINT64_C(2);
 v10 = j0;
 goto l3;
 l5:;
-trap();
+fio2070_trap();
 l4:;
 j0 = v1;
 p11 = read_at(j0, m, 1u);
@@ -55721,7 +56121,7 @@ p3 = write_at(j0, m, 8u);
 store64(p3 + 0, j1);
 return;
 l2:;
-trap();
+fio2070_trap();
 return;
 }
 static void fio_log_offsets_offset_row(struct machine *m, uint64_t v0, uint64_t v1, uint64_t v2, uint64_t v3)
@@ -55921,7 +56321,7 @@ i0 = (i0 == i1);
 if (i0) { goto l2; }
 goto l3;
 l5:;
-trap();
+fio2070_trap();
 l4:;
 i0 = v7;
 if (i0) { goto l2; }
@@ -57015,7 +57415,7 @@ i0 = (i0 == i1);
 if (i0) { goto l4; }
 goto l3;
 l5:;
-trap();
+fio2070_trap();
 l4:;
 j0 = v2;
 j1 = UINT64_C(8);
@@ -57404,7 +57804,7 @@ i0 = v2;
 r = i0;
 return r;
 l2:;
-trap();
+fio2070_trap();
 return r;
 }
 static uint32_t fio_log_judge_join_Join_is_other(struct machine *m, uint64_t v0, uint64_t v1, uint32_t v2, uint64_t v3)
@@ -57653,7 +58053,7 @@ i0 = v6;
 r = i0;
 return r;
 l2:;
-trap();
+fio2070_trap();
 return r;
 }
 static uint32_t fio_log_clock_is_gap(struct machine *m, uint32_t v0)
@@ -57689,7 +58089,7 @@ i0 = (j0 == j1);
 if (i0) { goto l4; }
 goto l3;
 l5:;
-trap();
+fio2070_trap();
 l4:;
 i0 = v1;
 i1 = UINT32_C(4294967212);
@@ -59395,7 +59795,7 @@ j0 = i2 ? j0 : j1;
 v7 = j0;
 goto l4;
 l8:;
-trap();
+fio2070_trap();
 l7:;
 j0 = v11;
 j1 = v5;
@@ -59968,7 +60368,7 @@ j0 = j0 << (j1 & 63);
 r = j0;
 return r;
 l2:;
-trap();
+fio2070_trap();
 return r;
 }
 static void fio_log_digits_octet(struct machine *m, uint64_t v0, uint32_t v1, uint32_t v2)
@@ -60131,7 +60531,7 @@ i1 = v1;
 store8(p1 + 0, i1);
 return;
 l2:;
-trap();
+fio2070_trap();
 return;
 }
 static void fio_log_numbers_decimal(struct machine *m, uint64_t v0, uint64_t v1, uint64_t v2)
@@ -60347,7 +60747,7 @@ i1 = v4;
 store8(p7 + 0, i1);
 return;
 l2:;
-trap();
+fio2070_trap();
 return;
 }
 static void fio_log_masks_Mask_add(struct machine *m, uint64_t v0, uint32_t v1)
@@ -60759,7 +61159,7 @@ j1 = j1 * j2;
 store64(p20 + 0, j1);
 return;
 l2:;
-trap();
+fio2070_trap();
 return;
 }
 static void fio_log_surroundings_read_after(struct machine *m, uint64_t v0, uint64_t v1, uint64_t v2, uint64_t v3, uint64_t v4)
@@ -61523,7 +61923,7 @@ j0 = j0 + j1;
 m->g0 = j0;
 return;
 l2:;
-trap();
+fio2070_trap();
 return;
 }
 static void fio_log_runs_next_run(struct machine *m, uint64_t v0, uint64_t v1, uint64_t v2, uint64_t v3, uint64_t v4, uint32_t v5, uint64_t v6)
@@ -62470,7 +62870,7 @@ j0 = j0 + j1;
 m->g0 = j0;
 return;
 l2:;
-trap();
+fio2070_trap();
 return;
 }
 static void fio_log_marks_word_at(struct machine *m, uint64_t v0, uint64_t v1, uint64_t v2, uint64_t v3, uint64_t v4)
@@ -62726,7 +63126,7 @@ j1 = UINT64_C(0);
 store64(p8 + 0, j1);
 goto l2;
 l5:;
-trap();
+fio2070_trap();
 l4:;
 j0 = v0;
 j1 = UINT64_C(0);
@@ -63261,7 +63661,7 @@ j0 = UINT64_C(1);
 v1 = j0;
 goto l4;
 l8:;
-trap();
+fio2070_trap();
 l7:;
 j0 = v0;
 j1 = UINT64_C(0);
@@ -63686,7 +64086,7 @@ i0 = (j0 == j1);
 if (i0) { goto l3; }
 goto l5;
 l4:;
-trap();
+fio2070_trap();
 l3:;
 i0 = UINT32_C(0);
 v14 = i0;
@@ -64101,7 +64501,7 @@ i0 = i2 ? i0 : i1;
 v5 = i0;
 goto l2;
 l5:;
-trap();
+fio2070_trap();
 l4:;
 i0 = UINT32_C(9);
 v5 = i0;
@@ -64655,7 +65055,7 @@ i0 = i0 & i1;
 r = i0;
 return r;
 l2:;
-trap();
+fio2070_trap();
 return r;
 }
 static uint32_t fio_log_judge_shapes_Shapes_is_mostly_good(struct machine *m, uint64_t v0, uint64_t v1)
@@ -65327,7 +65727,7 @@ i0 = v7;
 r = i0;
 return r;
 l2:;
-trap();
+fio2070_trap();
 return r;
 }
 static uint32_t fio_log_judge_shapes_Shapes_learn(struct machine *m, uint64_t v0, uint64_t v1)
@@ -66466,7 +66866,7 @@ i0 = i0 & i1;
 r = i0;
 return r;
 l2:;
-trap();
+fio2070_trap();
 return r;
 }
 static void fio_log_judge_decide_Decider_judge_one(struct machine *m, uint64_t v0, uint64_t v1, uint64_t v2)
@@ -67078,7 +67478,7 @@ i0 = (j0 < j1);
 if (i0) { goto l17; }
 goto l5;
 l6:;
-trap();
+fio2070_trap();
 l5:;
 j0 = v6;
 j1 = UINT64_C(24);
@@ -69418,7 +69818,7 @@ p110 = write_at(j0, m, 8u);
 store64(p110 + 0, j1);
 goto l2;
 l3:;
-trap();
+fio2070_trap();
 l2:;
 j0 = v4;
 j1 = UINT64_C(224);
@@ -69941,7 +70341,7 @@ i0 = i2 ? i0 : i1;
 v7 = i0;
 goto l2;
 l4:;
-trap();
+fio2070_trap();
 l3:;
 j0 = v0;
 j1 = UINT64_C(73625);
@@ -70247,7 +70647,7 @@ i0 = v3;
 r = i0;
 return r;
 l2:;
-trap();
+fio2070_trap();
 return r;
 }
 static uint32_t fio_log_judge_entries_say_same(struct machine *m, uint64_t v0, uint64_t v1, uint64_t v2, uint64_t v3)
@@ -70529,7 +70929,7 @@ i0 = v5;
 r = i0;
 return r;
 l2:;
-trap();
+fio2070_trap();
 return r;
 }
 static uint32_t core_cmp_slices_groups_equal_i8_31_core_cmp_numbers_U8PartialEq(struct machine *m, uint64_t v0, uint64_t v1, uint64_t v2)
@@ -71341,7 +71741,7 @@ i0 = (i0 != i1);
 v5 = i0;
 goto l2;
 l4:;
-trap();
+fio2070_trap();
 l3:;
 j0 = v0;
 j1 = v1;
@@ -72714,7 +73114,7 @@ j0 = j0 + j1;
 m->g0 = j0;
 return;
 l2:;
-trap();
+fio2070_trap();
 return;
 }
 static void fio_log_judge_Judge_put(struct machine *m, uint64_t v0, uint64_t v1, uint64_t v2, uint32_t v3, uint64_t v4, uint64_t v5)
@@ -73014,7 +73414,7 @@ i0 = (i0 != i1);
 if (i0) { goto l4; }
 goto l2;
 l3:;
-trap();
+fio2070_trap();
 l2:;
 j0 = v0;
 j1 = v1;
@@ -73559,7 +73959,7 @@ i0 = UINT32_C(1);
 r = i0;
 return r;
 l5:;
-trap();
+fio2070_trap();
 l4:;
 j0 = v2;
 p5 = read_at(j0 + UINT64_C(1), m, 1u);
@@ -77032,7 +77432,7 @@ j0 = j0 + j1;
 m->g0 = j0;
 return;
 l2:;
-trap();
+fio2070_trap();
 return;
 }
 static void fio_c_log_judge_log_judge_from(struct machine *m, uint64_t v0, uint64_t v1)
@@ -77450,10 +77850,6 @@ i1 = UINT32_C(0);
 store32(p6 + 729, i1);
 j0 = v0;
 i1 = v29;
-i2 = UINT32_C(255);
-i1 = i1 & i2;
-i2 = UINT32_C(0);
-i1 = (i1 != i2);
 store8(p6 + 728, i1);
 j0 = v0;
 i1 = v30;
@@ -77547,7 +77943,7 @@ j0 = j0 + j1;
 m->g0 = j0;
 return;
 l2:;
-trap();
+fio2070_trap();
 return;
 }
 static void fio_check_log_counts_LogCounts_frame(struct machine *m, uint64_t v0, uint64_t v1, uint32_t v2, uint64_t v3, uint64_t v4, uint64_t v5)
@@ -78611,7 +79007,7 @@ i1 = v6;
 store8(p47 + 0, i1);
 return;
 l2:;
-trap();
+fio2070_trap();
 return;
 }
 static void fio_check_log_judge_LogJudge_frame(struct machine *m, uint64_t v0, uint64_t v1, uint32_t v2, uint32_t v3, uint32_t v4, uint64_t v5, uint64_t v6)
@@ -78624,7 +79020,7 @@ uint32_t v11 = 0;
 uint32_t v12 = 0;
 uint64_t v13 = 0;
 uint32_t v14 = 0;
-uint64_t v15 = 0;
+uint32_t v15 = 0;
 uint32_t v16 = 0;
 uint32_t v17 = 0;
 uint32_t v18 = 0;
@@ -78633,7 +79029,6 @@ uint32_t v20 = 0;
 uint32_t v21 = 0;
 uint32_t v22 = 0;
 uint32_t v23 = 0;
-uint32_t v24 = 0;
 uint32_t i0;
 uint32_t i1;
 uint32_t i2;
@@ -78871,15 +79266,10 @@ p8 = write_at(j0, m, 1u);
 store8(p8 + 0, i1);
 l15:;
 j0 = v1;
-j1 = UINT64_C(728);
-j0 = j0 + j1;
-i1 = UINT32_C(1);
-p9 = write_at(j0, m, 9u);
-store8(p9 + 0, i1);
-j0 = v1;
 j1 = UINT64_C(736);
 j0 = j0 + j1;
-i0 = load8(p9 + 8);
+p9 = read_at(j0, m, 1u);
+i0 = load8(p9 + 0);
 i1 = UINT32_C(1);
 i0 = (i0 != i1);
 if (i0) { goto l11; }
@@ -78948,26 +79338,17 @@ i0 = i0 & i1;
 i0 = (i0 == 0);
 if (i0) { goto l17; }
 i0 = UINT32_C(2);
-i1 = UINT32_C(1);
+i1 = UINT32_C(0);
 j2 = v1;
-j3 = UINT64_C(748);
+j3 = UINT64_C(752);
 j2 = j2 + j3;
-j2 = load32(p11 + 4);
-v13 = j2;
+j2 = load32(p11 + 8);
 j3 = UINT64_C(2);
 j2 = j2 << (j3 & 63);
 j3 = v1;
-j4 = UINT64_C(752);
+j4 = UINT64_C(748);
 j3 = j3 + j4;
-j3 = load32(p11 + 8);
-v15 = j3;
-i2 = (j2 > j3);
-i0 = i2 ? i0 : i1;
-i1 = UINT32_C(0);
-j2 = v15;
-j3 = UINT64_C(2);
-j2 = j2 << (j3 & 63);
-j3 = v13;
+j3 = load32(p11 + 4);
 i2 = (j2 > j3);
 i0 = i2 ? i0 : i1;
 v14 = i0;
@@ -79014,27 +79395,27 @@ j1 = UINT64_C(743);
 j0 = j0 + j1;
 p13 = read_at(j0 + UINT64_C(18446744073709551610), m, 7u);
 i0 = load8(p13 + 6);
-v16 = i0;
+v15 = i0;
 j0 = v1;
 j1 = UINT64_C(742);
 j0 = j0 + j1;
 i0 = load8(p13 + 5);
-v17 = i0;
+v16 = i0;
 j0 = v1;
 j1 = UINT64_C(741);
 j0 = j0 + j1;
 i0 = load8(p13 + 4);
-v18 = i0;
+v17 = i0;
 j0 = v1;
 j1 = UINT64_C(740);
 j0 = j0 + j1;
 i0 = load8(p13 + 3);
-v19 = i0;
+v18 = i0;
 j0 = v1;
 j1 = UINT64_C(739);
 j0 = j0 + j1;
 i0 = load8(p13 + 2);
-v20 = i0;
+v19 = i0;
 j0 = v1;
 j1 = UINT64_C(738);
 j0 = j0 + j1;
@@ -79044,7 +79425,7 @@ j0 = v1;
 j1 = UINT64_C(737);
 j0 = j0 + j1;
 i0 = load8(p13 + 0);
-v21 = i0;
+v20 = i0;
 v4 = i0;
 i0 = v12;
 switch (i0) {
@@ -79064,13 +79445,13 @@ goto l21;
 l30:;
 i0 = UINT32_C(0);
 v4 = i0;
-i0 = v19;
+i0 = v18;
 i1 = UINT32_C(255);
 i0 = i0 & i1;
 i1 = UINT32_C(1);
 i0 = (i0 != i1);
 if (i0) { goto l4; }
-i0 = v18;
+i0 = v17;
 i1 = UINT32_C(255);
 i0 = i0 & i1;
 i1 = v11;
@@ -79081,10 +79462,10 @@ i1 = i1 & i2;
 i0 = (i0 != i1);
 if (i0) { goto l31; }
 i0 = UINT32_C(1);
-v19 = i0;
+v18 = i0;
 i0 = UINT32_C(1);
-i1 = v16;
-i2 = v18;
+i1 = v15;
+i2 = v17;
 i3 = UINT32_C(255);
 i2 = i2 & i3;
 i3 = v11;
@@ -79092,10 +79473,10 @@ i4 = UINT32_C(255);
 i3 = i3 & i4;
 i2 = (i2 == i3);
 i0 = i2 ? i0 : i1;
-v16 = i0;
+v15 = i0;
 goto l4;
 l31:;
-i0 = v18;
+i0 = v17;
 i1 = UINT32_C(255);
 i0 = i0 & i1;
 i1 = v11;
@@ -79103,8 +79484,8 @@ i2 = UINT32_C(255);
 i1 = i1 & i2;
 i0 = (i0 == i1);
 if (i0) { goto l27; }
-i0 = v16;
-v19 = i0;
+i0 = v15;
+v18 = i0;
 goto l26;
 l29:;
 i0 = UINT32_C(0);
@@ -79115,20 +79496,20 @@ i0 = i0 & i1;
 i1 = UINT32_C(1);
 i0 = (i0 != i1);
 if (i0) { goto l4; }
-i0 = v20;
+i0 = v19;
 i1 = UINT32_C(255);
 i0 = i0 & i1;
 v3 = i0;
 i1 = v11;
 i2 = UINT32_C(255);
 i1 = i1 & i2;
-v22 = i1;
+v21 = i1;
 i0 = (i0 != i1);
-v23 = i0;
+v22 = i0;
 i0 = UINT32_C(0);
 v4 = i0;
 i0 = v3;
-i1 = v22;
+i1 = v21;
 i0 = (i0 == i1);
 if (i0) { goto l25; }
 i0 = UINT32_C(1);
@@ -79141,22 +79522,22 @@ i0 = i0 & i1;
 v4 = i0;
 i0 = UINT32_C(1);
 v3 = i0;
-i0 = v21;
+i0 = v20;
 i1 = v4;
 i2 = UINT32_C(1);
 i1 = (i1 != i2);
 i0 = i0 & i1;
 v4 = i0;
 i0 = v11;
-v20 = i0;
+v19 = i0;
 goto l21;
 l27:;
 i0 = UINT32_C(2);
-i1 = v16;
+i1 = v15;
 i0 = i0 - i1;
-v23 = i0;
+v22 = i0;
 i0 = UINT32_C(1);
-v19 = i0;
+v18 = i0;
 i0 = UINT32_C(0);
 v4 = i0;
 i0 = v3;
@@ -79166,41 +79547,41 @@ i1 = UINT32_C(1);
 i0 = (i0 == i1);
 if (i0) { goto l32; }
 i0 = UINT32_C(1);
-v16 = i0;
+v15 = i0;
 goto l23;
 l32:;
 i0 = UINT32_C(1);
-v16 = i0;
-i0 = v20;
+v15 = i0;
+i0 = v19;
 i1 = UINT32_C(255);
 i0 = i0 & i1;
 i1 = UINT32_C(182);
 i0 = (i0 != i1);
 if (i0) { goto l23; }
 l26:;
-i0 = v19;
-v16 = i0;
-i0 = v17;
-i1 = v21;
+i0 = v18;
+v15 = i0;
+i0 = v16;
+i1 = v20;
 i0 = i0 | i1;
 v4 = i0;
 i0 = UINT32_C(1);
-v19 = i0;
+v18 = i0;
 i0 = UINT32_C(0);
-v23 = i0;
+v22 = i0;
 i0 = UINT32_C(0);
 v3 = i0;
 goto l24;
 l25:;
 i0 = UINT32_C(0);
 v3 = i0;
-i0 = v21;
+i0 = v20;
 v4 = i0;
 l24:;
 i0 = UINT32_C(0);
-v20 = i0;
+v19 = i0;
 l23:;
-i0 = v23;
+i0 = v22;
 j0 = (uint64_t)i0;
 j1 = UINT64_C(255);
 j0 = j0 & j1;
@@ -79216,16 +79597,16 @@ default:
 goto l21;
 }
 l22:;
-i0 = v19;
+i0 = v18;
 i1 = UINT32_C(255);
 i0 = i0 & i1;
 v4 = i0;
 i0 = UINT32_C(1);
-v19 = i0;
+v18 = i0;
 i0 = v4;
 i1 = UINT32_C(1);
 i0 = (i0 != i1);
-i1 = v18;
+i1 = v17;
 i2 = UINT32_C(255);
 i1 = i1 & i2;
 i2 = v11;
@@ -79233,8 +79614,8 @@ i3 = UINT32_C(255);
 i2 = i2 & i3;
 i1 = (i1 != i2);
 i0 = i0 | i1;
-v17 = i0;
-i0 = v21;
+v16 = i0;
+i0 = v20;
 i1 = v3;
 i2 = UINT32_C(255);
 i1 = i1 & i2;
@@ -79243,11 +79624,11 @@ i1 = (i1 != i2);
 i0 = i0 & i1;
 v4 = i0;
 i0 = UINT32_C(182);
-v20 = i0;
+v19 = i0;
 i0 = UINT32_C(0);
-v16 = i0;
+v15 = i0;
 i0 = v11;
-v18 = i0;
+v17 = i0;
 i0 = UINT32_C(1);
 v3 = i0;
 l21:;
@@ -79272,10 +79653,10 @@ j5 = v6;
 fio_check_link_judge_LinkJudge_frame(m, j0, j1, i2, i3, j4, j5);
 j0 = v7;
 i0 = load8(p1 + 38);
-v21 = i0;
+v20 = i0;
 j0 = v7;
 i0 = load8(p1 + 37);
-v23 = i0;
+v22 = i0;
 j0 = v7;
 i0 = load8(p1 + 33);
 v14 = i0;
@@ -79373,16 +79754,16 @@ i0 = i2 ? i0 : i1;
 v14 = i0;
 l36:;
 i0 = UINT32_C(0);
-v21 = i0;
+v20 = i0;
 i0 = UINT32_C(0);
-v23 = i0;
+v22 = i0;
 l33:;
 j0 = v7;
 i0 = load8(p1 + 36);
-v22 = i0;
+v21 = i0;
 j0 = v7;
 i0 = load16(p1 + 34);
-v24 = i0;
+v23 = i0;
 i0 = v4;
 i1 = UINT32_C(1);
 i0 = i0 & i1;
@@ -79473,28 +79854,28 @@ l42:;
 j0 = v1;
 j1 = UINT64_C(743);
 j0 = j0 + j1;
-i1 = v16;
+i1 = v15;
 p16 = write_at(j0 + UINT64_C(18446744073709551609), m, 8u);
 store8(p16 + 7, i1);
 j0 = v1;
 j1 = UINT64_C(742);
 j0 = j0 + j1;
-i1 = v17;
+i1 = v16;
 store8(p16 + 6, i1);
 j0 = v1;
 j1 = UINT64_C(741);
 j0 = j0 + j1;
-i1 = v18;
+i1 = v17;
 store8(p16 + 5, i1);
 j0 = v1;
 j1 = UINT64_C(740);
 j0 = j0 + j1;
-i1 = v19;
+i1 = v18;
 store8(p16 + 4, i1);
 j0 = v1;
 j1 = UINT64_C(739);
 j0 = j0 + j1;
-i1 = v20;
+i1 = v19;
 store8(p16 + 3, i1);
 j0 = v1;
 j1 = UINT64_C(738);
@@ -79546,28 +79927,28 @@ l41:;
 j0 = v1;
 j1 = UINT64_C(743);
 j0 = j0 + j1;
-i1 = v16;
+i1 = v15;
 p17 = write_at(j0 + UINT64_C(18446744073709551609), m, 8u);
 store8(p17 + 7, i1);
 j0 = v1;
 j1 = UINT64_C(742);
 j0 = j0 + j1;
-i1 = v17;
+i1 = v16;
 store8(p17 + 6, i1);
 j0 = v1;
 j1 = UINT64_C(741);
 j0 = j0 + j1;
-i1 = v18;
+i1 = v17;
 store8(p17 + 5, i1);
 j0 = v1;
 j1 = UINT64_C(740);
 j0 = j0 + j1;
-i1 = v19;
+i1 = v18;
 store8(p17 + 4, i1);
 j0 = v1;
 j1 = UINT64_C(739);
 j0 = j0 + j1;
-i1 = v20;
+i1 = v19;
 store8(p17 + 3, i1);
 j0 = v1;
 j1 = UINT64_C(738);
@@ -79605,8 +79986,8 @@ l39:;
 i0 = v12;
 if (i0) { goto l5; }
 l38:;
-i0 = v24;
-i1 = v22;
+i0 = v23;
+i1 = v21;
 i2 = UINT32_C(16);
 i1 = i1 << (i2 & 31);
 i0 = i0 | i1;
@@ -79617,9 +79998,9 @@ i0 = v10;
 v8 = i0;
 i0 = v14;
 v4 = i0;
-i0 = v23;
+i0 = v22;
 v3 = i0;
-i0 = v21;
+i0 = v20;
 v11 = i0;
 goto l2;
 l20:;
@@ -79654,14 +80035,6 @@ i1 = UINT32_C(1);
 p21 = write_at(j0, m, 1u);
 store8(p21 + 0, i1);
 l46:;
-i0 = UINT32_C(1);
-v12 = i0;
-j0 = v1;
-j1 = UINT64_C(728);
-j0 = j0 + j1;
-i1 = UINT32_C(1);
-p22 = write_at(j0 + UINT64_C(18446744073709551544), m, 88u);
-store8(p22 + 72, i1);
 i0 = UINT32_C(0);
 v8 = i0;
 j0 = v1;
@@ -79670,6 +80043,8 @@ j0 = j0 + j1;
 i1 = UINT32_C(0);
 j2 = UINT64_C(384);
 fill(m, j0, i1, j2);
+i0 = UINT32_C(1);
+v12 = i0;
 j0 = v1;
 j1 = UINT64_C(400);
 j0 = j0 + j1;
@@ -79680,6 +80055,7 @@ j0 = v1;
 j1 = UINT64_C(680);
 j0 = j0 + j1;
 j1 = UINT64_C(0);
+p22 = write_at(j0 + UINT64_C(18446744073709551592), m, 88u);
 store64(p22 + 24, j1);
 j0 = v1;
 j1 = UINT64_C(672);
@@ -79724,27 +80100,27 @@ store64(p22 + 64, j1);
 j0 = v1;
 j1 = UINT64_C(743);
 j0 = j0 + j1;
-i1 = v16;
+i1 = v15;
 store8(p22 + 87, i1);
 j0 = v1;
 j1 = UINT64_C(742);
 j0 = j0 + j1;
-i1 = v17;
+i1 = v16;
 store8(p22 + 86, i1);
 j0 = v1;
 j1 = UINT64_C(741);
 j0 = j0 + j1;
-i1 = v18;
+i1 = v17;
 store8(p22 + 85, i1);
 j0 = v1;
 j1 = UINT64_C(740);
 j0 = j0 + j1;
-i1 = v19;
+i1 = v18;
 store8(p22 + 84, i1);
 j0 = v1;
 j1 = UINT64_C(739);
 j0 = j0 + j1;
-i1 = v20;
+i1 = v19;
 store8(p22 + 83, i1);
 j0 = v1;
 j1 = UINT64_C(738);
@@ -79763,7 +80139,7 @@ i1 = UINT32_C(1);
 store8(p22 + 80, i1);
 goto l3;
 l6:;
-trap();
+fio2070_trap();
 l5:;
 i0 = UINT32_C(0);
 v8 = i0;
@@ -79836,27 +80212,27 @@ store64(p23 + 64, j1);
 j0 = v1;
 j1 = UINT64_C(743);
 j0 = j0 + j1;
-i1 = v16;
+i1 = v15;
 store8(p23 + 87, i1);
 j0 = v1;
 j1 = UINT64_C(742);
 j0 = j0 + j1;
-i1 = v17;
+i1 = v16;
 store8(p23 + 86, i1);
 j0 = v1;
 j1 = UINT64_C(741);
 j0 = j0 + j1;
-i1 = v18;
+i1 = v17;
 store8(p23 + 85, i1);
 j0 = v1;
 j1 = UINT64_C(740);
 j0 = j0 + j1;
-i1 = v19;
+i1 = v18;
 store8(p23 + 84, i1);
 j0 = v1;
 j1 = UINT64_C(739);
 j0 = j0 + j1;
-i1 = v20;
+i1 = v19;
 store8(p23 + 83, i1);
 j0 = v1;
 j1 = UINT64_C(738);
@@ -80658,7 +81034,7 @@ p35 = write_at(j0, m, 1u);
 store8(p35 + 0, i1);
 return;
 l7:;
-trap();
+fio2070_trap();
 l6:;
 j0 = UINT64_C(1);
 v4 = j0;
@@ -84094,7 +84470,7 @@ j0 = j0 + j1;
 m->g0 = j0;
 return;
 l2:;
-trap();
+fio2070_trap();
 return;
 }
 static void fio_log_judge_tell_Frames_add(struct machine *m, uint64_t v0, uint64_t v1, uint64_t v2)
@@ -84468,7 +84844,7 @@ p20 = write_at(j0, m, 1u);
 store8(p20 + 0, i1);
 goto l2;
 l3:;
-trap();
+fio2070_trap();
 l2:;
 j0 = v4;
 j1 = UINT64_C(784);
@@ -84483,8 +84859,8 @@ uint64_t j0;
 i0 = rattle_enter(m);
 i0 = (i0 == 0);
 if (i0) { goto l2; }
-trap();
-trap();
+fio2070_trap();
+fio2070_trap();
 l2:;
 j0 = v0;
 proved_log_counts_lose(m, j0);
@@ -84502,7 +84878,7 @@ j0 = m->g0;
 j1 = UINT64_C(15);
 i0 = (SIGNED64(j0) > SIGNED64(j1));
 if (i0) { goto l2; }
-trap();
+fio2070_trap();
 l2:;
 j0 = v0;
 j1 = UINT64_C(5186);
@@ -84524,8 +84900,8 @@ uint64_t j0;
 i0 = rattle_enter(m);
 i0 = (i0 == 0);
 if (i0) { goto l2; }
-trap();
-trap();
+fio2070_trap();
+fio2070_trap();
 l2:;
 j0 = v0;
 proved_log_counts_start(m, j0);
@@ -84543,7 +84919,7 @@ j0 = m->g0;
 j1 = UINT64_C(15);
 i0 = (SIGNED64(j0) > SIGNED64(j1));
 if (i0) { goto l2; }
-trap();
+fio2070_trap();
 l2:;
 j0 = v0;
 i1 = UINT32_C(0);
@@ -84558,8 +84934,8 @@ uint64_t j0;
 i0 = rattle_enter(m);
 i0 = (i0 == 0);
 if (i0) { goto l2; }
-trap();
-trap();
+fio2070_trap();
+fio2070_trap();
 l2:;
 j0 = v0;
 proved_log_end(m, j0);
@@ -84870,7 +85246,7 @@ i1 = UINT32_C(0);
 store8(p16 + 0, i1);
 goto l2;
 l3:;
-trap();
+fio2070_trap();
 l2:;
 j0 = v2;
 i1 = UINT32_C(1);
@@ -84910,8 +85286,8 @@ uint64_t j0;
 i0 = rattle_enter(m);
 i0 = (i0 == 0);
 if (i0) { goto l2; }
-trap();
-trap();
+fio2070_trap();
+fio2070_trap();
 l2:;
 j0 = v0;
 i1 = v1;
@@ -84935,7 +85311,7 @@ j0 = m->g0;
 j1 = UINT64_C(15);
 i0 = (SIGNED64(j0) > SIGNED64(j1));
 if (i0) { goto l2; }
-trap();
+fio2070_trap();
 l2:;
 j0 = v0;
 i1 = UINT32_C(0);
@@ -85000,8 +85376,8 @@ uint64_t j0;
 i0 = rattle_enter(m);
 i0 = (i0 == 0);
 if (i0) { goto l2; }
-trap();
-trap();
+fio2070_trap();
+fio2070_trap();
 l2:;
 j0 = v0;
 proved_log_signs_start(m, j0);
@@ -85019,7 +85395,7 @@ j0 = m->g0;
 j1 = UINT64_C(15);
 i0 = (SIGNED64(j0) > SIGNED64(j1));
 if (i0) { goto l2; }
-trap();
+fio2070_trap();
 l2:;
 j0 = v0;
 i1 = UINT32_C(0);
@@ -85038,8 +85414,8 @@ uint64_t j4;
 i0 = rattle_enter(m);
 i0 = (i0 == 0);
 if (i0) { goto l2; }
-trap();
-trap();
+fio2070_trap();
+fio2070_trap();
 l2:;
 j0 = v0;
 i1 = v1;
@@ -85338,7 +85714,7 @@ i0 = UINT32_C(0);
 v6 = i0;
 goto l2;
 l4:;
-trap();
+fio2070_trap();
 l3:;
 i0 = UINT32_C(0);
 v6 = i0;
@@ -85561,8 +85937,8 @@ uint32_t r;
 i0 = rattle_enter(m);
 i0 = (i0 == 0);
 if (i0) { goto l2; }
-trap();
-trap();
+fio2070_trap();
+fio2070_trap();
 l2:;
 j0 = v0;
 i0 = proved_log_signs_sign(m, j0);
@@ -85672,7 +86048,7 @@ i0 = i2 ? i0 : i1;
 r = i0;
 return r;
 l3:;
-trap();
+fio2070_trap();
 l2:;
 i0 = UINT32_C(0);
 i1 = UINT32_C(0);
@@ -85699,8 +86075,8 @@ uint64_t j0;
 i0 = rattle_enter(m);
 i0 = (i0 == 0);
 if (i0) { goto l2; }
-trap();
-trap();
+fio2070_trap();
+fio2070_trap();
 l2:;
 j0 = v0;
 proved_log_judge_lose(m, j0);
@@ -85744,6 +86120,7 @@ uint32_t v32 = 0;
 uint32_t v33 = 0;
 uint32_t v34 = 0;
 uint32_t v35 = 0;
+uint32_t v36 = 0;
 uint32_t i0;
 uint32_t i1;
 uint32_t i2;
@@ -85855,30 +86232,33 @@ j0 = v1;
 i0 = load8(p1 + 744);
 v19 = i0;
 j0 = v1;
-i0 = load32(p1 + 724);
+i0 = load8(p1 + 728);
 v20 = i0;
 j0 = v1;
-i0 = load8(p1 + 720);
+i0 = load32(p1 + 724);
 v21 = i0;
 j0 = v1;
-i0 = load32(p1 + 716);
+i0 = load8(p1 + 720);
 v22 = i0;
 j0 = v1;
-i0 = load8(p1 + 712);
+i0 = load32(p1 + 716);
 v23 = i0;
 j0 = v1;
-i0 = load8(p1 + 688);
+i0 = load8(p1 + 712);
 v24 = i0;
 j0 = v1;
-i0 = load16(p1 + 2);
+i0 = load8(p1 + 688);
 v25 = i0;
 j0 = v1;
-i0 = load8(p1 + 0);
+i0 = load16(p1 + 2);
 v26 = i0;
+j0 = v1;
+i0 = load8(p1 + 0);
+v27 = i0;
 i0 = v3;
 i1 = UINT32_C(255);
 i0 = i0 & i1;
-v27 = i0;
+v28 = i0;
 if (i0) { goto l3; }
 j0 = v1;
 j1 = UINT64_C(800);
@@ -85915,8 +86295,6 @@ j1 = v13;
 j1 = load64(p1 + 689);
 store64(p1 + 776, j1);
 i0 = UINT32_C(0);
-v27 = i0;
-i0 = UINT32_C(0);
 v28 = i0;
 i0 = UINT32_C(0);
 v29 = i0;
@@ -85928,32 +86306,34 @@ i0 = UINT32_C(0);
 v32 = i0;
 i0 = UINT32_C(0);
 v33 = i0;
+i0 = UINT32_C(0);
+v34 = i0;
 goto l2;
 l4:;
-trap();
+fio2070_trap();
 l3:;
 j0 = v1;
 p2 = write_at(j0 + UINT64_C(737), m, 62u);
 i0 = load8(p2 + 6);
-v32 = i0;
-j0 = v1;
-i0 = load8(p2 + 5);
-v34 = i0;
-j0 = v1;
-i0 = load8(p2 + 4);
-v28 = i0;
-j0 = v1;
-i0 = load8(p2 + 3);
-v29 = i0;
-j0 = v1;
-i0 = load8(p2 + 2);
 v33 = i0;
 j0 = v1;
-i0 = load8(p2 + 1);
+i0 = load8(p2 + 5);
 v35 = i0;
 j0 = v1;
-i0 = load8(p2 + 0);
+i0 = load8(p2 + 4);
+v29 = i0;
+j0 = v1;
+i0 = load8(p2 + 3);
 v30 = i0;
+j0 = v1;
+i0 = load8(p2 + 2);
+v34 = i0;
+j0 = v1;
+i0 = load8(p2 + 1);
+v36 = i0;
+j0 = v1;
+i0 = load8(p2 + 0);
+v31 = i0;
 j0 = v1;
 i1 = UINT32_C(0);
 store8(p2 + 27, i1);
@@ -85990,42 +86370,42 @@ store64(p2 + 39, j1);
 i0 = UINT32_C(1);
 v3 = i0;
 i0 = UINT32_C(0);
-i1 = v30;
+i1 = v31;
 i2 = UINT32_C(1);
 i1 = i1 & i2;
-i2 = v27;
+i2 = v28;
 i3 = UINT32_C(1);
 i2 = (i2 == i3);
 i0 = i2 ? i0 : i1;
-v27 = i0;
-i0 = v28;
+v28 = i0;
+i0 = v29;
 i1 = UINT32_C(0);
-i2 = v29;
+i2 = v30;
 i3 = UINT32_C(255);
 i2 = i2 & i3;
 i3 = UINT32_C(1);
 i2 = (i2 == i3);
-v30 = i2;
+v31 = i2;
 i0 = i2 ? i0 : i1;
-v31 = i0;
+v32 = i0;
+i0 = v34;
+i1 = UINT32_C(0);
+i2 = v36;
+i3 = UINT32_C(255);
+i2 = i2 & i3;
+i3 = UINT32_C(1);
+i2 = (i2 == i3);
+v29 = i2;
+i0 = i2 ? i0 : i1;
+v30 = i0;
 i0 = v33;
-i1 = UINT32_C(0);
-i2 = v35;
-i3 = UINT32_C(255);
-i2 = i2 & i3;
-i3 = UINT32_C(1);
-i2 = (i2 == i3);
-v28 = i2;
-i0 = i2 ? i0 : i1;
-v29 = i0;
-i0 = v32;
+i1 = UINT32_C(1);
+i0 = i0 & i1;
+v34 = i0;
+i0 = v35;
 i1 = UINT32_C(1);
 i0 = i0 & i1;
 v33 = i0;
-i0 = v34;
-i1 = UINT32_C(1);
-i0 = i0 & i1;
-v32 = i0;
 l2:;
 j0 = v0;
 j1 = v1;
@@ -86034,17 +86414,17 @@ j1 = j1 + j2;
 j2 = UINT64_C(672);
 copy(m, j0, j1, j2);
 j0 = v0;
-i1 = UINT32_C(1);
+i1 = v20;
 p4 = write_at(j0 + UINT64_C(672), m, 80u);
 store8(p4 + 50, i1);
 j0 = v0;
 i1 = UINT32_C(0);
 store32(p4 + 36, i1);
 j0 = v0;
-i1 = v25;
+i1 = v26;
 store16(p4 + 34, i1);
 j0 = v0;
-i1 = v26;
+i1 = v27;
 store8(p4 + 33, i1);
 j0 = v0;
 i1 = v7;
@@ -86069,7 +86449,7 @@ j1 = v1;
 j1 = load64(p5 + 31);
 store64(p4 + 16, j1);
 j0 = v0;
-i1 = v21;
+i1 = v22;
 i2 = UINT32_C(255);
 i1 = i1 & i2;
 i2 = UINT32_C(1);
@@ -86077,7 +86457,7 @@ i1 = (i1 == i2);
 v7 = i1;
 store8(p4 + 49, i1);
 j0 = v0;
-i1 = v23;
+i1 = v24;
 i2 = UINT32_C(255);
 i1 = i1 & i2;
 i2 = UINT32_C(1);
@@ -86109,7 +86489,7 @@ i1 = (i1 == i2);
 v2 = i1;
 store8(p4 + 24, i1);
 j0 = v0;
-i1 = v24;
+i1 = v25;
 i2 = UINT32_C(255);
 i1 = i1 & i2;
 v10 = i1;
@@ -86120,13 +86500,13 @@ i3 = (i3 > i4);
 i1 = i3 ? i1 : i2;
 store8(p4 + 0, i1);
 j0 = v0;
-i1 = v20;
+i1 = v21;
 i2 = UINT32_C(0);
 i3 = v7;
 i1 = i3 ? i1 : i2;
 store32(p4 + 44, i1);
 j0 = v0;
-i1 = v22;
+i1 = v23;
 i2 = UINT32_C(0);
 i3 = v8;
 i1 = i3 ? i1 : i2;
@@ -86162,25 +86542,25 @@ j0 = v0;
 i1 = v16;
 store32(p4 + 60, i1);
 j0 = v0;
-i1 = v33;
+i1 = v34;
 store8(p4 + 74, i1);
 j0 = v0;
-i1 = v32;
+i1 = v33;
 store8(p4 + 73, i1);
 j0 = v0;
-i1 = v31;
+i1 = v32;
 store8(p4 + 72, i1);
 j0 = v0;
-i1 = v30;
+i1 = v31;
 store8(p4 + 71, i1);
 j0 = v0;
-i1 = v29;
+i1 = v30;
 store8(p4 + 70, i1);
 j0 = v0;
-i1 = v28;
+i1 = v29;
 store8(p4 + 69, i1);
 j0 = v0;
-i1 = v27;
+i1 = v28;
 store8(p4 + 68, i1);
 j0 = v0;
 i1 = v3;
@@ -86230,8 +86610,8 @@ uint64_t j0;
 i0 = rattle_enter(m);
 i0 = (i0 == 0);
 if (i0) { goto l2; }
-trap();
-trap();
+fio2070_trap();
+fio2070_trap();
 l2:;
 j0 = v0;
 proved_log_judge_miss(m, j0);
@@ -86408,7 +86788,7 @@ i0 = UINT32_C(0);
 v31 = i0;
 goto l2;
 l4:;
-trap();
+fio2070_trap();
 l3:;
 j0 = v1;
 i1 = UINT32_C(0);
@@ -86664,8 +87044,8 @@ uint64_t j0;
 i0 = rattle_enter(m);
 i0 = (i0 == 0);
 if (i0) { goto l2; }
-trap();
-trap();
+fio2070_trap();
+fio2070_trap();
 l2:;
 j0 = v0;
 proved_log_judge_possible(m, j0);
@@ -86690,8 +87070,8 @@ uint32_t v13 = 0;
 uint32_t v14 = 0;
 uint32_t v15 = 0;
 uint32_t v16 = 0;
-uint32_t v17 = 0;
-uint64_t v18 = 0;
+uint64_t v17 = 0;
+uint32_t v18 = 0;
 uint32_t v19 = 0;
 uint32_t v20 = 0;
 uint32_t v21 = 0;
@@ -86788,9 +87168,6 @@ v16 = i0;
 i1 = UINT32_C(1);
 i0 = i0 & i1;
 if (i0) { goto l6; }
-j0 = v1;
-i0 = load8(p1 + 728);
-v17 = i0;
 i0 = v6;
 v2 = i0;
 goto l5;
@@ -86822,8 +87199,6 @@ v8 = i0;
 i0 = UINT32_C(0);
 v7 = i0;
 l7:;
-i0 = UINT32_C(1);
-v17 = i0;
 i0 = v5;
 i1 = UINT32_C(255);
 i0 = i0 & i1;
@@ -86847,21 +87222,24 @@ l5:;
 j0 = v1;
 j1 = UINT64_C(689);
 j0 = j0 + j1;
-v18 = j0;
+v17 = j0;
 j0 = v1;
 i0 = load8(p1 + 757);
 v6 = i0;
 j0 = v1;
 i0 = load32(p1 + 752);
-v19 = i0;
+v18 = i0;
 j0 = v1;
 i0 = load32(p1 + 748);
-v20 = i0;
+v19 = i0;
 j0 = v1;
 i0 = load8(p1 + 745);
-v21 = i0;
+v20 = i0;
 j0 = v1;
 i0 = load8(p1 + 744);
+v21 = i0;
+j0 = v1;
+i0 = load8(p1 + 728);
 v22 = i0;
 j0 = v1;
 i0 = load32(p1 + 724);
@@ -86908,15 +87286,15 @@ j0 = v1;
 i1 = UINT32_C(0);
 store8(p1 + 764, i1);
 j0 = v1;
-j1 = v18;
+j1 = v17;
 j1 = load64(p1 + 704);
 store64(p1 + 791, j1);
 j0 = v1;
-j1 = v18;
+j1 = v17;
 j1 = load64(p1 + 697);
 store64(p1 + 784, j1);
 j0 = v1;
-j1 = v18;
+j1 = v17;
 j1 = load64(p1 + 689);
 store64(p1 + 776, j1);
 i0 = UINT32_C(0);
@@ -86935,7 +87313,7 @@ i0 = UINT32_C(0);
 v34 = i0;
 goto l2;
 l4:;
-trap();
+fio2070_trap();
 l3:;
 j0 = v1;
 p2 = write_at(j0 + UINT64_C(738), m, 61u);
@@ -86977,16 +87355,16 @@ j0 = v1;
 i1 = UINT32_C(0);
 store8(p2 + 34, i1);
 j0 = v1;
-j1 = v18;
+j1 = v17;
 p3 = read_at(j1, m, 23u);
 j1 = load64(p3 + 15);
 store64(p2 + 53, j1);
 j0 = v1;
-j1 = v18;
+j1 = v17;
 j1 = load64(p3 + 8);
 store64(p2 + 46, j1);
 j0 = v1;
-j1 = v18;
+j1 = v17;
 j1 = load64(p3 + 0);
 store64(p2 + 38, j1);
 i0 = UINT32_C(1);
@@ -87035,7 +87413,7 @@ i1 = v5;
 p4 = write_at(j0 + UINT64_C(672), m, 80u);
 store8(p4 + 0, i1);
 j0 = v0;
-i1 = v17;
+i1 = v22;
 store8(p4 + 50, i1);
 j0 = v0;
 i1 = UINT32_C(0);
@@ -87146,10 +87524,10 @@ i3 = v12;
 i1 = i3 ? i1 : i2;
 store8(p4 + 25, i1);
 j0 = v0;
-i1 = v20;
+i1 = v19;
 store32(p4 + 56, i1);
 j0 = v0;
-i1 = v19;
+i1 = v18;
 store32(p4 + 60, i1);
 j0 = v0;
 i1 = v34;
@@ -87182,11 +87560,11 @@ j0 = v0;
 i1 = v16;
 store8(p4 + 65, i1);
 j0 = v0;
-i1 = v21;
+i1 = v20;
 i2 = UINT32_C(1);
 i1 = i1 + i2;
 i2 = UINT32_C(0);
-i3 = v22;
+i3 = v21;
 i4 = UINT32_C(255);
 i3 = i3 & i4;
 i1 = i3 ? i1 : i2;
@@ -87226,8 +87604,8 @@ uint8_t *p1;
 i0 = rattle_enter(m);
 i0 = (i0 == 0);
 if (i0) { goto l2; }
-trap();
-trap();
+fio2070_trap();
+fio2070_trap();
 l2:;
 j0 = v0;
 j1 = v1;
@@ -88182,7 +88560,7 @@ i0 = v5;
 r = i0;
 return r;
 l2:;
-trap();
+fio2070_trap();
 return r;
 }
 static void enter_log_signs_batch(struct machine *m, uint64_t v0, uint32_t v1, uint64_t v2)
@@ -88194,8 +88572,8 @@ uint64_t j2;
 i0 = rattle_enter(m);
 i0 = (i0 == 0);
 if (i0) { goto l2; }
-trap();
-trap();
+fio2070_trap();
+fio2070_trap();
 l2:;
 j0 = v0;
 i1 = v1;
@@ -88783,7 +89161,7 @@ i0 = i0 + i1;
 v5 = i0;
 goto l20;
 l3:;
-trap();
+fio2070_trap();
 l2:;
 j0 = v4;
 p18 = read_at(j0 + UINT64_C(784), m, 56u);
@@ -88984,8 +89362,8 @@ uint32_t r;
 i0 = rattle_enter(m);
 i0 = (i0 == 0);
 if (i0) { goto l2; }
-trap();
-trap();
+fio2070_trap();
+fio2070_trap();
 l2:;
 j0 = v0;
 j1 = v1;
@@ -89272,7 +89650,7 @@ j0 = v14;
 v7 = j0;
 goto l5;
 l3:;
-trap();
+fio2070_trap();
 l2:;
 j0 = v4;
 j1 = UINT64_C(16);
@@ -89296,8 +89674,8 @@ uint32_t r;
 i0 = rattle_enter(m);
 i0 = (i0 == 0);
 if (i0) { goto l2; }
-trap();
-trap();
+fio2070_trap();
+fio2070_trap();
 l2:;
 j0 = v0;
 i1 = v1;
@@ -89342,7 +89720,7 @@ v6 = j0;
 j1 = UINT64_C(15);
 i0 = (SIGNED64(j0) > SIGNED64(j1));
 if (i0) { goto l2; }
-trap();
+fio2070_trap();
 l2:;
 j0 = v6;
 j1 = v0;
@@ -89397,8 +89775,8 @@ uint32_t r;
 i0 = rattle_enter(m);
 i0 = (i0 == 0);
 if (i0) { goto l2; }
-trap();
-trap();
+fio2070_trap();
+fio2070_trap();
 l2:;
 j0 = v0;
 i1 = v1;
@@ -89685,9 +90063,6 @@ j0 = v4;
 i1 = UINT32_C(1);
 store8(p1 + 2160, i1);
 l15:;
-j0 = v4;
-i1 = UINT32_C(1);
-store8(p1 + 2200, i1);
 j0 = v2;
 v14 = j0;
 j0 = v4;
@@ -89735,9 +90110,6 @@ j0 = v4;
 i1 = UINT32_C(1);
 store8(p1 + 2160, i1);
 l17:;
-j0 = v4;
-i1 = UINT32_C(1);
-store8(p1 + 2200, i1);
 j0 = v2;
 v14 = j0;
 j0 = v4;
@@ -90454,7 +90826,7 @@ j0 = v2;
 v15 = j0;
 goto l3;
 l2:;
-trap();
+fio2070_trap();
 return r;
 }
 static uint32_t enter_log_judge_frame(struct machine *m, uint64_t v0, uint32_t v1, uint32_t v2, uint64_t v3, uint64_t v4, uint64_t v5)
@@ -90470,8 +90842,8 @@ uint32_t r;
 i0 = rattle_enter(m);
 i0 = (i0 == 0);
 if (i0) { goto l2; }
-trap();
-trap();
+fio2070_trap();
+fio2070_trap();
 l2:;
 j0 = v0;
 i1 = v1;
@@ -91124,7 +91496,7 @@ i0 = i0 | i1;
 v1 = i0;
 goto l2;
 l4:;
-trap();
+fio2070_trap();
 l3:;
 i0 = UINT32_C(0);
 v8 = i0;
@@ -91171,8 +91543,8 @@ uint64_t r;
 i0 = rattle_enter(m);
 i0 = (i0 == 0);
 if (i0) { goto l2; }
-trap();
-trap();
+fio2070_trap();
+fio2070_trap();
 l2:;
 j0 = v0;
 j1 = v1;
@@ -92444,7 +92816,7 @@ j0 = v9;
 r = j0;
 return r;
 l2:;
-trap();
+fio2070_trap();
 return r;
 }
 enum { STACK_fio2070_log_counts_lose = 0 };
@@ -92489,10 +92861,10 @@ enum { STACK_fio2070_log_counts_batch = 16 };
 enum { STACK_fio2070_log_counts_frame = 16 };
 #define TABLE_fio2070_log_counts_frame NO_TABLE
 #define call_fio2070_log_counts_frame enter_log_counts_frame
-enum { STACK_fio2070_log_judge_batch = 3648 };
+enum { STACK_fio2070_log_judge_batch = 4016 };
 #define TABLE_fio2070_log_judge_batch table_65536
 #define call_fio2070_log_judge_batch enter_log_judge_batch
-enum { STACK_fio2070_log_judge_frame = 2960 };
+enum { STACK_fio2070_log_judge_frame = 3328 };
 #define TABLE_fio2070_log_judge_frame NO_TABLE
 #define call_fio2070_log_judge_frame enter_log_judge_frame
 enum { STACK_fio2070_log_read = 9280 };
@@ -92719,39 +93091,54 @@ DECODES(decode_answer, 24, struct fio2070_answer, settle_answer(it, into))
 
 /* ---- Writing ---- */
 
-ENCODES(encode_status, (uint8_t clear, uint8_t *out, size_t room), clear, to, room)
-ENCODES(encode_load_counter, (uint32_t load, uint8_t *out, size_t room), load, to, room)
-ENCODES(encode_raw_inputs, (uint8_t *out, size_t room), to, room)
-ENCODES(encode_filtered_inputs, (uint8_t *out, size_t room), to, room)
-ENCODES(encode_poll, (uint8_t block, uint8_t *out, size_t room), block, to, room)
-ENCODES(encode_watchdog, (uint8_t timeout, uint8_t *out, size_t room), timeout, to, room)
-ENCODES(encode_identify, (uint8_t *out, size_t room), to, room)
-ENCODES(encode_status_answer,
-        (uint8_t flags, uint8_t receive_errors, uint8_t transmit_errors, uint32_t stamp, uint8_t *out, size_t room),
-        flags, receive_errors, transmit_errors, stamp, to, room)
-ENCODES(encode_load_counter_answer, (uint8_t status, uint8_t *out, size_t room), status, to, room)
-ENCODES(encode_configure_inputs_answer, (uint8_t status, uint8_t *out, size_t room), status, to, room)
-ENCODES(encode_raw_inputs_answer, (uint64_t inputs, uint32_t stamp, uint8_t *out, size_t room), inputs, stamp, to, room)
-ENCODES(encode_filtered_inputs_answer, (uint64_t inputs, uint32_t stamp, uint8_t *out, size_t room), inputs, stamp, to,
-        room)
-ENCODES(encode_watchdog_answer, (uint8_t status, uint8_t *out, size_t room), status, to, room)
-ENCODES(encode_configure_inputs,
-        (const struct fio2070_configuration_item *items, size_t count, uint8_t *out, size_t room),
-        READS(items, count * sizeof *items), count, to, room)
-ENCODES(encode_set_outputs, (const uint8_t levels[8], const uint8_t controls[8], uint8_t *out, size_t room),
-        READS(levels, 8), READS(controls, 8), to, room)
-ENCODES(encode_other_command, (uint8_t code, const uint8_t *body, size_t length, uint8_t *out, size_t room), code,
-        READS(body, length), length, to, room)
-ENCODES(encode_other_answer, (uint8_t code, const uint8_t *body, size_t length, uint8_t *out, size_t room), code,
-        READS(body, length), length, to, room)
-ENCODES(poller_poll, (const struct fio2070_poller *poller, uint8_t *out, size_t room), READS(poller, 1), to, room)
+/* The structs in the module's order of octets. */
+static void put_command(uint8_t into[28], const struct fio2070_command *command) {
+    into[0] = command->code;
+    into[1] = command->clear;
+    into[2] = command->block;
+    into[3] = command->timeout;
+    into[4] = command->count;
+    into[5] = command->reserved;
+    put16(into + 6, command->body);
+    put32(into + 8, command->load);
+    memcpy(into + 12, command->levels, 8);
+    memcpy(into + 20, command->controls, 8);
+}
 
-size_t fio2070_encode_block_answer(uint8_t block, const struct fio2070_entry *entries, size_t count, uint8_t status,
-                                   uint32_t stamp, uint8_t *out, size_t room) {
-    MACHINE(fio2070_encode_block_answer);
+static void put_answer(uint8_t into[24], const struct fio2070_answer *answer) {
+    into[0] = answer->code;
+    into[1] = answer->flags;
+    into[2] = answer->receive_errors;
+    into[3] = answer->transmit_errors;
+    into[4] = answer->status;
+    into[5] = answer->block;
+    into[6] = answer->count;
+    memcpy(into + 7, answer->reserved, 3);
+    put16(into + 10, answer->body);
+    put32(into + 12, answer->stamp);
+    put64(into + 16, answer->inputs);
+}
+
+size_t fio2070_encode_command(const struct fio2070_command *command, const struct fio2070_configuration_item *items,
+                              size_t count, const uint8_t *body, size_t length, uint8_t *out, size_t room) {
+    uint8_t fields[28];
+    MACHINE(fio2070_encode_command);
+    put_command(fields, command);
+    {
+        uint64_t a = READS(fields, 28), b = READS(items, count * sizeof *items), c = READS(body, length),
+                 to = WRITES(out, room);
+        return (size_t)call_fio2070_encode_command(&machine, a, b, count, c, length, to, room);
+    }
+}
+
+size_t fio2070_encode_answer(const struct fio2070_answer *answer, const struct fio2070_entry *entries, size_t count,
+                             const uint8_t *body, size_t length, uint8_t *out, size_t room) {
     /* Entries in the module's order of octets. Of more than 255 it reads none; a window that ends there would show it. */
-    uint8_t octets[FIO2070_MOST_ENTRIES * 4];
-    uint64_t from, to = WRITES(out, room);
+    uint8_t fields[24], octets[FIO2070_MOST_ENTRIES * 4];
+    uint64_t a, from, c, to;
+    MACHINE(fio2070_encode_answer);
+    put_answer(fields, answer);
+    a = READS(fields, 24), c = READS(body, length), to = WRITES(out, room);
     if (IS_LITTLE) {
         from = READS(entries, count * sizeof *entries);
     } else {
@@ -92763,8 +93150,10 @@ size_t fio2070_encode_block_answer(uint8_t block, const struct fio2070_entry *en
         }
         from = READS(octets, 4 * most);
     }
-    return (size_t)call_fio2070_encode_block_answer(&machine, block, from, count, status, stamp, to, room);
+    return (size_t)call_fio2070_encode_answer(&machine, a, from, count, c, length, to, room);
 }
+
+ENCODES(poller_poll, (const struct fio2070_poller *poller, uint8_t *out, size_t room), READS(poller, 1), to, room)
 
 /* ---- The CPU's end ---- */
 
@@ -92880,23 +93269,20 @@ OVER(judge, lose, 1, void, , (struct fio2070_judge * judge), it)
 JUDGES(judge, sent,
        (struct fio2070_judge * judge, uint8_t at, const uint8_t *octets, size_t length, struct fio2070_judge_outcome *outcome),
        it, at, frame, length, to)
-JUDGES(judge, heard,
-       (struct fio2070_judge * judge, uint8_t at, const uint8_t *octets, size_t length, struct fio2070_judge_outcome *outcome),
-       it, at, frame, length, to)
+JUDGES(judge, heard, (struct fio2070_judge * judge, const uint8_t *octets, size_t length, struct fio2070_judge_outcome *outcome),
+       it, frame, length, to)
 
 /* ---- Frames on a line ---- */
 
 OVER(wire, start, 1, void, , (struct fio2070_wire * wire, uint16_t address, uint16_t control), it, address, control)
-OVER(wire, read, 1, uint8_t, return (uint8_t), (struct fio2070_wire * wire, uint8_t octet), it, octet)
-OVER(wire, read_many, 1, size_t, return (size_t),
+OVER(wire, read, 1, size_t, return (size_t),
      (struct fio2070_wire * wire, const uint8_t *octets, size_t length, uint8_t *heard), it, READS(octets, length), length,
      WRITES(heard, 1))
 OVER(wire, lose, 1, void, , (struct fio2070_wire * wire), it)
 OVER(wire, message_length, 0, size_t, return (size_t), (const struct fio2070_wire *wire), it)
 OVER(wire_bits, start, 1, void, , (struct fio2070_wire_bits * wire_bits, uint16_t address, uint16_t control), it, address,
      control)
-OVER(wire_bits, read, 1, uint8_t, return (uint8_t), (struct fio2070_wire_bits * wire_bits, uint8_t bit), it, bit)
-OVER(wire_bits, read_many, 1, size_t, return (size_t),
+OVER(wire_bits, read, 1, size_t, return (size_t),
      (struct fio2070_wire_bits * wire_bits, const uint8_t *line, size_t length, uint8_t *heard), it, READS(line, length),
      length, WRITES(heard, 1))
 OVER(wire_bits, message_length, 0, size_t, return (size_t), (const struct fio2070_wire_bits *wire_bits), it)
@@ -93089,25 +93475,23 @@ OVER(sized_module, receive, 1, size_t, return (size_t),
      (struct fio2070_sized_module * sized_module, struct fio2070_ring ring, const uint8_t *octets, size_t length, uint8_t *out,
       size_t room),
      it, WRITES(ring.slots, ring.capacity * 3), ring.capacity, READS(octets, length), length, WRITES(out, room), room)
-OVER(sized_module, flags, 0, uint8_t, return (uint8_t), (const struct fio2070_sized_module *sized_module), it)
-OVER(sized_module, raw, 0, uint64_t, return, (const struct fio2070_sized_module *sized_module), it)
-OVER(sized_module, watchdog_ms, 0, uint8_t, return (uint8_t), (const struct fio2070_sized_module *sized_module), it)
-OVER(sized_module, counter, 0, uint32_t, return, (const struct fio2070_sized_module *sized_module), it)
-OVER(sized_module, filtered, 0, uint64_t, return, (const struct fio2070_sized_module *sized_module), it)
-OVER(sized_module, waiting, 0, size_t, return (size_t), (const struct fio2070_sized_module *sized_module), it)
 
-/* Calls over such a struct that return one of octets. */
-#define RETURNS(part, name, type)                                                                  \
-    struct fio2070_##type fio2070_##part##_##name(const struct fio2070_##part *part) {             \
-        struct fio2070_##type found;                                                               \
-        MACHINE(fio2070_##part##_##name);                                                          \
-        memset(&found, 0, sizeof found);                                                           \
-        {                                                                                          \
-            uint64_t a = WRITES(&found, sizeof found), b = READS(part, sizeof *part);              \
-            call_fio2070_##part##_##name(&machine, a, b);                                          \
-        }                                                                                          \
-        return found;                                                                              \
+struct fio2070_state fio2070_sized_module_state(const struct fio2070_sized_module *sized_module) {
+    uint8_t into[48] = {0};
+    struct fio2070_state state;
+    MACHINE(fio2070_sized_module_state);
+    {
+        uint64_t a = WRITES(into, 48), b = READS(sized_module, sizeof *sized_module);
+        call_fio2070_sized_module_state(&machine, a, b);
     }
-
-RETURNS(sized_module, outputs, outputs)
-RETURNS(sized_module, errors, error_counts)
+    memset(&state, 0, sizeof state);
+    state.filtered = get64(into);
+    state.raw = get64(into + 8);
+    memcpy(&state.outputs, into + 16, 16);
+    state.counter = get32(into + 32);
+    state.waiting = get16(into + 36);
+    state.flags = into[38];
+    state.watchdog_ms = into[39];
+    memcpy(&state.errors, into + 40, 2);
+    return state;
+}

@@ -3,9 +3,9 @@
  *
  * The field I/O transition link of the Model 2070: the header for C++17, above fio2070.h.
  *
- * Sources: 2a185048ecbc3ecdef46697b173b2212899c8b25384b860e829b2c929a0addc1 (SHA-256; packaging/release-files --sources)
+ * Sources: e7bcd800e015bae25524d4a8698315b8581dd3524b54fe4dddc1fd3708b027d8 (SHA-256; packaging/release-files --sources)
  * Kit: rattle-kit-13f logic dac8208d650f15bf
- * Proof: logic=proved functions=225 target=wasm64-unknown-unknown sum=dac8208d650f15bf native=nat,char,string
+ * Proof: logic=proved functions=213 target=wasm64-unknown-unknown sum=dac8208d650f15bf native=nat,char,string
  * Made by `make release-files`: do not edit.
  *
  * Proved is the module of which fio2070.c was made, for wasm64: each call does what fio2070.h says for all octets,
@@ -45,6 +45,7 @@ using ConfigurationItem = ::fio2070_configuration_item;
 using Answer = ::fio2070_answer;
 using RecordItem = ::fio2070_record_item;
 using Outputs = ::fio2070_outputs;
+using State = ::fio2070_state;
 using ErrorCounts = ::fio2070_error_counts;
 
 /// A view of objects that someone else owns, as std::span has it: they must outlive it. It is given an
@@ -242,82 +243,21 @@ private:
     std::size_t size_ = 0;
 };
 
-/// Commands. Those that are always written are values; the others are none where an item names an
-/// input above 127, or there is too much of something.
-namespace encode {
-inline Frame status(std::uint8_t clear) {
-    return *Frame::of([=](auto *out, auto room) { return ::fio2070_encode_status(clear, out, room); });
-}
-inline Frame load_counter(std::uint32_t load) {
-    return *Frame::of([=](auto *out, auto room) { return ::fio2070_encode_load_counter(load, out, room); });
-}
-inline std::optional<Frame> configure_inputs(View<const ConfigurationItem> items) {
-    return Frame::of([=](auto *out, auto room) {
-        return ::fio2070_encode_configure_inputs(items.data(), items.size(), out, room);
-    });
-}
-inline Frame raw_inputs() {
-    return *Frame::of([](auto *out, auto room) { return ::fio2070_encode_raw_inputs(out, room); });
-}
-inline Frame filtered_inputs() {
-    return *Frame::of([](auto *out, auto room) { return ::fio2070_encode_filtered_inputs(out, room); });
-}
-inline Frame poll(std::uint8_t block) {
-    return *Frame::of([=](auto *out, auto room) { return ::fio2070_encode_poll(block, out, room); });
-}
-inline Frame set_outputs(const Outputs &outputs) {
-    return *Frame::of([&](auto *out, auto room) {
-        return ::fio2070_encode_set_outputs(outputs.levels, outputs.controls, out, room);
-    });
-}
-inline Frame watchdog(std::uint8_t timeout) {
-    return *Frame::of([=](auto *out, auto room) { return ::fio2070_encode_watchdog(timeout, out, room); });
-}
-inline Frame identify() {
-    return *Frame::of([](auto *out, auto room) { return ::fio2070_encode_identify(out, room); });
-}
-inline std::optional<Frame> other_command(std::uint8_t code, Octets body) {
-    return Frame::of([=](auto *out, auto room) {
-        return ::fio2070_encode_other_command(code, body.data(), body.size(), out, room);
+/// Writes a command from what decode_command and command_items give of it, and the body of types 56, 57 and 59; none where no
+/// command has all of this (see the group encode of fio2070.h).
+inline std::optional<Frame> encode_command(const Command &command, View<const ConfigurationItem> items = {}, Octets body = {}) {
+    return Frame::of([&](auto *out, auto room) {
+        return ::fio2070_encode_command(&command, items.data(), items.size(), body.data(), body.size(), out, room);
     });
 }
 
-/// Answers.
-inline Frame status_answer(std::uint8_t flags, std::uint8_t receive_errors, std::uint8_t transmit_errors,
-                           std::uint32_t stamp) {
-    return *Frame::of([=](auto *out, auto room) {
-        return ::fio2070_encode_status_answer(flags, receive_errors, transmit_errors, stamp, out, room);
+/// Writes an answer from what decode_answer and block_entries give of it, and the body of types 183, 184, 185, 187 and 188; none
+/// where no answer has all of this.
+inline std::optional<Frame> encode_answer(const Answer &answer, View<const Entry> entries = {}, Octets body = {}) {
+    return Frame::of([&](auto *out, auto room) {
+        return ::fio2070_encode_answer(&answer, entries.data(), entries.size(), body.data(), body.size(), out, room);
     });
 }
-inline Frame load_counter_answer(std::uint8_t status) {
-    return *Frame::of([=](auto *out, auto room) { return ::fio2070_encode_load_counter_answer(status, out, room); });
-}
-inline Frame configure_inputs_answer(std::uint8_t status) {
-    return *Frame::of([=](auto *out, auto room) { return ::fio2070_encode_configure_inputs_answer(status, out, room); });
-}
-inline Frame raw_inputs_answer(std::uint64_t inputs, std::uint32_t stamp) {
-    return *Frame::of([=](auto *out, auto room) { return ::fio2070_encode_raw_inputs_answer(inputs, stamp, out, room); });
-}
-inline Frame filtered_inputs_answer(std::uint64_t inputs, std::uint32_t stamp) {
-    return *Frame::of([=](auto *out, auto room) {
-        return ::fio2070_encode_filtered_inputs_answer(inputs, stamp, out, room);
-    });
-}
-inline std::optional<Frame> block_answer(std::uint8_t block, View<const Entry> entries, std::uint8_t status,
-                                         std::uint32_t stamp) {
-    return Frame::of([=](auto *out, auto room) {
-        return ::fio2070_encode_block_answer(block, entries.data(), entries.size(), status, stamp, out, room);
-    });
-}
-inline Frame watchdog_answer(std::uint8_t status) {
-    return *Frame::of([=](auto *out, auto room) { return ::fio2070_encode_watchdog_answer(status, out, room); });
-}
-inline std::optional<Frame> other_answer(std::uint8_t code, Octets body) {
-    return Frame::of([=](auto *out, auto room) {
-        return ::fio2070_encode_other_answer(code, body.data(), body.size(), out, room);
-    });
-}
-} // namespace encode
 
 /// What a poller heard.
 class Heard {
@@ -349,7 +289,9 @@ public:
     /// The first poll asks for the block with this number (see fio2070_poller_start).
     explicit Poller(std::uint8_t number) { ::fio2070_poller_start(&poller_, number); }
     std::uint8_t number() const { return poller_.number; }
-    Frame poll() const { return encode::poll(poller_.number); }
+    Frame poll() const {
+        return *Frame::of([this](auto *out, auto room) { return ::fio2070_poller_poll(&poller_, out, room); });
+    }
     /// Where memory runs out it throws std::bad_alloc, and nothing has changed.
     Heard hear(Octets octets) {
         std::array<RecordItem, FIO2070_MOST_RECORD_ITEMS> items{};
@@ -458,9 +400,9 @@ public:
         return outcome;
     }
     /// What a frame is that the module sent.
-    ::fio2070_judge_outcome heard(Octets octets, std::uint8_t at = FIO2070_AT_CPU) {
+    ::fio2070_judge_outcome heard(Octets octets) {
         ::fio2070_judge_outcome outcome;
-        outcome.kind = ::fio2070_judge_heard(&judge_, at, octets.data(), octets.size(), &outcome);
+        outcome.kind = ::fio2070_judge_heard(&judge_, octets.data(), octets.size(), &outcome);
         return outcome;
     }
 
@@ -622,18 +564,16 @@ private:
 
 /// What both decoders of a line do: `Line` is their struct, and the others its calls. What comes before the first flag says
 /// nothing.
-template <typename Line, auto &Start, auto &Read, auto &ReadMany, auto &MessageLength>
+template <typename Line, auto &Start, auto &Read, auto &MessageLength>
 class WireDecoder {
 public:
     /// One's own frames have this address and this control octet; FIO2070_WIRE_ANY stands for each.
     WireDecoder(std::uint16_t address, std::uint16_t control) { Start(&line_, address, control); }
-    /// Takes an octet, and returns the frame or the damage that ends with it, if any.
-    std::optional<WireHeard> read(std::uint8_t octet) { return heard(Read(&line_, octet)); }
     /// Takes octets from the front of the view, up to the next frame or damage, and returns that; none if it took them all and
     /// nothing ended. So a loop reads a piece: `while (auto heard = wire.read(piece)) ..`.
     std::optional<WireHeard> read(Octets &octets) {
         std::uint8_t kind = FIO2070_WIRE_NOTHING;
-        std::size_t count = ReadMany(&line_, octets.data(), octets.size(), &kind);
+        std::size_t count = Read(&line_, octets.data(), octets.size(), &kind);
         octets = Octets(octets.data() + count, octets.size() - count);
         return heard(kind);
     }
@@ -647,8 +587,7 @@ protected:
 };
 
 /// A decoder of a line of octets, such as a UART's.
-class Wire : public WireDecoder<::fio2070_wire, ::fio2070_wire_start, ::fio2070_wire_read, ::fio2070_wire_read_many,
-                                ::fio2070_wire_message_length> {
+class Wire : public WireDecoder<::fio2070_wire, ::fio2070_wire_start, ::fio2070_wire_read, ::fio2070_wire_message_length> {
 public:
     using WireDecoder::WireDecoder;
     /// An octet was lost, or came with a wrong parity or stop bit: what is under way is damaged, whatever its check says.
@@ -659,7 +598,7 @@ public:
 /// A decoder of a line of bits, such as a logic analyser's with one bit a clock. Each octet is a bit, its lowest: so the octets
 /// of a text of 0 and 1 serve too.
 class WireBits : public WireDecoder<::fio2070_wire_bits, ::fio2070_wire_bits_start, ::fio2070_wire_bits_read,
-                                    ::fio2070_wire_bits_read_many, ::fio2070_wire_bits_message_length> {
+                                    ::fio2070_wire_bits_message_length> {
 public:
     using WireDecoder::WireDecoder;
 };
@@ -723,18 +662,8 @@ public:
             return ::fio2070_sized_module_receive(&module_, FIO2070_RING(slots_), octets.data(), octets.size(), out, room);
         });
     }
-    Outputs outputs() const { return ::fio2070_sized_module_outputs(&module_); }
-    /// None before the first command 58.
-    std::optional<std::uint8_t> watchdog_ms() const {
-        std::uint8_t timeout = ::fio2070_sized_module_watchdog_ms(&module_);
-        return timeout != 0 ? std::optional<std::uint8_t>(timeout) : std::nullopt;
-    }
-    std::uint32_t counter() const { return ::fio2070_sized_module_counter(&module_); }
-    std::uint64_t filtered() const { return ::fio2070_sized_module_filtered(&module_); }
-    std::uint64_t raw() const { return ::fio2070_sized_module_raw(&module_); }
-    std::uint8_t flags() const { return ::fio2070_sized_module_flags(&module_); }
-    ErrorCounts errors() const { return ::fio2070_sized_module_errors(&module_); }
-    std::size_t waiting() const { return ::fio2070_sized_module_waiting(&module_); }
+    /// What it is at present.
+    State state() const { return ::fio2070_sized_module_state(&module_); }
 
 private:
     Module() = default;

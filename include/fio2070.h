@@ -336,83 +336,34 @@ size_t fio2070_show(const uint8_t *octets, size_t length, char *text, size_t roo
 /** @} */
 
 /** @defgroup encode Writing messages
- * Each call writes one message to the front of `out`, and returns how many octets it has. If that is more than `room`, nothing
- * was written. Each description begins with the type of the message (TEES 2009).
+ * Each call writes the message that a struct, a list and a body say to the front of `out`, and returns how many octets it
+ * has. If that is more than `room`, nothing was written. They are what fio2070_decode_command and fio2070_decode_answer give,
+ * with fio2070_command_items, fio2070_block_entries and the octets after the type: so encoding gives the octets that were
+ * decoded, and decoding the struct that was encoded. Set the fields of the type, leave all others 0, and pass no list and no
+ * body if the type has none. The result is FIO2070_NO_MESSAGE if no message has all of this: the type is of another direction
+ * or none, another field is not 0, `count` or `body` of the struct is not the number that is passed, there are more than 255
+ * items or entries, one names an input above 127, or the body has more than 772 octets.
  * @code
+ * struct fio2070_command poll = {0};
  * uint8_t frame[FIO2070_LONGEST_FRAME];
- * size_t count = fio2070_encode_poll(5, frame, sizeof frame);
+ * size_t count;
+ * poll.code = FIO2070_TYPE_POLL, poll.block = 5;
+ * count = fio2070_encode_command(&poll, NULL, 0, NULL, 0, frame, sizeof frame);
  * if (count > sizeof frame) return 1;
  * printf("%d octets: %d %d\n", (int)count, frame[0], frame[1]); // 2 octets: 54 5
  * @endcode
  * @{ */
 
-/* Commands: */
-
-/** 49, request module status: clears the flags whose bits are one. 2 octets. */
+/** Writes a command: with the `count` items of a configuration, type 51, and the `length` octets after the type of types 56,
+ * 57 and 59. */
 FIO2070_MUST_USE
-size_t fio2070_encode_status(uint8_t clear, uint8_t *out, size_t room);
-/** 50, millisecond counter management: the number that the next line sync loads. 5 octets. */
+size_t fio2070_encode_command(const struct fio2070_command *command, const struct fio2070_configuration_item *items,
+                              size_t count, const uint8_t *body, size_t length, uint8_t *out, size_t room);
+/** Writes an answer: with the `count` entries of a block, type 182, and the `length` octets after the type of types 183, 184,
+ * 185, 187 and 188. */
 FIO2070_MUST_USE
-size_t fio2070_encode_load_counter(uint32_t load, uint8_t *out, size_t room);
-/** 51, configure inputs. 2 + 3 * count octets. FIO2070_NO_MESSAGE if there are more than 255 items, or one
- * names an input above 127. */
-FIO2070_MUST_USE
-size_t fio2070_encode_configure_inputs(const struct fio2070_configuration_item *items, size_t count, uint8_t *out,
-                                       size_t room);
-/** 52, poll raw input data. 1 octet. */
-FIO2070_MUST_USE
-size_t fio2070_encode_raw_inputs(uint8_t *out, size_t room);
-/** 53, poll filtered input data. 1 octet. */
-FIO2070_MUST_USE
-size_t fio2070_encode_filtered_inputs(uint8_t *out, size_t room);
-/** 54, poll input transition buffer: the block with this number. 2 octets. */
-FIO2070_MUST_USE
-size_t fio2070_encode_poll(uint8_t block, uint8_t *out, size_t room);
-/** 55, set outputs. 17 octets (eight for each half are own profile). */
-FIO2070_MUST_USE
-size_t fio2070_encode_set_outputs(const uint8_t levels[8], const uint8_t controls[8], uint8_t *out, size_t room);
-/** 58, configure watchdog: the timeout in milliseconds, 0 to 255. The module takes less than 10 as 10
- * and more than 100 as 100. 2 octets. */
-FIO2070_MUST_USE
-size_t fio2070_encode_watchdog(uint8_t timeout, uint8_t *out, size_t room);
-/** 60, module identification. 1 octet. */
-FIO2070_MUST_USE
-size_t fio2070_encode_identify(uint8_t *out, size_t room);
-/** 56, 57 or 59, with the octets after the type. 1 + length octets. FIO2070_NO_MESSAGE for any other type, and for
- * more than 772 octets. */
-FIO2070_MUST_USE
-size_t fio2070_encode_other_command(uint8_t code, const uint8_t *body, size_t length, uint8_t *out, size_t room);
-
-/* Answers: */
-
-/** 177: the flags that are left, the error counts and the millisecond counter. 8 octets. */
-FIO2070_MUST_USE
-size_t fio2070_encode_status_answer(uint8_t flags, uint8_t receive_errors, uint8_t transmit_errors, uint32_t stamp,
-                                    uint8_t *out, size_t room);
-/** 178, to a load of the counter. 2 octets. */
-FIO2070_MUST_USE
-size_t fio2070_encode_load_counter_answer(uint8_t status, uint8_t *out, size_t room);
-/** 179, to a configuration. 2 octets. */
-FIO2070_MUST_USE
-size_t fio2070_encode_configure_inputs_answer(uint8_t status, uint8_t *out, size_t room);
-/** 180: the levels of the inputs at the last scan; bit i is input i. 13 octets. */
-FIO2070_MUST_USE
-size_t fio2070_encode_raw_inputs_answer(uint64_t inputs, uint32_t stamp, uint8_t *out, size_t room);
-/** 181: the filtered states; bit i is input i. 13 octets. */
-FIO2070_MUST_USE
-size_t fio2070_encode_filtered_inputs_answer(uint64_t inputs, uint32_t stamp, uint8_t *out, size_t room);
-/** 182, a block. 8 + 3 * count octets. FIO2070_NO_MESSAGE if there are more than 255 entries, or one names
- * an input above 127. */
-FIO2070_MUST_USE
-size_t fio2070_encode_block_answer(uint8_t block, const struct fio2070_entry *entries, size_t count, uint8_t status,
-                                   uint32_t stamp, uint8_t *out, size_t room);
-/** 186, to a watchdog command. 2 octets. */
-FIO2070_MUST_USE
-size_t fio2070_encode_watchdog_answer(uint8_t status, uint8_t *out, size_t room);
-/** 183, 184, 185, 187 or 188, with the octets after the type. 1 + length octets. FIO2070_NO_MESSAGE for any other
- * type, and for more than 772 octets. */
-FIO2070_MUST_USE
-size_t fio2070_encode_other_answer(uint8_t code, const uint8_t *body, size_t length, uint8_t *out, size_t room);
+size_t fio2070_encode_answer(const struct fio2070_answer *answer, const struct fio2070_entry *entries, size_t count,
+                             const uint8_t *body, size_t length, uint8_t *out, size_t room);
 
 /** @} */
 
@@ -430,7 +381,7 @@ size_t fio2070_encode_other_answer(uint8_t code, const uint8_t *body, size_t len
  * struct fio2070_wire wire;
  * fio2070_wire_start(&wire, FIO2070_WIRE_ADDRESS, FIO2070_WIRE_CONTROL);
  * while (at < count) {
- *     at += fio2070_wire_read_many(&wire, line + at, count - at, &heard);
+ *     at += fio2070_wire_read(&wire, line + at, count - at, &heard);
  *     if (heard == FIO2070_WIRE_MESSAGE) printf("a message of type %d\n", wire.octets[2]); // a message of type 54
  * }
  * @endcode
@@ -485,13 +436,10 @@ struct fio2070_wire_bits {
 /** Starts before the first flag of a line: what comes before it says nothing. One's own frames are those with this address and
  * this control octet; FIO2070_WIRE_ANY, and each number above 255, is any. */
 void fio2070_wire_start(struct fio2070_wire *wire, uint16_t address, uint16_t control);
-/** Reads the next octet of the line, and returns what it ends: one of `FIO2070_WIRE_NOTHING` and those after it. */
+/** Reads octets of the line up to the end of the next frame or damage, and returns how many it read. `heard` is what the last
+ * of them ends, one of `FIO2070_WIRE_NOTHING` and those after it: FIO2070_WIRE_NOTHING only if all were read. */
 FIO2070_MUST_USE
-uint8_t fio2070_wire_read(struct fio2070_wire *wire, uint8_t octet);
-/** Reads octets of the line up to the end of the next frame or damage, and returns how many it read. `heard` is what
- * `fio2070_wire_read` returns for the last of them, FIO2070_WIRE_NOTHING only if all were read. */
-FIO2070_MUST_USE
-size_t fio2070_wire_read_many(struct fio2070_wire *wire, const uint8_t *octets, size_t length, uint8_t *heard);
+size_t fio2070_wire_read(struct fio2070_wire *wire, const uint8_t *octets, size_t length, uint8_t *heard);
 /** Marks the present part as damaged, whatever its frame check says: an octet of it was lost, or came with a wrong parity or
  * stop bit. Directly after a frame this is the next part; before the first flag nothing changes. */
 void fio2070_wire_lose(struct fio2070_wire *wire);
@@ -509,12 +457,9 @@ size_t fio2070_wire_write(uint8_t address, uint8_t control, const uint8_t *messa
 uint16_t fio2070_wire_check(const uint8_t *octets, size_t length);
 /** As `fio2070_wire_start`, of a line of bits. */
 void fio2070_wire_bits_start(struct fio2070_wire_bits *bits, uint16_t address, uint16_t control);
-/** Reads the next bit of the line, the lowest of `bit`, and returns what it ends, as `fio2070_wire_read` does. */
+/** As `fio2070_wire_read`, of a line that has a bit an octet, its lowest: the characters 0 and 1 serve too. */
 FIO2070_MUST_USE
-uint8_t fio2070_wire_bits_read(struct fio2070_wire_bits *bits, uint8_t bit);
-/** As `fio2070_wire_read_many`, of a line that has a bit an octet, its lowest: the characters 0 and 1 serve too. */
-FIO2070_MUST_USE
-size_t fio2070_wire_bits_read_many(struct fio2070_wire_bits *bits, const uint8_t *line, size_t length, uint8_t *heard);
+size_t fio2070_wire_bits_read(struct fio2070_wire_bits *bits, const uint8_t *line, size_t length, uint8_t *heard);
 /** As `fio2070_wire_message_length`. */
 FIO2070_MUST_USE
 size_t fio2070_wire_bits_message_length(const struct fio2070_wire_bits *bits);
@@ -930,9 +875,9 @@ uint8_t fio2070_content_heard(struct fio2070_content_checker *content, const uin
  * const struct fio2070_limits limits = FIO2070_STANDARD_LIMITS;
  * if (fio2070_judge_start_anywhere(&judge, limits) != 0) return 1;
  * if (fio2070_judge_sent(&judge, FIO2070_AT_CPU, poll, sizeof poll, &outcome) != FIO2070_OUTCOME_KEPT) return 1;
- * if (fio2070_judge_heard(&judge, FIO2070_AT_CPU, block, sizeof block, &outcome) != FIO2070_OUTCOME_KEPT) return 1;
+ * if (fio2070_judge_heard(&judge, block, sizeof block, &outcome) != FIO2070_OUTCOME_KEPT) return 1;
  * if (fio2070_judge_sent(&judge, FIO2070_AT_CPU, next, sizeof next, &outcome) != FIO2070_OUTCOME_KEPT) return 1;
- * if (fio2070_judge_heard(&judge, FIO2070_AT_CPU, again, sizeof again, &outcome) == FIO2070_OUTCOME_RESTARTED)
+ * if (fio2070_judge_heard(&judge, again, sizeof again, &outcome) == FIO2070_OUTCOME_RESTARTED)
  *     printf("the module restarted\n"); // the module restarted
  * @endcode
  * @{ */
@@ -973,7 +918,7 @@ struct fio2070_judge {
     uint32_t asked;
     uint8_t has_latest;
     uint8_t has_asked;
-    uint8_t lost;
+    uint8_t polls;
     uint8_t reserved[5];
 };
 
@@ -1017,9 +962,10 @@ void fio2070_judge_lose(struct fio2070_judge *judge);
 FIO2070_MUST_USE
 uint8_t fio2070_judge_sent(struct fio2070_judge *judge, uint8_t at, const uint8_t *octets, size_t length,
                            struct fio2070_judge_outcome *outcome);
-/** As `fio2070_judge_sent`, for a frame that the module sent, and the CPU's end heard if the log is its own. */
+/** As `fio2070_judge_sent`, for a frame that the module sent, and the CPU's end heard if the log is its own: where it was logged
+ * does not matter. */
 FIO2070_MUST_USE
-uint8_t fio2070_judge_heard(struct fio2070_judge *judge, uint8_t at, const uint8_t *octets, size_t length,
+uint8_t fio2070_judge_heard(struct fio2070_judge *judge, const uint8_t *octets, size_t length,
                             struct fio2070_judge_outcome *outcome);
 
 /** @} */
@@ -1517,6 +1463,28 @@ struct fio2070_error_counts {
     uint8_t transmit;
 };
 
+/** What a module is at present. */
+struct fio2070_state {
+    /** The filtered states, also of ignored inputs; bit i is input i. */
+    uint64_t filtered;
+    /** The levels of the last scan, all 1 before any (own profile); bit i is input i. */
+    uint64_t raw;
+    /** The outputs, all 0 before the first command 55 (own profile). */
+    struct fio2070_outputs outputs;
+    /** The milliseconds counted, modulo 2^32 (TEES 2009). */
+    uint32_t counter;
+    /** How many entries wait for a poll, 0 to the limit. */
+    uint16_t waiting;
+    /** The flags that are up: from bit 7 down P, E, K, R, T, M, L, W (own profile). */
+    uint8_t flags;
+    /** The timeout of the watchdog in milliseconds, 10 to 100; 0 before the first command 58. */
+    uint8_t watchdog_ms;
+    /** The error counts that the answer 177 has. */
+    struct fio2070_error_counts errors;
+    /** 0 in each octet that the library writes. */
+    uint8_t reserved[6];
+};
+
 /** Room for an entry that waits. */
 struct fio2070_slot {
     uint8_t octets[3];
@@ -1611,22 +1579,8 @@ void fio2070_sized_module_count_transmit_error(struct fio2070_sized_module *modu
 FIO2070_MUST_USE
 size_t fio2070_sized_module_receive(struct fio2070_sized_module *module, struct fio2070_ring ring, const uint8_t *octets,
                                     size_t length, uint8_t *out, size_t room);
-/** The outputs, all 0 before the first command 55 (own profile). */
-struct fio2070_outputs fio2070_sized_module_outputs(const struct fio2070_sized_module *module);
-/** The timeout of the watchdog in milliseconds, 10 to 100; 0 before the first command 58. */
-uint8_t fio2070_sized_module_watchdog_ms(const struct fio2070_sized_module *module);
-/** The milliseconds counted, modulo 2^32 (TEES 2009). */
-uint32_t fio2070_sized_module_counter(const struct fio2070_sized_module *module);
-/** The filtered states, also of ignored inputs; bit i is input i. */
-uint64_t fio2070_sized_module_filtered(const struct fio2070_sized_module *module);
-/** The levels of the last scan, all 1 before any (own profile); bit i is input i. */
-uint64_t fio2070_sized_module_raw(const struct fio2070_sized_module *module);
-/** The flags that are up: from bit 7 down P, E, K, R, T, M, L, W (own profile). */
-uint8_t fio2070_sized_module_flags(const struct fio2070_sized_module *module);
-/** The error counts that the answer 177 has. */
-struct fio2070_error_counts fio2070_sized_module_errors(const struct fio2070_sized_module *module);
-/** How many entries wait for a poll, 0 to the limit. */
-size_t fio2070_sized_module_waiting(const struct fio2070_sized_module *module);
+/** Returns what the module is at present. */
+struct fio2070_state fio2070_sized_module_state(const struct fio2070_sized_module *module);
 
 /** A module with slots of its own, for the 1,024 entries of TEES 2009 or fewer. Its calls are those above, compiled with the
  * program. */
@@ -1670,29 +1624,8 @@ static inline size_t fio2070_module_receive(struct fio2070_module *module, const
                                             size_t room) {
     return fio2070_sized_module_receive(&module->sized, FIO2070_RING(module->slots), octets, length, out, room);
 }
-static inline struct fio2070_outputs fio2070_module_outputs(const struct fio2070_module *module) {
-    return fio2070_sized_module_outputs(&module->sized);
-}
-static inline uint8_t fio2070_module_watchdog_ms(const struct fio2070_module *module) {
-    return fio2070_sized_module_watchdog_ms(&module->sized);
-}
-static inline uint32_t fio2070_module_counter(const struct fio2070_module *module) {
-    return fio2070_sized_module_counter(&module->sized);
-}
-static inline uint64_t fio2070_module_filtered(const struct fio2070_module *module) {
-    return fio2070_sized_module_filtered(&module->sized);
-}
-static inline uint64_t fio2070_module_raw(const struct fio2070_module *module) {
-    return fio2070_sized_module_raw(&module->sized);
-}
-static inline uint8_t fio2070_module_flags(const struct fio2070_module *module) {
-    return fio2070_sized_module_flags(&module->sized);
-}
-static inline struct fio2070_error_counts fio2070_module_errors(const struct fio2070_module *module) {
-    return fio2070_sized_module_errors(&module->sized);
-}
-static inline size_t fio2070_module_waiting(const struct fio2070_module *module) {
-    return fio2070_sized_module_waiting(&module->sized);
+static inline struct fio2070_state fio2070_module_state(const struct fio2070_module *module) {
+    return fio2070_sized_module_state(&module->sized);
 }
 
 /** @} */
@@ -1846,6 +1779,16 @@ FIO2070_SAME(heard, sizeof(struct fio2070_heard) == 32 &&
              offsetof(struct fio2070_heard, entries) == 10 &&
              offsetof(struct fio2070_heard, reserved) == 11 &&
              offsetof(struct fio2070_heard, fault) == 16);
+
+FIO2070_SAME(state, sizeof(struct fio2070_state) == 48 &&
+             offsetof(struct fio2070_state, raw) == 8 &&
+             offsetof(struct fio2070_state, outputs) == 16 &&
+             offsetof(struct fio2070_state, counter) == 32 &&
+             offsetof(struct fio2070_state, waiting) == 36 &&
+             offsetof(struct fio2070_state, flags) == 38 &&
+             offsetof(struct fio2070_state, watchdog_ms) == 39 &&
+             offsetof(struct fio2070_state, errors) == 40 &&
+             offsetof(struct fio2070_state, reserved) == 42);
 
 #ifndef FIO2070_NO_LOG
 FIO2070_SAME(log_counts, sizeof(struct fio2070_log_counts) == 5200 &&

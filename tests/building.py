@@ -4,28 +4,28 @@ line and status 125 for each thing that is missing. Crates that do not wait for 
 takes the place of `rt`, in a repository of five crates. And which program `./fio2070` runs: the one that was built here, that of
 dist/, or one that is compiled of dist/fio2070.c; scripts take the place of these too. Last line: `N passed, M failed`."""
 
+import hashlib
 import os
 import re
 import shutil
-import signal
 import subprocess
 import tempfile
 import time
+from pathlib import Path
 
 from support.check import Check
 from support.tables import TOP
+from support.waits import LONGEST
 
 CRATES = 'low:\nhigh: low hex\nbeside: low\nfio2070: high beside\nother: low\n'
 
-# Proves nothing. Writes what rt writes, fails in the crate that FAILS names, takes long in the one that LINGERS names, waits
-# in those that MEETS names until all of these have begun, and writes nothing for a library that was proved before.
+# Proves nothing. Writes what rt writes, for the program also of a library that it proves before, fails in the crate that FAILS
+# names, waits in those that MEETS names until all of these have begun, and writes nothing for a library that was proved before.
 RT = r"""#!/bin/sh
 crate=$(basename "$PWD")
-echo "$*" >>../../words
 if [ -e out/rlib ] && [ -z "$(find src -newer out/rlib)" ]; then exit 0; fi
 echo "so far: 3 of 10 functions checked"
 mktemp >/dev/null
-if [ "$crate" = "$LINGERS" ]; then sleep 2; fi
 mkdir -p out
 touch out/begun
 case " $MEETS " in *" $crate "*) for other in $MEETS; do
@@ -33,6 +33,7 @@ case " $MEETS " in *" $crate "*) for other in $MEETS; do
     [ -e "../$other/out/begun" ] || exit 1
 done ;; esac
 if [ "$crate" = "$FAILS" ]; then echo 'logic=not-proved'; exit 1; fi
+if [ "$crate" = fio2070 ]; then echo 'logic=proved functions=27 of=library'; fi
 echo 'logic=proved functions=10'
 if [ "$crate" != fio2070 ]; then
     touch out/rlib
@@ -72,10 +73,10 @@ class Clone:
         path = os.path.join(self.top, 'bin') + os.pathsep + os.environ.get('PATH', os.defpath)
         return {**os.environ, 'PATH': path, 'TMPDIR': self.temporary, **settings}
 
-    def call(self, command, *words, before=(), **settings):
+    def call(self, command, *words, **settings):
         """What a command of the repository writes, on standard error too, and how it ends."""
-        done = subprocess.run([*before, os.path.join(self.top, command), *words], env=self.environment(**settings),
-                              stdin=subprocess.DEVNULL, capture_output=True, text=True, timeout=60)
+        done = subprocess.run([os.path.join(self.top, command), *words], env=self.environment(**settings),
+                              stdin=subprocess.DEVNULL, capture_output=True, text=True, timeout=LONGEST)
         return done.stdout, done.stderr, done.returncode
 
     def run(self, *words, **settings):
@@ -108,7 +109,9 @@ def try_build(check, room):
     check.holds('what will be done', re.match(r'fio2070: proving 4 crates, up to \d+ side by side; ', said) is not None, said)
     check.equal('a line a crate', [1, 2, 3, 4], proved_in(said))
     for crate in ('low', 'high', 'beside', 'fio2070'):
-        check.equal('the log of %s has what rt wrote' % crate, 1, clone.read('crates/%s/out/build.log' % crate).count('logic=proved'))
+        check.equal('the log of %s has what rt wrote' % crate, 1 + (crate == 'fio2070'),
+                    clone.read('crates/%s/out/build.log' % crate).count('logic=proved'))
+        check.equal('the proof of %s is its own line' % crate, 'logic=proved functions=10\n', clone.read('crates/%s/out/proof' % crate))
     check.holds('no temporary file', clone.is_tidy())
     check.holds('nothing is said of a built program', clone.run('show') == ('run show\n', '', 0))
     time.sleep(0.1)
@@ -127,16 +130,6 @@ def try_side_by_side(check, room):
     check.holds('crates are proved side by side', status == 0, said)
 
 
-def try_library(check, room):
-    """A library and those below it, instead of the program."""
-    clone = Clone(room, 'library')
-    text, said, status = clone.call('build', '--library', 'high', '--jobs', '1')
-    check.holds('a line for each crate of a library', (text, status) == ('', 0) and 'proving 2 crates' in said
-                and proved_in(said) == [1, 2], said)
-    check.equal('further words go to rt lib', 'lib --jobs 1\nlib --jobs 1\n', clone.read('words'))
-    check.holds('no program', not clone.has_program())
-
-
 def try_faults(check, room):
     """What is missing or fails is said in one line, with status 125 and nothing on standard output."""
     clone = Clone(room, 'faults')
@@ -145,8 +138,6 @@ def try_faults(check, room):
                 and one_line(said.splitlines(True)[-1], 'high', 'high/out/build.log'), said)
     check.holds('no program', not clone.has_program())
     check.holds('no temporary file after a failure', clone.is_tidy())
-    text, said, status = clone.run('show', TMPDIR=os.path.join(room, 'nowhere'))
-    check.holds('a bad TMPDIR', (text, status) == ('', 125) and one_line(said, 'TMPDIR', 'nowhere'), said)
     tools = os.path.join(clone.top, 'tools')
     os.mkdir(tools)
     for name in ('sh', 'env', 'readlink', 'dirname', 'find', 'head'):
@@ -157,51 +148,6 @@ def try_faults(check, room):
     os.remove(os.path.join(tools, 'rt'))
     text, said, status = clone.run('show', PATH=tools)
     check.holds('no rt', (text, status) == ('', 125) and one_line(said, 'no command rt', 'README.md'), said)
-
-
-def as_nobody(room):
-    """The words before a command that run it as nobody, since root can write everywhere; `None` if that user can reach no
-    Python or not the folder."""
-    words = ['setpriv', '--reuid=65534', '--regid=65534', '--clear-groups']
-    if shutil.which(words[0]) is None:
-        return None
-    os.chmod(room, 0o755)
-    tried = subprocess.run([*words, 'python3', '-c', 'import os, sys; os.listdir(sys.argv[1])', room],
-                           stdin=subprocess.DEVNULL, stdout=subprocess.DEVNULL, stderr=subprocess.DEVNULL)
-    return words if tried.returncode == 0 else None
-
-
-def try_reading_only(check, room):
-    """A clone that cannot be written to."""
-    before = as_nobody(room) if os.geteuid() == 0 else []
-    if before is None:
-        check.skip('a clone that can only be read', 'nothing can be run as nobody here')
-        return
-    clone = Clone(room, 'reading')
-    for folder, _, _ in os.walk(clone.top):
-        os.chmod(folder, 0o555 if folder != clone.temporary else 0o777)
-    text, said, status = clone.run('show', before=before)
-    for folder, _, _ in os.walk(clone.top):
-        os.chmod(folder, 0o755)
-    check.holds('a clone that can only be read', (text, status) == ('', 125) and one_line(said, 'cannot be written to'), said)
-
-
-def try_interrupt(check, room):
-    """Ctrl-C, and a signal to end: after both, the build leaves no temporary file and nothing that still runs."""
-    for number in (signal.SIGINT, signal.SIGTERM):
-        clone = Clone(room, 'interrupt%d' % number)
-        log = os.path.join(clone.top, 'crates/low/out/build.log')
-        with subprocess.Popen([os.path.join(clone.top, 'fio2070'), 'show'], env=clone.environment(LINGERS='low'), text=True,
-                              stdin=subprocess.DEVNULL, stdout=subprocess.PIPE, stderr=subprocess.PIPE, start_new_session=True) as done:
-            end = time.monotonic() + 20
-            while time.monotonic() < end and not (os.path.exists(log) and os.path.getsize(log)):
-                time.sleep(0.05)
-            os.killpg(done.pid, number)
-            text, said = done.communicate(timeout=20)
-        check.holds('an interrupt', done.returncode != 0 and text == '' and 'Traceback' not in said, said)
-        time.sleep(0.2)
-        check.holds('no temporary file after an interrupt', clone.is_tidy(), str(os.listdir(clone.temporary)))
-        check.holds('no program after an interrupt', not clone.has_program())
 
 
 # In the place of the program of dist/, and of one that a compiler makes.
@@ -225,6 +171,12 @@ class Choice(Clone):
             self.write(file, '')
         self.write('dist/fio2070-x86_64-linux-gnu', KEPT, 0o755)
         self.write('dist/fio2070-x86_64-linux-gnu.sources', self.call('packaging/program', '--sources')[0])
+        self.list()
+
+    def list(self):
+        """Lists the files of dist/ as they are now."""
+        paths = sorted(Path(self.top, 'dist').glob('fio2070*'))
+        self.write('dist/SHA256SUMS', ''.join('%s  %s\n' % (hashlib.sha256(path.read_bytes()).hexdigest(), path.name) for path in paths))
 
     def path(self, **commands):
         """A PATH with the commands of coreutils, findutils, sed and diffutils that the choice needs, and with these."""
@@ -271,12 +223,39 @@ def try_choice(check, room):
     check.equal('what was built goes before dist/', ('run show\n', '', 0), clone.run('show', **alone))
 
 
+def try_sums(check, room):
+    """A program of dist/ is run if it is as listed; if nothing lists it, --version says so."""
+    clone = Choice(room, 'sums')
+    kit, alone = {'PATH': clone.path(rt=RT) + os.pathsep + os.environ.get('PATH', os.defpath)}, {'PATH': clone.path()}
+    check.holds('as listed', clone.run('--version', **alone)[1].endswith(OF_THESE + ', as listed in dist/SHA256SUMS\n'))
+    sums = Path(clone.top, 'dist/SHA256SUMS')
+    for name, text in (('no list', ''), ('a list without it', 'f' * 64 + '  other\n')):
+        sums.write_text(text, encoding='ascii')
+        check.equal(name, ('kept show\n', '', 0), clone.run('show', **alone))
+        check.holds(name + ', as --version says', clone.run('--version', **alone)[1].endswith(', which no dist/SHA256SUMS lists\n'))
+    clone.list()
+    for name, path, text in (('a changed program', 'dist/fio2070-x86_64-linux-gnu', KEPT + ': >%s/ran\n' % clone.top),
+                             ('a changed list of sources', 'dist/fio2070-x86_64-linux-gnu.sources', '\n')):
+        before = Path(clone.top, path).read_text(encoding='ascii')
+        clone.write(path, text, 0o755)
+        for words in ('show', '--version'):
+            text, said, status = clone.run(words, **alone)
+            check.holds('%s is not run: %s' % (name, words), (text, status) == ('', 125) and one_line(said, path, 'not as listed'), (text, said))
+        check.equal(name + ', a program that is proved', ('', 1), clone.call('packaging/program', '--proved', **alone)[::2])
+        clone.write(path, before, 0o755)
+    check.holds('it was not run either to look whether it runs', not Path(clone.top, 'ran').exists())
+    clone.write('dist/fio2070-x86_64-linux-gnu', KEPT + '\n', 0o755)
+    text, said, status = clone.run('show', **kit)
+    check.equal('a changed program and the kit', ('run show\n', 0, True), (text, status, 'proving 4 crates' in said))
+
+
 def try_elsewhere(check, room):
     """Where the program of dist/ does not run, a compiler makes another, once."""
     for name, kept, commands in (('another processor', KEPT, {'uname': '#!/bin/sh\necho Linux aarch64\n'}),
                                  ('an older libc', '#!/bin/sh\necho "GLIBC_2.34 not found" >&2\nexit 1\n', {})):
         clone = Choice(room, name)
         clone.write('dist/fio2070-x86_64-linux-gnu', kept, 0o755)
+        clone.list()
         path = clone.path(cc=COMPILER, **commands)
         text, said, status = clone.run('show', PATH=path)
         check.equal(name, ('compiled show\n', 0, 1), (text, status, said.count(NOT_HERE)))
@@ -287,10 +266,8 @@ def try_elsewhere(check, room):
 
 def main():
     check = Check()
-    # A shell that runs this in the background has it ignore Ctrl-C, and the builds would too.
-    signal.signal(signal.SIGINT, signal.default_int_handler)
     with tempfile.TemporaryDirectory() as room:
-        for part in (try_build, try_side_by_side, try_library, try_faults, try_reading_only, try_interrupt, try_choice, try_elsewhere):
+        for part in (try_build, try_side_by_side, try_faults, try_choice, try_sums, try_elsewhere):
             part(check, room)
     check.end()
 

@@ -1,7 +1,7 @@
 #!/bin/sh
 # Builds the library for C, and by a compiler, with --all by each that is installed, the worked examples, the programs of
-# examples/c and a run over random octets, and compares what they write. With --all also under sanitizers and valgrind, and the
-# layouts of other processors. The last line is `N passed, M failed`.
+# examples/c, and compares what they write. With --all also under sanitizers, with random octets under valgrind, and the layouts
+# of other processors. The last line is `N passed, M failed`.
 
 . "$(dirname -- "$(readlink -f -- "$0")")/support/check.sh"
 archive=$room/libfio2070.a
@@ -17,11 +17,17 @@ builds() {
         *) language="-x c -D_DEFAULT_SOURCE $*" ;;
     esac
     mkdir -p "$folder"
-    for source in support/c/rows support/c/table support/c/started support/c/sized support/c/fresh support/c/fuzz ../examples/c/decode ../examples/c/poller; do
+    for source in support/c/rows support/c/table support/c/started support/c/sized ../examples/c/decode ../examples/c/poller; do
         # shellcheck disable=SC2086
         "$compiler" $language $strict -I "$top/include" -I "$room" "$top/tests/$source.c" -x none "$archive" \
             -o "$folder/$(basename "$source")" || return 1
     done
+}
+
+# watched: each call with random octets, into memory that nothing has written before and that ends where it says.
+watched() {
+    gcc -std=c99 -O0 -DFRESH -I "$top/include" "$top"/tests/support/c/calls/*.c "$archive" -o "$room/gcc/calls" &&
+        valgrind -q --error-exitcode=9 "$room/gcc/calls" 8 1 >said
 }
 
 # decodes FOLDER: its decoder writes of the examples, and of each frame cut after each octet, what `fio2070 show` does.
@@ -236,7 +242,7 @@ fi
 first 'make library' run_make library OUT="$room"
 holds 'the library needs no other' alone "$archive"
 if ! has_command rt; then
-    skip 'the stack of each call' 'it is that of the archive that the Rattle kit makes'
+    skip 'the stack of each call' 'no rt here (the Rattle kit), whose archive it is of'
 elif has_command objdump && [ "$(uname -m)" = x86_64 ]; then
     holds 'the stack of each call' stacks
 else
@@ -270,7 +276,6 @@ for build in 'gcc -std=c99' 'g++ -std=c++11' 'clang -std=c99 -g -O1 -fsanitize=a
     counts "the table of rows by $1" "$room/$1/table"
     counts "started structs by $1" "$room/$1/started"
     counts "modules in slots of the caller by $1" "$room/$1/sized"
-    counts "memory that nothing has written by $1" "$room/$1/fresh"
     holds "decode by $1" decodes "$room/$1"
     holds "poller by $1" polls "$room/$1"
     holds "poller on a babbling line by $1" gives_up "$room/$1"
@@ -278,8 +283,8 @@ for build in 'gcc -std=c99' 'g++ -std=c++11' 'clang -std=c99 -g -O1 -fsanitize=a
 done
 if ! whole 'memory that nothing has written, watched'; then
     :
-elif has_command valgrind && [ -x "$room/gcc/fresh" ]; then
-    counts 'memory that nothing has written, watched' valgrind -q --error-exitcode=9 "$room/gcc/fresh"
+elif has_command valgrind && [ -x "$room/gcc/poller" ]; then
+    holds 'memory that nothing has written, watched' watched
     holds 'a poller that is watched' valgrind -q --error-exitcode=9 "$room/gcc/poller"
 else
     skip 'memory that nothing has written, watched' 'no valgrind here (Debian package valgrind)'
@@ -320,10 +325,6 @@ for compiler in g++ clang++; do
         counts "rows of the $program by $compiler" "$room/$program"
     done
 done
-last_rule=$(sed -n 's/^    FIO2070_RULE_[A-Z]* = \([0-9]*\),\{0,1\}$/\1/p' "$top/include/fio2070.h" | tail -n 1)
-buffers=50000
-[ -z "$all" ] || buffers=1000000
-holds "$buffers random buffers" "$last/fuzz" "$buffers" 20260701 "$last_rule"
 if [ -n "$(command -v python3)" ]; then
     holds 'Python' env -C "$top/bindings/python" PYTHONDONTWRITEBYTECODE=1 FIO2070_LIBRARY="$room/libfio2070.so" \
         python3 test.py
@@ -361,6 +362,9 @@ if [ -n "$(command -v gcc)" ] && [ -n "$(command -v g++)" ] && [ -n "$(command -
     holds 'the examples of the header' illustrated
 fi
 if [ -n "$(command -v cargo)" ]; then
+    # An older rustc, such as that of Debian, may come first in PATH.
+    beside=$(dirname -- "$(command -v cargo)")/rustc
+    [ ! -x "$beside" ] || export RUSTC="$beside"
     holds 'Rust' env -C "$top/bindings/rust/fio2070" FIO2070_LIB_DIR="$room" CARGO_TARGET_DIR="$room/target" \
         cargo test --offline --quiet
     holds 'Rust without std' env -C "$top/bindings/rust/fio2070" FIO2070_LIB_DIR="$room" CARGO_TARGET_DIR="$room/target" \

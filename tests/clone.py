@@ -4,6 +4,7 @@ runs and where it does not; in a copy the library, a program in C, the tester, `
 also `./test` in the copy, a library for Windows and for ARM, packages, and the same in a new Debian system that first only has git,
 and then gcc, make and python3 too, without a network. Last line: `N passed, M failed`."""
 
+import hashlib
 import os
 import random
 import re
@@ -18,15 +19,17 @@ from support.browsers import browsers, running
 from support.check import Check
 from support.opened import CELLS, example, started, words_in
 from support.tables import TOP, can_simulate, program_of
+from support.waits import used
 
 PATH = '/usr/bin:/bin'
 MINUTE = 60
 # Other checks use processors at the same time.
-MOST_SECONDS = 5 * MINUTE
+MOST_SECONDS = 15 * MINUTE
 PROGRAM = '''#include <fio2070.h>
 int main(void) {
+    static const struct fio2070_poller poller = {5};
     uint8_t poll[2] = {0, 0};
-    return fio2070_encode_poll(5, poll, sizeof poll) != 2 || poll[1] != 5;
+    return fio2070_poller_poll(&poller, poll, sizeof poll) != 2 || poll[1] != 5;
 }
 '''
 LOG = '07:15:02.100 TX 36 05\n07:15:02.108 RX B6 05 00 00 00 00 03 E8\n'
@@ -73,7 +76,11 @@ def copy_sources():
 
 def list_sources():
     """tests/release-files.sh checks that dist/ is of the present sources; here its list is made of the sources of the copy."""
-    (clone / 'dist/fio2070-x86_64-linux-gnu.sources').write_text(run('packaging/program', '--sources').stdout, encoding='utf-8')
+    listed, sums = run('packaging/program', '--sources').stdout, clone / 'dist/SHA256SUMS'
+    (clone / 'dist/fio2070-x86_64-linux-gnu.sources').write_text(listed, encoding='utf-8')
+    if sums.exists():
+        sums.write_text(re.sub(r'[0-9a-f]{64}(?=  fio2070-x86_64-linux-gnu\.sources\n)', hashlib.sha256(listed.encode()).hexdigest(),
+                               sums.read_text(encoding='ascii')), encoding='ascii')
 
 
 def few_commands():
@@ -110,10 +117,10 @@ def with_few_commands():
     few = {'PATH': few_commands(), 'folder': room / 'cloned'}
     check.equal('git clone', None, fault('git', 'clone', '-q', clone, few['folder'], PATH=few['PATH'], folder=room))
     for command, wanted in ANSWERS:
-        begun = time.monotonic()
+        before = used()
         done = run('/bin/sh', '-c', command, **few)
         check.equal('with few commands: ' + command, (True, ''), (wanted in done.stdout, done.stderr))
-        check.holds('at once: ' + command, time.monotonic() - begun < 5, '%.1f s' % (time.monotonic() - begun))
+        check.holds('at once: ' + command, used() - before < 5, '%.1f s of a processor' % (used() - before))
     done = run('./fio2070', '--version', **few)
     check.equal('which program it is', (True, True, 1), (done.stdout.startswith('fio2070 '), 'of dist/, made of these sources' in done.stderr,
                                                          done.stderr.count('\n')))
@@ -199,9 +206,14 @@ def faults():
 
 def library():
     """The library, a program, the tester, fiolog and the wrappers."""
-    bare = run('tools/fiolog', '--help')
-    check.equal('fiolog without its library', (3, 1), (bare.returncode, bare.stderr.count('\n')))
+    bare = run('tools/fiolog', '--help', CC='no-such-compiler')
+    check.equal('fiolog without its library and a compiler', (3, 1), (bare.returncode, bare.stderr.count('\n')))
     check.holds('it says what to do', 'make library' in bare.stderr and 'Traceback' not in bare.stderr, bare.stderr)
+    # Without -O2 a compiler takes a third of the time.
+    first, second = (run('tools/fiolog', 'check', '-q', 'examples/doubled-entry.transcript', CFLAGS='-O0', FIO2070_OUT=folder) for folder in ('', 'out/..'))
+    check.equal('fiolog makes its library, once', (['line 10: fresh'] * 2, ''),
+                ([done.stdout[:14] for done in (first, second)], second.stderr))
+    check.holds('it says so in one line, with its seconds', re.fullmatch(r'fiolog: there is no library yet: making it from dist/fio2070.c, once \.\. \d+ s\n', first.stderr), first.stderr)
     works('make library', 'make -s library')
     (clone / 'program.c').write_text(PROGRAM, encoding='utf-8')
     for name in ('dist', 'include'):
@@ -319,6 +331,7 @@ def processors():
 
 # What a user does in a new system, each within a minute of processor time, and what has to be in the text.
 SESSION = [
+    ('tools/fiolog check -q examples/doubled-entry.transcript || [ $? -eq 1 ]', 'line 10: fresh'),
     ('make library', ''),
     ('./fio2070 show < examples/lost-answer.frames', 'block 0 entries 1 status 00 stamp 2'),
     ('./fio2070 check < examples/given-up-block.transcript || true', 'line 4 breaks advance'),
@@ -355,6 +368,15 @@ INSTALLED = [
 ]
 
 
+# What bindings/python/README.md says of installing: the commands of the page as they are.
+INSTALLING = re.search(r'\n## Installing\n.*?\n\n((?:    [^\n]*\n)+)', Path(TOP, 'bindings/python/README.md').read_text(encoding='utf-8'), re.S)[1]
+WITH_PIP = [
+    ('ls /usr/lib/python3*/EXTERNALLY-MANAGED', ''),
+    ('! python3 -m pip install --no-index ./bindings/python 2>&1', 'externally-managed-environment'),
+    (' && '.join(line.strip() for line in INSTALLING.splitlines()), 'breaches 0'),
+]
+
+
 def session(root, folder, commands):
     """A row for each command of a session in a new system."""
     for command, wanted in commands:
@@ -381,6 +403,10 @@ def in_new_system():
         return
     Path(root, 'clone/program.c').write_text(PROGRAM, encoding='utf-8')
     session(root, '/clone', SESSION)
+    if roots.install(root, 'python3-pip', 'python3-venv'):
+        session(root, '/clone', WITH_PIP)
+    else:
+        check.skip('pip in a new Debian system', 'apt-get could not install python3-venv, as without a network')
     session(root, '/clone', [('make -s deb DIST=/used/packages 2>&1', '/used/packages/python3-fio2070_'), ('make -s uninstall PREFIX=/usr/local', '')])
     shutil.copy(os.path.join(root, 'clone/program.c'), os.path.join(root, 'used'))
     session(root, '/used', INSTALLED)

@@ -36,6 +36,8 @@ LINES = [
     ('fio2070 sim\t< heal\t', 'counter 0'),
     ('fio2070 check --h\t', 'Usage: fio2070 check'),
     ('fio2070 --ver\t', 'fio2070 1.'),
+    ('fiolog --vers\t', 'libfio2070 1.'),
+    ('fiolog capt\t-q', 'frames 1'),
     ('fiolog deco\t-q capt\t', '> poll block 5'),
     ('fiolog convert --to fra\tcapt\t', '3605'),
     ('fiolog stats --form\tfra\tcapt\t', 'answers lost'),
@@ -43,7 +45,7 @@ LINES = [
     ('fio2070-test --self mod\t2000', 'no difference'),
 ]
 
-SECONDS = 20
+SECONDS = 300
 
 
 class Terminal:
@@ -95,6 +97,8 @@ def install(prefix):
 def try_shell(check, name, prefix, folder):
     """A row for each of the lines: the command that a shell completes prints the text."""
     words, setting = SHELLS[name]
+    if not check.has_terminal('completions of ' + name):
+        return
     path = os.path.join(prefix, 'bin') + os.pathsep + os.environ.get('PATH', os.defpath)
     shell = Terminal(words, folder, path)
     try:

@@ -14,7 +14,6 @@ import subprocess
 import sys
 import tempfile
 import threading
-import time
 import tty
 from concurrent.futures import ThreadPoolExecutor
 import xml.etree.ElementTree as xml
@@ -22,6 +21,7 @@ import xml.etree.ElementTree as xml
 from support.check import Check
 from support.planted import (BY_BOUNDS, BY_LINES, EVENTS, FAILING, LASTING, LATE, MISSED, NAMED, NOW_AND_THEN, OF_BOUND,
                              OF_LENGTH, OF_REPLAY, REPLAYED, SEEDS, SHORT, SLOW, TOO_LONG, WRONG_LINES, is_long)
+from support.pages import text_of
 from support.tables import TOP, can_simulate
 
 # The sections of docs/PROTOCOL.md that have rules in tables.
@@ -313,23 +313,26 @@ def served(*words):
     return listener.getsockname()[1]
 
 
+# The milliseconds in which a line has to come that does come, also on a busy machine.
+PATIENT = '3000'
+
+
 def failing(tester, faulty, fault, asked, said):
     """What is wrong with the report of a module over a wire that ends or hangs at a frame."""
-    start = time.monotonic()
-    status, text = run([tester, '--deadline', '500', '--command', "%s wire '%s'" % (faulty, fault), str(EVENTS)])
+    status, text = run([tester, '--deadline', PATIENT, '--command', "%s wire '%s'" % (faulty, fault), str(EVENTS)])
     if status != 1 or '\n# got: %s\n# asked: %s' % (said, asked) not in text or '\n' + BREAKS not in text:
         return '%d: %s' % (status, text)
     if 'ends' in fault and '\n# standard error: module: bad access\n' not in text:
         return text
     if not text.endswith(' in %d events\n' % EVENTS):
         return text
-    return None if time.monotonic() - start < 90 else 'it took too long'
+    return None if OF_BOUND not in text else 'shrinking it took too long'
 
 
 def ends_for_good(tester, faulty):
     """What is wrong with the report of a module that ends, and whose socket can't be connected again."""
     port = served(faulty, 'wire', 'it ends at 255 items')
-    status, text = run([tester, '--deadline', '500', '--socket', '127.0.0.1:%d' % port, str(EVENTS)])
+    status, text = run([tester, '--deadline', PATIENT, '--socket', '127.0.0.1:%d' % port, str(EVENTS)])
     wanted = ["# It can't be asked again: the script is as it was.\n", '\n# asked: frame 33ff', '\n%sframe-length, ' % BREAKS]
     return None if status == 3 and all(part in text for part in wanted) else '%d: %s' % (status, text)
 
@@ -367,7 +370,7 @@ def cpus_end(check, tester, python, faulty):
     over(check, "wire: a CPU's end", [tester, '--cpu', '--command', faulty + ' wire-cpu none', str(EVENTS)],
          (0, 'no difference in %d ' % EVENTS))
     for fault in BY_LINES:
-        over(check, "wire: a CPU's end: " + fault, [tester, '--cpu', '--deadline', '500', '--command', "%s wire-cpu '%s'" % (
+        over(check, "wire: a CPU's end: " + fault, [tester, '--cpu', '--deadline', PATIENT, '--command', "%s wire-cpu '%s'" % (
             faulty, fault), str(EVENTS), '--first'], differs)
     for pattern, said in WRONG_LINES:
         check.fault("wire: a CPU's end says " + pattern, wrong_line, tester, "%s wire-cpu none | sed -u 's/%s/'" % (
@@ -389,17 +392,21 @@ def wires(check, room):
     over(check, 'wire: adapter in Python', [tester, '--command', python, '5000'], same)
     over(check, 'wire: a wrong module', [tester, '--command', adapter + " | sed -u 's/^answer bc02/answer bc03/'", '5000',
                                          '--first'], differs)
+    for words in (['--id', 'abc'], ['--id', '1x'], ['--id', '256'], ['--deadline', '-5'], ['--deadline', '0'], ['--per-block', '']):
+        done = subprocess.run([tester, *words, '--self', 'module', '10'], capture_output=True, text=True, check=False, timeout=60)
+        check.equal('refused: ' + ' '.join(words), (2, 'a number is out of its range\n'), (done.returncode, done.stdout))
     over(check, 'wire: another identification', [tester, '--id', '3', '--command', adapter, '5000', '--first'], differs)
     for name, command, fault in [('ends', 'read line', 'it ended'), ('is late', 'sleep 9', 'it wrote no line in time'),
                                  ('says something else', "sed -u 's/.*/what/'", 'not `done`: what')]:
         over(check, 'wire: a module that ' + name, [tester, '--deadline', '300', '--command', command, '1000'], (3, fault))
     over(check, 'wire: a socket', [tester, '--socket', '127.0.0.1:%d' % served(adapter), '5000'], same)
     cpus_end(check, tester, python, faulty)
-    ours, theirs = pty.openpty()
-    tty.setraw(theirs)
-    with subprocess.Popen([adapter], stdin=ours, stdout=ours) as process:
-        over(check, 'wire: a pseudo-terminal', [tester, '--serial', os.ttyname(theirs), '5000'], same)
-        process.kill()
+    if check.has_terminal('wire: a pseudo-terminal'):
+        ours, theirs = pty.openpty()
+        tty.setraw(theirs)
+        with subprocess.Popen([adapter], stdin=ours, stdout=ours) as process:
+            over(check, 'wire: a pseudo-terminal', [tester, '--serial', os.ttyname(theirs), '5000'], same)
+            process.kill()
     for fault, asked, said in FAILING if check.whole('wire: planted faults') else ():
         check.fault('wire: ' + fault, failing, tester, faulty, fault, asked, said)
     check.fault('wire: a difference now and then', now_and_then, tester, adapter)
@@ -417,6 +424,9 @@ def wires(check, room):
                 tester, '--own-clock', '--command', "%s wire '%s' clock" % (faulty, fault), '40000', '--first'], differs)
     for end in ('module', 'cpu'):
         over(check, 'the proved end: ' + end, [tester, '--self', end, str(min(check.given.events, 300000))], same)
+    if check.wants('--version'):
+        version = re.search(r'^## (\S+)', text_of('CHANGELOG.md'), re.M)[1]
+        check.equal('--version', (0, 'fio2070-test %s\nlibfio2070 %s in %s\n' % (version, version, os.path.realpath(tester))), run([tester, '--version']))
     over(check, 'no such end', [tester, '--self', 'x'], (2, "can't open x"))
     late = "sh -c 'exec 2>/dev/null; while read line; do for n in 1 2 3 4 5 6 7 8 9; do printf x; sleep 0.1; done; done'"
     over(check, 'wire: a line that does not end', [tester, '--deadline', '300', '--command', late, '1000'],

@@ -15,6 +15,7 @@ import tempfile
 from support.check import Check
 from support.console import commands, row
 from support.pages import documents, text_of
+from support.fiolog import LIBRARY
 from support.tables import CAN_PROVE, TOP
 
 
@@ -64,6 +65,8 @@ def main():
                 name = '%s:%d: %s' % (place, number, command)
                 if command.startswith('rt ') and not CAN_PROVE:
                     check.skip(name, 'no rt here (the Rattle kit)')
+                elif 'fiolog ' in command and not os.path.exists(LIBRARY):
+                    check.skip(name, 'no libfio2070.so here (make library)')
                 elif check.wants(name):
                     row(check, name, expected, printed(command, folder))
     check.end()

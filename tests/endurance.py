@@ -23,11 +23,15 @@ STRICT = ['-std=c99', '-Wall', '-Wextra', '-Wpedantic', '-Wconversion', '-Werror
 SANITIZED = ['-g', '-O1', '-fno-sanitize-recover=all', '-fsanitize=fuzzer,address,undefined']
 # Scans of a run of the soak, cases of a group of calls.
 SCANS, CASES = 300000, 100
-# Faults of the model, each of which the soak finds: name, file, text, replacement.
-PLANTED = [('filters that take a sample more', 'model.c', 'one->run < filter', 'one->run <= filter'),
-           ('blocks without the bit for a loss', 'model.c', 'model->has_lost ? LOST : 0', '0'),
-           ('repeats without their bit', 'model.c', ' | AGAIN', ''),
-           ('an entry that is recorded twice', 'recorder.c', '        recorder->next++;\n        recorder->items++;', '        recorder->items++;')]
+# What is beside the ends of the library in the soak, and what it is made with.
+BESIDE = [os.path.join('planted', name) for name in ('module.c', 'module_answers.c', 'module_polls.c', 'cpu.c', 'quirks.c')]
+INCLUDES = ['-I', os.path.join(TOP, 'include'), '-I', os.path.join(TOP, 'tools/conformance')]
+# Faults of it, each of which the soak finds: name, file, text, replacement.
+PLANTED = [('filters that take a sample more', 'planted/module.c', '{COUNTER_STEP, 1}', '{COUNTER_STEP, 1}, {LEADING_PLUS, 1}'),
+           ('blocks without the bit for a loss', 'planted/module.c', '{LOST_SET, 1}, ', ''),
+           ('repeats without their bit', 'planted/module.c', '{AGAIN_SET, 1}, ', ''),
+           ('a CPU without gap marks', 'planted/cpu.c', ', {GAP_MARKS, 1}', ''),
+           ('a transition that is recorded twice', 'soak/soak.c', '        history->next++;\n        run.counts.items++;', '        run.counts.items++;')]
 # Builds of dist/fio2070.c: name, compiler, its options, what runs the program.
 BUILDS = [('gcc -O0', 'gcc', ['-O0'], []), ('clang -O3, fast', 'clang', ['-O3', '-DFIO2070_FAST'], []),
           ('powerpc, big-endian', 'powerpc-linux-gnu-gcc', ['-Os', '-static'], ['qemu-ppc']),
@@ -84,17 +88,19 @@ def soaked(program):
 
 def is_not_found(place, path, old, new):
     """A planted fault: the soak says that something is wrong."""
-    folder = os.path.join(room, 'planted%d' % place, 'soak')
-    shutil.copytree(os.path.join(C, 'soak'), folder)
-    shutil.copy2(os.path.join(C, 'random_numbers.h'), os.path.dirname(folder))
+    folder = os.path.join(room, 'planted%d' % place)
+    for name in ('soak', 'planted'):
+        shutil.copytree(os.path.join(C, name), os.path.join(folder, name))
+    for name in ('random_numbers.h', 'encode.h'):
+        shutil.copy2(os.path.join(C, name), folder)
     with open(os.path.join(folder, path), encoding='utf-8') as file:
         text = file.read()
     if text.count(old) != 1:
         return '%s does not have %r once' % (path, old)
     with open(os.path.join(folder, path), 'w', encoding='utf-8') as file:
         file.write(text.replace(old, new))
-    files = [os.path.join(folder, name) for name in os.listdir(folder) if name.endswith('.c')]
-    program = built('planted%d.out' % place, 'cc', ['-O2', '-I', os.path.join(TOP, 'include')], [*files, archive()])
+    files = [os.path.join(folder, name) for name in ['soak/soak.c', *BESIDE]]
+    program = built('planted%d.out' % place, 'cc', ['-O2', *INCLUDES], [*files, archive()])
     done = run(program, str(SCANS), '1')
     return None if done.returncode == 1 and done.stdout.startswith('WRONG: ') else done
 
@@ -102,7 +108,7 @@ def is_not_found(place, path, old, new):
 def soak_rows():
     if not check.wants('soak'):
         return
-    program = built('soak', 'cc', [*STRICT, '-O2', '-I', os.path.join(TOP, 'include')], [*sources('soak'), archive()])
+    program = built('soak', 'cc', [*STRICT, '-O2', *INCLUDES], [*sources('soak'), *(os.path.join(C, name) for name in BESIDE), archive()])
     check.fault('soak: both ends beside a model', soaked, program)
     for place, (name, *change) in enumerate(PLANTED):
         check.fault('soak: found: ' + name, is_not_found, place, *change)

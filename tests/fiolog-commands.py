@@ -15,7 +15,7 @@ import tempfile
 from pathlib import Path
 
 from support.check import Check
-from support.fiolog import ENVIRONMENT, TOOL, fiolog, on_terminal, started, use_library, written
+from support.fiolog import ENVIRONMENT, LIBRARY, TOOL, fiolog, on_terminal, started, use_library, written
 from support.loggers import LOGGERS
 from support.pages import text_of
 from support.pcapng import frames_of
@@ -88,7 +88,9 @@ def check_judged(check):
     """What `check` says about a breach of limits, the rules of transcripts alone, and what is not judged after a frame that was
     lost."""
     block = '> 3605\n< b605%s\n'
+    check.equal('input 63 is there', 0, fiolog('check', '-q', text=block % '013f00010000000001').status)
     for name, octets, words in [('an input', '014500010000000001', 'an entry is of input 69, above 63'),
+                                ('the first input that is not there', '014000010000000001', 'an entry is of input 64, above 63'),
                                 ('C', '010c00010800000001', 'C says that more entries wait than a block takes, but the block has 1'),
                                 ('F', '00040000000a', 'F says that entries were pushed out, but C is not set')]:
         done = fiolog('check', '-q', text=block % octets)
@@ -119,11 +121,31 @@ def check_words(check):
     done = fiolog('decode', '-v', text=LOG + 'link down\n')
     check.holds('a line that is skipped', 'line %d: no octets: link down' % (len(SESSION) + 1) in done.err, done.err)
     check.holds('how many are skipped', '1 of %d lines skipped: no octets' % (len(SESSION) + 1) in done.err)
+    with tempfile.TemporaryDirectory() as folder:
+        both = [written(folder, name, 'link down\n' + LOG) for name in ('one', 'other')]
+        named = [path + ' line 1: no octets: link down' for path in both]
+        check.holds('each is named with its file', all(words in fiolog('decode', '-v', *both).err for words in named))
+        check.holds('how many are skipped of two logs', '2 of %d lines skipped' % (2 * len(SESSION) + 2) in fiolog('decode', *both).err)
+        ends = written(folder, 'ends', 'TX 7E 14 83 36 01\nno octets\nRX 7E 14 83 B3 00 1D BE 7E\n')
+        check.holds('lines are counted to the last, below damage at the end', '1 of 3 lines skipped' in fiolog('decode', '--sdlc', ends).err)
     for command in (['decode'], ['stats'], ['check'], ['record'], ['convert', '--to', 'frames']):
         done = fiolog(*command, text='nothing here\n')
         check.equal('%s of nothing' % command[0], (1, True), (done.status, 'no frame in 1 line:' in done.err))
     check.equal('a file that is not there', 3, fiolog('decode', 'no-such-file').status)
-    check.equal('no subcommand', 2, fiolog().status)
+    alone, asked = fiolog(), fiolog('--help')
+    check.equal('no word at all: the help', (2, asked.out, ''), (alone.status, alone.out, alone.err))
+    check.holds('the help names the commands', all('\n    %s ' % name in asked.out for name in ('check', 'decode', 'record', 'live')), asked.out)
+    done = fiolog('no-such-file')
+    check.equal('a word that is no command and no file', (2, 'fiolog: no-such-file is no command and no file (fiolog --help)\n'), (done.status, done.err))
+    for words in ([], ['-q'], ['--json']):
+        for name in ('doubled-entry', 'good'):
+            path = os.path.join(EXAMPLES, name + '.transcript')
+            check.equal('%s LOG is check LOG: %s' % (' '.join(['fiolog', *words]), name), fiolog('check', *words, path), fiolog(*words, path))
+    check.equal('fiolog - is check -', fiolog('check', '-', text=LOG), fiolog('-', text=LOG))
+    version = re.search(r'^## (\S+)', text_of('CHANGELOG.md'), re.M)[1]
+    for word in ('--version', '-V'):
+        check.equal(word, (0, 'fiolog %s\nlibfio2070 %s %s\n' % (version, version, os.path.abspath(LIBRARY)), ''),
+                    (lambda done: (done.status, done.out, done.err))(fiolog(word)))
     check.equal('a pattern without octets', 2, fiolog('decode', '--pattern', '(', text='').status)
     pattern = r'^(?P<time>[\d.]+)!(?P<dir>\w+)!(?P<octets>\w+)$'
     check.equal('a pattern', '1:     1.500000 > poll block 5\n',
@@ -151,6 +173,10 @@ def check_numbers(check):
     check.equal('stats', (len(SESSION), 6, 1, 1, 36, 3, {'12': 34, '13': 1, '14': 1}),
                 (found['frames'], found['polls'], found['repeats'], found['answers_lost'], found['entries'],
                  len(found['response_ms']) - 1, found['entries_by_input']))
+    times = 'no octets\n1.000000 TX 36 05\n1.001500 RX B6 05 00 00 00 00 00 01\n3.250000 TX 36 06\n9.0 no octets\n'
+    found = fiolog('stats', '--json', text=times).objects()[0]
+    check.equal('a response time of 1.5 ms, in a log from the first frame to the last', ({'count': 1, 'median': 1.5, 'percentile_99': 1.5, 'most': 1.5}, 2.25),
+                (found['response_ms'], found['seconds']))
     rows = [[int(cell.replace(',', '')) for cell in re.findall(r'[\d,]+', line)]
             for line in re.findall(r'^\| \d.*', text_of('docs/PLANNING.md'), re.M)]
     for row in rows[::5]:
@@ -213,14 +239,25 @@ def check_check(check):
     timed_log = '07:15:02.100 TX 36 ff\n07:15:02.200 TX 36 00\n'
     check.holds('since when', 'fiolog: advance: once, in line 2 at 07:15:02.200\n' in fiolog('check', text=timed_log).err)
     for name, above, number, words in (
-            ('ahead', 13, 15, 'block 14 was due, 15 came: the CPU went on without an answer, and what block 14 had is lost; or the log '
-             'lost a line (own profile; TEES allows it)'),
+            ('ahead', 13, 15, 'block 14 was due, 15 came: the CPU went on without an answer, and what block 14 had is lost, which '
+             'TEES allows; or the log lost a line (own profile)'),
             ('behind', 13, 13, 'block 14 was due, 13 came: the CPU asks again for a block that was answered; or it did not hear that '
              'answer, and the log is not its own (own profile)'),
-            ('ahead, around 255', 255, 1, 'block 0 was due, 1 came: the CPU went on without an answer, and what block 0 had is lost; or the '
-             'log lost a line (own profile; TEES allows it)')):
+            ('ahead, around 255', 255, 1, 'block 0 was due, 1 came: the CPU went on without an answer, and what block 0 had is lost, '
+             'which TEES allows; or the log lost a line (own profile)')):
         done = fiolog('check', text='> 36%02x\n< b6%02x0000000003e8\n> 36%02x\n' % (above, above, number))
         check.equal('what a poll %s means' % name, ['line 3: advance: ' + words], done.found('^line 3.*'))
+    for name, text, rule, source, is_own in (
+            ('a load that is refused', '> 32000000ff\n< b201\n', 'done', 'own profile', True),
+            ('a block with another number', '> 3605\n< b6060000000003e8\n', 'number', 'TEES 2009', False),
+            ('an entry that is doubled', text_of('examples/doubled-entry.transcript'), 'fresh', 'TEES 2009; layout own profile', False),
+            ('an entry above 63', '> 3605\n< b605014000000000000005\n', 'limits', 'TEES 2009 and own profile', False)):
+        done = fiolog('check', text=text)
+        check.equal('the source: ' + name, [(rule, source)], done.found(r'^line \d+: (\w+): .* \(([^()]+)\)$'))
+        check.equal('the source in an object: ' + name, [source], [one['source'] for one in fiolog('check', '--json', text=text).objects()[:-1]])
+        done = fiolog('check', '--tees', text=text)
+        check.equal('--tees: ' + name, (int(not is_own), is_own), (done.status, '1 breach of a rule that is left out' in done.out))
+        check.holds('--explain has the source: ' + name, 'Source: behaviour ' + source.split(';')[0] in fiolog('check', '--explain', rule).out)
     done = fiolog('check', text=text_of('examples/lost-answer.frames'))
     check.equal('a log of the bus does not accuse a right CPU', ([], 0, True), (done.found('line .*'), done.status, 'not judged' in done.err))
     middle = '< b6050000000003e8\n> 3606\n< b6060000000003e9\n'
@@ -250,6 +287,8 @@ def without(folder, name):
 
 def check_terminal(check, folder):
     """Colours, drawn tables and the progress bar on a terminal, with `rich` and without."""
+    if not check.has_terminal('colours on a terminal'):
+        return
     text = on_terminal(sys.executable, ['decode', '-q'], text=LOG)
     check.holds('colours on a terminal', '\x1b[36mpoll block 255\x1b[0m' in text and '\x1b[33m' in text, text)
     for name, value in (('NO_COLOR', '1'), ('TERM', 'dumb')):
@@ -347,9 +386,6 @@ def check_faulty_words(check):
                   ['--block', '256'], ['--format', 'nope']):
         done = fiolog('decode', *words, text='3605\n')
         check.equal('decode %s' % ' '.join(words), (2, True), (done.status, words[0] in done.err))
-    good = os.path.join(TOP, 'examples', 'good.transcript')
-    done = fiolog(good)
-    check.equal('a file without a command', (2, True), (done.status, 'fiolog check ' + good in done.err))
     check.equal('live --udp 65536', 2, fiolog('live', '--udp', '65536').status)
     check.equal('lines from one on', '3:     > poll block 7\n', fiolog('decode', '-q', '--lines', '3-', text='3605\n3606\n3607\n').out)
 
@@ -374,7 +410,7 @@ def check_hostile(check, folder):
         done = fiolog('decode', written(folder, 'hostile', octets))
         check.holds(name, done.out.startswith('1:     > poll block 5\n2:     < block 5') and words in done.err, done.err)
     done = fiolog('decode', os.path.join(EXAMPLES, 'captures', 'udp.pcap'))
-    check.equal('a capture file', (1, True), (done.status, 'tshark reads it' in done.err))
+    check.equal('a capture file', (0, ['1', '2', '3', '4', '5', '6', '7']), (done.status, done.found(r'^([0-9]+):')))
     done = fiolog('decode', folder)
     check.equal('a folder', (3, 'fiolog: %s: Is a directory\n' % folder), (done.status, done.err))
 
@@ -386,6 +422,11 @@ def check_closed(check):
         done = subprocess.run(['sh', '-c', command], input=LOG * 400, stdout=subprocess.PIPE, stderr=subprocess.PIPE,
                               env=ENVIRONMENT, universal_newlines=True)
         check.equal('with ' + words, (status, False), (done.returncode, 'Traceback' in done.stderr))
+    for words in ('', '--help', '--version', 'check --help', 'check --explain advance'):
+        done = subprocess.run(['sh', '-c', '%s -m fiolog %s > /dev/full' % (sys.executable, words)], stderr=subprocess.PIPE,
+                              env=ENVIRONMENT, universal_newlines=True)
+        check.equal('onto a full disk: fiolog ' + words, (3, 'fiolog: standard output: No space left on device\n'),
+                    (done.returncode, done.stderr))
 
 
 def main():

@@ -129,7 +129,14 @@ LINES = {
     'a frame in three lines': ('7E 14 83\n36 05\nC4 1B 7E', '3605'),
     'a frame that ends where the next begins': ('7E 14 83 36 01 E0\n5D 7E 14 83 36\n02 7B 6F 7E', '3601 3602'),
     'flags alone': ('7E 7E\n7E', ''),
-    'no flag at the end': ('7E 14 83 36 01 E0 5D 7E 14 83 36 02 7B 6F', '3601'),
+    'no flag at the end': ('7E 14 83 36 01 E0 5D 7E 14 83 36 02 7B 6F', '3601 -'),
+    'no flag at the end of one side': ('TX 7E 14 83 36 01\nRX 7E 14 83 B3 00 1D BE 7E', 'b300 -'),
+    'the octet of a flag in a frame without flags': ('RX 14 83 B6 01 00 00 00 00 04 7E F1 4A\nRX 14 83 B3 00 1D BE', 'b60100000000047e b300'),
+    'the octet of a flag in one of another address': ('15 83 36 7E 2B CA\n15 83 36 05 7F 07', '367e 3605'),
+    'a wrong check with the octet of a flag, above a frame': ('14 83 36 7E 1B C4\n14 83 36 05 C4 1B', '- 3605'),
+    'a wrong check with the octet of a flag at the end': ('14 83 36 05 C4 1B\n14 83 36 7E 1B C4', '3605 -'),
+    'a frame as it is written below one that is broken off': ('7E 14 83 36 01\n7E 14 83 36 7E 90 D6 7E', '- 367e'),
+    'a frame as it is written below one without its flag': ('7E 14 83 36 01 E0 5D\n7E 14 83 36 7E 90 D6 7E', '3601 367e'),
     'a row of digits': ('7e14833605c41b7e1483367d5e90d67e', '3605 367e'),
     'words': ('7e148336 05c41b7e', '3605'),
     'marks': ('0x7E, 0x14, 0x83, 0x36, 0x05, 0xC4, 0x1B, 0x7E', '3605'),
@@ -157,6 +164,13 @@ def check_lines(check):
     session = timed(random_session(8, 300))
     check.equal('--sdlc: the frames of an analyser of a synchronous line', [octets for _, _, octets in session],
                 [octets for _, octets in said_of(events_of(LOGGERS['SDLC'](session).encode(), framing='checked'))])
+    bare = ''.join('%s %s\n' % ('RX' if octets[0] >= 128 else 'TX', pairs(model.with_check(b'\x14\x83' + octets)))
+                   for _, _, octets in session)
+    check.equal('--sdlc: frames without flags, some with the octet of a flag', ([octets for _, _, octets in session], True),
+                ([octets for _, octets in said_of(events_of(bare.encode(), framing='checked'))], bare.count(' 7E') > 9))
+    for text, numbers in (('TX 7E 14 83 36\nTX 05 C4\nTX 1B 7E\n', 'frames 1, polls 1, repeats 0, answers lost 1, gap marks 0, breaches 0, parts of frames 2'),
+                          ('TX 14 83 36 05 C4 1B\n', 'frames 1, polls 1, repeats 0, answers lost 1, gap marks 0, breaches 0')):
+        check.equal('--sdlc: the parts of frames are counted: %d' % text.count('\n'), numbers, fiolog('check', '--sdlc', text=text).out.splitlines()[0])
     for words, text in ((('--sdlc',), LINES['two frames and one flag'][0]), ((), LINES['two frames and one flag'][0])):
         done = fiolog('decode', *words, text=text + '\n')
         check.equal('a hint at --sdlc, with %s' % ' '.join(words or ['nothing']), not words, 'try --sdlc' in done.err)
@@ -185,7 +199,9 @@ def fault_of_dumps(count):
         octets = hostile_octets(dice, 30)
         for name, text in dumps(octets, dice):
             got = said_of(events_of(text.encode() + b'\n', framing='checked'))
-            if name in ('xxd', 'hexdump -C', 'below a heading') and got != due_of(model.said(octets)):
+            # What is open at the end of a log is damage.
+            end = [(model.DAMAGED, b'')] * (FLAG in octets and not octets.endswith(FLAG))
+            if name in ('xxd', 'hexdump -C', 'below a heading') and got != due_of(model.said(octets)) + end:
                 return 'hostile', name, text, got
     return None
 
@@ -213,8 +229,30 @@ def check_others(check, folder):
         check.equal('--address %s' % address, (6, 6 - count), (sum('octets' in row for row in rows), sum('other' in row for row in rows)))
     for word in ('5', '12345', 'x4', '', '0x14'):
         check.equal('--address %r' % word, 2, fiolog('decode', '--address', word, path).status)
+    check_refused(check, folder)
     text = ' '.join(pairs(model.line_of(message, address)) for message, address in ((POLL, 0x14), (POLL, 0x15))) + '\n'
     check.equal('frames of others in a log', ['frame', 'other'], [event.kind for event in events_of(text.encode(), framing='checked')])
+
+
+def check_refused(check, folder):
+    """Where frames have no address that is read, `--address` is refused with the command that works; two stations of one log."""
+    says = 'fiolog: --address is of frames of SDLC: `fiolog check --sdlc --address %s LOG` judges those of this address in the lines of a log\n'
+    stations = (0x14, 0), (0x15, 40)
+    lines = [(side, model.line_of(octets, address)) for number in range(8) for address, first in stations
+             for side, octets in (('TX', bytes((0x36, first + number))), ('RX', bytes((0xb6, first + number, 0, 0, 0, 0, 4, number))))]
+    path = written(folder, 'stations', ''.join('%s %s\n' % (side, pairs(octets)) for side, octets in lines))
+    for words in ([], ['--format', 'transcript'], ['--format', 'frames'], ['--pattern', '(?P<octets>.*)'], ['--sdlc', '--no-check']):
+        for address, shown in (('14', '14'), ('1593', '1593'), ('1583', '15'), ('any', 'any')):
+            done = fiolog('check', *words, '--address', address, path)
+            check.equal('--address %s is refused, with %s' % (address, words), (2, '', says % shown), (done.status, done.out, done.err))
+    for command in (['decode'], ['record'], ['stats'], ['convert', '--to', 'frames'], ['live', '--fifo']):
+        check.equal('--address is refused by %s' % command[0], (2, says % '14'), fiolog(*command, path, '--address', '14')[:0:-1])
+    check.equal('--address is refused by live --udp', 2, fiolog('live', '--udp', '1', '--address', '14').status)
+    done = fiolog('check', '--address', '14', path, path)
+    check.equal('--address is refused in each of two logs', (3, 2), (done.status, done.err.count(says[8:] % '14')))
+    for address, count in (('14', 16), ('15', 16), ('any', 32)):
+        done = fiolog('check', '--sdlc', '--address', address, path)
+        check.equal('the frames of --sdlc --address %s' % address, (count, count < 32), (int(done.found(r'frames (\d+)')[0]), done.status == 0))
 
 
 def check_sampled(check, folder):
@@ -224,6 +262,10 @@ def check_sampled(check, folder):
         done = fiolog('check', written(folder, 'fast', ''.join(bit * samples for bit in bits).encode()))
         check.equal('%d samples a bit' % samples, (1, True),
                     (done.status, 'nearly all bits last %d samples or more: the sample clock is faster' % samples in done.err))
+    # A first run and a last one may be cut: 16 others show how long a bit is, and one that is above all is the idle line.
+    for runs, is_shown in ((19, True), (18, False)):
+        done = fiolog('check', '--line', 'bits', written(folder, 'short', ''.join('01'[place % 2] * 3 for place in range(runs)).encode()))
+        check.equal('%d runs of a fast clock' % runs, (1, is_shown), (done.status, 'nearly all bits last 3 samples' in done.err))
     dice = random.Random(6)
     noisy = ''.join(bit * dice.choice((4, 5)) + ('1' if dice.random() < 0.005 else '') for bit in bits)
     done = fiolog('check', written(folder, 'uneven', b'1' * 40_000 + noisy.encode()))

@@ -13,17 +13,17 @@ import subprocess
 import sys
 import tempfile
 import termios
-import time
 from pathlib import Path
 
 from support.check import Check
-from support.fiolog import ENVIRONMENT, fiolog, on_terminal, started, use_library, written
+from support.fiolog import ENVIRONMENT, Terminal, fiolog, started, use_library, written
 from support.line_model import line_of
 from support.loggers import LOGGERS
 from support.pages import text_of
 from support.pcapng import frames_of
 from support.sessions import SESSION, timed
 from support.tables import TOP
+from support.waits import LONGEST, is_gone, sleeps, until
 
 EXAMPLES = os.path.join(TOP, 'examples')
 TALK = '%s %s' % (sys.executable, os.path.join(TOP, 'tests', 'support', 'talking.py'))
@@ -44,14 +44,15 @@ def check_forms(check, folder):
     for form in ('ISO times', 'TX and RX', 'arrows', 'transcript', 'JSON lines', 'Docklight', 'hexdump -C', 'SDLC'):
         done = fiolog('live', '-q', '--exec', 'cat ' + written(folder, 'log', '# connected\n' + LOGGERS[form](timed(SESSION))))
         check.equal('a process that writes %s' % form, len(SESSION), numbers_of(done.out)['frames'])
-    live = started('live', '--exec', "sh -c 'echo hello; echo \\> 3605; exec sleep 20'")
+    live = started('live', '--exec', "sh -c 'echo hello; echo \\> 3605; exec sleep 600'")
     check.holds('a poll of a transcript is shown as it comes', b'> poll block 5' in live.stdout.readline())
-    live.terminate()
-    live.communicate(timeout=20)
-    done = fiolog('live', '--seconds', '3', '--exec', "sh -c 'for second in 1 2 3 4; do echo 12:00:0$second.000 TX 36 05; done; exec sleep 20'")
+    ended(live)
+    live = started('live', '--exec', "sh -c 'for second in 1 2 3 4; do echo 12:00:0$second.000 TX 36 05; done; exec sleep 600'")
+    shown = [live.stdout.readline() for _ in range(4)]
+    shown += ended(live)[0].splitlines(True)[:-1]
     check.equal('so is each of a log, once and as a possible one, while the module is silent',
-                ['%d:     12:00:0%d.000 > poll block 5  possible: nothing in the log confirms it' % (number, number) for number in range(1, 5)],
-                done.out.splitlines()[:-1])
+                ['%d:     12:00:0%d.000 > poll block 5  possible: nothing in the log confirms it\n' % (number, number) for number in range(1, 5)],
+                [line.decode() if isinstance(line, bytes) else line for line in shown])
     done = fiolog('live', '-q', '--exec', 'echo hello')
     check.equal('a process that writes no frame', (1, 1), (numbers_of(done.out)['skipped lines'], done.status))
 
@@ -63,20 +64,34 @@ def fault_of_process():
     return None if (found['polls'], found['answers lost'], found['gap marks'], done.status) == (40, 8, 0, 0) else done
 
 
+def ended(command):
+    """What a run writes on both streams until it is ended like by Ctrl-C."""
+    command.terminate()
+    return [octets.decode() for octets in command.communicate(timeout=LONGEST)]
+
+
 def on_serial(write, *words):
     """The output and the status of a run whose serial port is a pseudo-terminal that brings this text."""
     ours, theirs = pty.openpty()
-    command = started('live', '--serial', os.ttyname(theirs), '--quiet', '--seconds', '5', *words)
-    for _ in range(200):
-        time.sleep(0.1)
-        if not termios.tcgetattr(theirs)[3] & termios.ICANON:
-            break
-    time.sleep(0.2)     # what comes while it is set is dropped
-    write(lambda octets: os.write(ours, octets))
-    out = command.communicate(timeout=30)[0].decode()
+    command = started('live', '--serial', os.ttyname(theirs), '--quiet', *words)
+    # What comes while the port is set is dropped.
+    until(lambda: not termios.tcgetattr(theirs)[3] & termios.ICANON and sleeps(command.pid))
+    due = octets_read_by(command.pid)
+
+    def put(octets):
+        nonlocal due
+        due += os.write(ours, octets)
+    write(put)
+    until(lambda: octets_read_by(command.pid) >= due and sleeps(command.pid))
+    out = ended(command)[0]
     os.close(ours)
     os.close(theirs)
     return out, command.returncode
+
+
+def octets_read_by(number):
+    """How many octets a process has read: what a terminal was given comes to its other end only after a while (Linux: /proc/PID/io)."""
+    return int(re.search(r'^rchar: (\d+)$', Path('/proc/%d/io' % number).read_text(), re.M)[1])
 
 
 def fault_of_serial():
@@ -131,12 +146,10 @@ def fault_of_doubled():
     return None if fits else (out, status)
 
 
-def wait_for(port):
-    """Waits until a socket for datagrams is bound to this port (Linux: /proc/net/udp has its ports in hexadecimal)."""
-    for _ in range(200):
-        if ':%04X ' % port in Path('/proc/net/udp').read_text():
-            return
-        time.sleep(0.1)
+def datagrams_at(port):
+    """How many octets of datagrams a socket at this port has that nobody has read; None if there is none (Linux: /proc/net/udp)."""
+    found = re.search(r':%04X [0-9A-F:]+ \w+ \w+:(\w+) ' % port, Path('/proc/net/udp').read_text())
+    return int(found[1], 16) if found else None
 
 
 def fault_of_datagrams():
@@ -145,13 +158,14 @@ def fault_of_datagrams():
     with socket.socket(socket.AF_INET, socket.SOCK_DGRAM) as probe:
         probe.bind(('127.0.0.1', 0))
         port = probe.getsockname()[1]
-    command = started('live', '--udp', str(port), '--seconds', '5')
-    wait_for(port)
+    command = started('live', '--udp', str(port))
+    until(lambda: datagrams_at(port) is not None)
     frames = [b''] + [octets for _, octets in rounds(10)] + [b'\x30']
     with socket.socket(socket.AF_INET, socket.SOCK_DGRAM) as sender:
         for octets in frames:
             sender.sendto(octets, ('127.0.0.1', port))
-    out = command.communicate(timeout=30)[0].decode()
+    until(lambda: datagrams_at(port) == 0 and sleeps(command.pid))
+    out = ended(command)[0]
     return None if numbers_of(out)['frames'] == len(frames) - 1 and 'unknown type 48' in out else out
 
 
@@ -162,7 +176,7 @@ def heard(folder, text, *words):
         os.mkfifo(pipe)
     command = started('live', '--fifo', pipe, *words)
     Path(pipe).write_text(text)
-    out, err = (octets.decode() for octets in command.communicate(timeout=30))
+    out, err = (octets.decode() for octets in command.communicate(timeout=LONGEST))
     return out, err, command.returncode
 
 
@@ -232,9 +246,19 @@ def screen(text):
 
 def check_status_line(check, folder):
     """On a terminal the status line goes before each message, and the summary follows the last."""
+    if not check.has_terminal('the status line'):
+        return
     lines = ['%s %s' % ('<' if digits[0] == 'b' else '>', digits) for digits in DOUBLED]
-    path = written(folder, 'slow', 'import time\n' + ''.join('print("%s", flush=True); time.sleep(0.1)\n' % line for line in lines) + 'time.sleep(3)\n')
-    text = on_terminal(sys.executable, ['live', '--exec', '%s %s' % (sys.executable, path)])
+    pipe = os.path.join(folder, 'lines')
+    os.mkfifo(pipe)
+    with Terminal(['live', '--exec', 'cat ' + pipe]) as live, open(pipe, 'w', encoding='ascii') as talking:
+        for number, line in enumerate(lines, 1):
+            talking.write(line + '\n')
+            talking.flush()
+            live.wait_for('frames %d, ' % number)
+        live.wait_for('silent for 2 s')
+        talking.close()
+        text = live.rest()
     shown = screen(text)
     messages = [line[re.match(r'\d+: +\S+ \S+ ', line).end():] for line in shown if re.match(r'\d+: ', line)]
     expected = fiolog('decode', '-q', text='\n'.join(lines)).found(r'^\S+ +(.*)')
@@ -251,10 +275,13 @@ def check_process_ends(check):
     check.equal('a process that fails', (1, True), (done.status, 'the process ended with status 3' in done.err))
     with tempfile.TemporaryDirectory() as folder:
         path = os.path.join(folder, 'number')
-        done = fiolog('live', '--exec', "sh -c 'echo $$ > %s; exec sleep 60'" % path, '--seconds', '1')
+        # The process has to begin in that time.
+        for seconds in ('0.3', '3', '30'):
+            done = fiolog('live', '--exec', "sh -c 'echo $$ > %s; exec sleep 600'" % path, '--seconds', seconds)
+            if os.path.exists(path) and os.path.getsize(path):
+                break
         number = int(Path(path).read_text())
-    time.sleep(0.2)
-    check.equal('a process that goes on is ended', (1, False), (done.status, os.path.exists('/proc/%d' % number)))
+    check.equal('a process that goes on is ended', (1, True), (done.status, until(lambda: is_gone(number))))
     for words in (['--exec', 'no-such-command'], ['--exec', '"'], ['--fifo', 'no-such-pipe'], ['--serial', '/dev/no-such-port'],
                   ['--serial', __file__]):
         done = fiolog('live', *words)
@@ -264,14 +291,11 @@ def check_process_ends(check):
 def check_ended_from_outside(check, folder):
     """SIGTERM acts like Ctrl-C; a pipe without a writer is left in time."""
     path, pipe = os.path.join(folder, 'number'), os.path.join(folder, 'silent')
-    live = started('live', '--exec', "sh -c 'echo \\> 3605; echo $$ > %s; exec sleep 60'" % path, '--quiet')
-    while not os.path.exists(path) or not os.path.getsize(path):
-        time.sleep(0.05)
-    time.sleep(0.2)
-    live.terminate()
-    out = live.communicate(timeout=20)[0].decode()
+    live = started('live', '--exec', "sh -c 'echo $$ > %s; echo \\> 3605; exec sleep 600'" % path)
+    live.stdout.readline()
+    out = ended(live)[0]
     number = int(Path(path).read_text())
-    check.equal('SIGTERM ends both, with the summary', (1, False), (numbers_of(out)['frames'], os.path.exists('/proc/%d' % number)))
+    check.equal('SIGTERM ends both, with the summary', (1, True), (numbers_of(out)['frames'], until(lambda: is_gone(number))))
     os.mkfifo(pipe)
     done = fiolog('live', '--fifo', pipe, '--seconds', '0.2')
     check.equal('a pipe without a writer', (1, True), (done.status, 'no frame came' in done.err))
@@ -299,9 +323,10 @@ def main():
     check = Check()
     use_library(check, 'fiolog live')
     check.fault('a process', fault_of_process)
-    check.fault('a pseudo-terminal', fault_of_serial)
-    check.fault('damage, and frames of others, at a pseudo-terminal', fault_of_line)
-    check.fault('a doubled entry at a pseudo-terminal', fault_of_doubled)
+    if check.has_terminal('a pseudo-terminal'):
+        check.fault('a pseudo-terminal', fault_of_serial)
+        check.fault('damage, and frames of others, at a pseudo-terminal', fault_of_line)
+        check.fault('a doubled entry at a pseudo-terminal', fault_of_doubled)
     check.fault('datagrams', fault_of_datagrams)
     with tempfile.TemporaryDirectory() as folder:
         check.fault('a pipe', fault_of_pipe, folder)

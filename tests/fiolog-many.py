@@ -117,7 +117,7 @@ def check_dask(check, folder):
     snippet = text_of('docs/CAPTURES.md').split('```python\n')[1].split('```')[0]
     script = written(folder, 'snippet.py', snippet)
     done = subprocess.run([python, script], cwd=folder, env=ENVIRONMENT, stdout=subprocess.PIPE, stderr=subprocess.PIPE, check=False,
-                          universal_newlines=True, timeout=300)
+                          universal_newlines=True, timeout=900)
     breaches = sum(number % 5 != 0 and number % 7 == 0 for number in range(FILES))
     check.equal('Dask over %d files' % FILES, '%d breaches in %d files\n' % (breaches, FILES), done.stdout or done.stderr)
 

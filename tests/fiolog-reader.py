@@ -1,15 +1,14 @@
 #!/usr/bin/env -S python3 -B
 """What the reader of logs finds in logs of other tools, by `fio2070.LogReader`: each form of tests/support/loggers.py, with
 frames of the protocol's tables and with random ones; logs of strangers; forms of lines, one by one; damage, noise and other
-text; right ends, which no cut accuses; and the reference model of the tests says the same. Last line: `N passed, M failed`."""
+text; right ends, which no cut accuses; and a reader that has read other logs says the same. Last line: `N passed, M failed`."""
 
 import random
 
 from support.check import Check
 from support.damage import CUT_OR_LOST, DAMAGES, damaged
 from support.fiolog import frames_in, use_library, verdicts_on
-from support.log_model import OTHERWISE, REMARKS, LogReader as Model
-from support.log_runs import LOOSE
+from support.log_octets import ANY_LENGTH as LOOSE
 from support.loggers import LOGGERS
 from support.other_text import BY_CHANCE, REMARKED, other_text
 from support.sessions import SESSION, random_session, timed
@@ -247,8 +246,8 @@ def check_strangers(check):
         check.holds('%s, each line has a verdict' % name, read.is_whole)
 
 
-# The kinds of lines on which the library and the model agree; what may have been a frame is tested in tests/fiolog-cuts.py.
-FOUND = 'frames', 'part', 'blank'
+# Remarks on octets that are otherwise none of a message.
+OTHERWISE = 'exchanged', 'two more'
 
 # The forms of which a lost digit or row is not seen: octets without zeros before them, an octet a row.
 UNSEEN = ('Python words', 'JSON of numbers', 'Saleae', 'Saleae with names', 'Saleae HDLC', 'Python bytes')
@@ -299,32 +298,20 @@ def check_other_text(check):
         check.equal('%s in other text' % row, expected, got)
 
 
-def agreed(one, other):
-    """What of a verdict is the same in the library and in the model, whose verdicts on a line these are."""
-    remark = one.reason if one.reason in REMARKS and one.kind == other.kind else ''
-    found = (one.frames, one.said) if one.kind == 'frames' else ()
-    return one.line, one.kind if one.kind in FOUND else 'none', found, remark
-
-
-def check_model(check):
-    """The library and the model of the tests say the same of each line. A reader that has read other logs says so too."""
+def check_again(check):
+    """A reader that has read other logs says the same of a log as a new one."""
     import fio2070
     texts, used = {name: logger(timed(random_session(len(name), 60))) for name, logger in LOGGERS.items()}, fio2070.LogReader()
     texts.update({name: text for name, text, _ in READ + PASSED})
-    texts.update({name: text for name, (text, _) in REASONS.items()})
     for name, text in texts.items():
-        for seed in range(4):
-            octets, model = damaged(text, random.Random('%s %d' % (name, seed)), 3 * seed).encode(), Model()
-            expected, read = model.read(octets) + model.end(), verdicts_on(octets)
-            check.equal('the model on %s, %d' % (name, seed), (len(expected), list(map(agreed, expected, read))),
-                        (len(read), list(map(agreed, read, expected))))
-            check.equal('after other logs, %s, %d' % (name, seed), read, used.read(octets) + used.end())
+        octets = damaged(text, random.Random(name), 3).encode()
+        check.equal('after other logs, %s' % name, verdicts_on(octets), used.read(octets) + used.end())
 
 
 def main():
     check = Check()
     use_library(check, 'all of fiolog')
-    for part in (check_forms, check_lines, check_long_lines, check_parts, check_sides, check_reasons, check_strangers, check_other_text, check_model):
+    for part in (check_forms, check_lines, check_long_lines, check_parts, check_sides, check_reasons, check_strangers, check_other_text, check_again):
         part(check)
     seeds = 2 if check.whole('damage, seed 1') else 1
     for place, name in enumerate(LOGGERS):

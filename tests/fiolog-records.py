@@ -5,6 +5,7 @@ what goes on after a breach, in the middle of traffic, and in logs of the bus an
 
 import csv
 import glob
+import json
 import os
 import random
 import re
@@ -14,7 +15,7 @@ import tempfile
 
 from support.check import Check
 from support.faults import FAULTS, changed
-from support.fiolog import ENVIRONMENT, fiolog, use_library
+from support.fiolog import ENVIRONMENT, fiolog, use_library, written
 from support.lossy_runs import lossy_script, run_of_link
 from support.pages import text_of
 from support.tables import TOP, output_of
@@ -121,7 +122,7 @@ def check_course(check):
     done = fiolog('check', '-q', text=START + FIRST + AGAIN)
     check.equal('`check` says what a breach means', (
         1, 'line 8: alternate: input 12 went to 0 twice in a row, and neither an overflow (F) nor a configuration that was sent can have '
-        'hidden a change between: an entry was lost, or this entry is doubled or has the wrong state'),
+        'hidden a change between: an entry was lost, or this entry is doubled or has the wrong state (TEES 2009; layout own profile)'),
                 (done.status, done.out.splitlines()[0]))
     middle = '< b6050000000003e8\n' + FIRST
     check.equal('in the middle of traffic', ([], 0), breaches(text=middle))
@@ -133,6 +134,12 @@ def check_course(check):
                 (done.status, done.found(r'input (\d+)'), '1 frame above the first command' in done.err))
     check.equal('as text the record begins at the first command', 'record 1\ninput 12 state 1 stamp 1010 wide 1010\n',
                 fiolog('record', '-q', '--text', text=above).out)
+    passed = '> 3602\n< b60200000000001a\n%s> 3609\n< b609010d001e000000001f\n'
+    for name, between, breach in (('nothing', '', True), ('noise', '# a remark\n', True), ('a remark of loss', '3 frames lost\n', False),
+                                  ('a heading', 'Log file opened\n', False)):
+        done = fiolog('record', '-q', text=START + FIRST + passed % between)
+        check.equal('a number is passed over below %s' % name, (int(breach), breach, False, ['13']),
+                    (done.status, 'line 9' in done.out or 'line 10' in done.out, 'was due by what was heard' in done.err, done.found(r'^1\d: +input (\d+)')))
     check.equal('noise in between', (['line 9 input 12 breaks alternate'], 1), breaches(text=START + FIRST + '# restarted\n' + AGAIN))
     turned = (START + FIRST + AGAIN).translate(str.maketrans('<>', '><'))
     check.equal('the log of the module', (['line 8 input 12 breaks alternate'], 1), breaches('--at', 'module', text=turned))
@@ -141,17 +148,64 @@ def check_course(check):
                 (done.status, len(done.out.splitlines()), done.found('breaks')))
 
 
-# Python that says how many inputs and gap marks the picture of blocks has, where an input changes, and where its crosses are.
+# Logs of two sites: the second begins with the number that the first ends with, and has entries in its first block. Of the third
+# no answer was logged, so the poll that passes over a number is a breach only at its end.
+SITES = {'first': '> 36ff\n< b6ff00000000000a\n> 3600\n< b600010c000c0000000014\n',
+         'second': '> 3600\n< b600010d00050000000008\n> 3601\n< b601018d000c0000000010\n',
+         'third': '> 3605\n> 3607\n'}
+PAIRS = [('first', 'second'), ('second', 'first'), ('third', 'first'), ('first', 'third')]
+
+
+def said_of(form, *names):
+    """What a form of the record says of these files: a list of each row of a table without its head, and the status."""
+    done = fiolog('record', '-q', *form, *names)
+    return done.out.splitlines()[form != [] and form != ['--json']:], done.status
+
+
+def named(form, name, row):
+    """A row of the record of one log, as it is among those of several."""
+    if form == ['--json']:
+        return '{"file": %s, %s' % (json.dumps(name), row[1:])
+    return row + ',' + name if '--hires' in form else name + (',' if form else ' ') + row
+
+
+def check_several(check, folder):
+    """What the record of several logs says is what the records of each say, with the file."""
+    names = {name: written(folder, name, text) for name, text in SITES.items()}
+    events = ['--hires', '/dev/stdout', '--start', '2026-03-01T07:00:00', '--signal', '7', '--on', '0']
+    paths = sorted(glob.glob(os.path.join(EXAMPLES, '*.transcript')))
+    pairs = [(form, (names[one], names[two])) for form in ([], ['--csv'], ['--json'], events) for one, two in PAIRS]
+    for form, pair in pairs + [(['--csv'], pair) for pair in zip(paths, paths[1:])]:
+        alone = [said_of(form, name) for name in pair]
+        check.equal('record %s of %s and %s' % (' '.join(form[:1]), *map(os.path.basename, pair)),
+                    ([named(form, name, row) for name, (rows, _) in zip(pair, alone) for row in rows], max(status for _, status in alone)),
+                    said_of(form, *pair))
+    first, second = names['first'], names['second']
+    check.equal('an entry of the second log', '%s,2,,13,0,5,5,' % second, fiolog('record', '-q', '--csv', first, second).out.splitlines()[2])
+    check.equal('the column of the file', ['file,line,time,input,state,stamp,wide,mark', 'TimeStamp,DeviceId,EventId,Parameter,File'],
+                [fiolog('record', '-q', *form, first, second).out.splitlines()[0] for form in (['--csv'], events)])
+    done = fiolog('record', *events, first, second)
+    check.equal('each log begins at --start', ('fiolog: each of the 2 logs begins at --start\n', [
+        ['2026-03-01 07:00:00.002', '7', '82', '13', first], ['2026-03-01 06:59:59.997', '7', '82', '14', second],
+        ['2026-03-01 07:00:00.004', '7', '81', '14', second]]), (done.err, list(csv.reader(done.out.splitlines()[1:]))))
+    for words in (['record', '--text'], ['record', '--vcd'], ['convert', '--to', 'vcd']):
+        done = fiolog(*words, first, second)
+        check.equal('%s of two logs' % ' '.join(words), ('', 2, True), (done.out, done.status, 'one log: name one file, or --merge' in done.err))
+    done = subprocess.run([sys.executable, '-c', LANES, first, second], stdout=subprocess.PIPE, env=ENVIRONMENT, universal_newlines=True)
+    check.equal('the lanes of two logs', "first {12: ([12.0], ['0.0'])}\n[] []\nsecond {13: ([5.0, 12.0], ['0.0', '1.0'])}\n[] []\n", done.stdout)
+
+
+# Python that says how many inputs and gap marks the picture of logs has, where an input changes, and where its crosses are.
 LANES = '''
+import os, sys
 from types import SimpleNamespace as Names
 from fiolog import log, plot, record
-given = Names(files=['-'], quiet=True, format='auto', pattern=None, sdlc=False, no_check=False, verbose=False, at='auto', start_at_poll=False, whole=False,
+given = Names(files=sys.argv[1:] or ['-'], quiet=True, format='auto', pattern=None, sdlc=False, no_check=False, verbose=False, at='auto', start_at_poll=False, whole=False,
               limits=(255, 1024))
-lanes = plot.Lanes()
-for block in record.Record(log.Log(given), given).blocks():
-    lanes.add(block)
-print({number: (list(lanes.times[number]), [str(state) for state in lanes.states[number]]) for number in sorted(lanes.times)})
-print(lanes.gaps, lanes.broken)
+for lanes in plot.lanes_of(record.Record(log.Log(given), given).logs()):
+    print(*[os.path.basename(lanes.name)] * bool(lanes.name),
+          {number: (list(lanes.times[number]), [str(state) for state in lanes.states[number]]) for number in sorted(lanes.times)})
+    print(lanes.gaps, lanes.broken)
 '''
 
 
@@ -200,6 +254,7 @@ def main():
         part(check)
     with tempfile.TemporaryDirectory() as folder:
         check_events(check, folder)
+        check_several(check, folder)
     check_runs(check)
     check.end()
 

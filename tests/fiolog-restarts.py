@@ -44,6 +44,14 @@ def not_judged(lines, *words):
 TOLD = r'^line (\d+: \w+)'
 
 
+def check_short_lives(check):
+    """A restart between stamps that rise is not seen: what waited is gone, and a rule accuses the module."""
+    for name, lines, said in (
+            ('a block without entries', ['> 3600', '< b600010c00050800000005', '> 3601', '< b601000000000009'], ['4: rest']),
+            ('an entry', ['> 3600', '< b600010c00050000000005', '> 3601', '< b601018c00020000000009'], ['4: fresh'])):
+        check.equal('below a restart that is not seen: ' + name, said, checked(lines, '--limits', '1', '1024').found(TOLD))
+
+
 def check_check(check):
     """A restart is reported as a breach is, and is not counted as one."""
     done = checked(RESTART)
@@ -221,15 +229,59 @@ def fault_of_right_links(links):
     return None if told == restarts >= links // 10 else '%d of %d restarts are reported' % (told, restarts)
 
 
+def fault_of_links_that_go_on(links):
+    """Over restarts that a stamp shows, also if the first one is that of a block that is sent again, nobody is accused, and each is
+    said once at most."""
+    from support.restarting import going_on, shows_restart
+    import fio2070
+    from fio2070 import constants
+    seen = again = 0
+    for seed in range(links):
+        link = going_on(seed)
+        judge = fio2070.LinkJudge(link.kind.per_block, link.kind.waiting)
+        kinds = [(judge.sent if sent else judge.heard)(octets).kind for sent, octets in link.frames]
+        above = 0
+        for begin, end in zip(link.restarts, link.restarts[1:] + [len(kinds)]):
+            shown, first_again = shows_restart(link.frames[:begin], link.frames[begin:end])
+            # The judge has found its place again: a poll is below the frame at which it said that the module was restarted.
+            told = max((place for place in range(above, begin) if kinds[place] == constants.OUTCOME_RESTARTED), default=begin)
+            if not shown or told < begin and not any(sent and octets[0] == 54 for sent, octets in link.frames[told:begin]):
+                break
+            here, above = kinds[begin:end], begin
+            if here.count(constants.OUTCOME_RESTARTED) > 1 or {constants.OUTCOME_BROKEN, constants.OUTCOME_BROKEN_CONTENT} & set(here):
+                return 'seed %d, from frame %d on: %s' % (seed, begin, here)
+            seen, again = seen + 1, again + first_again
+    return None if again * 20 > links else '%d restarts, of which %d begin with a block that is sent again' % (seen, again)
+
+
+# The module restarts above line 7, and its first stamp there, 1500, is that of a block that is sent again. The CPU asked for it first when
+# it knew the stamp 1000, and twice below that of 2000. Its entry, or in the other log that it has none, breaks a rule by what is above.
+ASKED_TWICE = ['> 3605', '< b6050000000003e8', '> 3606', '> 35', '< b5ffffffffffffffff000007d0', '> 3606', '> 3606']
+# A block with all the entries that it takes, below which more wait.
+FULL = '< b605ff%s08000003e8' % ''.join('%02x%04x' % (5 | place % 2 << 7, 100 + place) for place in range(255))
+FIRST_STAMPS = {
+    'a rule on content': ([*ASKED_TWICE, '< b606010500c902000005dc', '> 3607', '< b60700000000060e'], ['8: restarted']),
+    'the rule rest': (['> 3605', FULL, *ASKED_TWICE[2:], '< b6060002000005dc'], ['8: restarted']),
+    'asked for once below the latest stamp': ([*ASKED_TWICE[:6], '< b606010500c902000005dc'], ['7: fresh']),
+}
+
+
+def check_blocks_sent_again(check):
+    """A restart may show first in a block that is sent again."""
+    for name, (lines, told) in FIRST_STAMPS.items():
+        check.equal('a block that is sent again: ' + name, told, checked(lines).found(TOLD))
+
+
 def main():
     check = Check(links=(60, 1000))
     use_library(check, 'restarts')
-    for part in (check_check, check_record, check_loads, check_losses):
+    for part in (check_check, check_short_lives, check_record, check_loads, check_losses, check_blocks_sent_again):
         part(check)
     with tempfile.TemporaryDirectory() as folder:
         for part in (check_others, check_remarks):
             part(check, folder)
     check.fault('right links', fault_of_right_links, check.given.links)
+    check.fault('links that go on at once', fault_of_links_that_go_on, check.given.links)
     check.end()
 
 

@@ -34,6 +34,8 @@ SIDES = {
     'one answer below polls': (polls(5, 6, 7, 8) + blocks(8), [], 2, 1),
     'one command among answers': (blocks(4, 5, 6) + polls(7, 7, 7) + blocks(7), [], 0, 0),
     'answers that are cut': (''.join(polls(number) + 'RX B6 %02X 01 8C 03 ..\n' % number for number in range(5, 9)), [NOT_WHOLE], 0, 1),
+    'half as many answers that are cut': (polls(5, 6, 7, 8) + 'RX B6 05 01 8C 03 ..\n' * 2, [NOT_WHOLE], 0, 1),
+    'fewer': (polls(5, 6, 7, 8) + 'RX B6 05 01 8C 03 ..\n', [COMMANDS], 0, 1),
     'few lines that are cut': (polls(*range(5, 25)) + 'RX B6 05 01 8C 03 ..\n', [COMMANDS], 0, 1),
 }
 
@@ -148,6 +150,8 @@ def check_times(check, folder):
         check.equal('files that cannot be merged: ' + name, (2, True, False), (done.status, words in done.err, 'Traceback' in done.err))
     done = merged(folder, ('check',), '09:00:00 TX 36 05\n09:00:01 TX 36 05\n', answers)
     check.holds('files of other hours', 'one file ends before another begins' in done.err, done.err)
+    done = merged(folder, ('check',), '10:00:00 TX 36 05\n10:00:00.100 TX 36 06\n', answers)
+    check.equal('files of which one ends when the other begins', False, 'one file ends before another begins' in done.err)
 
 
 def check_places(check, folder):

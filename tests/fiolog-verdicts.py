@@ -25,14 +25,16 @@ def check_beginning(check):
 
 def check_explained(check):
     """Each rule is explained in the words of docs/FORMATS.md, with what else it uses."""
-    rows = re.findall(r'^\| `([a-z]+)` \| (.*?)(?: \| (.*))? \|$', text_of('docs/FORMATS.md').partition('## `fio2070 check`')[2], re.M)
+    rows = [row.split(' | ') for row in re.findall(r'^\| (`[a-z]+` \| .*) \|$', text_of('docs/FORMATS.md').partition('## `fio2070 check`')[2], re.M)]
     check.holds('rows of rules', len(rows) > 25, rows)
     for name, *words in rows:
+        name = name.strip('`')
+        words = words if len(words) < 3 else [*words[:-2], 'Source: behaviour %s, layout %s' % tuple(words[-2:])]
         done = fiolog('check', '--explain', name)
         said = ' '.join(done.out.split())
         check.equal('%s is explained' % name, (0, '', []), (done.status, done.err, [part for part in words if re.sub(
             r'\binput I (.*)to S\b', r'input I \1to S', part) not in said]))
-    check.equal('the words that a rule uses', ['C', 'clear', 'excuses', 'late'],
+    check.equal('the words that a rule uses', ['C', 'Source', 'clear', 'excuses', 'late'],
                 sorted(fiolog('check', '--explain', 'fresh').found(r'^  (\w+): ')))
 
 
@@ -107,14 +109,19 @@ def check_except(check):
             check.equal('--except of ' + name, (1, 0), (fiolog(command, *files).status, fiolog(command, '--except', 'advance', *files).status))
 
 
+def with_wrong_check(*frames):
+    """A log of these frames with their checks, the fourth of which is wrong."""
+    from fio2070 import wire_check
+    spelled = [bytes.fromhex('1483' + octets) for octets in frames]
+    return ''.join('%s %s\n' % ('><'[place % 2], (octets + (wire_check(octets) ^ (place == 3)).to_bytes(2, 'little')).hex(' '))
+                   for place, octets in enumerate(spelled))
+
+
 def check_places(check):
     """What is judged below damage, with limits, at the module's end, and in the second of two files."""
     good, cut = '> 3605\n< b60500000000000a\n> 3606\n', '< b6060000\n'
     lost = '> 3607\n< b607010c000a040000000b\n'
-    from fio2070 import wire_check
-    spelled = [bytes.fromhex('1483' + octets) for octets in ('3605', 'b60500000000000a', '3606', 'b60600000000000b', '3607')]
-    checked = ''.join('%s %s\n' % ('><'[place % 2], (octets + (wire_check(octets) ^ (place == 3)).to_bytes(2, 'little')).hex(' '))
-                      for place, octets in enumerate(spelled))
+    checked, again = (with_wrong_check('3605', 'b60500000000000a', '3606', 'b60600000000000b', last) for last in ('3607', '3606'))
     for name, words, text, expected in (
             ('the limits hold below damage', ['--limits', '255', '64'], good + cut + lost, []),
             ('as do the standard ones', [], good + cut + lost, ['line 6: limits']),
@@ -123,6 +130,10 @@ def check_places(check):
             ('on the bus it may have', ['--sdlc', '--at', 'bus'], checked, []),
             ('the state of an entry below a gap mark', ['--limits', '255', '64'], good + '< b606028c000b8c000d040000000e\n', ['line 4: alternate: input 12 went to 1 twice in a row'])):
         check.equal('judged: %s' % name, expected, fiolog('check', *words, text=text).found(r'^line \d+: \w+(?:: input[^,]*)?'))
+    for place, numbers in (('cpu', ['not judged: 1 damaged line']),
+                           ('bus', ['not judged: 1 damaged line, 1 loss of sync'])):
+        check.equal('what a wrong check hides, at the %s' % place, numbers,
+                    fiolog('check', '--sdlc', '--at', place, text=again).found('^not judged.*'))
     again = '%s 36 05\n%s B6 05 00 00 00 00 00 01\n%s 36 05\n%s B6 05 00 02 00 00 00 01\n'
     for name, sides, status in (('the CPU', ('TX', 'RX'), 1), ('the module', ('RX', 'TX'), 0), ('the CPU, with arrows', ('>', '<'), 1),
                                 ('the module, with arrows', ('<', '>'), 0)):
@@ -136,6 +147,19 @@ def check_places(check):
         for words, count in ((['--start-at-poll'], 0), ([], 2)):
             for title, files in (('two files', paths), ('a file twice', paths[:1] * 2)):
                 check.equal('record %s of %s' % (' '.join(words), title), count, fiolog('record', *words, *files).out.count('breaks pair'))
+
+
+def check_unseen(check):
+    """Damage that is not seen: a right end is accused where a frame is missing or is another. What is seen accuses nobody."""
+    link = ['RX B6 %02X 00 00 00 00 00 %02X' % (place // 2, place) if place % 2 else 'TX 36 %02X' % (place // 2) for place in range(16)]
+    for name, first, last, line, expected in (
+            ('two lines that are joined', 7, 9, link[7] + ' ' + link[8], (['9: pair'], '0')),
+            ('a digit that makes another message', 8, 9, 'TX 36 0C', (['9: advance'], '0')),
+            ('a word in an octet', 8, 9, 'TX 3note 6 04', (['10: pair'], '0')),
+            ('a line that is too long', 8, 9, link[8] + ' ' + 'x' * 66000, (['10: pair'], '0')),
+            ('a cut, which is seen', 8, 9, 'TX 36 0', ([], '1')), ('a side alone, which is seen', 8, 9, 'TX', ([], '1'))):
+        done = fiolog('check', text='\n'.join([*link[:first], line, *link[last:]]) + '\n')
+        check.equal('damage: ' + name, expected, (done.found(r'^line (\d+: \w+)'), (done.found(r'(\d+) damaged line') or ['0'])[0]))
 
 
 def check_said(check):
@@ -163,15 +187,26 @@ def check_hints(check):
             ('another answer that comes late', '> 34\n' + good + '< b40000000000000000000003e9\n', [late]),
             ('one with a stamp before that of the block', '> 34\n' + good + '< b4000000000000000000000001\n', [late]),
             ('an answer in time with such a stamp', good + '> 34\n< b4000000000000000000000001\n', []),
+            ('a block of the number before', good + '> 3606\n< b6060000000003e9\n< b6050000000003e8\n', [late]),
+            ('a block of two numbers before', good + '> 3606\n< b6060000000003e9\n< b6040000000003e8\n', []),
             ('an answer to nothing', good + '< ba00\n', [])):
         done = fiolog('check', text=text)
         check.equal('hints: ' + name, hints, [hint for hint in (begin, late) if hint in done.err])
+    late_block = good + '> 3606\n< b6060000000003e9\n< b6050000000003e8\n'
+    for place, is_at_tap in (('auto', False), ('cpu', False), ('bus', True)):
+        check.equal('hints: a late answer, --at %s' % place, is_at_tap, late + ' --except advance' in fiolog('check', '--at', place, text=late_block).err)
+    # The CPU's words at the module's end: most lines say the other direction, and are said to.
+    said, unsaid = ['RX 36 %02X\nTX B6 %02X 00 00 00 00 00 01\n' % (number, number) for number in range(2)], 'TX 36 02\nRX B6 02 00 00 00 00 00 02\n'
+    for name, text, is_said in (('all lines', ''.join(said), True), ('two of three', ''.join(said) + unsaid, True), ('half of them', said[0] + unsaid, False)):
+        for place in ('cpu', 'bus', 'module', 'auto'):
+            check.equal('the other direction in %s, --at %s' % (name, place), is_said and place in ('cpu', 'bus'),
+                        'try --at module' in fiolog('check', '--at', place, text=text).err)
 
 
 def main():
     check = Check()
     use_library(check, 'what fiolog judges')
-    for part in (check_beginning, check_except, check_explained, check_places, check_said, check_hints, check_cures, check_few):
+    for part in (check_beginning, check_except, check_explained, check_places, check_unseen, check_said, check_hints, check_cures, check_few):
         part(check)
     check.end()
 

@@ -6,6 +6,7 @@ buffer overflows, with a restart of either end; `fio2070-test` on the running fi
 polled; and planted faults, each of which is found. Last line: `N passed, M failed`."""
 
 import contextlib
+import csv
 import fcntl
 import functools
 import glob
@@ -30,11 +31,13 @@ from support import cortex, fiolog, line_model
 from support.check import Check
 from support.pages import text_of
 from support.tables import TOP
+from support.waits import LONGEST, sleeps, until
 
 EXAMPLES, LIBRARY = os.path.join(TOP, 'examples'), os.path.join(TOP, 'dist')
 sys.path[:0] = [os.path.join(EXAMPLES, 'line')]
 
 import board
+import moves
 
 STRICT = ['-std=c99', '-Wall', '-Wextra', '-Wpedantic', '-Wconversion', '-Werror']
 SANITIZED = '-g -fsanitize=address,undefined -fno-sanitize-recover=all'
@@ -48,6 +51,8 @@ LATE = ['arm-linux-gnueabihf-gcc', '-std=c99', '-O1', '-static', '-DFIO2070_NO_L
 # As uart.h has it; lines whose answers fill a socket that nobody reads.
 RING, HELD = 1024, 40
 SMALL_RING = 8
+# Cuts of the power, each with another seed.
+CUTS = 200
 # The rows of runs: name, seconds of moves, options of run.py.
 RUNS = [('frames lost, damaged and delayed', 8, []),
         ('a buffer that runs over', 8, ['--lose', '0.8', '--deadline', '40']),
@@ -63,18 +68,26 @@ NO_HOLD = ('board.h', '__asm volatile("msr basepri, %0\\n isb" : : "r"(SCANS_PRI
 LOST_TICKS = ('firmware.c', 'for (; due > 0; due--, scanned_to += SCAN_US) {',
               'for (scanned_to += due * SCAN_US, due = due > 0; due > 0; due--) {')
 NUMBER_ANEW = ('controller.c', 'settings_with((uint32_t)deadline), tables.number)', 'settings_with((uint32_t)deadline), 0)')
-NEVER_CUT = ('tables.c', 'if (tables->may_be_written_before && is_again) {', 'if (0 && is_again) {')
+NEVER_CUT = ('tables.c', '    if (is_again) {\n', '    if (0) {\n')
 # No fault of the link: the first controller ends after a block is written, and before its number is kept.
 ENDS_BETWEEN = ('tables.c', '    keep(tables, next_number);', '    if (next_number > 77 && !tables->was_kept && '
                 'flushed(tables->csv) > tables->csv_kept) _exit(9);\n    keep(tables, next_number);')
+NO_MARK = ('tables.c', '    add_gap(tables);\n    if (!tables->is_number_lost)', '    if (!tables->is_number_lost)')
+TORN_ROW = ('tables.c', '    cut(file, whole);\n', '')
+ANY_LINE = ('tables.c', "== KEPT_LINE && line[KEPT_LINE - 1] == '\\n' &&", '> 0 &&')
+ANY_NUMBER = ('tables.c', '&tables->events_kept) == 3', '&tables->events_kept) >= 1')
+NOT_SETTLED = ('tables.c', 'if (length != kept && !tables->is_fast', 'if (tables->is_fast && 0')
 STATE_STUCK = ('firmware.c', '    LAMPS = ', '    if (answer[0] == 182 && answer[2] > 0) answer[3] |= 0x80;\n    LAMPS = ')
 UNSEEN_RESTART = ('controller_link.c', 'if (link->step == CONTROLLER_LOOK && (answer->flags & FIO2070_BIT_WAS_RESET)) {', 'if (0) {')
+
+# On a busy machine less happens in a time: how many times as long a run is that comes after one in which too little did.
+LONGER = 1, 4, 16
 
 check = Check()
 room = tempfile.mkdtemp()
 
 
-def run(*words, timeout=300, **settings):
+def run(*words, timeout=900, **settings):
     return subprocess.run(words, capture_output=True, text=True, errors='replace', timeout=timeout, check=False, **settings)
 
 
@@ -162,8 +175,7 @@ def marked_line():
 
 def run_of(folder, seconds, words):
     """A run: its last line, and what it wrote."""
-    done = run(sys.executable, os.path.join(EXAMPLES, 'line', 'run.py'), '--out', folder, '--seconds', str(seconds), *words,
-               timeout=240)
+    done = run(sys.executable, os.path.join(EXAMPLES, 'line', 'run.py'), '--out', folder, '--seconds', str(seconds), *words)
     last = (done.stdout.strip().splitlines() or [''])[-1]
     return last, done.stdout[-600:] + done.stderr[-600:]
 
@@ -183,9 +195,12 @@ def rough_is_wrong():
 
 
 def is_missed(seconds, words, *changes):
-    """A planted fault: the run says that it is wrong."""
-    last, text = run_of(built(*changes), seconds, words)
-    return None if 'WRONG: ' in last else text
+    """A planted fault: a run says that it is wrong, the first one or a longer one."""
+    for longer in LONGER:
+        last, text = run_of(built(*changes), seconds * longer, words)
+        if 'WRONG: ' in last:
+            return None
+    return text
 
 
 @contextlib.contextmanager
@@ -350,8 +365,7 @@ def ring_is_wrong(*changes):
     with begun(*changes) as (link, lines):
         lines.hold()
         link.sendall(b'\x7e' * (RING - len(polls + first)) + polls + first + gone)
-        while unread(link, termios.TIOCOUTQ):
-            time.sleep(0.1)
+        until(lambda: not unread(link, termios.TIOCOUTQ))
         time.sleep(0.5)
         lines.release()
         heard = answers(link, 3)
@@ -373,7 +387,7 @@ def stations_are_mixed():
         link.sendall(poll(3)[:-2] + b'\x7e' + poll(4))
         heard, damaged = heard + answers(link, 1), lines.counts()
         link.sendall(flood + b'\x7e' + poll(5))
-        link.settimeout(100)
+        link.settimeout(LONGEST)
         heard, flooded = heard + answers(link, 1), lines.counts()
     errors = [counts['receive-errors'] for counts in (before, damaged, flooded)]
     is_right = ([octets[1] for octets in heard], errors) == ([2, 4, 5], [0, 1, 255]) and flooded['scans'] > damaged['scans']
@@ -392,11 +406,8 @@ def fill(master, slave):
     """Reads nothing more after the first command until the terminal takes no more. The commands with the configuration fill it
     in seconds."""
     answer_flags(master, 0)
-    ends_at = time.monotonic() + 30
-    while select.select([], [slave], [], 0)[1]:
-        if time.monotonic() > ends_at:
-            raise cortex.Failed('the terminal is not full after 30 s')
-        time.sleep(0.1)
+    if not until(lambda: not select.select([], [slave], [], 0)[1]):
+        raise cortex.Failed('the terminal does not fill')
 
 
 def is_held(*words, ending=None):
@@ -409,9 +420,9 @@ def is_held(*words, ending=None):
             try:
                 fill(master, slave)
                 if ending:
-                    time.sleep(0.5)
+                    until(lambda: sleeps(program.pid))
                     program.send_signal(ending)
-                said = program.communicate(timeout=3 if ending else 30)[1]
+                said = program.communicate(timeout=LONGEST)[1]
             except subprocess.TimeoutExpired:
                 return 'it goes on'
             finally:
@@ -424,9 +435,80 @@ def is_held(*words, ending=None):
 
 
 def held_rows():
+    if not check.has_terminal('a controller ends on a line that takes no more'):
+        return
     for word, ending in (('SIGTERM', signal.SIGTERM), ('SIGINT', signal.SIGINT)):
         check.fault('a controller ends on a line that takes no more: ' + word, lambda it=ending: is_held(ending=it))
     check.fault('a controller ends on a line that takes no more: its time', is_held, '--seconds', '15')
+
+
+# ---- A power cut ----
+
+def cut_once(program, seed):
+    """What is wrong in a controller's table after its power has failed once; None if each move is in it or is missing at a mark."""
+    # In memory if possible: each number waits for the disk.
+    with tempfile.TemporaryDirectory(dir='/dev/shm' if os.path.isdir('/dev/shm') else room) as folder:
+        done = run(program, folder, str(seed))
+        if done.returncode or not done.stderr.endswith('marks without a reason 0\nunsynced 0\n'):
+            return 'seed %d' % seed, done.returncode, done.stderr[-300:]
+        with open(os.path.join(folder, 'record.csv'), encoding='ascii', newline='') as file:
+            rows = list(csv.DictReader(file))
+    made = [(0, *map(int, line.split())) for line in done.stdout.splitlines()]
+    try:
+        fault = moves.fault_of(made, rows)
+    except (KeyError, TypeError, ValueError) as why:
+        fault = 'no table: %s' % why
+    return fault and ('seed %d' % seed, fault, done.stderr[-300:])
+
+
+def power_loses(*changes):
+    """The power of a controller fails: what is wrong in its table, at the first seed that finds it."""
+    program = os.path.join(tempfile.mkdtemp(dir=room), 'power')
+    folder = EXAMPLES
+    if changes:
+        folder = os.path.join(tempfile.mkdtemp(dir=room), 'sources')
+        shutil.copytree(EXAMPLES, folder, ignore=shutil.ignore_patterns('out'))
+        for name, old, new in changes:
+            change(os.path.join(folder, 'controller', name), old, new)
+    compile_here(program, '-I', LIBRARY, '-I', os.path.join(folder, 'controller'), '-DFIO2070_NO_LOG', '-Wl,--wrap=fdatasync',
+                 '-Wl,--wrap=pwrite64', *(os.path.join(folder, 'controller', name) for name in ('tables.c', 'controller_link.c')),
+                 os.path.join(TOP, 'tests/support/c/power.c'), power_object())
+    return next(filter(None, (cut_once(program, seed) for seed in range(1, CUTS + 1))), None)
+
+
+@functools.cache
+def power_object():
+    """The portable library for this machine."""
+    made = os.path.join(room, 'power.o')
+    cortex.run('cc', '-std=c99', '-O1', '-DFIO2070_NO_LOG', '-c', os.path.join(LIBRARY, 'fio2070.c'), '-o', made)
+    return made
+
+
+def second_goes_on():
+    """Of two controllers with one number, the second ends and says why. Returns what they do otherwise."""
+    master, slave = pty.openpty()
+    tty.setraw(slave)
+    keep = os.path.join(room, 'one.number')
+    words = [os.path.join(built(), 'controller'), '--keep', keep, os.ttyname(slave), os.path.join(room, 'one.csv')]
+    try:
+        with subprocess.Popen(words, stderr=subprocess.DEVNULL) as first:
+            os.read(master, 1)
+            second = run(*words[:-1], os.path.join(room, 'two.csv'), timeout=20)
+            goes_on = first.poll() is None
+            first.kill()
+    finally:
+        os.close(master)
+        os.close(slave)
+    said = 'controller: %s: another controller has it\n' % keep
+    return None if (second.returncode, second.stderr, goes_on) == (1, said, True) else (second, goes_on)
+
+
+def power_rows():
+    check.fault('the power of a controller fails, %d times' % CUTS, power_loses)
+    for name, *faults in (('a table that is shorter, without a mark', NO_MARK), ('a torn row that is gone on with', TORN_ROW),
+                          ('a torn number', ANY_LINE, ANY_NUMBER), ('a number that is kept before its table', NOT_SETTLED),
+                          ('a block that is written twice after a power cut', NEVER_CUT)):
+        check.fault('found: ' + name, finds_nothing, power_loses, *faults)
 
 
 # ---- A processor of 32 bits whose milliseconds need more ----
@@ -454,7 +536,7 @@ def late_run(seconds, *words, flags=None):
     reader = threading.Thread(target=drain, args=(master, flags))
     reader.start()
     begun = time.monotonic()
-    done = run('qemu-arm', program, '--seconds', str(seconds), *words[:-1], os.ttyname(slave), words[-1], timeout=60)
+    done = run('qemu-arm', program, '--seconds', str(seconds), *words[:-1], os.ttyname(slave), words[-1])
     took = time.monotonic() - begun
     os.close(slave)
     reader.join()
@@ -464,14 +546,16 @@ def late_run(seconds, *words, flags=None):
 def late_controller():
     """A controller that nobody answers ends after its time, and the two seconds in which it waits for an answer."""
     status, took, said = late_run(4, os.path.join(room, 'late.csv'))
-    return None if status == 1 and 5.5 < took < 15 else (status, took, said)
+    return None if status == 1 and took > 5.5 else (status, took, said)
 
 
 def large_table():
     """A restart of the module is written at the end of a table of 3 GB, and its length is kept."""
     table, keep, length = os.path.join(room, 'large.csv'), os.path.join(room, 'large.number'), 3 << 30
     with open(table, 'wb') as file:
-        file.truncate(length)
+        file.truncate(length - 1)
+        file.seek(0, os.SEEK_END)
+        file.write(b'\n')
     with open(keep, 'w', encoding='ascii') as file:
         file.write('005 %020d %020d\n' % (length, 0))
     said = late_run(2, '--keep', keep, table, flags=128)
@@ -507,6 +591,8 @@ def late_rows():
     missing = next((it for it in (LATE[0], 'qemu-arm') if not shutil.which(it)), None)
     for name, row in (('the controller after 24 days', late_controller), ('the tester after 24 days', late_tester),
                       ('a table of 3 GB', large_table)):
+        if 'tester' not in name and not check.has_terminal('32 bits: ' + name):
+            continue
         if missing:
             check.skip('32 bits: ' + name, 'no %s here (Debian packages gcc-arm-linux-gnueabihf, qemu-user)' % missing)
         else:
@@ -516,10 +602,10 @@ def late_rows():
 # ---- Polls that race scans ----
 
 def wrong_entry(link, seconds):
-    """Polls without a pause for at most this time. Returns the first wrong entry: it has the same state as the entry before
-    of its input. If there is none, returns nothing, or why there is nothing to see."""
+    """Polls without a pause for this time, and until there is something to see. Returns the first wrong entry: it has the same state as
+    the entry before of its input. If there is none, returns nothing, or why there is nothing to see."""
     states, number, entries, ends_at = {}, 0, 0, time.monotonic() + seconds
-    while time.monotonic() < ends_at:
+    while time.monotonic() < ends_at or entries <= 1000 and time.monotonic() < ends_at + LONGEST:
         block, number = asked(link, bytes([54, number])), (number + 1) % 256
         if block[-5] & 4:
             states.clear()
@@ -549,7 +635,7 @@ def tested(folder, image, events, options, *words):
     """What the tester says about the running firmware."""
     with on_board(folder, image) as (_, lines):
         board.Lines(lines).close()
-        return run(TESTER, *options, '--socket', '127.0.0.1:%d' % lines, *words, str(events), timeout=280)
+        return run(TESTER, *options, '--socket', '127.0.0.1:%d' % lines, *words, str(events))
 
 
 def differs(image, events, *options):
@@ -585,7 +671,7 @@ def judged(seconds, *changes):
     """What `fiolog live` says of a running firmware whose inputs move, by the recipe."""
     folder = built(*changes)
     with on_board(folder) as (link, lines), toggled(board.Lines(lines)):
-        return run(os.path.join(TOP, 'tools/fiolog'), *recipe(folder, link, seconds), timeout=120, cwd=folder, env=fiolog.ENVIRONMENT)
+        return run(os.path.join(TOP, 'tools/fiolog'), *recipe(folder, link, seconds), cwd=folder, env=fiolog.ENVIRONMENT)
 
 
 def recipe_rows():
@@ -593,11 +679,14 @@ def recipe_rows():
     if not os.path.exists(fiolog.LIBRARY):
         check.skip('the recipe for a module that is only polled', 'no libfio2070.so here (make library)')
         return
-    good = judged(3)
-    check.holds('the recipe for a module that is only polled', good.returncode == 0 and re.search(
-        r'polls \d\d+, .* breaches 0, breaches in content 0', good.stdout) and re.search(r'transitions \d\d\d', good.stderr), good)
+    for longer in LONGER:
+        good = judged(3 * longer)
+        is_long = re.search(r'polls \d\d+, ', good.stdout) and re.search(r'transitions \d\d\d', good.stderr)
+        if is_long:
+            break
+    check.holds('the recipe for a module that is only polled', good.returncode == 0 and is_long and ', breaches 0, breaches in content 0' in good.stdout, good)
     if check.whole('found: a state that is always 1'):
-        wrong = judged(3, STATE_STUCK)
+        wrong = judged(12, STATE_STUCK)
         check.holds('found: a state that is always 1', wrong.returncode == 1 and ': alternate: ' in wrong.stdout, wrong)
 
 
@@ -606,6 +695,7 @@ def main():
     check.fault('a ring keeps the place of what it loses', ring_loses)
     check.fault('found: a ring without a mark after an overrun', finds_nothing, ring_loses, NOT_MARKED)
     check.fault('found: an overrun that is not cleared', finds_nothing, ring_loses, NOT_CLEARED)
+    power_rows()
     if cortex.missing():
         check.skip('firmware and controller', cortex.missing())
         check.end()
@@ -622,6 +712,7 @@ def main():
         check.fault('found: a loss that is not reported', finds_nothing, ring_is_wrong, NOT_REPORTED)
         check.fault('found: a place that is freed first', finds_nothing, frees_early, FREED_FIRST)
     held_rows()
+    check.fault('two controllers with one number', second_goes_on)
     late_rows()
     if check.wants('the recipe for a module that is only polled') or check.wants('found: a state that is always 1'):
         recipe_rows()

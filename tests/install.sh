@@ -112,11 +112,17 @@ without_library() {
         [ ! -e "$room/bare/share/man/man1/fiolog.1" ] && grep -q 'fiolog is not installed' said
 }
 
+# list_again FOLDER: SHA256SUMS there has the new list of sources, if there is one.
+list_again() {
+    [ ! -e "$1/SHA256SUMS" ] ||
+        sed -i "s/^[0-9a-f]*\(  fio2070-x86_64-linux-gnu\.sources\)\$/$(sha256sum <listed | cut -d ' ' -f 1)\1/" "$1/SHA256SUMS"
+}
+
 # copy_tree FOLDER: copies the sources, as a user has them whose files nobody else can read. The program of dist/ runs there: whether
 # it is of the present sources is asked by tests/release-files.sh.
 copy_tree() {
     mkdir -p "$1" && (cd "$top" && tar -c --exclude=./.git --exclude=out --exclude='./libfio2070*' --exclude=./release .) | tar -x -C "$1" &&
-        "$1/packaging/program" --sources >listed && cp listed "$1/dist/fio2070-x86_64-linux-gnu.sources" && chmod -R go-rwx "$1"
+        "$1/packaging/program" --sources >listed && cp listed "$1/dist/fio2070-x86_64-linux-gnu.sources" && list_again "$1/dist" && chmod -R go-rwx "$1"
 }
 
 # as_nobody COMMAND..: runs a command as nobody if this runs as root, who can write everywhere.
@@ -178,6 +184,16 @@ is_hardened() {
 prefix="$room/a folder"
 first 'make install' run_make install PREFIX="$prefix"
 cp "$room/log" "$room/installing"
+# escapes_blank: pkg-config gives the folder of the header as one word.
+escapes_blank() {
+    said=$(PKG_CONFIG_PATH=$prefix/lib/pkgconfig pkg-config --cflags fio2070) && eval "set -- $said" && [ "$1" = "-I$prefix/include" ]
+}
+if has_command pkg-config && [ -e "$prefix/lib/pkgconfig/fio2070.pc" ]; then
+    holds 'a blank in PREFIX, by pkg-config' escapes_blank
+fi
+# refuses_blank: a blank in OUT ends make in a line.
+refuses_blank() { ! run_make -s library OUT="$room/a folder" >said 2>&1 && grep -q 'OUT cannot have a blank' said; }
+holds 'a blank in OUT is refused' refuses_blank
 page=$top/man/fio2070.1
 tools=$prefix/share/fio2070/tools
 if "$top/packaging/program" --proved >"$room/program"; then

@@ -9,7 +9,7 @@ from typing import NamedTuple, Optional
 
 from support.check import Check
 from support.fiolog import use_library, verdicts_on
-from support.log_runs import spells
+from support.sessions import spells
 from support.tables import TOP
 
 POLL, BLOCK, STATUS, ANSWER = 54, 182, 177, 128

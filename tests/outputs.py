@@ -6,6 +6,7 @@ that die, Ctrl-C. Last line: `N passed, M failed`."""
 import contextlib
 import json
 import os
+import random
 import re
 import signal
 import stat
@@ -15,9 +16,11 @@ import tempfile
 import time
 from pathlib import Path
 
+import support.fiolog
 from support.check import Check
-from support.fiolog import ENVIRONMENT, TOOL, on_terminal, started, use_library, written
+from support.fiolog import ENVIRONMENT, PIPE, TOOL, copied, on_terminal, started, use_library, written
 from support.tables import TOP
+from support.waits import LONGEST, sleeps, until, used
 
 GOOD = b'> 3605\n< b605018c03e700000003e8\n> 3606\n< b606010c07d000000007d1\n'
 # A line that may have held a frame, with what a terminal would obey, octets that are no UTF-8, other letters, and line ends of
@@ -42,6 +45,11 @@ def run(*words, text=b'', folder=None, tool=TOOL, out=subprocess.PIPE, **setting
     done = subprocess.run([*tool, *words], input=text, stdout=out, stderr=subprocess.PIPE, env={**ENVIRONMENT, **settings}, cwd=folder,
                           timeout=300, check=False)
     return done.returncode, done.stdout, done.stderr
+
+
+def run_as_is(*words, text=b''):
+    """A run of `fiolog` with the settings of this process, in the quick form in a copy of it."""
+    return copied(words, text) if support.fiolog.may_copy and len(text) < PIPE else run(*words, text=text)
 
 
 def run_of_shell(words):
@@ -84,7 +92,7 @@ def check_shown(check, folder):
     for acting, shown in zip(ACTING, SHOWN):
         log = DAMAGED + acting + b'\n'
         for words, stream in ((['decode'], 1), (['decode', '-v'], 2), (['decode', '--json'], 1), (['decode', '--csv'], 1)):
-            done = run(*words, text=log)
+            done = run_as_is(*words, text=log)
             found = done[stream].decode('utf-8', 'replace')
             if '--json' in words:
                 found = json.loads(found.splitlines()[-1])['fault']
@@ -94,11 +102,13 @@ def check_shown(check, folder):
     def refuse(word):
         raise ValueError(word)
     for words in (['decode', '--json', name], ['check', '--json', name, name], ['check', '--json', name], ['check', '--json', name, name + '.none']):
-        rows = [json.loads(line, parse_constant=refuse) for line in lines_of(run(*words)[1])]
+        rows = [json.loads(line, parse_constant=refuse) for line in lines_of(run_as_is(*words)[1])]
         names = {row['file'] for row in rows if 'file' in row} - {os.path.join(folder, '\\x1b[2J\\xff.log.none')}
         check.equal('the name in %s' % ' '.join(words[:2]), {os.path.join(folder, '\\x1b[2J\\xff.log')}, names)
     os.mkdir(os.path.join(folder, '['))
     red = written(folder, '[/red].log', GOOD)
+    if not check.has_terminal('names on a terminal'):
+        return
     for python in [sys.executable, '/usr/bin/python3'] if os.path.exists('/usr/bin/python3') else [sys.executable]:
         text = on_terminal(python, ['stats', '-q', name, red], COLUMNS='400')
         check.holds('names on a terminal of %s' % python, all(words in text for words in ('[2J\\xff', '[/red].log'))
@@ -154,24 +164,28 @@ def check_evidence(check, folder):
 
 
 def check_signals(check, out):
-    """Ctrl-C and SIGTERM while a file is made leave the old one."""
-    for number in (signal.SIGINT, signal.SIGTERM):
+    """Ctrl-C, SIGTERM and a kill while a file is made leave the old one, and nothing beside it where a file needs no name."""
+    before = sorted(os.listdir(os.path.dirname(out)))
+    for number, status in ((signal.SIGINT, 130), (signal.SIGTERM, 130), (signal.SIGKILL, -signal.SIGKILL)):
         command = started('convert', '--to', 'frames', '-o', out, stdout=None)
         command.stdin.write(GOOD)
         command.stdin.flush()
         folder = os.path.dirname(out)
-        wait_until(lambda: any(name.startswith('.fiolog-') for name in os.listdir(folder)))
+        until(lambda: has_open_in(command.pid, folder))
+        left = [name for name in sorted(os.listdir(folder)) if name not in before]
+        owned = all(name.startswith('.out.fiolog-') for name in left)
         command.send_signal(number)
-        err = command.communicate(timeout=60)[1]
-        check.equal('%s leaves the old file' % number.name, (130, b'', GOOD), (command.returncode, err, state(out)[0]))
+        err = command.communicate(timeout=LONGEST)[1]
+        check.equal('%s leaves the old file' % number.name, (status, b'', GOOD, True), (command.returncode, err, state(out)[0], owned))
+        for name in left if status < 0 else ():
+            os.unlink(os.path.join(folder, name))
 
 
-def wait_until(holds, seconds=60):
-    """Waits for a condition, for a minute at most."""
-    for _ in range(10 * seconds):
-        if holds():
-            return
-        time.sleep(0.1)
+def has_open_in(number, folder):
+    """Whether a process has a file of this folder open, with a name or without."""
+    with contextlib.suppress(OSError):
+        return any(os.path.dirname(os.readlink(link)) == os.path.realpath(folder) for link in Path('/proc/%d/fd' % number).iterdir())
+    return False
 
 
 def check_recordings(check, folder):
@@ -193,7 +207,7 @@ def check_recordings(check, folder):
         os.mkfifo(pipe)
         with subprocess.Popen(['cat', pipe], stdout=subprocess.PIPE) as reader:
             status = run(command, *words, pipe)[0]
-            check.equal('%s into a pipe' % command, (0, GOOD), (status, reader.communicate(timeout=60)[0]))
+            check.equal('%s into a pipe' % command, (0, GOOD), (status, reader.communicate(timeout=LONGEST)[0]))
     for name in ('--exec', '--serial', '--fifo'):
         status, _, err = run('live', name, '')
         check.equal('live %s without a name' % name, (2, 1), (status, len(err.splitlines())))
@@ -235,10 +249,10 @@ def check_tools(check, folder):
 
 
 def seconds_of(*words, text):
-    """How long a run takes."""
-    begun = time.monotonic()
+    """The seconds of a processor that a run takes."""
+    before = used()
     run(*words, text=text)
-    return time.monotonic() - begun
+    return used() - before
 
 
 def check_long(check):
@@ -265,6 +279,20 @@ def children(number):
     return []
 
 
+def writer_of(pipe):
+    """The descriptor of the end of a named pipe that is written, or None if nobody reads there."""
+    with contextlib.suppress(OSError):
+        return os.open(pipe, os.O_WRONLY | os.O_NONBLOCK)
+    return None
+
+
+def at_pipe(command, pipe):
+    """Waits until a process of a command reads this pipe, and all else that it had to do is done; or until it has ended. Returns the writer."""
+    writer = until(lambda: writer_of(pipe) or command.poll() is not None)
+    until(lambda: all([sleeps(child) for child in children(command.pid)]) and sleeps(command.pid))
+    return writer
+
+
 def check_many(check, folder):
     """Of many logs each fault is a line, and the rows of the others are written."""
     logs, pipe = [written(folder, '%d.log' % number, GOOD) for number in range(3)], os.path.join(folder, 'pipe')
@@ -276,25 +304,57 @@ def check_many(check, folder):
     check.equal('standard input among many', (0, b''), (done[0], done[2]))
     command = started('check', '--jobs', '2', *logs, pipe)
 
-    def has_ended():
+    while command.poll() is None:
+        writer = at_pipe(command, pipe)
         for child in children(command.pid):
             with contextlib.suppress(OSError):
                 os.kill(child, signal.SIGKILL)
-        return command.poll() is not None
-    wait_until(has_ended, 600)
-    out, err = command.communicate(timeout=60)
-    # A log whose process was ended before it was read has its line too.
-    died = err.decode().splitlines()
-    each = ['fiolog: %s: the process that read it died' % name for name in (*logs, pipe)]
-    check.equal('a process that dies', (3, True, each[-1:], []),
-                (command.returncode, b'all %d ' % (4 - len(died)) in out, died[-1:], [line for line in died if line not in each]))
+        if command.poll() is None:
+            os.close(writer)
+    out, err = command.communicate(timeout=LONGEST)
+    check.equal('a process that dies', (3, True, 'fiolog: %s: the process that read it died\n' % pipe), (command.returncode, b'all 3 ' in out, err.decode()))
     for number in (signal.SIGINT, signal.SIGTERM):
         command = started('check', '--jobs', '2', *logs, pipe)
-        wait_until(lambda: children(command.pid))
-        time.sleep(2)
+        writer = at_pipe(command, pipe)
         command.send_signal(number)
-        out, err = command.communicate(timeout=60)
+        out, err = command.communicate(timeout=LONGEST)
+        os.close(writer)
         check.equal('%s keeps the rows' % number.name, (130, True, 'fiolog: ended: 3 of 4 logs were read\n'), (command.returncode, b'all 3 ' in out, err.decode()))
+
+
+def is_running(number):
+    """Whether a process is there, and has not ended."""
+    with contextlib.suppress(OSError):
+        return Path('/proc/%d/stat' % number).read_text().rsplit(')', 1)[1].split()[0] != 'Z'
+    return False
+
+
+def check_killed(check, folder):
+    """What reads many logs ends with the command, however that ends; no signal is lost while its processes begin."""
+    pipes = [os.path.join(folder, 'pipe%d' % number) for number in range(3)]
+    for pipe in pipes:
+        os.mkfifo(pipe)
+    command = started('check', '--jobs', '3', *pipes)
+    until(lambda: len(children(command.pid)) == 3)
+    readers = children(command.pid)
+    time.sleep(1)
+    command.kill()
+    command.communicate(timeout=60)
+    until(lambda: not any(map(is_running, readers)))
+    check.equal('a killed command: its processes end', (3, []), (len(readers), [number for number in readers if is_running(number)]))
+    for reader in filter(is_running, readers):
+        os.kill(reader, signal.SIGKILL)
+    dice, wrong = random.Random(1), []
+    for _ in range(100 if check.given.all else 20):
+        number = dice.choice((signal.SIGINT, signal.SIGTERM, signal.SIGHUP))
+        command = started('check', '--jobs', '3', *pipes)
+        until(lambda it=command: children(it.pid))
+        time.sleep(dice.uniform(0, 0.02))
+        command.send_signal(number)
+        err = command.communicate(timeout=60)[1]
+        if command.returncode != 130 or err != b'fiolog: ended: 0 of 3 logs were read\n':
+            wrong.append((number.name, command.returncode, err[-300:]))
+    check.equal('signals while processes begin', [], wrong)
 
 
 def check_odd(check, folder):
@@ -304,7 +364,7 @@ def check_odd(check, folder):
              ('no line end', open_end, (0, 1)), ('a folder', folder, (3,)), ('no file', 'none', (3,)))
     for words in COMMANDS if check.whole('odd files by all commands') else COMMANDS[::4]:
         for name, path, expected in files:
-            status, _, err = run(*words, path)
+            status, _, err = run_as_is(*words, path)
             check.holds('%s of %s' % (' '.join(words), name), status in expected and b'Traceback' not in err, err)
     check.equal('a reader that has enough', b'', run_of_shell('decode -q %s | head -n 1' % ' '.join([open_end] * 500))[2])
     command = started('decode', '-q')
@@ -314,7 +374,7 @@ def check_odd(check, folder):
     command.stdout.close()
     command.send_signal(signal.SIGINT)
     command.stdin.close()
-    check.equal('Ctrl-C, and nobody reads any more', (130, b''), (command.wait(60), command.stderr.read()))
+    check.equal('Ctrl-C, and nobody reads any more', (130, b''), (command.wait(LONGEST), command.stderr.read()))
     command.stderr.close()
 
 
@@ -323,7 +383,7 @@ def main():
     # A shell that runs this in the background has it ignore Ctrl-C, and what it starts would too.
     signal.signal(signal.SIGINT, signal.default_int_handler)
     use_library(check, 'outputs of fiolog')
-    for part in (check_locales, check_shown, check_evidence, check_recordings, check_full, check_tools, check_many, check_odd):
+    for part in (check_locales, check_shown, check_evidence, check_recordings, check_full, check_tools, check_many, check_killed, check_odd):
         with tempfile.TemporaryDirectory() as folder:
             part(check, folder)
     check_long(check)

@@ -118,8 +118,9 @@ end
 cat >user.c <<'end'
 #include <fio2070.h>
 int main(void) {
+    static const struct fio2070_poller poller = {5};
     uint8_t poll[2] = {0, 0};
-    return fio2070_version() != FIO2070_VERSION || fio2070_encode_poll(5, poll, sizeof poll) != 2 || poll[1] != 5;
+    return fio2070_version() != FIO2070_VERSION || fio2070_poller_poll(&poller, poll, sizeof poll) != 2 || poll[1] != 5;
 }
 end
 

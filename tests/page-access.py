@@ -5,12 +5,13 @@ mark around it; and what is said if the browser has no memory of 64 bits, or pas
 passed, M failed`."""
 
 import os
+import re
 import shutil
 import tempfile
 
 from support.browsers import ELEMENT, browsers, running
 from support.check import Check
-from support.opened import PAGE, InBrowser, example, make_page, started, words_in
+from support.opened import PAGE, InBrowser, example, has_hash, make_page, script_hash, scripts_in, started, words_in
 
 # An example that breaks a rule.
 NEAR_ENTRIES = 'near-entries.transcript'
@@ -97,13 +98,18 @@ BEGIN = "<script>\n'use strict';"
 NEVER = {'a script that it cannot read': BEGIN + ' let of the = future;', 'no scripts': BEGIN.replace('<script>', '<script type="text/none">')}
 
 
-def older(browser, folder, begin, query='', starts=True):
+def named(page):
+    """The page with a policy that names its scripts as they are."""
+    return re.sub("'sha256-[^']*'", ' '.join("'sha256-%s'" % script_hash(text) for text in scripts_in(page)), page, count=1)
+
+
+def older(browser, folder, begin, query='', starts=True, policy=named):
     """The page in a browser that another begin of the script makes older: the text of its trouble, after it has tried to start."""
     with open(PAGE, encoding='utf-8') as file:
         page = file.read()
     path = os.path.join(folder, 'older.html')
     with open(path, 'w', encoding='utf-8') as file:
-        file.write(page.replace(BEGIN, begin))
+        file.write(policy(page.replace(BEGIN, begin)))
     browser.open('file://' + path + query)
     if starts:
         browser.wait('return document.documentElement.dataset.bits || document.getElementById("trouble").textContent.includes("(")')
@@ -131,6 +137,9 @@ def check_older(check, browser, folder):
     for title, begin in NEVER.items():
         seen = older(browser, folder, begin, starts=False)
         check.holds(title, all(word in seen for word in VERSIONS), seen)
+    if has_hash(check):
+        older(browser, folder, '<script>window.added = 1</script>' + BEGIN, policy=str)
+        check.equal('a script that the policy does not name', (None, ''), (browser.run('return window.added'), words_in(browser, '#trouble')))
 
 
 # A phone's width and height, as those of a frame in a page: a browser's window is never so narrow.

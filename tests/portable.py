@@ -1,10 +1,11 @@
 #!/usr/bin/env -S python3 -B
-"""Builds the portable library of `make portable`, and compares its results for random frames and lossy links with those of
-the library for x86-64: here by one compiler; with `--all` by each compiler and with sanitizers, on two other processors
-under qemu-user and on a Cortex-M4 under qemu-system-arm, and by wrong translators, each of which is found. With `--all
---every` on all processors, and by all wrong translators. Last line: `N passed, M failed`."""
+"""Builds the portable library of `make portable`, and compares what all its calls return for random octets and frames with what
+those of the library for x86-64 do: here by one compiler; with `--all` by each compiler and with sanitizers, on two other
+processors under qemu-user, in a smaller run on a Cortex-M4 under qemu-system-arm, and by wrong translators, each of which is
+found. With `--all --every` on all processors, and by all wrong translators. Last line: `N passed, M failed`."""
 
 import functools
+import glob
 import os
 import re
 import shutil
@@ -20,7 +21,7 @@ from support.translators import WRONG, changed
 PORTABLE = os.path.join(TOP, 'portable')
 TRANSLATOR = os.path.join(TOP, 'tools', 'portable')
 MODULE = os.path.join(TOP, 'crates/fio_c/out/wasm64-unknown-unknown/fio_c.wasm')
-COMPARE = os.path.join(TOP, 'tests/support/c/compare.c')
+CALLS = sorted(glob.glob(os.path.join(TOP, 'tests/support/c/calls/*.c')))
 STRICT = ['-Wall', '-Wextra', '-Wpedantic', '-Wconversion', '-Werror']
 # By one compiler: each takes long for a file of this size.
 FAULTS = {'gcc': ['-fsanitize=address,undefined', '-fno-sanitize-recover=all']}
@@ -33,10 +34,9 @@ PROCESSORS = [('powerpc', 'powerpc-linux-gnu-', [], 'qemu-ppc'),
               ('riscv64', 'riscv64-linux-gnu-', [], 'qemu-riscv64'),
               ('s390x', 's390x-linux-gnu-', [], 'qemu-s390x')]
 USUAL = 2
-# Frames, scripts and seed of a comparison.
-RUN = ['1000', '100', '20261124']
-SHORT = ['-500', '50', '7']
-LONG = ['-5000', '500', '1']
+# Cases and seed of a comparison.
+RUN = ['100', '20261124']
+SHORT = ['20', '7']
 # The most instructions of calls on a Cortex-M4, compiled with -Os, and the most octets of stack.
 MOST = {'module_scan, nothing changes': 150, 'module_scan, inputs 0 and 1 change': 1500,
         'module_scan, inputs 0 and 63 change': 1500, 'module_scan, 64 inputs change': 15000,
@@ -48,7 +48,7 @@ check = Check(every=False)
 
 def build(compiler, options, name, folder=PORTABLE):
     """Builds the comparison over a portable library. Returns what failed."""
-    return fault_of(compiler, '-std=c99', *options, '-DFIO2070_TRAP=abort', '-include', 'stdlib.h', '-I', folder, COMPARE,
+    return fault_of(compiler, '-std=c99', *options, '-DFIO2070_TRAP=abort', '-include', 'stdlib.h', '-I', folder, *CALLS,
                     os.path.join(folder, 'fio2070.c'), '-o', path(name))
 
 
@@ -57,7 +57,7 @@ def differs(command):
     done = run(*command, *RUN)
     if done.returncode:
         return 'status %d %s' % (done.returncode, done.stderr[-300:])
-    return None if done.stdout == expected else 'another text of %d lines' % done.stdout.count('\n')
+    return None if done.stdout == expected else 'other sums: %s' % done.stdout
 
 
 def translate(header, out, module=MODULE):
@@ -70,6 +70,18 @@ def refuses(change, words):
         header = written('changed.h', change(file.read()))
     done = translate(header, path('refused'))
     return None if done.returncode and words in done.stderr else 'status %d: %s' % (done.returncode, done.stderr)
+
+
+def long_lines():
+    """The lines, with those that go on below, that are longer than C99 has to take."""
+    with open(os.path.join(PORTABLE, 'fio2070.c'), encoding='utf-8') as file:
+        return [line[:60] for line in file.read().replace('\\\n', '').split('\n') if len(line) > 4095]
+
+
+def is_taken(compiler, standard):
+    """Whether a compiler of an older standard takes the file."""
+    said = run(compiler, '-std=' + standard, '-w', '-fsyntax-only', '-x', 'c++' if '+' in standard else 'c', os.path.join(PORTABLE, 'fio2070.c'))
+    return 'fio2070.c is C99, or C++11' not in said.stderr
 
 
 @functools.cache
@@ -94,10 +106,10 @@ def on_processor(name, prefix, options, qemu):
 
 
 def others():
-    if not check.whole('frames and links on other processors'):
+    if not check.whole('all calls on other processors'):
         return
     for place, (name, prefix, options, qemu) in enumerate(PROCESSORS):
-        row = 'frames and links on ' + name
+        row = 'all calls on ' + name
         missing = [it for it in (prefix + 'gcc', qemu) if not shutil.which(it)]
         if place >= USUAL and not check.given.every:
             continue
@@ -107,41 +119,38 @@ def others():
             check.fault(row, on_processor, name, prefix, options, qemu)
 
 
-def on_cortex(options, program, *words):
+def on_cortex(options, *words):
     """What a program writes on a Cortex-M4, or why it does not run."""
     try:
-        return cortex.output_of(room, options, PORTABLE, program, words)
+        return cortex.output_of(room, options, PORTABLE, *words)
     except cortex.Failed as why:
         return str(why)
 
 
 def within_limits():
     """On a Cortex-M4 no call takes more instructions than docs and users count on."""
-    counted = dict(line.split(' ', 1)[1].rsplit(' ', 1) for line in on_cortex(['-Os'], 'cortex_m/counts.c', 'counts').splitlines())
+    counted = dict(line.split(' ', 1)[1].rsplit(' ', 1) for line in on_cortex(['-Os'], 'cortex_m/counts.c', ['counts']).splitlines())
     return [(case, counted.get(case)) for case, most in MOST.items() if int(counted.get(case, most + 1)) > most]
 
 
 def cortex_rows():
-    if not check.whole('frames and links on a Cortex-M4'):
+    if not check.whole('frames and a link on a Cortex-M4'):
         return
-    rows = [('frames and links on a Cortex-M4', ['-Os'], SHORT, wanted)]
-    if check.given.every:
-        rows.append(('more frames and links on a Cortex-M4', ['-O2', '-DFIO2070_FAST'], LONG, run(path('native'), *LONG).stdout))
-    for row, options, words, answer in rows:
-        if cortex.missing():
-            check.skip(row, cortex.missing())
-        elif check.wants(row):
-            check.equal(row, answer, on_cortex(options, 'compare.c', 'compare', *words))
     if cortex.missing():
-        check.skip('limits on a Cortex-M4', cortex.missing())
-    else:
-        check.fault('limits on a Cortex-M4', within_limits)
+        check.skip('frames and a link on a Cortex-M4', cortex.missing())
+        return
+    source = os.path.join(TOP, 'tests/support/c/small.c')
+    fault = fault_of('gcc', '-O1', '-I', os.path.join(TOP, 'include'), source, os.path.join(TOP, 'libfio2070.a'), '-o', path('small'))
+    check.holds('frames and a link on x86-64', not fault, fault)
+    for options in [['-Os']] + [['-O2', '-DFIO2070_FAST']] * check.given.every:
+        check.equal('frames and a link on a Cortex-M4, ' + ' '.join(options), run(path('small')).stdout, on_cortex(options, 'small.c', ['small']))
+    check.fault('limits on a Cortex-M4', within_limits)
 
 
 def archive_for_aarch64():
     """The archive of `make library TARGET=aarch64` gives the same results."""
     return fault_of('make', '-s', '-C', TOP, 'library', 'TARGET=aarch64') or fault_of(
-        'aarch64-linux-gnu-gcc', '-O1', '-static', '-I', os.path.join(TOP, 'include'), COMPARE,
+        'aarch64-linux-gnu-gcc', '-O1', '-static', '-I', os.path.join(TOP, 'include'), *CALLS,
         os.path.join(TOP, 'aarch64/libfio2070.a'), '-o', path('archive')) or differs(['qemu-aarch64', path('archive')])
 
 
@@ -213,7 +222,7 @@ def wrong_translators():
 
 done = run('make', '-s', '-C', TOP, 'portable', 'libfio2070.a')
 check.holds('make portable', done.returncode == 0, done.stderr)
-fault = fault_of('gcc', '-O1', '-I', os.path.join(TOP, 'include'), COMPARE, os.path.join(TOP, 'libfio2070.a'), '-o', path('native'))
+fault = fault_of('gcc', '-O1', '-I', os.path.join(TOP, 'include'), *CALLS, os.path.join(TOP, 'libfio2070.a'), '-o', path('native'))
 check.holds('the comparison with the library for x86-64', not fault, fault)
 if done.returncode or fault:
     check.end()
@@ -231,7 +240,11 @@ for compiler in ('gcc', 'clang'):
         continue
     check.fault('no warning by ' + compiler, object_fault, compiler)
     check.fault('alone by ' + compiler, is_alone, compiler)
-    check.fault('frames and links by ' + compiler, lambda by: build(by, ['-O1', *(FAULTS.get(by, []) if check.given.all else [])], by) or differs([path(by)]), compiler)
+    check.fault('all calls by ' + compiler, lambda by: build(by, ['-O1', *(FAULTS.get(by, []) if check.given.all else [])], by) or differs([path(by)]), compiler)
+check.fault('no line is too long for C99', long_lines)
+for compiler, standard in (('gcc', 'c89'), ('g++', 'c++98')):
+    if shutil.which(compiler):
+        check.fault('refused: ' + standard, is_taken, compiler, standard)
 check.fault('the decoder of the examples', shows)
 check.fault('the poller of the examples', polls)
 if shutil.which('g++'):

@@ -62,9 +62,9 @@ def replaced(text, old, new):
 
 PROCEDURES = {
     'rule': Procedure('**A rule of transcripts on facts', [names_in(RULES, 'Rule')], {
-        RULES: with_rule('Rule', '    /// Broken by a line that is planted.\n')}, ['constants', 'completions']),
+        RULES: with_rule('Rule', '    /// Broken by a line that is planted.\n    ///\n    /// Source: behaviour TEES 2009, layout TEES 2009.\n')}, ['constants', 'completions']),
     'rule on content': Procedure('**A rule on content**', [names_in(CONTENT_RULES, 'ContentRule')], {
-        CONTENT_RULES: with_rule('ContentRule', '    /// Nothing is planted.\n    ///\n    /// Breach: it is planted\n'),
+        CONTENT_RULES: with_rule('ContentRule', '    /// Nothing is planted.\n    ///\n    /// Breach: it is planted\n    ///\n    /// Source: behaviour own profile, layout own profile.\n'),
         'crates/fio_tool/src/help.rt': lambda text: text + '// planted Nothing is planted.\n'}, ['constants', 'completions']),
     'subcommand': Procedure('**A subcommand of `fiolog`**', [re.findall("^    '([a-z]+)': '", text_of(FIOLOG + '__main__.py'), re.M)], {
         FIOLOG + '__main__.py': lambda text: replaced(text, 'COMMANDS = {\n', "COMMANDS = {\n    'planted': 'what is planted',\n"),

@@ -41,7 +41,9 @@ done
 given 'another option' '3605' 2 "error: unexpected argument '-x'*" -x
 given 'one word too many' '3605' 2 "error: unexpected argument 'x'*Usage: fio2070 show < FILE*" show x
 given 'help as a word' '3605' 2 "error: unrecognized subcommand 'help'*" help
-given 'a word that is no text' '3605' 2 '' "$(printf '\377')"
+given 'a word that is no UTF-8' '3605' 2 "error: unrecognized subcommand '�a�'*" "$(printf '\377a\300')"
+given 'a word of control characters' '3605' 2 "error: unexpected argument 'x�[[]31m�y�'*" show "$(printf 'x\033[31m\302\233y\001')"
+given 'a word in another script' '3605' 2 "error: unrecognized subcommand 'módulo'*" 'módulo'
 given 'help' '3605' 0 'Reads the messages*Usage: fio2070 COMMAND < FILE*Commands:
   show      Reports what the frames on standard input say*
   simulate  Runs a script of events on both ends*
@@ -65,6 +67,20 @@ for tool in show simulate check record; do
 done
 given 'a file as an argument' '3605' 2 "error: unexpected argument*Usage: fio2070 check < FILE*" check examples/good.transcript
 given 'the version' '3605' 0 'fio2070 [0-9]*' --version
+
+# If standard error is a terminal, a line there says below `good` what `check` does not judge.
+note='fio2070: check judges the order of messages; fio2070 record judges what their entries say'
+said() {
+    python3 -B -c 'import os, pty, subprocess, sys
+ours, theirs = pty.openpty()
+subprocess.run(sys.argv[2:], stdin=open(sys.argv[1]), stdout=subprocess.DEVNULL, stderr=theirs)
+os.write(theirs, b"\n")
+print(os.read(ours, 999).decode().strip())' "$@"
+}
+equal 'the note of check on a terminal' "$note" "$(said "$top/examples/doubled-entry.transcript" "$top/fio2070" check)"
+equal 'no note below a breach' '' "$(said "$top/examples/given-up-block.transcript" "$top/fio2070" check)"
+equal 'no note of another tool' '' "$(said "$top/examples/doubled-entry.transcript" "$top/fio2070" record)"
+equal 'no note in a pipe' 'good 8 frames' "$("$top/fio2070" check <"$top/examples/doubled-entry.transcript" 2>&1)"
 
 # A folder can be opened and not read.
 for tool in show simulate check record; do

@@ -1,6 +1,6 @@
 #!/usr/bin/env -S python3 -B
 """Runs the built program on random octets, random lines and mutated texts, 500 inputs for each tool and with `--all` 6,000,
-from a fixed seed: each run ends within ten seconds with status 0 or 1, writes only lines of the known forms, and its status
+from a fixed seed: each run ends within ten seconds of a processor with status 0 or 1, writes only lines of the known forms, and its status
 says whether they report a fault. `tests/random-inputs.py SEED COUNT` takes another seed and another number of inputs for
 each tool. Last line: `N passed, M failed`."""
 
@@ -8,12 +8,14 @@ import concurrent.futures
 import os
 import random
 import re
+import signal
 import subprocess
 
 from support.check import Check
 from support.frames import random_frame
 from support.pages import text_of
 from support.tables import MOST_WAITING, TOP, can_simulate, program, program_of
+from support.waits import LONGEST
 
 TOOLS = ('show', 'simulate', 'check', 'record') if can_simulate() else ('show', 'check', 'record')
 SECONDS = 10
@@ -21,7 +23,7 @@ SECONDS = 10
 
 def rules(head, words=''):
     """The rules in a table of docs/FORMATS.md with this head, whose rows have these words."""
-    table = text_of('docs/FORMATS.md').partition('| RULE | %s |\n' % head)[2].partition('\n\n')[0]
+    table = text_of('docs/FORMATS.md').partition('| RULE | %s |' % head)[2].partition('\n\n')[0]
     return re.findall(r'^\| `(\w+)` \|.*%s' % words, table, re.M)
 
 
@@ -234,10 +236,12 @@ def run(case):
     """How the run of a case ends, and what is wrong with it, or None."""
     _, tool, text = case
     try:
-        done = subprocess.run([program_of(tool), tool], input=text, stdout=subprocess.PIPE, stderr=subprocess.PIPE,
-                              timeout=SECONDS)
+        done = subprocess.run(['sh', '-c', 'ulimit -t %d; exec "$0" "$1"' % SECONDS, program_of(tool), tool], input=text, stdout=subprocess.PIPE,
+                              stderr=subprocess.PIPE, timeout=LONGEST)
     except subprocess.TimeoutExpired:
-        return None, 'no end within %d seconds' % SECONDS
+        return None, 'it waits'
+    if done.returncode == -signal.SIGXCPU:
+        return None, 'no end within %d seconds of a processor' % SECONDS
     if done.stderr or not is_known(tool, text, done.stdout, done.returncode):
         return done.returncode, 'status %d, and wrote %r' % (done.returncode, (done.stdout + done.stderr)[:1000])
     return done.returncode, None

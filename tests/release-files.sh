@@ -1,5 +1,5 @@
 #!/bin/sh
-# Compares dist/ with what `make release-files` makes from the proved sources; the page only if the `wasm-opt` that its head
+# Compares dist/ with its list of checksums, and with what `make release-files` makes from the proved sources; the page only if the `wasm-opt` that its head
 # names is installed, the program by itself. If dist/ was made from other sources, this is left to --all. Each of these files
 # begins with its licence, and the packages for Python and Rust have its text. The last line is `N passed, M failed`.
 
@@ -58,6 +58,17 @@ done
 holds 'the text beside the program has the checksum of its list' \
     grep -q "^Sources: $(sha256sum <"$dist/$program.sources" | cut -d ' ' -f 1) " "$dist/$program.txt"
 
+# lists_all: dist/SHA256SUMS has the checksum of each file beside it, and of no other.
+lists_all() {
+    (cd "$dist" && sha256sum --check --strict --quiet SHA256SUMS && find . -type f ! -name SHA256SUMS | sed 's|^\./||' | LC_ALL=C sort) >"$room/names" &&
+        sed 's/^[0-9a-f]*  //' "$dist/SHA256SUMS" | cmp - "$room/names"
+}
+if [ -e "$dist/SHA256SUMS" ]; then
+    holds 'dist/SHA256SUMS lists what is beside it' lists_all
+else
+    skip 'dist/SHA256SUMS' 'no such file yet (make release-files)'
+fi
+
 # needs_libc FILE: the file names the oldest glibc that has all that the program uses.
 needs_libc() {
     needed=$(grep -ao 'GLIBC_2\.[0-9]*' "$dist/$program" | cut -d _ -f 2 | sort -V | tail -n 1)
@@ -89,6 +100,7 @@ if "$top/packaging/program" --sources | cmp -s - "$dist/$program.sources" ||
     for file in $program $program.txt $program.sources; do
         holds "dist/$file is what the proofs make" cmp "$dist/$file" "$room/program/$file"
     done
+    (cd "$room/program" && echo 'made here, of these sources:' && cat SHA256SUMS)
 fi
 sources=$("$top/packaging/release-files" --sources)
 if names "$dist/fio2070.c" "Sources: $sources (SHA-256; packaging/release-files --sources)" ||
@@ -103,6 +115,7 @@ if names "$dist/fio2070.c" "Sources: $sources (SHA-256; packaging/release-files 
     fi
     for file in $files; do
         holds "dist/$file is what the proofs make" cmp "$dist/$file" "$room/made/$file"
+        (cd "$room/made" && sha256sum "$file")
     done
 fi
 end

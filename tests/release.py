@@ -37,7 +37,8 @@ fio2070 = { path = "%s" }
 '''
 RUST = '''fn main() {
     let mut out = [0; fio2070::LONGEST_FRAME];
-    assert_eq!(fio2070::poll(5, &mut out), Ok(&[0x36, 5][..]));
+    let poll = fio2070::Command { code: 0x36, block: 5, ..Default::default() };
+    assert_eq!(fio2070::encode_command(&poll, &[], &[], &mut out), Ok(&[0x36, 5][..]));
 }
 '''
 SHOWS = '[ "$(echo 3605 | %s show)" = "poll block 5" ]'

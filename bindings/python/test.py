@@ -12,7 +12,7 @@ import unittest
 from unittest import mock
 
 import fio2070
-from fio2070 import ConfigurationItem, Entry, encode, tester
+from fio2070 import Answer, Command, ConfigurationItem, Entry, encode, tester
 
 sys.path.append(os.path.join(os.path.dirname(os.path.abspath(__file__)), '../../tests/support'))
 
@@ -24,11 +24,6 @@ BLOCK = bytes.fromhex('b605018c03e700000003e8')
 SIGNS = ('', 'twice', 'both ends', 'reversed', 'two links')
 
 LOG = b'07:15:02.000 RX b6 05 01 8c 03 e7 00 00 00 03 e8\nno octets\n\n'
-
-
-def list_of(kind, text):
-    """The items or the entries of a text."""
-    return [kind(*map(int, one.split())) for one in text.split(', ')] if text else []
 
 
 def fields_of(message, structure):
@@ -64,19 +59,11 @@ def parts_of(decode, code, octets, name):
     return ', '.join(' '.join(str(int(one)) for one in part) for part in getattr(message, name)) if message.code == code else 'no message'
 
 
-def encoded(name, numbers, text):
-    """What a call of `encode` writes."""
-    if name in ('configure_inputs', 'block_answer'):
-        kind = Entry if name == 'block_answer' else ConfigurationItem
-        numbers = [*numbers[:1], list_of(kind, text), *numbers[1:]]
-    elif name == 'set_outputs':
-        numbers = bytes.fromhex(text)[:8], bytes.fromhex(text)[8:]
-    elif name.startswith('other_'):
-        numbers = [*numbers, bytes.fromhex(text)]
-    try:
-        return getattr(encode, name)(*numbers).hex()
-    except ValueError as error:
-        return 'no message' if str(error) == 'there is no such message' else repr(error)
+def decoded(decode, again, struct, text):
+    """The fields of a message, and whether it is written as other octets."""
+    octets = bytes.fromhex(text)
+    message = decode(octets)
+    return fields_of(message, struct) + ('' if again(message) == octets else ', written as others')
 
 
 def verdicts(form, text):
@@ -128,7 +115,8 @@ def outcomes(judge, at, text):
             judge.lose()
             continue
         side, _, octets = line.partition(' ')
-        said.append(outcome_words((judge.sent if side == '>' else judge.heard)(bytes.fromhex(octets), at)))
+        octets = bytes.fromhex(octets)
+        said.append(outcome_words(judge.sent(octets, at) if side == '>' else judge.heard(octets)))
     return ', '.join(said)
 
 
@@ -255,8 +243,8 @@ CALLS = {
     'wire_frame': lambda numbers, text: fio2070.wire_frame(bytes.fromhex(text), *numbers).hex(),
     'command_items': lambda numbers, text: parts_of(fio2070.decode_command, 51, bytes.fromhex(text), 'items'),
     'block_entries': lambda numbers, text: parts_of(fio2070.decode_answer, 182, bytes.fromhex(text), 'entries'),
-    'decode_command': lambda numbers, text: fields_of(fio2070.decode_command(bytes.fromhex(text)), fio2070._library.CCommand),
-    'decode_answer': lambda numbers, text: fields_of(fio2070.decode_answer(bytes.fromhex(text)), fio2070._library.CAnswer),
+    'decode_command': lambda numbers, text: decoded(fio2070.decode_command, encode.command, fio2070._library.CCommand, text),
+    'decode_answer': lambda numbers, text: decoded(fio2070.decode_answer, encode.answer, fio2070._library.CAnswer, text),
     'poller': lambda numbers, text: heard(*numbers, text),
     'module': lambda numbers, text: by_steps(*numbers, text),
 }
@@ -265,8 +253,6 @@ CALLS = {
 def said_by(call, numbers, text):
     """The result of a row, or its error."""
     try:
-        if call.startswith('encode_'):
-            return encoded(call[7:], numbers, text)
         return CALLS[call](numbers, text) if call in CALLS else str(getattr(fio2070, call)(bytes.fromhex(text)))
     except fio2070.Fault as fault:
         return str(fault)
@@ -439,7 +425,7 @@ class LogBatches(unittest.TestCase):
                           for turn in range(30)) + b'RX b6 0? 00\n3 messages lost\nTX 36 40\nTX 36 41 ?\n'
 
     @staticmethod
-    def one_by_one(verdicts):
+    def one_by_one(verdicts, as_said=False):
         judge, counts, signs, found, taken = fio2070.LogJudge(), fio2070.LogCounts(), fio2070.LogSigns(), [], []
         for one in verdicts:
             if one.kind == 'possible' or one.reason == 'heading':
@@ -451,8 +437,9 @@ class LogBatches(unittest.TestCase):
             if one.kind in ('possible', 'damaged') or one.reason in ('loss', 'heading'):
                 counts.lose()
             for octets in one.frames if one.kind == 'frames' else ():
-                found.append(judge.frame(octets, octets[0] < 128, one.said))
-                signs.frame(octets, octets[0] < 128, one.said)
+                from_cpu = one.said == '>' if as_said and one.said else octets[0] < 128
+                found.append(judge.frame(octets, from_cpu, one.said))
+                signs.frame(octets, from_cpu, one.said)
                 taken.append(counts.frame(octets, one.time))
         return [one for one in found if one.kind], [one for one in taken if one is not None], counts, signs.sign
 
@@ -472,6 +459,34 @@ class LogBatches(unittest.TestCase):
         self.assertEqual((counts.command, counts.polled), (None, 64))
         counts.frame(bytes([54, 5]))
         self.assertEqual((counts.command, counts.polled), (54, 5))
+
+    def test_as_said(self):
+        # Each answer is there twice, and its line says that the CPU sent it: that is no answer, so no sign.
+        text, signs = ''.join(2 * ('TX b6 %02x 00 00 00 00 00 01\n' % number) for number in range(4)).encode(), {}
+        verdicts = fio2070.LogReader().read(text)
+        for as_said in (False, True):
+            batch, judge, sign = fio2070.LogBatch(verdicts), fio2070.LogJudge(), fio2070.LogSigns()
+            sign.batch(batch, as_said)
+            outcomes, _, _, signs[as_said] = self.one_by_one(verdicts, as_said)
+            self.assertEqual(([one for _, one in judge.batch(batch, as_said)], sign.sign), (outcomes, signs[as_said]))
+            self.assertEqual(outcomes[0].breach is not None, as_said)
+        self.assertEqual(signs, {False: 'twice', True: ''})
+
+    def test_zero(self):
+        # The time 0 is one; a frame without octets has the type 0.
+        verdicts = [fio2070.Verdict(number, 'frames', '', frames, (), time, '') for number, frames, time in (
+            (1, (b'', bytes([54, 5]), b''), 0), (2, (bytes([54]),), None), (3, (b'',), 7))]
+        batch = fio2070.LogBatch(verdicts)
+        self.assertEqual(batch.verdicts(), verdicts)
+        self.assertEqual([batch.told(index).time for index in range(3)], [0, None, 7])
+        self.assertEqual((batch.timed, batch.types()), (bytes([1, 0, 1]), bytes([0, 54, 0, 54, 0])))
+        self.assertEqual([one.time for one in fio2070.LogReader().read(b'00:00:00 RX b6 05 00 00 00 00 00 01\n')], [0])
+
+    def test_limits(self):
+        for kind in (fio2070.LinkJudge, fio2070.LogJudge):
+            self.assertTrue(kind(255, 8192) and kind(1, 1))
+            for limits in ((255, 8193), (256, 8192), (255, 0), (0, 8192)):
+                self.assertRaises(ValueError, kind, *limits)
 
     def test_made(self):
         verdicts = fio2070.LogReader().read(self.TEXT)
@@ -589,6 +604,21 @@ class Messages(unittest.TestCase):
         for call in [lambda: encode.poll(256), lambda: encode.set_outputs(b'', b''), lambda: fio2070.Module(per_block=0)]:
             self.assertRaises(ValueError, call)
 
+    def test_no_message(self):
+        entry, item = Entry(12, 1, 999), ConfigurationItem(12, False, 5, 3)
+        commands = [Command(48), Command(61), Command(182), Command(54, clear=1), Command(54, items=[item]), Command(54, body=b'1'),
+                    Command(51, block=1), Command(51, items=[item] * 256), Command(51, items=[item._replace(input=128)]),
+                    Command(57, body=b'0' * 773), Command(57, body=b'0' * 65536), Command(57, items=[item]), Command(55, levels=bytes(7))]
+        answers = [Answer(176), Answer(189), Answer(54), Answer(178, stamp=1), Answer(179, entries=[entry]), Answer(186, body=b'1'),
+                   Answer(182, inputs=1), Answer(182, entries=[entry] * 256), Answer(182, entries=[entry._replace(input=128)]),
+                   Answer(184, body=b'0' * 773), Answer(184, status=1)]
+        for write, messages in ((encode.command, commands), (encode.answer, answers)):
+            for message in messages:
+                with self.subTest(message=message):
+                    self.assertRaises(ValueError, write, message)
+        for write, message in ((encode.command, Answer(182)), (encode.answer, Command(54)), (encode.command, b'65')):
+            self.assertRaises(TypeError, write, message)
+
     def test_kinds_of_octets(self):
         wide = memoryview(BLOCK + BLOCK)[::1]
         for octets in (bytearray(BLOCK), memoryview(BLOCK), wide[:len(BLOCK)], memoryview(bytes(2 * BLOCK))[11:]):
@@ -597,7 +627,7 @@ class Messages(unittest.TestCase):
         every_second = memoryview(bytes.fromhex('36ff05ff'))[::2]
         self.assertEqual(fio2070.decode_command(every_second).block, 5)
         self.assertEqual(fio2070.Module().receive(bytearray(b'\x3c')), b'\xbc\2')
-        self.assertEqual(encode.other_command(59, memoryview(b'\1\2')), b'\x3b\1\2')
+        self.assertEqual(encode.command(Command(59, body=memoryview(b'\1\2'))), b'\x3b\1\2')
         self.assertEqual(encode.set_outputs(bytearray(8), memoryview(bytes(8))), b'\x37' + bytes(16))
 
     def test_what_is_no_octets(self):
@@ -608,25 +638,25 @@ class Messages(unittest.TestCase):
                  lambda octets: fio2070.LogJudge().frame(octets, True),
                  fio2070.LogReader().read, fio2070.LogCounts().frame, fio2070.Wire().read, fio2070.WireBits().read, fio2070.wire_frame, fio2070.wire_check,
                  lambda octets: encode.set_outputs(octets, bytes(8)),
-                 lambda octets: encode.set_outputs(bytes(8), octets), lambda octets: encode.other_command(56, octets),
-                 lambda octets: encode.other_answer(183, octets)]
+                 lambda octets: encode.set_outputs(bytes(8), octets), lambda octets: encode.command(Command(56, body=octets)),
+                 lambda octets: encode.answer(Answer(183, body=octets))]
         for call in calls:
             for given in (0, 5, 8, 2**31, 2**70, True, 1.5, None, '3605'):
                 with self.subTest(call=call, given=given):
                     self.assertRaises(TypeError, call, given)
 
     def test_what_is_no_list(self):
-        calls = [encode.configure_inputs, fio2070.Filters().configure, lambda entries: encode.block_answer(5, entries, 0, 0)]
+        calls = [encode.configure_inputs, fio2070.Filters().configure, lambda entries: encode.answer(Answer(182, entries=entries))]
         for call in calls:
             for given in ([300], [None], 'ab', 5, None, [(1, 2)], [ConfigurationItem('a', False, 0, 0)], [Entry(1, 1.5, 0)]):
                 with self.subTest(call=call, given=given):
                     self.assertRaises(TypeError, call, given)
 
     def test_what_is_no_number(self):
-        calls = [encode.poll, encode.status, encode.load_counter, encode.watchdog, encode.watchdog_answer,
-                 encode.load_counter_answer, encode.configure_inputs_answer, fio2070.Poller, fio2070.rule_text,
+        calls = [encode.poll, encode.status, encode.load_counter, encode.watchdog,
+                 lambda number: encode.answer(Answer(178, status=number)), fio2070.Poller, fio2070.rule_text,
                  fio2070.content_rule_text, fio2070.Counter().ask_load, fio2070.Filters().scan, fio2070.Module().scan,
-                 fio2070.Module().raise_flags, lambda number: encode.raw_inputs_answer(0, number),
+                 fio2070.Module().raise_flags, lambda number: encode.answer(Answer(180, stamp=number)),
                  lambda number: fio2070.widen(number, 0), lambda number: fio2070.Module(waiting=number),
                  lambda number: fio2070.Checker(number), lambda number: fio2070.Module(id=number),
                  lambda number: fio2070.wire_frame(b'5', number), lambda number: fio2070.wire_frame(b'5', 0, number)]
@@ -729,7 +759,7 @@ class Ends(unittest.TestCase):
         self.assertEqual(poller.record, [(False, 12, 0, 999, 999)])
         self.assertEqual(poller.hear(answer), fio2070.Heard('stale', number=5, stamp=999))
         lost = fio2070.Poller(255)
-        self.assertEqual(lost.hear(encode.block_answer(255, [Entry(12, 1, 999)], 0x0c, 1000)),
+        self.assertEqual(lost.hear(encode.answer(Answer(182, block=255, entries=[Entry(12, 1, 999)], status=0x0c, stamp=1000))),
                          fio2070.Heard('taken', entries=1, status=0x0c, number=255, stamp=1000))
         self.assertEqual((lost.number, lost.record), (0, [(True, 0, 0, 0, 0), (False, 12, 1, 999, 999)]))
         self.assertEqual(poller.hear(b'\xb3\0'), fio2070.Heard('other', code=179))

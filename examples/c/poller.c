@@ -146,21 +146,24 @@ static size_t receive_frame(void *context, uint8_t *octets, size_t room, unsigne
 
 /* Configures all 64 inputs to be reported, with filters of 1. */
 static size_t configuration(uint8_t *octets, size_t room) {
+    struct fio2070_command command;
     struct fio2070_configuration_item items[64];
     uint8_t input;
+    memset(&command, 0, sizeof command);
+    command.code = FIO2070_TYPE_CONFIGURE_INPUTS, command.count = 64;
     for (input = 0; input < 64; input++) {
         items[input].input = input;
         items[input].ignore = 0;
         items[input].leading = items[input].trailing = 1;
     }
-    return fio2070_encode_configure_inputs(items, 64, octets, room);
+    return fio2070_encode_command(&command, items, 64, NULL, 0, octets, room);
 }
 
 static void print_report(const struct bench *bench, const struct fio2070_poller *poller) {
     size_t place;
-    printf("counter %lu\n", (unsigned long)fio2070_module_counter(&bench->module));
+    printf("counter %lu\n", (unsigned long)fio2070_module_state(&bench->module).counter);
     printf("number %u\n", poller->number);
-    printf("waiting %lu\n", (unsigned long)fio2070_module_waiting(&bench->module));
+    printf("waiting %lu\n", (unsigned long)fio2070_module_state(&bench->module).waiting);
     printf("record %lu\n", (unsigned long)recorded);
     for (place = 0; place < recorded; place++) {
         const struct fio2070_record_item *item = &record[place];

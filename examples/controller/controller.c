@@ -26,6 +26,7 @@ static const char help[] =
     "usage: controller [OPTION..] HOST:PORT|DEVICE FILE.csv\n"
     "  -d, --deadline MS       how long an answer may take, 50 by default\n"
     "  -k, --keep FILE         keep the block number in FILE, and go on where the run before has ended\n"
+    "  -f, --fast              with --keep, do not wait for the disk: if power fails, rows may be lost without a mark\n"
     "  -t, --transcript FILE   write the frames, for `fio2070 check` and `record`\n"
     "  -e, --events FILE       write high-resolution events, with --on\n"
     "  -o, --on 0|1            the state of an input that is a detector's on\n"
@@ -58,7 +59,7 @@ static void show_counts(const char *end) {
             "commands %lu again %lu unsent %lu answers %lu useless %lu damaged %lu slots-missed %lu restarts %lu gaps %lu "
             "transitions %lu number %u%s",
             counts.commands, counts.again, line.unsent, counts.answers, counts.useless, line.damaged, counts.slots_missed,
-            counts.restarts, counts.gaps, counts.transitions, cpu.poller.number, end);
+            counts.restarts, counts.gaps + tables.gaps, counts.transitions, cpu.poller.number, end);
 }
 
 /* ---- The link ---- */
@@ -87,7 +88,7 @@ static void add_block(const struct controller_heard *heard, const struct fio2070
 
 /* A module that is new to this table was reset at some time, as each was. */
 static void add_restart(void) {
-    if (!tables.was_kept && !cpu.is_configured) return;
+    if (!tables.was_kept && !tables.is_number_lost && !cpu.is_configured) return;
     counts.restarts++;
     tables_add_restart(&tables, cpu.poller.number);
 }
@@ -200,17 +201,18 @@ static void set_channel(char *word) {
 
 int main(int count, char **words) {
     static const struct option options[] = {
-        {"deadline", 1, NULL, 'd'}, {"keep", 1, NULL, 'k'}, {"transcript", 1, NULL, 't'}, {"events", 1, NULL, 'e'},
-        {"on", 1, NULL, 'o'}, {"channel", 1, NULL, 'c'}, {"seconds", 1, NULL, 's'}, {NULL, 0, NULL, 0}};
+        {"deadline", 1, NULL, 'd'}, {"keep", 1, NULL, 'k'}, {"fast", 0, NULL, 'f'}, {"transcript", 1, NULL, 't'},
+        {"events", 1, NULL, 'e'}, {"on", 1, NULL, 'o'}, {"channel", 1, NULL, 'c'}, {"seconds", 1, NULL, 's'}, {NULL, 0, NULL, 0}};
     const char *keep = NULL, *transcript = NULL, *events = NULL;
     long seconds = 0, deadline = DEADLINE_MS;
     int option;
     tables.on = -1;
     for (option = 0; option < INPUTS; option++) tables.channels[option] = option + 1;
-    while ((option = getopt_long(count, words, "d:k:t:e:o:c:s:", options, NULL)) != -1) {
+    while ((option = getopt_long(count, words, "d:k:ft:e:o:c:s:", options, NULL)) != -1) {
         switch (option) {
         case 'd': deadline = number_of(optarg, 1, 10000); break;
         case 'k': keep = optarg; break;
+        case 'f': tables.is_fast = 1; break;
         case 't': transcript = optarg; break;
         case 'e': events = optarg; break;
         case 'o': tables.on = (int)number_of(optarg, 0, 1); break;

@@ -2,15 +2,18 @@
 
 /* Writes the command of the present step. Returns how many octets it has. */
 static size_t write_command(struct controller_link *link) {
-    size_t room = sizeof link->command;
-    switch (link->step) {
-    case CONTROLLER_LOOK: return fio2070_encode_status(0, link->command, room);
-    case CONTROLLER_CLEAR: return fio2070_encode_status(FIO2070_BIT_WAS_RESET, link->command, room);
-    case CONTROLLER_CONFIGURE:
-        return fio2070_encode_configure_inputs(link->settings.items, link->settings.item_count, link->command, room);
-    case CONTROLLER_POLL: break;
+    struct fio2070_command command = {0};
+    size_t room = sizeof link->command, count = 0;
+    if (link->step == CONTROLLER_POLL) return fio2070_poller_poll(&link->poller, link->command, room);
+    if (link->step == CONTROLLER_CONFIGURE) {
+        command.code = FIO2070_TYPE_CONFIGURE_INPUTS;
+        count = link->settings.item_count;
+        command.count = (uint8_t)count;
+    } else {
+        command.code = FIO2070_TYPE_STATUS;
+        if (link->step == CONTROLLER_CLEAR) command.clear = FIO2070_BIT_WAS_RESET;
     }
-    return fio2070_poller_poll(&link->poller, link->command, room);
+    return fio2070_encode_command(&command, link->settings.items, count, NULL, 0, link->command, room);
 }
 
 int controller_link_start(struct controller_link *link, struct controller_settings settings, uint8_t number) {

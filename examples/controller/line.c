@@ -81,7 +81,7 @@ static void take(struct line *line, const uint8_t *octets, size_t count, hearer 
     size_t place = 0;
     uint8_t heard;
     while (place < count) {
-        place += fio2070_wire_read_many(&line->heard, octets + place, count - place, &heard);
+        place += fio2070_wire_read(&line->heard, octets + place, count - place, &heard);
         if (heard == FIO2070_WIRE_DAMAGED) line->damaged++;
         if (heard == FIO2070_WIRE_MESSAGE) hear(line->heard.octets + 2, fio2070_wire_message_length(&line->heard));
     }

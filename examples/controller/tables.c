@@ -8,27 +8,21 @@
 #include <fcntl.h>
 #include <stdlib.h>
 #include <string.h>
+#include <sys/file.h>
 #include <time.h>
 #include <unistd.h>
 
 /* Codes of high-resolution events: detector off and on. Their parameter is the detector's channel. */
 enum { DETECTOR_OFF = 81, DETECTOR_ON = 82 };
+/* The line that is kept: the number, and the lengths of the tables. */
+enum { KEPT_LINE = 3 + 1 + 20 + 1 + 20 + 1 };
+
+static const char first_row[] = "time,input,state,wide\n";
 
 static long long now_ms(void) {
     struct timespec now;
     clock_gettime(CLOCK_REALTIME, &now);
     return (long long)now.tv_sec * 1000 + now.tv_nsec / 1000000;
-}
-
-/* ---- The number that is kept ---- */
-
-static void read_kept(struct tables *tables) {
-    char line[64] = "";
-    unsigned number = 0;
-    if (read(tables->keep, line, sizeof line - 1) <= 0) return;
-    if (sscanf(line, "%u %lld %lld", &number, &tables->csv_kept, &tables->events_kept) != 3 || number > 255) return;
-    tables->number = (uint8_t)number;
-    tables->was_kept = 1;
 }
 
 static void fail(const char *what) {
@@ -43,47 +37,120 @@ static long long flushed(FILE *file) {
     return ftello(file);
 }
 
-/* Keeps a number, by one write. */
-static void keep(struct tables *tables, uint8_t number) {
-    char line[64];
-    int count;
-    tables->csv_kept = flushed(tables->csv);
-    tables->events_kept = flushed(tables->events);
-    flushed(tables->transcript);
-    tables->may_be_written_before = 0;
-    if (tables->keep < 0) return;
-    count = snprintf(line, sizeof line, "%03u %020lld %020lld\n", number, tables->csv_kept, tables->events_kept);
-    if (pwrite(tables->keep, line, (size_t)count, 0) != count) fail("the number that it keeps");
-}
-
 static void cut(FILE *file, long long length) {
     if (flushed(file) <= length) return;
     if (ftruncate(fileno(file), length) != 0 || fseeko(file, 0, SEEK_END) != 0) fail("its tables");
 }
 
+/* ---- The number that is kept ---- */
+
+/* Opens the file of the number, for one controller at a time, and reads it. A line that is not whole is none. */
+static int open_kept(struct tables *tables, const char *name) {
+    char line[KEPT_LINE + 1] = "";
+    unsigned number = 0;
+    int is_new = access(name, F_OK) != 0;
+    tables->keep = open(name, O_RDWR | O_CREAT | O_CLOEXEC | (tables->is_fast ? 0 : O_DSYNC), 0666);
+    if (tables->keep < 0) return -1;
+    if (flock(tables->keep, LOCK_EX | LOCK_NB) != 0) {
+        fprintf(stderr, "controller: %s: another controller has it\n", name);
+        exit(1);
+    }
+    tables->was_kept = read(tables->keep, line, KEPT_LINE) == KEPT_LINE && line[KEPT_LINE - 1] == '\n' &&
+                       sscanf(line, "%u %lld %lld", &number, &tables->csv_kept, &tables->events_kept) == 3 && number <= 255;
+    if (tables->was_kept) tables->number = (uint8_t)number;
+    else tables->csv_kept = tables->events_kept = 0;
+    tables->is_number_lost = !is_new && !tables->was_kept;
+    return 0;
+}
+
+/* Waits until what was added to a table is on the disk. Returns its length; that of the run before, if there is no table. */
+static long long settled(const struct tables *tables, FILE *file, long long kept) {
+    long long length = file == NULL ? kept : flushed(file);
+    if (length != kept && !tables->is_fast && fdatasync(fileno(file)) != 0 && errno != EINVAL) fail("its tables");
+    return length;
+}
+
+/* Keeps a number, by one write, once the tables that it tells of are on the disk. */
+static void keep(struct tables *tables, uint8_t number) {
+    char line[KEPT_LINE + 1];
+    tables->may_be_written_before = 0;
+    flushed(tables->transcript);
+    if (tables->keep < 0) {
+        flushed(tables->csv);
+        flushed(tables->events);
+        return;
+    }
+    tables->csv_kept = settled(tables, tables->csv, tables->csv_kept);
+    tables->events_kept = settled(tables, tables->events, tables->events_kept);
+    snprintf(line, sizeof line, "%03u %020lld %020lld\n", number, tables->csv_kept, tables->events_kept);
+    if (pwrite(tables->keep, line, KEPT_LINE, 0) != KEPT_LINE) fail("the number that it keeps");
+}
+
 /* ---- Files ---- */
 
-/* Opens a file to go on with it, or to begin it with a first line. */
-static FILE *opened(const char *name, int goes_on, const char *first) {
+/* Returns the length of the whole rows in the first octets of a file. */
+static long long whole_rows(FILE *file, long long length) {
+    char part[4096];
+    while (length > 0) {
+        long long count = length < (long long)sizeof part ? length : (long long)sizeof part;
+        if (pread(fileno(file), part, (size_t)count, (off_t)(length - count)) != count) fail("its tables");
+        for (; count > 0 && part[count - 1] != '\n'; count--) length--;
+        if (count > 0) return length;
+    }
+    return 0;
+}
+
+/* Ends a table at its last whole row. Returns whether rows are missing that it had when the number was kept. */
+static int has_lost_rows(FILE *file, long long kept) {
+    long long whole;
+    if (file == NULL) return 0;
+    whole = whole_rows(file, flushed(file));
+    cut(file, whole);
+    return whole < kept || whole_rows(file, kept) != kept;
+}
+
+/* Opens a file to go on with it, or to begin it. */
+static FILE *opened(const char *name, int goes_on) {
     FILE *file = fopen(name, goes_on ? "r+" : "w");
-    if (file == NULL && goes_on) file = fopen(name, "w");
-    if (file == NULL) return NULL;
-    fseeko(file, 0, SEEK_END);
-    if (ftello(file) == 0) fputs(first, file);
+    if (file == NULL && goes_on) file = fopen(name, "w+");
+    if (file != NULL) fseeko(file, 0, SEEK_END);
     return file;
 }
 
+static void add_mark(struct tables *tables, const char *word) {
+    long long at = now_ms();
+    fprintf(tables->csv, "%lld.%03lld,%s,,\n", at / 1000, at % 1000, word);
+}
+
+static void add_gap(struct tables *tables) {
+    add_mark(tables, "gap");
+    tables->gaps++;
+}
+
+/* Ends the files at their last whole rows, and marks where some are missing. */
+static void go_on(struct tables *tables, const char *csv, const char *events) {
+    int has_lost = has_lost_rows(tables->csv, tables->csv_kept);
+    int has_lost_events = has_lost_rows(tables->events, tables->events_kept);
+    has_lost_rows(tables->transcript, 0);
+    if (flushed(tables->csv) <= 0) fputs(first_row, tables->csv);
+    if (!tables->was_kept && flushed(tables->csv) > (long long)strlen(first_row)) tables->is_number_lost = 1;
+    if (has_lost) fprintf(stderr, "controller: %s: it has lost rows since the run before; see its row gap\n", csv);
+    if (has_lost_events) fprintf(stderr, "controller: %s: it has lost rows since the run before; %s has a row gap\n", events, csv);
+    if (tables->is_number_lost) fprintf(stderr, "controller: the number of the run before is lost; %s has a row gap\n", csv);
+    if (!has_lost && !has_lost_events && !tables->is_number_lost) return;
+    add_gap(tables);
+    if (!tables->is_number_lost) keep(tables, tables->number);
+}
+
 int tables_open(struct tables *tables, const char *csv, const char *events, const char *transcript, const char *keep_name) {
-    if (keep_name != NULL) {
-        tables->keep = open(keep_name, O_RDWR | O_CREAT | O_CLOEXEC, 0666);
-        if (tables->keep < 0) return -1;
-        read_kept(tables);
-    }
-    tables->csv = opened(csv, tables->was_kept, "time,input,state,wide\n");
+    int goes_on = keep_name != NULL;
+    if (goes_on && open_kept(tables, keep_name) != 0) return -1;
+    tables->csv = opened(csv, goes_on);
     if (tables->csv == NULL) return -1;
-    if (events != NULL && (tables->events = opened(events, tables->was_kept, "")) == NULL) return -1;
-    if (transcript != NULL && (tables->transcript = opened(transcript, tables->was_kept, "")) == NULL) return -1;
-    tables->may_be_written_before = tables->was_kept;
+    if (events != NULL && (tables->events = opened(events, goes_on)) == NULL) return -1;
+    if (transcript != NULL && (tables->transcript = opened(transcript, goes_on)) == NULL) return -1;
+    go_on(tables, csv, events);
+    tables->may_be_written_before = tables->was_kept || tables->is_number_lost;
     return 0;
 }
 
@@ -108,11 +175,6 @@ void tables_set_clock(struct tables *tables, uint32_t stamp) {
     tables->stamp = stamp;
 }
 
-static void add_mark(struct tables *tables, const char *word) {
-    long long at = now_ms();
-    fprintf(tables->csv, "%lld.%03lld,%s,,\n", at / 1000, at % 1000, word);
-}
-
 /* The time of day in UTC, the code, the channel. */
 static void add_event(struct tables *tables, const struct fio2070_record_item *item, long long at) {
     const time_t seconds = (time_t)(at / 1000);
@@ -124,12 +186,22 @@ static void add_event(struct tables *tables, const struct fio2070_record_item *i
     fprintf(tables->events, "%s.%03lld,%d,%d\n", day, at % 1000, item->state == tables->on ? DETECTOR_ON : DETECTOR_OFF, channel);
 }
 
-void tables_add_block(struct tables *tables, const struct fio2070_record_item *items, size_t count, int is_again,
-                      uint8_t next_number) {
-    if (tables->may_be_written_before && is_again) {
+/* Prepares the tables for a block, which may be the first of this run. Returns whether it is to be written. */
+static int is_written(struct tables *tables, int is_again) {
+    if (!tables->may_be_written_before) return 1;
+    if (tables->is_number_lost) return !is_again; /* else it may be in the tables: the row `gap` stands for it */
+    if (is_again) {
         cut(tables->csv, tables->csv_kept);
         cut(tables->events, tables->events_kept);
+    } else if (flushed(tables->csv) > tables->csv_kept || flushed(tables->events) > tables->events_kept) {
+        add_gap(tables); /* the number is older than the tables, so another block was given up */
     }
+    return 1;
+}
+
+void tables_add_block(struct tables *tables, const struct fio2070_record_item *items, size_t count, int is_again,
+                      uint8_t next_number) {
+    if (!is_written(tables, is_again)) count = 0;
     for (; count > 0; items++, count--) {
         long long at = tables->clock_ms + (int32_t)(items->wide - tables->stamp);
         if (items->gap) {

@@ -3,8 +3,11 @@
  *
  * A block is written down before its number is kept. If the controller ends in between, its next run asks for the block again
  * and gets it again, with E. So the number is kept with the lengths that the tables had then, and what is beyond them is cut off
- * before such a block is written: each block is written once, wherever a run ends. (If the power may fail, fdatasync the tables
- * before the number.) */
+ * before such a block is written: each block is written once, wherever a run ends.
+ *
+ * If the power fails, the disk may have less than was written. So the tables are on the disk before the number is, and the number
+ * before the next poll is sent (`is_fast` leaves this out). And where the tables are shorter than the number says, or the number
+ * is lost, they are ended at their last whole rows, and a row `gap` says that some are missing. */
 #ifndef TABLES_H
 #define TABLES_H
 
@@ -17,7 +20,10 @@ enum { TABLES_INPUTS = 64, TABLES_NO_CHANNEL = -1 };
 struct tables {
     FILE *csv, *events, *transcript; /* the latter two may be NULL */
     int keep;                        /* a file, or -1 */
+    int is_fast;                     /* nothing waits for the disk */
     int was_kept;                    /* a run before has kept its number, which is `number` */
+    int is_number_lost;              /* it has not, but there was one */
+    unsigned long gaps;              /* rows `gap` that are not the module's: what a run before wrote is missing */
     uint8_t number;
     long long csv_kept, events_kept; /* their lengths in octets when the number was kept */
     int may_be_written_before;       /* the next block may be in the tables already */
@@ -27,8 +33,8 @@ struct tables {
     uint32_t stamp;
 };
 
-/* Opens the table of transitions, and the other files if they have a name: goes on with them if a number was kept, else begins
- * them. Returns 0, or -1 with errno. */
+/* Opens the table of transitions, and the other files if they have a name. With `keep` it goes on with them, and no other
+ * controller can have the same number; without, it begins them. Returns 0, or -1 with errno. */
 int tables_open(struct tables *tables, const char *csv, const char *events, const char *transcript, const char *keep);
 /* Writes a frame that was sent (`>`) or heard (`<`). */
 void tables_add_frame(struct tables *tables, char direction, const uint8_t *octets, size_t length);

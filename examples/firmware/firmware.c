@@ -60,7 +60,7 @@ size_t receive(const uint8_t *octets, size_t length) {
     size_t count;
     hold_scans();
     count = fio2070_module_receive(&module, octets, length, answer, sizeof answer);
-    LAMPS = fio2070_module_outputs(&module).levels[0];
+    LAMPS = fio2070_module_state(&module).outputs.levels[0];
     let_scans();
     keep_longest(&counts.longest_hold, begun);
     return count;
@@ -95,7 +95,7 @@ static void count_receive_error(void) {
 uint8_t receive_errors(void) {
     uint8_t count;
     hold_scans();
-    count = fio2070_module_errors(&module).receive;
+    count = fio2070_module_state(&module).errors.receive;
     let_scans();
     return count;
 }
@@ -103,7 +103,7 @@ uint8_t receive_errors(void) {
 size_t waiting(void) {
     size_t count;
     hold_scans();
-    count = fio2070_module_waiting(&module);
+    count = fio2070_module_state(&module).waiting;
     let_scans();
     return count;
 }
@@ -124,10 +124,9 @@ static void send_answer(size_t count) {
  * station is neither. */
 static void link_item(uint16_t item) {
     size_t count = FIO2070_NO_MESSAGE;
-    uint8_t heard;
+    uint8_t octet = (uint8_t)item, heard;
     if (item & UART_LOSS) fio2070_wire_lose(&line);
-    heard = fio2070_wire_read(&line, (uint8_t)item);
-    if (heard == FIO2070_WIRE_NOTHING || heard == FIO2070_WIRE_OTHER) return;
+    if (fio2070_wire_read(&line, &octet, 1, &heard) != 1 || heard == FIO2070_WIRE_NOTHING || heard == FIO2070_WIRE_OTHER) return;
     if (heard == FIO2070_WIRE_MESSAGE) count = receive(line.octets + 2, fio2070_wire_message_length(&line));
     if (count == FIO2070_NO_MESSAGE) {
         count_receive_error();

@@ -7,7 +7,7 @@ import time
 
 QEMU = 'qemu-system-arm'
 # How long a line may be answered, also on a busy machine.
-ANSWER_S = 20
+ANSWER_S = 100
 
 
 def free_port():
@@ -45,7 +45,8 @@ class Lines:
     """Asks the firmware by lines."""
 
     def __init__(self, port):
-        for _ in range(200):
+        end = time.monotonic() + ANSWER_S
+        while time.monotonic() < end:
             try:
                 self.socket = socket.create_connection(('127.0.0.1', port), ANSWER_S)
                 break

@@ -8,8 +8,8 @@ import random
 import time
 
 ALL = 2 ** 64 - 1
-# Each level lasts this long at least: the filters' 5 ms, and what a busy machine makes of it.
-LEAST_S = 0.06
+# Each level lasts this many scans of the module at least: the filters take 5, however busy the machine is.
+LEAST_SCANS = 12
 PAUSE_S = 0.03
 
 
@@ -17,7 +17,9 @@ class Mover:
     """Moves inputs at random, and keeps what it did: `made` has each move as (time, input, state)."""
 
     def __init__(self, lines, seed=1):
-        self.lines, self.dice, self.levels, self.made, self.moved_at = lines, random.Random(seed), ALL, [], [0.0] * 64
+        self.lines, self.dice, self.levels, self.made = lines, random.Random(seed), ALL, []
+        # The scans of the module when each input was moved last, and when it was asked last.
+        self.moved_at, self.scans = [0] * 64, 0
 
     def move(self, seconds):
         """Moves inputs for this time."""
@@ -28,14 +30,17 @@ class Mover:
 
     def step(self):
         """Moves some inputs, all of them now and then."""
-        now = time.time()
+        now, scans = time.time(), self.lines.counts()['scans']
+        if scans < self.scans:      # the module was restarted, and counts anew
+            self.moved_at = [scans] * 64
         chosen = sorted(self.dice.sample(range(64), self.dice.choice((1, 1, 2, 5, 64))))
-        chosen = [one for one in chosen if now - self.moved_at[one] > LEAST_S]
+        chosen = [one for one in chosen if scans - self.moved_at[one] > LEAST_SCANS]
         for one in chosen:
             self.levels ^= 1 << one
         self.lines.inputs(self.levels)
+        self.scans = self.lines.counts()['scans']
         for one in chosen:
-            self.moved_at[one] = time.time()
+            self.moved_at[one] = self.scans
             self.made.append((now, one, self.levels >> one & 1))
 
 

@@ -68,7 +68,7 @@ class Controller:
     def end(self):
         """Ends it as a user does. Returns whether its status is 0."""
         self.process.send_signal(signal.SIGINT)
-        return self.process.wait(20) == 0
+        return self.process.wait(board.ANSWER_S) == 0
 
     def number(self):
         """The number that it keeps, as its file has it; none before the first block."""
@@ -78,7 +78,7 @@ class Controller:
         except FileNotFoundError:
             return ''
 
-    def kill(self, seconds=20):
+    def kill(self, seconds=board.ANSWER_S):
         """Kills it when the number that it keeps is CRITICAL, or after this time, if it has not ended by itself."""
         end = time.time() + seconds
         while time.time() < end and self.process.poll() is None:
@@ -88,7 +88,7 @@ class Controller:
             self.process.send_signal(signal.SIGCONT)
             time.sleep(0.002)
         self.process.kill()
-        self.process.wait(20)
+        self.process.wait()
 
     def rows(self):
         """The rows of its table."""
@@ -96,7 +96,7 @@ class Controller:
             return list(csv.DictReader(file))
 
 
-def wait_for(condition, seconds=10):
+def wait_for(condition, seconds=board.ANSWER_S):
     """Waits until a condition holds, at most this long."""
     end = time.time() + seconds
     while not condition() and time.time() < end:
@@ -105,11 +105,12 @@ def wait_for(condition, seconds=10):
 
 def settle(controller, lines):
     """Waits until all that the inputs did is in the table: no entry waits, and two further blocks were taken."""
-    time.sleep(0.1)
-    wait_for(lambda: lines.counts()['waiting'] == 0, 60)
+    scans = lines.counts()['scans'] + moves.LEAST_SCANS
+    wait_for(lambda: lines.counts()['scans'] > scans)
+    wait_for(lambda: lines.counts()['waiting'] == 0)
     for _ in range(2):
         number = controller.number()
-        wait_for(lambda before=number: controller.number() != before, 30)
+        wait_for(lambda before=number: controller.number() != before)
     print('firmware:', ' '.join('%s %d' % pair for pair in lines.counts().items()), flush=True)
 
 

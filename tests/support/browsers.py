@@ -3,6 +3,7 @@ by its own Marionette, which takes the same commands over a socket, since Debian
 
 import base64
 import contextlib
+import glob
 import json
 import os
 import shutil
@@ -14,7 +15,8 @@ import urllib.error
 import urllib.request
 
 ELEMENT = 'element-6066-11e4-a52e-4f735466cecf'
-STARTED_IN = 40
+# What takes longer hangs, whatever else the machine does.
+LONGEST = 300
 # The middle of the part of an element that is in the window.
 MIDDLE = """const it = document.querySelector(arguments[0]).getBoundingClientRect();
 return [Math.round(it.left + it.width / 2), Math.round((Math.max(it.top, 0) + Math.min(it.bottom, innerHeight)) / 2)]"""
@@ -32,9 +34,9 @@ class Browser:
         """The value of a script that returns one."""
         return self.ask('POST', 'execute/sync', 'WebDriver:ExecuteScript', {'script': script, 'args': list(given)})
 
-    def wait(self, script, *given, seconds=20):
+    def wait(self, script, *given):
         """The value of a script, as soon as it is true."""
-        end = time.monotonic() + seconds
+        end = time.monotonic() + LONGEST
         while time.monotonic() < end:
             value = self.run(script, *given)
             if value:
@@ -100,6 +102,17 @@ class Browser:
         """The page on paper, as PDF."""
         return base64.b64decode(self.ask('POST', 'print', 'WebDriver:Print', {'background': True}))
 
+    def used(self):
+        """The seconds of a processor that its processes have used, of those that run."""
+        below, parents, used = {self.process.pid}, {}, {}
+        for path in glob.glob('/proc/[0-9]*/stat'):
+            with contextlib.suppress(OSError), open(path, encoding='utf-8', errors='replace') as file:
+                number, fields = int(path.split('/')[2]), file.read().rpartition(')')[2].split()
+                parents[number], used[number] = int(fields[1]), int(fields[11]) + int(fields[12])
+        while more := {one for one, parent in parents.items() if parent in below} - below:
+            below |= more
+        return sum(used[one] for one in below & used.keys()) / os.sysconf('SC_CLK_TCK')
+
     def size(self, width, height):
         self.ask('POST', 'window/rect', 'WebDriver:SetWindowRect', {'width': width, 'height': height})
 
@@ -117,7 +130,7 @@ def free_port():
 
 def as_soon_as_it_listens(call, *given, **more):
     """What a call to a browser gives that has just been started."""
-    end = time.monotonic() + STARTED_IN
+    end = time.monotonic() + LONGEST
     while True:
         try:
             return call(*given, **more)
@@ -135,8 +148,8 @@ class Chromium(Browser):
 
     def __init__(self, room):
         port = free_port()
-        self.driver = subprocess.Popen(['chromedriver', '--port=%d' % port], cwd=room, stdout=subprocess.DEVNULL,
-                                       stderr=subprocess.DEVNULL)
+        self.process = subprocess.Popen(['chromedriver', '--port=%d' % port], cwd=room, stdout=subprocess.DEVNULL,
+                                        stderr=subprocess.DEVNULL)
         self.base = 'http://127.0.0.1:%d/session' % port
         options = ['--headless=new', '--disable-gpu', '--disable-dev-shm-usage', '--window-size=1280,900',
                    '--force-device-scale-factor=1', '--user-data-dir=' + os.path.join(room, 'profile')]
@@ -151,7 +164,7 @@ class Chromium(Browser):
         body = None if given is None else json.dumps(given).encode()
         request = urllib.request.Request(address, body, {'Content-Type': 'application/json'}, method=method)
         try:
-            with urllib.request.urlopen(request, timeout=120) as answer:
+            with urllib.request.urlopen(request, timeout=LONGEST) as answer:
                 return json.load(answer)['value']
         except urllib.error.HTTPError as fault:
             raise RuntimeError(json.load(fault)['value']['message']) from None
@@ -162,8 +175,8 @@ class Chromium(Browser):
     def end(self):
         with contextlib.suppress(OSError, RuntimeError):
             self.sent('DELETE', self.base, None)
-        self.driver.terminate()
-        self.driver.wait()
+        self.process.terminate()
+        self.process.wait()
 
 
 class Firefox(Browser):
@@ -180,11 +193,11 @@ class Firefox(Browser):
             settings.write('user_pref("marionette.port", %d);\nuser_pref("app.update.enabled", false);\n'
                            'user_pref("datareporting.policy.dataSubmissionEnabled", false);\n' % port)
         self.number = 0
-        self.browser = subprocess.Popen(
+        self.process = subprocess.Popen(
             ['firefox-esr', '--headless', '--marionette', '--no-remote', '--profile', profile, '--width', '1280',
              '--height', '900'], env=dict(os.environ, HOME=room, MOZ_HEADLESS='1'), stdout=subprocess.DEVNULL,
             stderr=subprocess.DEVNULL)
-        self.socket = as_soon_as_it_listens(socket.create_connection, ('127.0.0.1', port), timeout=120)
+        self.socket = as_soon_as_it_listens(socket.create_connection, ('127.0.0.1', port), timeout=LONGEST)
         self.stream = self.socket.makefile('rb')
         self.message()
         self.ask(None, None, 'WebDriver:NewSession', {})
@@ -211,8 +224,8 @@ class Firefox(Browser):
         with contextlib.suppress(OSError, RuntimeError):
             self.ask(None, None, 'Marionette:Quit', {})
         self.socket.close()
-        self.browser.terminate()
-        self.browser.wait()
+        self.process.terminate()
+        self.process.wait()
 
 
 @contextlib.contextmanager

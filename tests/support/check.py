@@ -79,6 +79,17 @@ class Check:
             self.skipped += 1
             print('skipped: %s: %s' % (name, why))
 
+    def has_terminal(self, name):
+        """Whether there are pseudo-terminals here. If not, skips these rows."""
+        try:
+            both = os.openpty()
+        except OSError:
+            self.skip(name, 'no pseudo-terminal here (/dev/pts)')
+            return False
+        for one in both:
+            os.close(one)
+        return True
+
     def end(self):
         """Prints the last line, and ends."""
         if not (self.passed or self.failed or self.skipped):

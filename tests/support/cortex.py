@@ -5,11 +5,13 @@ import functools
 import os
 import re
 import shutil
+import signal
 import subprocess
 
 from support.tables import CAN_PROVE, TOP
+from support.waits import LONGEST
 
-SOURCES = os.path.join(TOP, 'tests/support/c')
+SOURCES, DIST = os.path.join(TOP, 'tests/support/c'), os.path.join(TOP, 'dist')
 FLAGS = ['-std=c99', '-mcpu=cortex-m4', '-mthumb', '-ffunction-sections', '-fdata-sections']
 COMPILER, QEMU = 'arm-none-eabi-gcc', 'qemu-system-arm'
 # The parts of the library, each with the names of its calls; `all` has every call of the header but those on logs, and `with
@@ -32,17 +34,23 @@ def missing():
 
 
 def run(*words):
-    done = subprocess.run(words, capture_output=True, text=True, stdin=subprocess.DEVNULL, timeout=300, check=False)
-    if done.returncode:
-        raise Failed('%s: status %d %s' % (words[0], done.returncode, done.stderr[-500:]))
-    return done.stdout
+    """What a command writes. If it takes too long, it is ended with all that it began."""
+    with subprocess.Popen(words, stdin=subprocess.DEVNULL, stdout=subprocess.PIPE, stderr=subprocess.PIPE, text=True, start_new_session=True) as process:
+        try:
+            out, err = process.communicate(timeout=LONGEST)
+        except BaseException:
+            os.killpg(process.pid, signal.SIGKILL)
+            raise
+    if process.returncode:
+        raise Failed('%s: status %d %s' % (words[0], process.returncode, err[-500:]))
+    return out
 
 
 @functools.cache
 def library():
     """The folder of the portable library: without the kit dist/, else what `make portable` makes of the sources."""
     if not CAN_PROVE:
-        return os.path.join(TOP, 'dist')
+        return DIST
     run('make', '-s', '-C', TOP, 'portable')
     return os.path.join(TOP, 'portable')
 

@@ -17,7 +17,10 @@ from support.tables import TOP
 
 PACKAGES = os.path.join(TOP, 'bindings', 'python')
 LIBRARY = os.environ.get('FIO2070_LIBRARY') or os.path.join(TOP, 'libfio2070.so')
-ENVIRONMENT = {**os.environ, 'FIO2070_LIBRARY': LIBRARY, 'PYTHONPATH': PACKAGES, 'PYTHONDONTWRITEBYTECODE': '1'}
+# To compile the package takes longer than most runs, so compiled modules are kept, apart from the sources.
+COMPILED = os.path.join(TOP, 'out', 'compiled')
+ENVIRONMENT = {**{name: value for name, value in os.environ.items() if name != 'PYTHONDONTWRITEBYTECODE'},
+               'FIO2070_LIBRARY': LIBRARY, 'PYTHONPATH': PACKAGES, 'PYTHONPYCACHEPREFIX': COMPILED}
 TOOL = [sys.executable, '-m', 'fiolog']
 
 
@@ -167,17 +170,46 @@ def become(words, *streams):
         os._exit(status)
 
 
-def on_terminal(python, words, out=None, text='', **settings):
-    """What a run writes on a pseudo-terminal, where its standard error is, and its standard output without `out`."""
-    leader, follower = pty.openpty()
-    environment = {**ENVIRONMENT, 'TERM': 'xterm-256color', 'COLUMNS': '120', 'LINES': '40', **settings}
-    with subprocess.Popen([python, *TOOL[1:], *words], stdin=subprocess.PIPE, stdout=out or follower, stderr=follower, env=environment) as done:
+class Terminal:
+    """A run on a pseudo-terminal, where its standard error is, and its standard output without `out`."""
+
+    def __init__(self, words, python=sys.executable, out=None, text='', **settings):
+        self.leader, follower = pty.openpty()
+        environment = {**ENVIRONMENT, 'TERM': 'xterm-256color', 'COLUMNS': '120', 'LINES': '40', **settings}
+        self.process = subprocess.Popen([python, *TOOL[1:], *words], stdin=subprocess.PIPE, stdout=out or follower, stderr=follower, env=environment)
         os.close(follower)
-        done.stdin.write(text.encode())
-        done.stdin.close()
-        shown = b''
+        self.process.stdin.write(text.encode())
+        self.process.stdin.close()
+        self.shown = b''
+
+    def __enter__(self):
+        return self
+
+    def __exit__(self, *_):
+        self.process.wait()
+        os.close(self.leader)
+
+    def read(self):
+        """Reads some of what is written, if it goes on. Returns whether it does."""
+        part = b''
         with contextlib.suppress(OSError):      # the end, on Linux
-            while part := os.read(leader, 1 << 16):
-                shown += part
-    os.close(leader)
-    return shown.decode()
+            part = os.read(self.leader, 1 << 16)
+        self.shown += part
+        return part != b''
+
+    def wait_for(self, text):
+        """Reads until it shows a text."""
+        while text.encode() not in self.shown and self.read():
+            pass
+
+    def rest(self):
+        """All that it shows, after its end."""
+        while self.read():
+            pass
+        return self.shown.decode()
+
+
+def on_terminal(python, words, out=None, text='', **settings):
+    """What a run writes on a pseudo-terminal."""
+    with Terminal(words, python, out, text, **settings) as run:
+        return run.rest()

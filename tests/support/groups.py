@@ -11,6 +11,7 @@ from support.uses import Uses
 from support.verdicts import short_name
 
 LARGEST_GROUP = 64
+USES = re.compile(r'^(?:ghost )?use [^;]*;\n', re.M)
 
 
 class Crate:
@@ -83,12 +84,15 @@ class Crate:
 
     def bodies(self, stanza):
         """The functions whose bodies a stanza changes, or the laws whose statements, in the law or in definitions; None if
-        it changes anything else. A control changes what its wrong statement changes."""
+        it changes anything else. Names that it brings into a file change nothing there. A control changes what its wrong statement
+        changes."""
         found = set()
         if any(not file.startswith('src/') for file in stanza.files()):
             is_of_laws = all(name.startswith('law ') for name in stanza.named())
             return (stanza.named() or None) if is_of_laws and self.uses.changed(stanza) else None
         for path, first, last in changed_places(self.sources, stanza):
+            if any(one.start() <= first and last <= one.end() + 1 for one in USES.finditer(self.sources[path])):
+                continue
             within = {one.short for one in self.functions
                       if one.path == path and one.body <= first and last <= one.end}
             within |= {one.short for one in self.laws if one.path == path and one.start <= first and last <= one.end + 1}

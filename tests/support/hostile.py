@@ -17,6 +17,8 @@ import time
 import board
 import moves
 
+from support.waits import LONGEST, until
+
 # Of each octet, of each piece.
 FLIPPED, DROPPED, DOUBLED, NOISE = 0.002, 0.002, 0.05, 0.01
 LATEST_S = 0.03
@@ -101,7 +103,7 @@ class Controller(threading.Thread):
                 kill_at = time.monotonic() + self.dice.uniform(*PAUSE_S)
         process.send_signal(signal.SIGINT)
         try:
-            process.wait(20)
+            process.wait(LONGEST)
         except subprocess.TimeoutExpired:
             process.kill()
 
@@ -118,13 +120,20 @@ def moved(lines, seed, seconds, counts):
     return mover.made
 
 
-def settle(lines):
-    """Waits until nothing waits, and the blocks that were made then are taken."""
-    end = time.monotonic() + 60
-    time.sleep(2)
-    while lines.counts()['waiting'] and time.monotonic() < end:
-        time.sleep(0.1)
-    time.sleep(3)
+def settle(lines, path):
+    """Waits until nothing waits, and three further blocks are taken, so that the number in this file changes."""
+    scans = lines.counts()['scans'] + moves.LEAST_SCANS
+    until(lambda: lines.counts()['scans'] > scans and not lines.counts()['waiting'])
+    for _ in range(3):
+        before = number_in(path)
+        until(lambda it=before: number_in(path) != it)
+
+
+def number_in(path):
+    """The number that a controller keeps in a file, of the block that it takes next."""
+    with contextlib.suppress(FileNotFoundError), open(path, encoding='ascii') as file:
+        return file.read(3)
+    return ''
 
 
 def fault_of(folder, made):
@@ -146,13 +155,14 @@ def run(programs, folder, seed, seconds):
         line.is_calm.set()
         for thread in line, controller:
             thread.start()
-        time.sleep(3)
+        # Inputs are reported once a block is taken.
+        until(lambda: number_in(os.path.join(folder, 'number')))
         line.is_calm.clear()
         made = moved(lines, seed, seconds, counts)
         line.is_calm.set()
-        settle(lines)
+        settle(lines, os.path.join(folder, 'number'))
         for thread in controller, line:
             thread.ended.set()
-            thread.join(30)
+            thread.join(LONGEST)
         lines.close()
     return counts, fault_of(folder, made)

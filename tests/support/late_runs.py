@@ -96,6 +96,35 @@ def spoiled(octets, fault, dice):
     return bytes(changed)
 
 
+def run_at_tap(seed, steps=1000):
+    """The log of a run that was taken at a tap on the line: frames may be lost, repeated and delayed on both sides of it."""
+    dice, log = random.Random(seed), []
+    rough = dice.random()
+    to_tap, to_module, answers, to_cpu = (Bus(dice, 0.2 * rough * dice.random(), 0.3 * dice.choice((0, 0, rough)), dice.choice((0, 3, 10, 40, 150)))
+                                          for _ in range(4))
+    module, cpu, levels = fio2070.Module(id=2), Cpu(dice, dice.random() < 0.5, None), ALL
+    module.receive(encode.configure_inputs([ConfigurationItem(one, False, 1, 1) for one in range(64)]))
+    traffic = dice.choice((0, 0.02, 0.5, 1))
+    for now in range(steps):
+        if dice.random() < traffic:
+            levels ^= dice.getrandbits(64)
+        module.scan(levels)
+        for from_here, onward, direction in ((to_tap, to_module, '>'), (answers, to_cpu, '<')):
+            for octets in from_here.come(now):
+                log.append((direction, octets))
+                onward.send(now, octets)
+        for octets in to_module.come(now):
+            answer = module.receive(octets)
+            if answer:
+                answers.send(now, answer)
+        for octets in to_cpu.come(now):
+            cpu.hear(octets)
+        octets = cpu.next(now)
+        if octets is not None:
+            to_tap.send(now, octets)
+    return log
+
+
 def late_run(seed, steps=1000, fault=None):
     """The log of a run: pairs of direction and octets."""
     dice, log = random.Random(seed), []

@@ -1,6 +1,6 @@
 """The independent model of the reader of logs: which octets of a log are frames, and what each other line is. Written from
-docs/CAPTURES.md by one who had read neither the reader nor the reference model that the reader follows; what the page leaves
-open was asked of the library, and then written there. It reads a whole log."""
+docs/CAPTURES.md by one who had not read the reader; what the page leaves open was asked of the library, and then written there.
+It reads a whole log."""
 
 import re
 from typing import List, NamedTuple, Optional

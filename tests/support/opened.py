@@ -1,5 +1,7 @@
 """The page in a browser: how an example, a file or a pasted text is opened in it, and what is read from it."""
 
+import base64
+import hashlib
 import os
 import re
 import subprocess
@@ -36,6 +38,25 @@ RANGE = 'return document.getElementById("range").textContent.match(/-?\\d+/g).sl
 # Chooses, by the identifiers of controls, how the next log is written, or where it was taken.
 CHOOSE = '''for (const [id, value] of Object.entries(arguments[0])) {
     const it = document.getElementById(id); it.value = value; it.dispatchEvent(new Event("change")); }'''
+
+
+def scripts_in(page):
+    """The texts of the page's scripts."""
+    return re.findall('<script[^>]*>(.*?)</script>', page, re.S)
+
+
+def script_hash(text):
+    """The hash by which a policy names a script."""
+    return base64.b64encode(hashlib.sha256(text.encode()).digest()).decode()
+
+
+def has_hash(check):
+    """Whether the page's policy names its script. The page of dist/ may be of other sources."""
+    with open(PAGE, encoding='utf-8') as file:
+        is_named = "script-src 'sha256-" in file.read()
+    if not is_named and not CAN_PROVE:
+        check.skip('the policy names the script', 'the page of dist/ is of other sources (make release-files)')
+    return is_named or CAN_PROVE
 
 
 class InBrowser:

@@ -9,7 +9,7 @@ import re
 from support.damage import DAMAGED
 from support.fiolog import LIBRARY, fiolog
 from support.kinds import KINDS, SIGNS
-from support.opened import CELLS, OPEN_ALL, pasted, text_of, words_in
+from support.opened import CELLS, OPEN_ALL, PAGE, pasted, script_hash, started, text_of, words_in
 from support.strangers import READ
 from support.tables import TOP
 
@@ -94,6 +94,15 @@ def check_logs(check, browser, _):
         check.equal('%s: what is not judged' % title, counts, counts_in(not_judged))
 
 
+def check_sources(check, browser, _):
+    """Beside a breach are the sources of its rule, as docs/PROTOCOL.md has them of the answer to a load, and of a block's number."""
+    for name, text, words in (('a load that is refused', '> 32000000ff\n< b201\n', 'Source: behaviour own profile, layout own profile.'),
+                              ('another number', '> 3605\n< b6060000000003e8\n', 'Source: behaviour TEES 2009, layout TEES 2009.')):
+        pasted(browser, text)
+        browser.click('#first-breach')
+        check.equal('the sources: ' + name, words, words_in(browser, '#rule-source'))
+
+
 def check_restart(check, browser, _):
     """A restart is marked at its message, which says what to do, and can be chosen among the messages."""
     pasted(browser, BACK)
@@ -110,12 +119,13 @@ def check_restart(check, browser, _):
 
 
 # Judges a text with these marks above its messages, by the calls: the lines of breaches, and the counts of messages without a judgement.
-MARKED = '''const script = document.createElement("script"); script.textContent = `window.judged = async (text, marks) => {
+JUDGED = '''window.judged = async (text, marks) => {
     const library = new Library(await startMachine(BUILDS)), read = readLog(library, new LogReader(library), new TextEncoder().encode(text), LOG_FORMS.auto);
     for (const [place, mark] of marks) read.messages.marks[place] |= MARKS[mark];
     const { breaches, lines, judging, verdict } = new Log(library, new Arena(library), "marked", read, ENDS.auto);
-    return [[...breaches.keys()].map((place) => lines[place]), judging.losses, judging.unjudged[WHY.placeLost], verdict.notJudged.join(" ")]; }`;
-document.head.append(script); window.found = null; window.judged(...arguments).then((found) => { window.found = found; }, (fault) => { window.found = String(fault); });'''
+    return [[...breaches.keys()].map((place) => lines[place]), judging.losses, judging.unjudged[WHY.placeLost], verdict.notJudged.join(" ")]; }'''
+MARKED = '''const [added, ...given] = arguments, script = document.createElement("script"); script.textContent = added;
+document.head.append(script); window.found = null; window.judged(...given).then((found) => { window.found = found; }, (fault) => { window.found = String(fault); });'''
 # The CPU goes on without the answer to its poll; and an answer comes twice.
 SKIPS = '> 3605\n< b605000000000001\n> 3606\n> 3607\n< b607000000000003\n> 3608\n< b608000000000004\n'
 PAIR = '> 3605\n< b605000000000001\n'
@@ -131,10 +141,21 @@ MARKS = [
 WORDS = {'loss': '3 frames lost\n', 'heading': '---- part 2 ----\n'}
 
 
-def check_marks(check, browser, _):
+def open_with(browser, folder, added):
+    """Opens a copy of the page whose policy names one more script."""
+    with open(PAGE, encoding='utf-8') as file:
+        page = file.read()
+    path = os.path.join(folder, 'added.html')
+    with open(path, 'w', encoding='utf-8') as file:
+        file.write(page.replace("script-src 'sha256-", "script-src 'sha256-%s' 'sha256-" % script_hash(added), 1))
+    started(browser, 'file://' + path)
+
+
+def check_marks(check, browser, folder):
     """What remarks of loss and headings do, which lines without octets say: by the calls, and in a log."""
+    open_with(browser, folder, JUDGED)
     for title, text, marks, broken, losses, count in MARKS:
-        browser.run(MARKED, text, marks)
+        browser.run(MARKED, JUDGED, text, marks)
         found = browser.wait('return window.found')
         check.equal(title, [broken, losses, count], found[:3])
         check.equal('%s is said' % title, {key: number for key, number in (('lost_places', losses), ('frames_at_lost_places', count)) if number and losses},
@@ -183,4 +204,4 @@ def check_as_fiolog(check, browser, _):
             check.holds('%s in the words of fiolog' % title, words in said, said)
 
 
-CHECKS = (check_logs, check_restart, check_marks, check_kinds, check_as_fiolog)
+CHECKS = (check_logs, check_sources, check_restart, check_marks, check_kinds, check_as_fiolog)

@@ -1,4 +1,4 @@
-"""What the page shows of the lines of logs, beside the reference model of the reader: frames with their octets, messages that are
+"""What the page shows of the lines of logs, beside what the library says by Python: frames with their octets, messages that are
 only possible, damaged lines, times, and how many lines are passed over."""
 
 import glob
@@ -6,7 +6,7 @@ import os
 import re
 
 from support.damage import DAMAGED
-from support.log_model import LogReader
+from support.fiolog import verdicts_on
 from support.loggers import LOGGERS
 from support.opened import ARROWS, CELLS, OPEN_ALL, choose, dropped, example, pasted, saved
 from support.sessions import SESSION, timed
@@ -67,10 +67,9 @@ def parts_in(seen):
     return {int(row[0]) for row in seen['rows'] if IN_TWO_LINES in row[4]}
 
 
-def by_model(text, parts=frozenset()):
-    """The rows of a log, and how many lines are passed over, by the model, without these lines."""
-    model, rows = LogReader(), []
-    verdicts = [one for one in model.read(text.encode()) + model.end() if one.line not in parts]
+def by_library(text, parts=frozenset()):
+    """The rows of a log, and how many lines are passed over, by the library, without these lines."""
+    rows, verdicts = [], [one for one in verdicts_on(text.encode()) if one.line not in parts]
     for verdict in verdicts:
         rows += [row_of(verdict, octets) for octets in verdict.frames]
         rows += [[verdict.line, False, '', False, '']] * (verdict.kind == 'damaged')
@@ -91,7 +90,7 @@ def check_lines(check, browser, _):
     browser.run(OPEN_ALL.replace(CELLS, SEEN), [text for _, text in wanted])
     browser.wait('return window.tables !== null')
     for (title, text), seen in zip(wanted, browser.run('return window.tables')):
-        check.equal('the log %s' % title, by_model(text, parts_in(seen)), by_page(seen))
+        check.equal('the log %s' % title, by_library(text, parts_in(seen)), by_page(seen))
 
 
 def verdict_on(browser, text):
@@ -151,7 +150,7 @@ def check_order(check, browser, _):
             check.equal('a text by order as %s' % form, words, [row[3] for row in rows])
             check.equal('its bad lines', [BAD_LINE] * (1 if form == 'transcript' else 4), [row[4] for row in rows if row[5] == ''])
         else:
-            check.equal('and again as any log', by_model(BY_ORDER)[0], by_page({'rows': rows, 'note': ''})[0])
+            check.equal('and again as any log', by_library(BY_ORDER)[0], by_page({'rows': rows, 'note': ''})[0])
 
 
 CHECKS = (check_lines, check_dump, check_order, check_unsure)

@@ -77,7 +77,7 @@ def check_no_log(check, browser, folder):
     for title, octets, words in [
             ('prose', b'Dear all,\nthe meeting is on Tuesday.\n', 'text without octets'), ('nothing', b'', 'empty'), ('blanks', b'  \n', 'empty'),
             ('script', text_of('lost-poll.script').encode(), 'the view Play runs it'), ('record', text_of('lost-answer.record').encode(), 'open the log itself'),
-            ('zip', b'PK\3\4' + bytes(40), 'zip'), ('gzip', b'\x1f\x8b\x08' + bytes(40), 'gzip'), ('zeros', bytes(100), 'no text'),
+            ('zip', b'PK\3\4' + bytes(40), 'zip'), ('gzip', b'\x1f\x8b\x08' + bytes(40), 'gzip'), ('zeros', bytes(100), 'a binary file'), ('capture', bytes.fromhex('d4c3b2a1020004000000000000000000ffff000001000000'), 'a capture of packets'),
             ('another link', b''.join(b'01 03 00 %02X 00 0A C5 CD\n' % number for number in range(6)), 'a log of another link')]:
         path = os.path.join(folder, title + '.file')
         with open(path, 'wb') as file:
@@ -87,8 +87,6 @@ def check_no_log(check, browser, folder):
         check.equal('%s is no log' % title, (True, True, True),
                     ('No message was found in %s.file' % title in seen, words in words_in(browser, '#no-log-kind'), 'What can be read' in seen))
         check.equal('of %s no table is shown' % title, '', words_in(browser, '.table'))
-    opened(browser, os.path.join(TOP, 'examples', 'captures', 'udp.pcap'))
-    check.holds('a capture of packets is known', 'pcap' in words_in(browser, '#no-log-kind'))
     forms = browser.run('return [...document.querySelectorAll(".readable pre")].map((it) => it.textContent)')
     check.holds('forms are named', len(forms) > 3, forms)
     for form in forms:

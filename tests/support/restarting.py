@@ -50,6 +50,51 @@ class Restarting(Link):
             self.exchange(encode.configure_inputs([self.item(named, False) for named in range(self.kind.inputs)]))
 
 
+class GoingOn(Restarting):
+    """One whose CPU goes on at once after a restart, with nothing under way: the first stamp that it hears may be that of a block that
+    was sent again below the restart."""
+    most = 3000
+
+    def wait(self):
+        super(Restarting, self).wait()
+        if self.draw.random() < self.chance and self.latest_stamp() in range(20, self.most):
+            self.restart()
+
+    def restart(self):
+        latest = self.latest_stamp()
+        self.module.restart()
+        self.late = []
+        self.scan(self.draw.randrange(latest), 0)
+        self.restarts.append(len(self.frames))
+        if self.draw.random() < 0.7:
+            self.exchange(encode.configure_inputs([self.item(named, False) for named in range(self.kind.inputs)]))
+
+
+def going_on(seed):
+    """A random link of that kind. Its blocks are small or large, and many answers are lost."""
+    draw = random.Random(seed)
+    kind = Kind(draw.choice((40, 80, 160)), draw.choice((1, 4, 16)), draw.choice((0.01, 0.2, 0.5)), draw.choice((1, 5)), draw.choice((0.2, 0.4)),
+                draw.choice((0.3, 0.6)), asks=0.5, questions=(encode.filtered_inputs(), encode.status(0)), per_block=draw.choice((255, 2)),
+                waiting=draw.choice((1024, 3)))
+    return GoingOn(draw, kind, draw.choice((0.02, 0.1)))
+
+
+def stamp_of(octets):
+    """The stamp of an answer, and whether it is that of a block that is sent again; None if it has none."""
+    return (int.from_bytes(octets[-4:], 'big'), octets[0] == 182 and bool(octets[-5] & 2)) if octets[0] in STAMPED else None
+
+
+def shows_restart(above, below):
+    """Whether each stamp in the frames `below` a restart, through the first that is not that of a block that is sent again, is before
+    the latest of those in the frames `above` it; and whether the first of them is that of such a block."""
+    stamps = [stamp for sent, octets in above if not sent for stamp in [stamp_of(octets)] if stamp and not stamp[1]]
+    heard = [stamp for sent, octets in below if not sent for stamp in [stamp_of(octets)] if stamp]
+    if not stamps or not heard:
+        return False, False
+    first = next((place for place, stamp in enumerate(heard) if not stamp[1]), len(heard) - 1)
+    return all(0 < (stamps[-1][0] - stamp) % (1 << 32) < 1 << 31 for stamp, _ in heard[:first + 1]), heard[0][1]
+
+
 def restarting(seed, loads=0.03):
     """A random link."""
     draw = random.Random(seed)

@@ -6,7 +6,7 @@ frames that were sent (>) and heard (<), where `-` is a place at which lines are
 `?` is a possible message, and `!` a line that speaks of loss. For counts of a log a frame has its octets, and its time if it has
 one. For a module `>` is a frame that it gets, and each other step a call, with its argument in hexadecimal; `state` is all calls
 that ask what it is. `30*3` is short for `303030`, and `+` joins octets. A result that is a struct is written by its fields that
-are not 0, in the order of the struct; the result for frames by the rule that each breaks, by what a judge says of each, or by
+are not 0, in the order of the struct, and it is written again as the octets that are given; the result for frames by the rule that each breaks, by what a judge says of each, or by
 what a poller says of each, with its number, its stamp, its items and the number of the next poll; that for the signs of a log by
 the number of the sign below the last frame; that for a log by the line, the kind and the reason of each verdict, and what else
 it has; that for its batches by what the judge, the counts and the signs of a log say of them. A log is read whole and in pieces

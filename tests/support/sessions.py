@@ -22,7 +22,7 @@ def timed(frames, step=0.01, octet=0.0001):
 
 def spells(octets):
     """Whether octets spell a message, by the lengths of docs/PROTOCOL.md."""
-    kind, length = octets[0], len(octets)
+    kind, length = next(iter(octets), None), len(octets)
     if kind not in KNOWN or length > 773:
         return False
     if kind == 51:

@@ -91,6 +91,7 @@ static size_t random_block(uint8_t *octets, const struct growth *growth) {
     uint64_t *state = growth->state;
     size_t count = random_count(state), place;
     uint32_t stamp = (uint32_t)conformance_next(state) >> (conformance_below(state, 3) == 0 ? 16 : 0);
+    struct fio2070_answer answer;
     memset(entries, 0, sizeof entries);
     for (place = 0; place < count; place++) {
         entries[place].input = (uint8_t)conformance_below(state, 128);
@@ -98,8 +99,13 @@ static size_t random_block(uint8_t *octets, const struct growth *growth) {
         entries[place].stamp =
             (uint16_t)(stamp - conformance_below(state, conformance_below(state, 2) == 0 ? 2 : 65536) + 1);
     }
-    return fio2070_encode_block_answer(near_number(growth), entries, count, (uint8_t)conformance_next(state), stamp,
-                                       octets, FIO2070_LONGEST_FRAME);
+    memset(&answer, 0, sizeof answer);
+    answer.code = FIO2070_TYPE_POLL + FIO2070_TYPE_ANSWER;
+    answer.count = (uint8_t)count;
+    answer.status = (uint8_t)conformance_next(state);
+    answer.block = near_number(growth);
+    answer.stamp = stamp;
+    return fio2070_encode_answer(&answer, entries, count, NULL, 0, octets, FIO2070_LONGEST_FRAME);
 }
 
 /* An answer of another type, with a body of any length. */
@@ -108,7 +114,9 @@ static size_t random_other(uint8_t *octets, uint64_t *state) {
     uint8_t body[FIO2070_LONGEST_FRAME];
     size_t length = conformance_below(state, conformance_below(state, 2) == 0 ? 8 : 773), place;
     for (place = 0; place < length; place++) body[place] = (uint8_t)conformance_next(state);
-    return fio2070_encode_other_answer(types[conformance_below(state, 5)], body, length, octets, FIO2070_LONGEST_FRAME);
+    octets[0] = types[conformance_below(state, 5)];
+    memcpy(octets + 1, body, length);
+    return 1 + length;
 }
 
 /* Changes the octets of an answer, or not. Returns how many there are. */

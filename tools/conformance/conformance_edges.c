@@ -53,7 +53,7 @@ void conformance_edge_open(struct edge *edge, uint8_t leading, uint8_t trailing)
 
 void conformance_edge_load(struct edge *edge, uint32_t number) {
     uint8_t octets[5];
-    conformance_edge_octets(edge, EVENT_FRAME, octets, fio2070_encode_load_counter(number, octets, sizeof octets));
+    conformance_edge_octets(edge, EVENT_FRAME, octets, conformance_load(number, octets, sizeof octets));
 }
 
 uint8_t conformance_block_number(uint64_t *state) {

@@ -12,9 +12,10 @@ void conformance_begin(struct history *history) {
 }
 
 void conformance_look(const struct fio2070_module *module, struct view *view) {
-    view->filtered = fio2070_module_filtered(module);
-    view->waiting = fio2070_module_waiting(module);
-    view->counter = fio2070_module_counter(module);
+    struct fio2070_state state = fio2070_module_state(module);
+    view->filtered = state.filtered;
+    view->waiting = state.waiting;
+    view->counter = state.counter;
 }
 
 static void put_if(struct rule_set *rules, enum rule rule, int condition) {
@@ -37,7 +38,7 @@ static void saw_change(struct history *history, unsigned input, int is_high, str
 
 void conformance_saw_scan(struct history *history, const struct view *before, const struct fio2070_module *after,
                           uint64_t inputs, struct rule_set *rules) {
-    uint64_t filtered = fio2070_module_filtered(after), changed = before->filtered ^ filtered, left;
+    uint64_t filtered = fio2070_module_state(after).filtered, changed = before->filtered ^ filtered, left;
     uint64_t reported = changed & ~history->ignored;
     unsigned long entries = history->entries;
     unsigned input;
@@ -51,7 +52,7 @@ void conformance_saw_scan(struct history *history, const struct view *before, co
     put_if(rules, RULE_ENTRY, reported != 0);
     put_if(rules, RULE_COUNTER_AT_START, reported != 0 && !history->is_loaded);
     put_if(rules, RULE_ENTRY_ORDER, (reported & (reported - 1)) != 0 || (reported != 0 && before->waiting > 0));
-    put_if(rules, RULE_MOST_WAITING, reported != 0 && fio2070_module_waiting(after) == FIO2070_STANDARD_WAITING);
+    put_if(rules, RULE_MOST_WAITING, reported != 0 && fio2070_module_state(after).waiting == FIO2070_STANDARD_WAITING);
     put_if(rules, RULE_PUSHED_OUT, before->waiting + history->entries - entries > FIO2070_STANDARD_WAITING);
     put_if(rules, RULE_CASE_500_SCANS, history->scans >= 500);
     put_if(rules, RULE_CASE_30000_ENTRIES, reported != 0 && history->entries > 30000);

@@ -44,6 +44,8 @@ static int open_command(struct wire *wire) {
     keep_here(errors[0]);
     wire->process = fork();
     if (wire->process == 0) become(wire->target, both[1], errors[1]);
+    /* The process does this too: it may be ended as a group before it runs. */
+    if (wire->process > 0) setpgid((pid_t)wire->process, (pid_t)wire->process);
     close(both[1]);
     close(errors[1]);
     wire->file = both[0];

@@ -75,11 +75,11 @@ static void ask_module(const struct maker *maker, struct difference *difference)
 /* What no answer shows, compared if the maker offers it. */
 static uint32_t hidden_fields(const struct link *link, struct difference *difference) {
     const struct maker *maker = link->ends.module;
-    struct fio2070_outputs outputs = fio2070_module_outputs(&link->module);
+    struct fio2070_outputs outputs = fio2070_module_state(&link->module).outputs;
     uint32_t fields = 0;
     memcpy(difference->expected_outputs, outputs.levels, 8);
     memcpy(difference->expected_outputs + 8, outputs.controls, 8);
-    difference->expected_timeout = fio2070_module_watchdog_ms(&link->module);
+    difference->expected_timeout = fio2070_module_state(&link->module).watchdog_ms;
     ask_module(maker, difference);
     if (maker->outputs != NULL && memcmp(difference->expected_outputs, difference->got_outputs, 16) != 0) {
         fields |= FIELD_BIT(OUTPUTS);
@@ -143,7 +143,7 @@ static void sync_line(struct link *link) {
     maker->line_sync(maker->context);
     if (!link->ends.has_own_clock || !is_load) return;
     span.last = conformance_now_ms();
-    conformance_clock_load(&link->observer, fio2070_module_counter(&link->module), span);
+    conformance_clock_load(&link->observer, fio2070_module_state(&link->module).counter, span);
 }
 
 /* A module with a clock of its own is reset with all levels 1, which its first sample then finds. */

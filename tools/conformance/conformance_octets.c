@@ -110,6 +110,24 @@ size_t conformance_configuration(uint8_t *octets, uint64_t *state) {
     return 2 + 3 * (size_t)count;
 }
 
+static struct fio2070_command command_of(uint8_t code) {
+    struct fio2070_command command;
+    memset(&command, 0, sizeof command);
+    command.code = code;
+    return command;
+}
+
+/* The octets of a command without items and body. */
+static size_t encoded(const struct fio2070_command *command, uint8_t *octets) {
+    return fio2070_encode_command(command, NULL, 0, NULL, 0, octets, CONFORMANCE_LONGEST_FRAME);
+}
+
+size_t conformance_load(uint32_t number, uint8_t *octets, size_t room) {
+    struct fio2070_command command = command_of(FIO2070_TYPE_LOAD_COUNTER);
+    command.load = number;
+    return fio2070_encode_command(&command, NULL, 0, NULL, 0, octets, room);
+}
+
 /* A load of the counter near the ends of 16, 24, 31 and 32 bits, or at them. */
 static size_t random_load(uint8_t *octets, uint64_t *state) {
     static const uint32_t ends[] = {0, 65536, 4294967295u, 16777216, 2147483648u, 1, 65535, 16777215, 2147483647};
@@ -117,7 +135,7 @@ static size_t random_load(uint8_t *octets, uint64_t *state) {
     unsigned kind = conformance_below(state, 8);
     if (kind > 3) load = ends[conformance_below(state, 5)] - conformance_below(state, 64);
     if (kind > 0 && kind <= 3) load = ends[conformance_below(state, sizeof ends / sizeof ends[0])];
-    return fio2070_encode_load_counter(load, octets, CONFORMANCE_LONGEST_FRAME);
+    return conformance_load(load, octets, CONFORMANCE_LONGEST_FRAME);
 }
 
 /* How long a body is: mostly short, now and then up to the longest. */
@@ -145,39 +163,51 @@ static size_t random_body(uint8_t *octets, uint64_t *state) {
 
 static size_t random_status(uint8_t *octets, uint64_t *state) {
     static const uint8_t masks[] = {0, 128, 127, 255};
+    struct fio2070_command command;
     uint8_t clear =
         conformance_below(state, 2) == 0 ? masks[conformance_below(state, 4)] : (uint8_t)conformance_next(state);
-    return fio2070_encode_status(clear, octets, CONFORMANCE_LONGEST_FRAME);
+    command = command_of(FIO2070_TYPE_STATUS);
+    command.clear = clear;
+    return encoded(&command, octets);
 }
 
 static size_t random_timeout(uint8_t *octets, uint64_t *state) {
     static const uint8_t ends[] = {0, 9, 10, 11, 99, 100, 101, 255};
-    uint8_t timeout =
+    struct fio2070_command command = command_of(FIO2070_TYPE_WATCHDOG);
+    command.timeout =
         conformance_below(state, 2) == 0 ? ends[conformance_below(state, 8)] : (uint8_t)conformance_next(state);
-    return fio2070_encode_watchdog(timeout, octets, CONFORMANCE_LONGEST_FRAME);
+    return encoded(&command, octets);
 }
 
 /* Levels and controls, each of any bits, all 0 or all 1. */
-static void fill_outputs(uint8_t outputs[16], uint64_t *state) {
+static size_t random_outputs(uint8_t *octets, uint64_t *state) {
+    struct fio2070_command command = command_of(FIO2070_TYPE_SET_OUTPUTS);
+    uint8_t outputs[16];
     fill(outputs, 16, state);
     if (conformance_below(state, 3) == 0) memset(outputs, conformance_below(state, 2) == 0 ? 0 : 255, 8);
     if (conformance_below(state, 3) == 0) memset(outputs + 8, conformance_below(state, 2) == 0 ? 0 : 255, 8);
+    memcpy(command.levels, outputs, 8);
+    memcpy(command.controls, outputs + 8, 8);
+    return encoded(&command, octets);
+}
+
+/* A command that is its type alone. */
+static size_t type_alone(uint8_t code, uint8_t *octets) {
+    struct fio2070_command command = command_of(code);
+    return encoded(&command, octets);
 }
 
 size_t conformance_command(uint8_t *octets, uint64_t *state) {
-    uint8_t outputs[16];
     switch (conformance_below(state, 10)) {
     case 0: return random_status(octets, state);
     case 1:
     case 2: return random_load(octets, state);
-    case 3: return fio2070_encode_raw_inputs(octets, CONFORMANCE_LONGEST_FRAME);
+    case 3: return type_alone(FIO2070_TYPE_RAW_INPUTS, octets);
     case 4:
-    case 5: return fio2070_encode_filtered_inputs(octets, CONFORMANCE_LONGEST_FRAME);
-    case 6:
-        fill_outputs(outputs, state);
-        return fio2070_encode_set_outputs(outputs, outputs + 8, octets, CONFORMANCE_LONGEST_FRAME);
+    case 5: return type_alone(FIO2070_TYPE_FILTERED_INPUTS, octets);
+    case 6: return random_outputs(octets, state);
     case 7: return random_timeout(octets, state);
-    case 8: return fio2070_encode_identify(octets, CONFORMANCE_LONGEST_FRAME);
+    case 8: return type_alone(FIO2070_TYPE_IDENTIFY, octets);
     default: return random_body(octets, state);
     }
 }

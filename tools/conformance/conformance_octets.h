@@ -38,6 +38,9 @@ size_t conformance_command(uint8_t *octets, uint64_t *state);
 size_t conformance_configuration(uint8_t *octets, uint64_t *state);
 size_t conformance_hostile(uint8_t *octets, uint64_t *state);
 
+/* Writes a load of the counter to the front of `octets`, and returns how many octets it has. */
+size_t conformance_load(uint32_t number, uint8_t *octets, size_t room);
+
 /* A configuration of all inputs, all reported, with filters as the theme has them. */
 size_t conformance_open(uint8_t *octets, enum theme theme, uint64_t *state);
 

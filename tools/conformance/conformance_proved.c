@@ -19,7 +19,7 @@ static size_t exchange(void *context, const uint8_t *octets, size_t length, uint
 }
 
 static void outputs(void *context, uint8_t levels[8], uint8_t controls[8]) {
-    struct fio2070_outputs kept = fio2070_module_outputs((struct fio2070_module *)context);
+    struct fio2070_outputs kept = fio2070_module_state((struct fio2070_module *)context).outputs;
     int octet;
     for (octet = 0; octet < 8; octet++) {
         levels[octet] = kept.levels[octet];
@@ -27,7 +27,7 @@ static void outputs(void *context, uint8_t levels[8], uint8_t controls[8]) {
     }
 }
 
-static uint8_t watchdog_ms(void *context) { return fio2070_module_watchdog_ms((struct fio2070_module *)context); }
+static uint8_t watchdog_ms(void *context) { return fio2070_module_state((struct fio2070_module *)context).watchdog_ms; }
 
 static void reset_cpu(void *context, uint8_t number) { fio2070_poller_start((struct fio2070_poller *)context, number); }
 

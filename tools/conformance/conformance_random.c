@@ -97,7 +97,7 @@ static void begin(struct script *script, enum theme theme, uint64_t *state) {
     while (count-- > 0) add_frame(script, octets, conformance_command(octets, state));
     if (conformance_below(state, 4) == 0) {
         add_frame(script, octets,
-                  fio2070_encode_load_counter((uint32_t)conformance_next(state), octets, sizeof octets));
+                  conformance_load((uint32_t)conformance_next(state), octets, sizeof octets));
         conformance_add(script, &sync);
     }
     if (theme != ORDINARY || conformance_below(state, 8) != 0) {

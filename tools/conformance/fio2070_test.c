@@ -1,14 +1,18 @@
 /* The command fio2070-test: holds a module, or a CPU's end, that is asked by lines against the proved one. */
+#define _POSIX_C_SOURCE 200809L
 #include "conformance_wire.h"
 
 #include <errno.h>
+#include <limits.h>
 #include <stdlib.h>
 #include <string.h>
+#include <unistd.h>
 
 static const char HELP[] =
     "Usage: fio2070-test [--id N] [--per-block N] [--deadline MS] [--own-clock] WIRE [WORD..]\n"
     "       fio2070-test --cpu [--deadline MS] WIRE [WORD..]\n"
     "       fio2070-test --self module|cpu [WORD..]\n"
+    "       fio2070-test --help | --version\n"
     "\n"
     "Compares a module with the proved one, by random scripts. The tester writes lines, and the module answers each with one:\n"
     "  reset          done          as after power on\n"
@@ -43,6 +47,13 @@ struct setup {
     const char *opened, *self; /* the end of --self, NULL if there is none */
 };
 
+/* The number that a word is; -1 if it is none, or none of these options. */
+static int number_of(const char *word) {
+    char *end = NULL;
+    long number = strtol(word, &end, 10);
+    return end == word || *end != '\0' || number < 0 || number > INT_MAX ? -1 : (int)number;
+}
+
 /* Reads an option and its word. Returns how many words it took, 0 if it is none of these. */
 static int read_option(struct setup *setup, const char *name, const char *word) {
     if (strcmp(name, "--own-clock") == 0) return setup->wire.has_own_clock = 1;
@@ -51,11 +62,11 @@ static int read_option(struct setup *setup, const char *name, const char *word) 
         setup->self = setup->opened = word;
         setup->is_open = strcmp(word, "module") == 0 || strcmp(word, "cpu") == 0;
     } else if (strcmp(name, "--id") == 0) {
-        setup->id = atoi(word);
+        setup->id = number_of(word);
     } else if (strcmp(name, "--per-block") == 0) {
-        setup->per_block = atoi(word);
+        setup->per_block = number_of(word);
     } else if (strcmp(name, "--deadline") == 0) {
-        setup->wire.deadline_ms = atoi(word);
+        setup->wire.deadline_ms = number_of(word);
     } else if (strcmp(name, "--command") == 0) {
         setup->is_open = conformance_wire_open(&setup->wire, setup->opened = word, WIRE_COMMAND);
     } else if (strcmp(name, "--serial") == 0) {
@@ -94,9 +105,24 @@ static int run(struct setup *setup, int count, char **words) {
     return status;
 }
 
+/* Writes the versions of the tester and of the library, which is a part of the program, and the path of the program. */
+static void write_versions(const char *name) {
+    uint32_t of_library = fio2070_version();
+    char path[4096];
+    ssize_t length = readlink("/proc/self/exe", path, sizeof path);
+    if (length > 0) name = path;
+    printf("fio2070-test %d.%d.%d\n", FIO2070_VERSION / 10000, FIO2070_VERSION / 100 % 100, FIO2070_VERSION % 100);
+    printf("libfio2070 %u.%u.%u in %.*s\n", (unsigned)(of_library / 10000), (unsigned)(of_library / 100 % 100),
+        (unsigned)(of_library % 100), length > 0 ? (int)length : (int)strlen(name), name);
+}
+
 /* No WIRE was opened: says at which word. */
 static int refuse(int count, char **words, int place, int taken) {
     int is_help = count == 2 && strcmp(words[1], "--help") == 0;
+    if (count == 2 && strcmp(words[1], "--version") == 0) {
+        write_versions(words[0]);
+        return 0;
+    }
     if (!is_help && place < count && taken == 0) {
         printf("%s before WIRE is no option: those of the tester come after it, see --help\n", words[place]);
     } else if (!is_help && place < count) {
@@ -127,7 +153,7 @@ int main(int count, char **words) {
         place += taken;
     }
     if (setup.opened == NULL) return written(refuse(count, words, place, taken));
-    if (!setup.is_open || setup.id < 0 || setup.id > 255 || setup.per_block < 1 || setup.per_block > 255) {
+    if (!setup.is_open || setup.id < 0 || setup.id > 255 || setup.per_block < 1 || setup.per_block > 255 || setup.wire.deadline_ms < 1) {
         printf(setup.is_open ? "a number is out of its range\n" : "can't open %s\n", setup.opened);
         return 2;
     }

@@ -240,39 +240,54 @@ DECODES(decode_answer, 24, struct fio2070_answer, settle_answer(it, into))
 
 /* ---- Writing ---- */
 
-ENCODES(encode_status, (uint8_t clear, uint8_t *out, size_t room), clear, to, room)
-ENCODES(encode_load_counter, (uint32_t load, uint8_t *out, size_t room), load, to, room)
-ENCODES(encode_raw_inputs, (uint8_t *out, size_t room), to, room)
-ENCODES(encode_filtered_inputs, (uint8_t *out, size_t room), to, room)
-ENCODES(encode_poll, (uint8_t block, uint8_t *out, size_t room), block, to, room)
-ENCODES(encode_watchdog, (uint8_t timeout, uint8_t *out, size_t room), timeout, to, room)
-ENCODES(encode_identify, (uint8_t *out, size_t room), to, room)
-ENCODES(encode_status_answer,
-        (uint8_t flags, uint8_t receive_errors, uint8_t transmit_errors, uint32_t stamp, uint8_t *out, size_t room),
-        flags, receive_errors, transmit_errors, stamp, to, room)
-ENCODES(encode_load_counter_answer, (uint8_t status, uint8_t *out, size_t room), status, to, room)
-ENCODES(encode_configure_inputs_answer, (uint8_t status, uint8_t *out, size_t room), status, to, room)
-ENCODES(encode_raw_inputs_answer, (uint64_t inputs, uint32_t stamp, uint8_t *out, size_t room), inputs, stamp, to, room)
-ENCODES(encode_filtered_inputs_answer, (uint64_t inputs, uint32_t stamp, uint8_t *out, size_t room), inputs, stamp, to,
-        room)
-ENCODES(encode_watchdog_answer, (uint8_t status, uint8_t *out, size_t room), status, to, room)
-ENCODES(encode_configure_inputs,
-        (const struct fio2070_configuration_item *items, size_t count, uint8_t *out, size_t room),
-        READS(items, count * sizeof *items), count, to, room)
-ENCODES(encode_set_outputs, (const uint8_t levels[8], const uint8_t controls[8], uint8_t *out, size_t room),
-        READS(levels, 8), READS(controls, 8), to, room)
-ENCODES(encode_other_command, (uint8_t code, const uint8_t *body, size_t length, uint8_t *out, size_t room), code,
-        READS(body, length), length, to, room)
-ENCODES(encode_other_answer, (uint8_t code, const uint8_t *body, size_t length, uint8_t *out, size_t room), code,
-        READS(body, length), length, to, room)
-ENCODES(poller_poll, (const struct fio2070_poller *poller, uint8_t *out, size_t room), READS(poller, 1), to, room)
+/* The structs in the module's order of octets. */
+static void put_command(uint8_t into[28], const struct fio2070_command *command) {
+    into[0] = command->code;
+    into[1] = command->clear;
+    into[2] = command->block;
+    into[3] = command->timeout;
+    into[4] = command->count;
+    into[5] = command->reserved;
+    put16(into + 6, command->body);
+    put32(into + 8, command->load);
+    memcpy(into + 12, command->levels, 8);
+    memcpy(into + 20, command->controls, 8);
+}
 
-size_t fio2070_encode_block_answer(uint8_t block, const struct fio2070_entry *entries, size_t count, uint8_t status,
-                                   uint32_t stamp, uint8_t *out, size_t room) {
-    MACHINE(fio2070_encode_block_answer);
+static void put_answer(uint8_t into[24], const struct fio2070_answer *answer) {
+    into[0] = answer->code;
+    into[1] = answer->flags;
+    into[2] = answer->receive_errors;
+    into[3] = answer->transmit_errors;
+    into[4] = answer->status;
+    into[5] = answer->block;
+    into[6] = answer->count;
+    memcpy(into + 7, answer->reserved, 3);
+    put16(into + 10, answer->body);
+    put32(into + 12, answer->stamp);
+    put64(into + 16, answer->inputs);
+}
+
+size_t fio2070_encode_command(const struct fio2070_command *command, const struct fio2070_configuration_item *items,
+                              size_t count, const uint8_t *body, size_t length, uint8_t *out, size_t room) {
+    uint8_t fields[28];
+    MACHINE(fio2070_encode_command);
+    put_command(fields, command);
+    {
+        uint64_t a = READS(fields, 28), b = READS(items, count * sizeof *items), c = READS(body, length),
+                 to = WRITES(out, room);
+        return (size_t)call_fio2070_encode_command(&machine, a, b, count, c, length, to, room);
+    }
+}
+
+size_t fio2070_encode_answer(const struct fio2070_answer *answer, const struct fio2070_entry *entries, size_t count,
+                             const uint8_t *body, size_t length, uint8_t *out, size_t room) {
     /* Entries in the module's order of octets. Of more than 255 it reads none; a window that ends there would show it. */
-    uint8_t octets[FIO2070_MOST_ENTRIES * 4];
-    uint64_t from, to = WRITES(out, room);
+    uint8_t fields[24], octets[FIO2070_MOST_ENTRIES * 4];
+    uint64_t a, from, c, to;
+    MACHINE(fio2070_encode_answer);
+    put_answer(fields, answer);
+    a = READS(fields, 24), c = READS(body, length), to = WRITES(out, room);
     if (IS_LITTLE) {
         from = READS(entries, count * sizeof *entries);
     } else {
@@ -284,8 +299,10 @@ size_t fio2070_encode_block_answer(uint8_t block, const struct fio2070_entry *en
         }
         from = READS(octets, 4 * most);
     }
-    return (size_t)call_fio2070_encode_block_answer(&machine, block, from, count, status, stamp, to, room);
+    return (size_t)call_fio2070_encode_answer(&machine, a, from, count, c, length, to, room);
 }
+
+ENCODES(poller_poll, (const struct fio2070_poller *poller, uint8_t *out, size_t room), READS(poller, 1), to, room)
 
 /* ---- The CPU's end ---- */
 
@@ -401,23 +418,20 @@ OVER(judge, lose, 1, void, , (struct fio2070_judge * judge), it)
 JUDGES(judge, sent,
        (struct fio2070_judge * judge, uint8_t at, const uint8_t *octets, size_t length, struct fio2070_judge_outcome *outcome),
        it, at, frame, length, to)
-JUDGES(judge, heard,
-       (struct fio2070_judge * judge, uint8_t at, const uint8_t *octets, size_t length, struct fio2070_judge_outcome *outcome),
-       it, at, frame, length, to)
+JUDGES(judge, heard, (struct fio2070_judge * judge, const uint8_t *octets, size_t length, struct fio2070_judge_outcome *outcome),
+       it, frame, length, to)
 
 /* ---- Frames on a line ---- */
 
 OVER(wire, start, 1, void, , (struct fio2070_wire * wire, uint16_t address, uint16_t control), it, address, control)
-OVER(wire, read, 1, uint8_t, return (uint8_t), (struct fio2070_wire * wire, uint8_t octet), it, octet)
-OVER(wire, read_many, 1, size_t, return (size_t),
+OVER(wire, read, 1, size_t, return (size_t),
      (struct fio2070_wire * wire, const uint8_t *octets, size_t length, uint8_t *heard), it, READS(octets, length), length,
      WRITES(heard, 1))
 OVER(wire, lose, 1, void, , (struct fio2070_wire * wire), it)
 OVER(wire, message_length, 0, size_t, return (size_t), (const struct fio2070_wire *wire), it)
 OVER(wire_bits, start, 1, void, , (struct fio2070_wire_bits * wire_bits, uint16_t address, uint16_t control), it, address,
      control)
-OVER(wire_bits, read, 1, uint8_t, return (uint8_t), (struct fio2070_wire_bits * wire_bits, uint8_t bit), it, bit)
-OVER(wire_bits, read_many, 1, size_t, return (size_t),
+OVER(wire_bits, read, 1, size_t, return (size_t),
      (struct fio2070_wire_bits * wire_bits, const uint8_t *line, size_t length, uint8_t *heard), it, READS(line, length),
      length, WRITES(heard, 1))
 OVER(wire_bits, message_length, 0, size_t, return (size_t), (const struct fio2070_wire_bits *wire_bits), it)
@@ -610,25 +624,23 @@ OVER(sized_module, receive, 1, size_t, return (size_t),
      (struct fio2070_sized_module * sized_module, struct fio2070_ring ring, const uint8_t *octets, size_t length, uint8_t *out,
       size_t room),
      it, WRITES(ring.slots, ring.capacity * 3), ring.capacity, READS(octets, length), length, WRITES(out, room), room)
-OVER(sized_module, flags, 0, uint8_t, return (uint8_t), (const struct fio2070_sized_module *sized_module), it)
-OVER(sized_module, raw, 0, uint64_t, return, (const struct fio2070_sized_module *sized_module), it)
-OVER(sized_module, watchdog_ms, 0, uint8_t, return (uint8_t), (const struct fio2070_sized_module *sized_module), it)
-OVER(sized_module, counter, 0, uint32_t, return, (const struct fio2070_sized_module *sized_module), it)
-OVER(sized_module, filtered, 0, uint64_t, return, (const struct fio2070_sized_module *sized_module), it)
-OVER(sized_module, waiting, 0, size_t, return (size_t), (const struct fio2070_sized_module *sized_module), it)
 
-/* Calls over such a struct that return one of octets. */
-#define RETURNS(part, name, type)                                                                  \
-    struct fio2070_##type fio2070_##part##_##name(const struct fio2070_##part *part) {             \
-        struct fio2070_##type found;                                                               \
-        MACHINE(fio2070_##part##_##name);                                                          \
-        memset(&found, 0, sizeof found);                                                           \
-        {                                                                                          \
-            uint64_t a = WRITES(&found, sizeof found), b = READS(part, sizeof *part);              \
-            call_fio2070_##part##_##name(&machine, a, b);                                          \
-        }                                                                                          \
-        return found;                                                                              \
+struct fio2070_state fio2070_sized_module_state(const struct fio2070_sized_module *sized_module) {
+    uint8_t into[48] = {0};
+    struct fio2070_state state;
+    MACHINE(fio2070_sized_module_state);
+    {
+        uint64_t a = WRITES(into, 48), b = READS(sized_module, sizeof *sized_module);
+        call_fio2070_sized_module_state(&machine, a, b);
     }
-
-RETURNS(sized_module, outputs, outputs)
-RETURNS(sized_module, errors, error_counts)
+    memset(&state, 0, sizeof state);
+    state.filtered = get64(into);
+    state.raw = get64(into + 8);
+    memcpy(&state.outputs, into + 16, 16);
+    state.counter = get32(into + 32);
+    state.waiting = get16(into + 36);
+    state.flags = into[38];
+    state.watchdog_ms = into[39];
+    memcpy(&state.errors, into + 40, 2);
+    return state;
+}

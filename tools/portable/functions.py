@@ -247,7 +247,7 @@ class Function:
 
     def trap(self, op, it):
         self.settle()
-        self.say('trap();')
+        self.say('fio2070_trap();')
         return False
 
     def block(self, op, it):

@@ -295,15 +295,20 @@ class Filters(c.Kept):
         return int(self._call('scan', raw))
 
 
+def _of_state(field: str, words: str) -> Any:
+    """A property: a number of what a module is at present, and what it says."""
+    return property(lambda self: int(getattr(self._call('state'), field)), doc=words)
+
+
 class Module(c.Kept):
     """A field I/O module of which `waiting` entries may wait."""
     _name, _struct = 'sized_module', c.CSizedModule
 
-    counter: int = c.number('counter', 'The milliseconds counted, modulo 2^32.')
-    filtered: int = c.number('filtered', 'The filtered states, also of ignored inputs.')
-    raw: int = c.number('raw', 'The levels of the last scan, all 1 before any.')
-    flags: int = c.number('flags', 'The flags that are up.')
-    waiting: int = c.number('waiting', 'How many entries wait for a poll.')
+    counter: int = _of_state('counter', 'The milliseconds counted, modulo 2^32.')
+    filtered: int = _of_state('filtered', 'The filtered states, also of ignored inputs.')
+    raw: int = _of_state('raw', 'The levels of the last scan, all 1 before any.')
+    flags: int = _of_state('flags', 'The flags that are up.')
+    waiting: int = _of_state('waiting', 'How many entries wait for a poll.')
 
     def __init__(self, id: int = 2, per_block: int = c.MOST_ENTRIES, waiting: int = c.STANDARD_WAITING) -> None:
         """It answers `id` to command 60; its blocks have at most `per_block` entries, 1 to 255; `waiting` is 1 to 8,192."""
@@ -358,16 +363,16 @@ class Module(c.Kept):
     @property
     def outputs(self) -> Tuple[bytes, bytes]:
         """The data and the control octets."""
-        outputs = self._call('outputs')
+        outputs = self._call('state').outputs
         return bytes(outputs.levels), bytes(outputs.controls)
 
     @property
     def watchdog_ms(self) -> Optional[int]:
         """The timeout of the watchdog in milliseconds, 10 to 100; None before the first command 58."""
-        return int(self._call('watchdog_ms')) or None
+        return int(self._call('state').watchdog_ms) or None
 
     @property
     def errors(self) -> Tuple[int, int]:
         """The error counts, in receiving and in transmitting."""
-        errors = self._call('errors')
+        errors = self._call('state').errors
         return errors.receive, errors.transmit

@@ -126,6 +126,12 @@ class CErrorCounts(ctypes.Structure):
     _fields_ = [('receive', c_uint8), ('transmit', c_uint8)]
 
 
+class CState(ctypes.Structure):
+    _fields_ = [('filtered', c_uint64), ('raw', c_uint64), ('outputs', COutputs), ('counter', c_uint32),
+                ('waiting', c_uint16), ('flags', c_uint8), ('watchdog_ms', c_uint8), ('errors', CErrorCounts), ('reserved', c_uint8
+                * 6)]
+
+
 class CLimits(ctypes.Structure):
     _fields_ = [('waiting', c_uint16), ('per_block', c_uint8), ('reserved', c_uint8)]
 
@@ -187,15 +193,8 @@ def number(name: str, words: str) -> Any:
 
 # The calls: written by tools/generate-layouts.
 
-_declare('fio2070_encode_status_answer', c_size_t, c_uint8, c_uint8, c_uint8, c_uint32, POINTER(c_uint8), c_size_t)
-_declare('fio2070_encode_load_counter_answer', c_size_t, c_uint8, POINTER(c_uint8), c_size_t)
-_declare('fio2070_encode_configure_inputs_answer', c_size_t, c_uint8, POINTER(c_uint8), c_size_t)
-_declare('fio2070_encode_raw_inputs_answer', c_size_t, c_uint64, c_uint32, POINTER(c_uint8), c_size_t)
-_declare('fio2070_encode_filtered_inputs_answer', c_size_t, c_uint64, c_uint32, POINTER(c_uint8), c_size_t)
-_declare('fio2070_encode_block_answer', c_size_t, c_uint8, POINTER(CEntry), c_size_t, c_uint8, c_uint32,
+_declare('fio2070_encode_answer', c_size_t, POINTER(CAnswer), POINTER(CEntry), c_size_t, c_char_p, c_size_t,
          POINTER(c_uint8), c_size_t)
-_declare('fio2070_encode_watchdog_answer', c_size_t, c_uint8, POINTER(c_uint8), c_size_t)
-_declare('fio2070_encode_other_answer', c_size_t, c_uint8, c_char_p, c_size_t, POINTER(c_uint8), c_size_t)
 _declare('fio2070_read_outputs_answer', CFault, c_char_p, c_size_t, POINTER(c_uint32))
 _declare('fio2070_read_identification', CFault, c_char_p, c_size_t, POINTER(c_uint8))
 _declare('fio2070_decode_answer', CFault, c_char_p, c_size_t, POINTER(CAnswer))
@@ -205,16 +204,8 @@ _declare('fio2070_checker_start_within', c_uint8, POINTER(CChecker), CLimits)
 _declare('fio2070_checker_start_anywhere', c_uint8, POINTER(CChecker), CLimits)
 _declare('fio2070_checker_sent', c_uint8, POINTER(CChecker), c_char_p, c_size_t, POINTER(CBreach))
 _declare('fio2070_checker_heard', c_uint8, POINTER(CChecker), c_char_p, c_size_t, POINTER(CBreach))
-_declare('fio2070_encode_status', c_size_t, c_uint8, POINTER(c_uint8), c_size_t)
-_declare('fio2070_encode_load_counter', c_size_t, c_uint32, POINTER(c_uint8), c_size_t)
-_declare('fio2070_encode_configure_inputs', c_size_t, POINTER(CItem), c_size_t, POINTER(c_uint8), c_size_t)
-_declare('fio2070_encode_raw_inputs', c_size_t, POINTER(c_uint8), c_size_t)
-_declare('fio2070_encode_filtered_inputs', c_size_t, POINTER(c_uint8), c_size_t)
-_declare('fio2070_encode_poll', c_size_t, c_uint8, POINTER(c_uint8), c_size_t)
-_declare('fio2070_encode_set_outputs', c_size_t, c_char_p, c_char_p, POINTER(c_uint8), c_size_t)
-_declare('fio2070_encode_watchdog', c_size_t, c_uint8, POINTER(c_uint8), c_size_t)
-_declare('fio2070_encode_identify', c_size_t, POINTER(c_uint8), c_size_t)
-_declare('fio2070_encode_other_command', c_size_t, c_uint8, c_char_p, c_size_t, POINTER(c_uint8), c_size_t)
+_declare('fio2070_encode_command', c_size_t, POINTER(CCommand), POINTER(CItem), c_size_t, c_char_p, c_size_t,
+         POINTER(c_uint8), c_size_t)
 _declare('fio2070_decode_command', CFault, c_char_p, c_size_t, POINTER(CCommand))
 _declare('fio2070_command_items', c_size_t, c_char_p, c_size_t, POINTER(CItem), c_size_t)
 _declare('fio2070_content_start', None, POINTER(CContentChecker))
@@ -236,7 +227,7 @@ _declare('fio2070_judge_start_anywhere', c_uint8, POINTER(CJudge), CLimits)
 _declare('fio2070_judge_start_begun', c_uint8, POINTER(CJudge), CLimits)
 _declare('fio2070_judge_lose', None, POINTER(CJudge))
 _declare('fio2070_judge_sent', c_uint8, POINTER(CJudge), c_uint8, c_char_p, c_size_t, POINTER(CJudgeOutcome))
-_declare('fio2070_judge_heard', c_uint8, POINTER(CJudge), c_uint8, c_char_p, c_size_t, POINTER(CJudgeOutcome))
+_declare('fio2070_judge_heard', c_uint8, POINTER(CJudge), c_char_p, c_size_t, POINTER(CJudgeOutcome))
 _declare('fio2070_log_start', None, POINTER(CLogReader), c_uint8)
 _declare('fio2070_log_read', c_size_t, POINTER(CLogReader), c_char_p, c_size_t, POINTER(CLogBatch))
 _declare('fio2070_log_end', None, POINTER(CLogReader))
@@ -270,27 +261,18 @@ _declare('fio2070_sized_module_count_receive_error', None, POINTER(CSizedModule)
 _declare('fio2070_sized_module_count_transmit_error', None, POINTER(CSizedModule))
 _declare('fio2070_sized_module_receive', c_size_t, POINTER(CSizedModule), POINTER(c_uint8 * 3), c_size_t, c_char_p,
          c_size_t, POINTER(c_uint8), c_size_t)
-_declare('fio2070_sized_module_flags', c_uint8, POINTER(CSizedModule))
-_declare('fio2070_sized_module_errors', CErrorCounts, POINTER(CSizedModule))
-_declare('fio2070_sized_module_outputs', COutputs, POINTER(CSizedModule))
-_declare('fio2070_sized_module_watchdog_ms', c_uint8, POINTER(CSizedModule))
-_declare('fio2070_sized_module_counter', c_uint32, POINTER(CSizedModule))
-_declare('fio2070_sized_module_filtered', c_uint64, POINTER(CSizedModule))
-_declare('fio2070_sized_module_raw', c_uint64, POINTER(CSizedModule))
-_declare('fio2070_sized_module_waiting', c_size_t, POINTER(CSizedModule))
+_declare('fio2070_sized_module_state', CState, POINTER(CSizedModule))
 _declare('fio2070_fault_text', c_size_t, POINTER(CFault), POINTER(c_uint8), c_size_t)
 _declare('fio2070_rule_text', c_size_t, c_uint8, POINTER(c_uint8), c_size_t)
 _declare('fio2070_content_rule_text', c_size_t, c_uint8, POINTER(c_uint8), c_size_t)
 _declare('fio2070_heard_text', c_size_t, POINTER(CHeard), POINTER(c_uint8), c_size_t)
 _declare('fio2070_version', c_uint32)
 _declare('fio2070_wire_start', None, POINTER(CWire), c_uint16, c_uint16)
-_declare('fio2070_wire_read', c_uint8, POINTER(CWire), c_uint8)
-_declare('fio2070_wire_read_many', c_size_t, POINTER(CWire), c_char_p, c_size_t, POINTER(c_uint8))
+_declare('fio2070_wire_read', c_size_t, POINTER(CWire), c_char_p, c_size_t, POINTER(c_uint8))
 _declare('fio2070_wire_lose', None, POINTER(CWire))
 _declare('fio2070_wire_message_length', c_size_t, POINTER(CWire))
 _declare('fio2070_wire_write', c_size_t, c_uint8, c_uint8, c_char_p, c_size_t, POINTER(c_uint8), c_size_t)
 _declare('fio2070_wire_check', c_uint16, c_char_p, c_size_t)
 _declare('fio2070_wire_bits_start', None, POINTER(CWireBits), c_uint16, c_uint16)
-_declare('fio2070_wire_bits_read', c_uint8, POINTER(CWireBits), c_uint8)
-_declare('fio2070_wire_bits_read_many', c_size_t, POINTER(CWireBits), c_char_p, c_size_t, POINTER(c_uint8))
+_declare('fio2070_wire_bits_read', c_size_t, POINTER(CWireBits), c_char_p, c_size_t, POINTER(c_uint8))
 _declare('fio2070_wire_bits_message_length', c_size_t, POINTER(CWireBits))

@@ -5,7 +5,8 @@ import operator
 from typing import Any, Iterable, Sequence, Union
 
 from . import _library as c
-from .records import ConfigurationItem, Entry
+from . import constants
+from .records import Answer, Command, ConfigurationItem, Entry
 
 # What a call takes as octets.
 Octets = Union[bytes, bytearray, memoryview]
@@ -34,16 +35,6 @@ def _check_widths(kinds: Iterable[Any], values: Iterable[Any]) -> None:
             check_range(256 ** ctypes.sizeof(kind), value)
 
 
-def _write(name: str, *arguments: Any) -> bytes:
-    out = (ctypes.c_uint8 * c.LONGEST_FRAME)()
-    call = getattr(c.library, 'fio2070_encode_' + name)
-    _check_widths(call.argtypes, arguments)
-    count = call(*arguments, out, len(out))
-    if count > len(out):
-        raise ValueError('there is no such message')
-    return bytes(out[:count])
-
-
 def _array(structure: Any, kind: Any, given: Any) -> Any:
     """A list as the library reads it. Raises TypeError if one of it lacks a field of its kind."""
     array = (structure * max(len(given), 1))()
@@ -62,96 +53,82 @@ def items_of(items: Sequence[ConfigurationItem]) -> Any:
     return _array(c.CItem, ConfigurationItem, items)
 
 
+def _write(name: str, structure: Any, given: Any, elements: Any, count: int, **arrays: Any) -> bytes:
+    """What a call of the library writes of a message: its struct, its items or entries, and its body."""
+    body, fields = octets_of(given.body), dict(structure._fields_)
+    numbers = {'count': count, 'body': len(body)}
+    numbers.update((field, getattr(given, field)) for field in fields if field not in (*numbers, *arrays, 'reserved'))
+    _check_widths((fields[field] for field in numbers), numbers.values())
+    out = (ctypes.c_uint8 * c.LONGEST_FRAME)()
+    call = getattr(c.library, 'fio2070_encode_' + name)
+    length = call(structure(**numbers, **arrays), elements, count, body, len(body), out, len(out))
+    if length > len(out):
+        raise ValueError('there is no such message')
+    return bytes(out[:length])
+
+
+def _check_kind(kind: Any, given: Any) -> None:
+    if not isinstance(given, kind):
+        raise TypeError('a message is a %s, not %s' % (kind.__name__, type(given).__name__))
+
+
+def command(given: Command) -> bytes:
+    """The octets of a command, such as Command(constants.TYPE_POLL, block=5), or one that `decode_command` returned. A field
+    that its type does not have is 0 or empty."""
+    _check_kind(Command, given)
+    levels, controls = octets_of(given.levels), octets_of(given.controls)
+    if len(levels) != 8 or len(controls) != 8:
+        raise ValueError('the outputs are eight octets each')
+    eight = ctypes.c_uint8 * 8
+    return _write('command', c.CCommand, given, items_of(given.items), len(given.items), levels=eight(*levels), controls=eight(*controls))
+
+
+def answer(given: Answer) -> bytes:
+    """The octets of an answer, as those of a command."""
+    _check_kind(Answer, given)
+    return _write('answer', c.CAnswer, given, _array(c.CEntry, Entry, given.entries), len(given.entries))
+
+
 def status(clear: int) -> bytes:
     """49, request module status: clears the flags whose bits are one."""
-    return _write('status', clear)
+    return command(Command(constants.TYPE_STATUS, clear=clear))
 
 
 def load_counter(load: int) -> bytes:
     """50: the number that the next line sync loads."""
-    return _write('load_counter', load)
+    return command(Command(constants.TYPE_LOAD_COUNTER, load=load))
 
 
 def configure_inputs(items: Sequence[ConfigurationItem]) -> bytes:
     """51: at most 255 items, of inputs below 128."""
-    return _write('configure_inputs', items_of(items), len(items))
+    return command(Command(constants.TYPE_CONFIGURE_INPUTS, items=items))
 
 
 def raw_inputs() -> bytes:
     """52."""
-    return _write('raw_inputs')
+    return command(Command(constants.TYPE_RAW_INPUTS))
 
 
 def filtered_inputs() -> bytes:
     """53."""
-    return _write('filtered_inputs')
+    return command(Command(constants.TYPE_FILTERED_INPUTS))
 
 
 def poll(block: int) -> bytes:
     """54: the block with this number."""
-    return _write('poll', block)
+    return command(Command(constants.TYPE_POLL, block=block))
 
 
 def set_outputs(levels: Octets, controls: Octets) -> bytes:
     """55: eight octets each."""
-    levels, controls = octets_of(levels), octets_of(controls)
-    if len(levels) != 8 or len(controls) != 8:
-        raise ValueError('the outputs are eight octets each')
-    return _write('set_outputs', levels, controls)
+    return command(Command(constants.TYPE_SET_OUTPUTS, levels=octets_of(levels), controls=octets_of(controls)))
 
 
 def watchdog(timeout: int) -> bytes:
     """58: the timeout in milliseconds."""
-    return _write('watchdog', timeout)
+    return command(Command(constants.TYPE_WATCHDOG, timeout=timeout))
 
 
 def identify() -> bytes:
     """60."""
-    return _write('identify')
-
-
-def other_command(code: int, body: Octets) -> bytes:
-    """56, 57 or 59, with at most 772 octets after the type."""
-    body = octets_of(body)
-    return _write('other_command', code, body, len(body))
-
-
-def status_answer(flags: int, receive_errors: int, transmit_errors: int, stamp: int) -> bytes:
-    """177."""
-    return _write('status_answer', flags, receive_errors, transmit_errors, stamp)
-
-
-def load_counter_answer(status: int) -> bytes:
-    """178."""
-    return _write('load_counter_answer', status)
-
-
-def configure_inputs_answer(status: int) -> bytes:
-    """179."""
-    return _write('configure_inputs_answer', status)
-
-
-def raw_inputs_answer(inputs: int, stamp: int) -> bytes:
-    """180: bit i of `inputs` is input i."""
-    return _write('raw_inputs_answer', inputs, stamp)
-
-
-def filtered_inputs_answer(inputs: int, stamp: int) -> bytes:
-    """181: bit i of `inputs` is input i."""
-    return _write('filtered_inputs_answer', inputs, stamp)
-
-
-def block_answer(block: int, entries: Sequence[Entry], status: int, stamp: int) -> bytes:
-    """182: at most 255 entries, of inputs below 128."""
-    return _write('block_answer', block, _array(c.CEntry, Entry, entries), len(entries), status, stamp)
-
-
-def watchdog_answer(status: int) -> bytes:
-    """186."""
-    return _write('watchdog_answer', status)
-
-
-def other_answer(code: int, body: Octets) -> bytes:
-    """183, 184, 185, 187 or 188, with at most 772 octets after the type."""
-    body = octets_of(body)
-    return _write('other_answer', code, body, len(body))
+    return command(Command(constants.TYPE_IDENTIFY))

@@ -71,16 +71,15 @@ class LinkJudge:
 
     def sent(self, octets: Octets, at: int = constants.AT_CPU) -> Outcome:
         """What a frame is that the CPU sent, logged there."""
-        return self._outcome_by(c.library.fio2070_judge_sent, octets, at)
-
-    def heard(self, octets: Octets, at: int = constants.AT_CPU) -> Outcome:
-        """What a frame is that the module sent, logged there."""
-        return self._outcome_by(c.library.fio2070_judge_heard, octets, at)
-
-    def _outcome_by(self, take: Any, octets: Octets, at: int) -> Outcome:
         octets = octets_of(octets)
         check_range(3, at)
-        take(self._judge, at, octets, len(octets), self._found)
+        c.library.fio2070_judge_sent(self._judge, at, octets, len(octets), self._found)
+        return _outcome(self._found)
+
+    def heard(self, octets: Octets) -> Outcome:
+        """What a frame is that the module sent."""
+        octets = octets_of(octets)
+        c.library.fio2070_judge_heard(self._judge, octets, len(octets), self._found)
         return _outcome(self._found)
 
 

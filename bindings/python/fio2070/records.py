@@ -1,6 +1,6 @@
 """Messages and their parts. A field that a type does not have is 0 or empty."""
 
-from typing import List, NamedTuple, Optional, Tuple, Type
+from typing import NamedTuple, Optional, Sequence, Tuple, Type
 
 
 class Fault(ValueError):
@@ -68,25 +68,25 @@ class Outcome(NamedTuple):
 class Command(NamedTuple):
     """A command, 49 to 60."""
     code: int
-    clear: int
-    block: int
-    timeout: int
-    load: int
-    levels: bytes
-    controls: bytes
-    body: bytes
-    items: List[ConfigurationItem]
+    clear: int = 0
+    block: int = 0
+    timeout: int = 0
+    load: int = 0
+    levels: bytes = bytes(8)
+    controls: bytes = bytes(8)
+    body: bytes = b''
+    items: Sequence[ConfigurationItem] = ()
 
 
 class Answer(NamedTuple):
     """An answer, 177 to 188."""
     code: int
-    flags: int
-    receive_errors: int
-    transmit_errors: int
-    status: int
-    block: int
-    stamp: int
-    inputs: int
-    body: bytes
-    entries: List[Entry]
+    flags: int = 0
+    receive_errors: int = 0
+    transmit_errors: int = 0
+    status: int = 0
+    block: int = 0
+    stamp: int = 0
+    inputs: int = 0
+    body: bytes = b''
+    entries: Sequence[Entry] = ()

@@ -55,7 +55,7 @@ class _Decoder(c.Kept):
         for start in range(0, len(octets), _PIECE):
             piece = octets[start:start + _PIECE]
             while piece:
-                piece = piece[self._call('read_many', piece, len(piece), self._heard):]
+                piece = piece[self._call('read', piece, len(piece), self._heard):]
                 if self._heard.value:
                     heard.append(self._said(_KINDS[self._heard.value]))
         return heard

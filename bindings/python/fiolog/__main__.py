@@ -8,7 +8,7 @@ import os
 import re
 import sys
 
-from . import output
+from . import library, output
 from .shown import shown
 from .terminal import say
 
@@ -22,15 +22,25 @@ COMMANDS = {
     'live': 'decodes a line that talks now, and checks it by all these rules',
 }
 
+# The options that are of no command.
+OWN_OPTIONS = '-h', '--help', '-V', '--version'
 # Lines have no cycles: to look for some among those of each piece takes a tenth of the time.
 COLLECT_AFTER = 1 << 16
-BEGINNING = ('Begin with `fiolog check LOG`: what is wrong, since when and how often. `fiolog decode LOG` writes what each frame '
-             'says, `fiolog record LOG` what became of the entries; `fiolog COMMAND --help` lists the options.')
+BEGINNING = ('Begin with `fiolog LOG`, which is `fiolog check LOG`: what is wrong, since when and how often. `fiolog decode LOG` writes '
+             'what each frame says, `fiolog record LOG` what became of the entries; `fiolog COMMAND --help` lists the options.')
 
 
 def module_of(name):
     """The module of a subcommand."""
     return importlib.import_module('fiolog.' + name)
+
+
+class Version(argparse.Action):
+    """Says which program and which library this is, and ends."""
+
+    def __call__(self, parser, namespace, values, option_string=None):
+        print('\n'.join(library.versions()))
+        parser.exit()
 
 
 class Parser(argparse.ArgumentParser):
@@ -41,11 +51,16 @@ class Parser(argparse.ArgumentParser):
 
 
 def arguments(words):
-    """The command line."""
+    """The command line. Where no command is named, a log, or an option of its own, is of `check`; without a word help is printed, and
+    it ends with status 2."""
+    first = words[0] if words else OWN_OPTIONS[0]
+    if first not in COMMANDS and first not in OWN_OPTIONS and (first.startswith('-') or os.path.exists(first)):
+        words = ['check', *words]
     # Only help is as wide as the terminal: to look how wide that is takes a part of the start, for each option.
-    has_help = any(word.startswith('-') and 'h' in word for word in words)
+    has_help = not words or any(word.startswith('-') and 'h' in word for word in words)
     form = argparse.HelpFormatter if has_help else functools.partial(argparse.HelpFormatter, width=80)
     parser = Parser(prog='fiolog', description='Reads logs of the field I/O transition link.', epilog=BEGINNING, formatter_class=form)
+    parser.add_argument(*OWN_OPTIONS[2:], action=Version, nargs=0, help='print the versions of the program and of the library, and its path')
     choices = parser.add_subparsers(dest='command', metavar='COMMAND', required=True)
     wanted = [word for word in words[:1] if word in COMMANDS] or COMMANDS
     for name in COMMANDS:
@@ -53,8 +68,11 @@ def arguments(words):
         one = choices.add_parser(name, help=COMMANDS[name], description=module.__doc__ if module else '', formatter_class=form)
         if module:
             module.add_arguments(one)
-    if words and words[0] not in COMMANDS and os.path.exists(words[0]):
-        parser.error('a command comes first, such as: fiolog check %s' % words[0])
+    if not words:
+        parser.print_help()
+        parser.exit(2)
+    if words[0] not in COMMANDS and words[0] not in OWN_OPTIONS:
+        parser.error('%s is no command and no file' % words[0])
     return parser, parser.parse_args(words)
 
 
@@ -94,6 +112,7 @@ def main(words=None):
     open_streams()
 
     def run():
+        library.load()
         parser, option = arguments(sys.argv[1:] if words is None else words)
         check_forms(parser, option)
         refuse_inputs(option)

@@ -24,7 +24,8 @@ POLL_LENGTH = 2
 class Batch:
     """Lines of a log, one below the other. `said` is what the library says of them. `others` are the events of the lines that give no
     frame, but for blank lines and parts of the frames above, each with the index of its line. If `as_said`, the lines say themselves
-    who sent a frame."""
+    who sent a frame. Each kind of batch has `event`, the event of a frame, and `numbered`, the events of the lines from this one on, each
+    with the index of its line."""
 
     def __init__(self, said, others, as_said=False):
         self.said, self.kinds, self.others, self.as_said = said, said.kinds, others, as_said
@@ -72,18 +73,13 @@ class Batch:
         """Who sent each frame: by its type, or as its line says."""
         return bytes(side or due for side, due in zip(self.sides, self.due)) if self.as_said else self.due
 
-    @cached_property
-    def contrary(self):
-        """The frames of which the line says another sender than the type."""
-        sides = self.sides
-        if sides == self.due or not sides.strip(b'\0'):
-            return ()
-        return [frame for frame, (side, due) in enumerate(zip(sides, self.due)) if side not in (LOG_NO_SIDE, due)]
-
     @property
     def balance(self):
         """Of how many more frames the line says another sender than of how many that of their type."""
-        return 2 * len(self.contrary) + self.sides.count(LOG_NO_SIDE) - len(self.sides)
+        sides, due = self.sides, self.due
+        if sides == due or not sides.strip(b'\0'):
+            return -len(sides.strip(b'\0'))
+        return sum(1 if side != sent else -1 for side, sent in zip(sides, due) if side != LOG_NO_SIDE)
 
     @cached_property
     def polls(self):
@@ -104,34 +100,18 @@ class Batch:
         ends = [next((line for line in part if timed[line] and kinds[line] == LOG_SAYS), None) for part in (lines, reversed(lines))]
         return () if None in ends else ends
 
-    @property
-    def is_judged(self):
-        """Whether judges get anything of it."""
-        return self.count > 0 or any(event.kind in LOSSES or event.is_remark for _, event in self.others)
-
     def steps(self):
         """Each frame as its index and None, and each other event with None in place of the index, in order."""
-        return self._mixed() if self.others else zip(range(self.said.frame_count), repeat(None))
-
-    def _mixed(self):
         frame = 0
         for line, event in self.others:
-            yield from ((index, None) for index in range(frame, self.frames_above(line)))
+            yield from zip(range(frame, self.frames_above(line)), repeat(None))
             yield None, event
             frame = self.frames_above(line + 1)
-        yield from ((index, None) for index in range(frame, self.said.frame_count))
-
-    def event(self, frame):
-        """The event of a frame."""
-        raise NotImplementedError
+        yield from zip(range(frame, self.said.frame_count), repeat(None))
 
     def events(self):
         """The events of all lines."""
         return [event for _, event in self.numbered()]
-
-    def numbered(self, first=0):
-        """The events of the lines from this one on, each with the index of its line."""
-        raise NotImplementedError
 
     def last_line(self):
         """The number of the last line that is no part of frames above it; None if each is."""

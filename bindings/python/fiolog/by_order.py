@@ -2,6 +2,7 @@
 row of a dump, and are frames of SDLC."""
 
 import re
+from operator import itemgetter
 from typing import NamedTuple, Optional, Sequence
 
 import fio2070
@@ -88,9 +89,11 @@ class ByOrder:
         return self._of_lines(self.texts.take())
 
     def end(self):
-        """The line that has no end."""
+        """The line that has no end, and the damage of each side whose last frame has none."""
         self.texts.end()
-        return self._of_lines(self.texts.take())
+        yield from self._of_lines(self.texts.take())
+        ends = [side.last for side in self.sides.values() if side.is_open and side.decoder]
+        yield from made_of(Line(kind=DAMAGED, note=WRONG_CHECK, **line) for line in sorted(ends, key=itemgetter('number')))
 
     def _of_lines(self, lines):
         parts = [self._part(raw) for raw in lines]
@@ -161,6 +164,7 @@ class ByOrder:
     def _framed(self, octets, is_row, **line):
         """The events of the frames that end in a line."""
         side = self.sides.setdefault(line['said'], Side(self.address))
+        side.last = line
         heard = side.read(octets, is_row)
         if heard is None and not is_row:
             return [Line(kind=DAMAGED, note=WRONG_CHECK, **line)]
@@ -173,17 +177,18 @@ class Side:
     def __init__(self, address):
         self.address, self.is_open = address, False     # whether a frame is under way
         self.decoder = None     # of what came from the first flag on
+        self.last = {}          # the last line
 
     def read(self, octets, is_row):
-        """What a line says, alone or with those above; None if it says nothing, and no flag came down to here. A row of a dump is
-        never alone."""
-        has_flags, is_between = FLAG in octets, octets.startswith(FLAG) and octets.endswith(FLAG)
-        if not is_row and not self.is_open and (is_between or not has_flags):
-            heard = alone(octets, self.address or (wire.OWN if has_flags else ANY))
-            if heard:
-                self._read(FLAG if has_flags else b'')
-                return heard
-        return self._read(octets) if has_flags or self.decoder else None
+        """What a line says, alone or with those above; None if it says nothing, and no flag came down to here. A line that has a right
+        check as it is written is alone, whatever is under way above. A row of a dump is never alone."""
+        is_between = octets.startswith(FLAG) and octets.endswith(FLAG)
+        heard = () if is_row or octets.startswith(FLAG) and not is_between else alone(octets, self.address)
+        if heard:
+            above = self._read(FLAG) if self.is_open else []
+            self._read(FLAG if is_between else b'')
+            return above + heard
+        return self._read(octets) if FLAG in octets or self.decoder else None
 
     def _read(self, octets):
         """What octets say that go on a line."""
@@ -194,12 +199,14 @@ class Side:
 
 
 def alone(octets, address):
-    """What octets say between two flags, or with them: with octet stuffing if all of them are in frames, or one frame as it is."""
-    heard = fio2070.Wire(*address).read(FLAG + octets.strip(FLAG) + FLAG)
+    """What octets say between two flags, or with them: with octet stuffing if all of them are in frames, or one frame as it is. The
+    address is that of ByOrder."""
+    heard = fio2070.Wire(*address or (wire.OWN if FLAG in octets else ANY)).read(FLAG + octets.strip(FLAG) + FLAG)
     if all(one.kind != 'damaged' for one in heard):
         return heard
     for one in (octets, octets[1:-1], octets.strip(FLAG)):
         message, check = one[HEADER:-CHECK], one[-CHECK:]
         if 0 < len(message) <= LONGEST_FRAME and fio2070.wire_check(one[:-CHECK]) == int.from_bytes(check, 'little'):
-            return fio2070.Wire(*address).read(fio2070.wire_frame(message, *one[:HEADER]))
+            is_bare = one == octets and not octets.startswith(FLAG)
+            return fio2070.Wire(*address or (ANY if is_bare else wire.OWN)).read(fio2070.wire_frame(message, *one[:HEADER]))
     return ()

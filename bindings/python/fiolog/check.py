@@ -9,14 +9,16 @@ from copy import deepcopy
 from . import log, many, sides, terminal, unjudged
 from .batch import Made
 from .counts import Counts, in_words
-from .events import BAD, FRAME, JUDGED, LOSSES, OTHER, PASSED, POSSIBLE
+from .events import BAD, FRAME, JUDGED, LOSSES, OTHER, PART, PASSED, POSSIBLE
 from .message import BLOCK, POLL, TYPE_ANSWER
 from .options import number_in
-from .protocol import BLOCK_ENTRIES, CONTENT_RULES, MOST_WAITING, RULES, STANDARD_WAITING
+from .protocol import BLOCK_ENTRIES, CONTENT_RULES, MOST_WAITING, RULES, SOURCES, STANDARD_WAITING
 from .rules import Rules
 from .shown import shown
 
 NAMES = [name for rules in (RULES, CONTENT_RULES) for name, _ in rules.values()]
+# The rules of which no behaviour is of TEES 2009.
+OWN = [name for name, (behaviour, _) in SOURCES.items() if behaviour == 'own profile']
 
 
 def add_place(parser):
@@ -46,6 +48,13 @@ def add_late_answers(parser):
     parser.add_argument('--late-answers', action='store_true', help='leave out answers that came late or twice, and count them')
 
 
+class Tees(argparse.Action):
+    """Leaves out the rules of the own profile."""
+
+    def __call__(self, parser, namespace, values, option_string=None):
+        namespace.excepted = [*namespace.excepted, *OWN]
+
+
 class Explain(argparse.Action):
     """Says what a rule says, and ends."""
 
@@ -71,6 +80,7 @@ def add_arguments(parser):
     add_place(parser)
     parser.add_argument('--rules', choices=('all', 'transcript'), default='all', help='transcript: only the rules on the order of messages, not those on what entries and answers say')
     add_except(parser)
+    parser.add_argument('--tees', action=Tees, nargs=0, help='leave out the rules that are not of TEES 2009: %s' % ', '.join(OWN))
     parser.add_argument('--explain', action=Explain, choices=NAMES, metavar='RULE', help='say what this rule says, and read no log')
     add_late_answers(parser)
     many.add_arguments(parser)
@@ -89,17 +99,17 @@ def judged(read, option):
     the end of a file None with the others. With --start-at-poll from the first poll on."""
     judgement, reader = None, None
     for batch in read.batches():
-        if not batch.is_judged:
+        if not (batch.count or any(event.kind in LOSSES or event.is_remark for _, event in batch.others)):
             continue
         if reader is not read.reader or judgement is None:
-            yield from _ended(read, judgement)
-            judgement, reader, is_open = sides.Judgement(rules_for(option)), read.reader, not option.start_at_poll
+            yield from _ended(read, judgement, reader)
+            judgement, reader, is_open = sides.Judgement(rules_for(option), read.name if read.has_several else ''), read.reader, not option.start_at_poll
         read.balance += batch.balance
         if not is_open:
             batch, is_open = _opened(batch, judgement)
             read.above = judgement.left_out
         yield batch, judgement.take(batch), judgement
-    yield from _ended(read, judgement)
+    yield from _ended(read, judgement, reader)
 
 
 def _opened(batch, judgement):
@@ -120,10 +130,11 @@ def rules_for(option):
                  getattr(option, 'rules', 'all') == 'all')
 
 
-def _ended(read, judgement):
-    """The breaches and restarts that were held, at the end of a file, of which is noted what is missing."""
+def _ended(read, judgement, reader):
+    """The breaches and restarts that were held, at the end of what this reader read, of which is noted what is missing."""
     if judgement:
-        broken = [(0, *one) for one in judgement.end(read.reasons, read.kinds[POSSIBLE])]
+        of_log = read if read.is_merged else reader
+        broken = [(0, *one) for one in judgement.end(of_log.reasons, of_log.kinds[POSSIBLE])]
         read.judgements.append(judgement)
         read.unjudged += judgement.unjudged
         yield None, broken, judgement
@@ -144,10 +155,10 @@ class Findings:
         first, _, count = self.spans.get(found.rule, (event, event, 0))
         self.spans[found.rule] = first, event, count + 1
         if self.option.json:
-            kind = {'outcome': found.rule} if found.is_restart else {'rule': found.rule, **found.due}
+            kind = {'outcome': found.rule} if found.is_restart else {'rule': found.rule, **found.due, 'source': found.source}
             terminal.print_object({'file': shown(event.file or self.read.name), 'line': event.number, **kind, 'says': found.says})
         else:
-            print('%sline %d: %s: %s' % (event.head, event.number, self.paint('fault', found.rule), found.says))
+            print('%sline %d: %s: %s' % (event.head, event.number, self.paint('fault', found.rule), found.meaning))
 
     def words(self):
         """A line for each rule that is broken, and for restarts: how often, from when to when."""
@@ -214,7 +225,8 @@ def end(option, read, counts, judgement, findings):
                                                               frames_above_a_poll=read.above)
     late = {'late_answers': left_out['late_answers']} if option.late_answers else {}
     restarted = {'restarted': findings.restarts} if findings.restarts or option.json else {}
-    numbers = {**counts.in_short(), **late, 'breaches': findings.count, **restarted}
+    parts = {'parts_of_frames': read.kinds[PART]} if option.sdlc and (read.kinds[PART] or option.json) else {}
+    numbers = {**counts.in_short(), **late, 'breaches': findings.count, **restarted, **parts}
     sides.say_signs(read.judgements)
     if option.json:
         remarks = [words for one in read.judgements for words in (sides.IN_SHORT.get(one.verdict), one.sign) if words]
@@ -225,10 +237,10 @@ def end(option, read, counts, judgement, findings):
             print('not judged: ' + unjudged.words(left_out, read.reasons))
     say_excused(left_out['frames_not_at_the_cpu'])
     is_fault = sides.say(read.judgements)
-    if read.is_reversed and option.at in ('cpu', 'bus'):
+    if read.balance > 0 and option.at in ('cpu', 'bus'):
         terminal.say('most lines say the other direction than their messages: if this is the log of the module, try --at module')
     if judgement and judgement.rules.is_above_polls and counts.polls and not option.start_at_poll:
         terminal.say('the log begins in the middle of traffic: try --start-at-poll')
     if findings.has_late_answers and not option.late_answers:
-        terminal.say('answers came late or twice: try --late-answers')
+        terminal.say('answers came late or twice: try --late-answers' + ' --except advance' * (option.at == 'bus'))
     return 1 if findings.count or findings.restarts or is_fault else 0

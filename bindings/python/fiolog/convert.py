@@ -5,12 +5,11 @@ import contextlib
 import sys
 
 from . import log
+from .events import FRAME
 from .message import BLOCK, LOST, message_of
-from .output import made
+from .output import Refused, made
 from .pcapng import Writer
 from .waveform import Block, draw
-
-TEXTS = {'transcript': lambda event: event.direction + ' ' + event.octets.hex(), 'frames': lambda event: event.octets.hex()}
 
 
 def add_arguments(parser):
@@ -20,35 +19,34 @@ def add_arguments(parser):
     parser.add_argument('--times', action='store_true', help='begin lines with their time in seconds')
 
 
-def blocks_of(events):
-    """The blocks among the frames."""
-    for event in events:
-        message = message_of(event.octets)
-        if message.code == BLOCK:
-            yield Block(message.fields['block'], message.fields['stamp'], bool(message.fields['status'] & LOST),
-                        [(part['input'], part['state'], part['wide']) for part in message.parts])
+def block_of(octets, broken=-1):
+    """The block that octets spell, as it is drawn; `broken` is the index of its first entry that breaks a rule on content."""
+    message = message_of(octets)
+    return Block(message.fields['block'], message.fields['stamp'], bool(message.fields['status'] & LOST),
+                 [(part['input'], part['state'], part['wide']) for part in message.parts], broken)
 
 
-def write(option, read, out):
+def write(option, frames, out):
     """Writes the frames in the form that was asked for."""
     if option.to == 'vcd':
-        draw(blocks_of(read.frames()), out)
-    elif option.to == 'pcapng':
-        writer = Writer(out)
-        for event in read.frames():
+        draw((block_of(event.octets) for event in frames if event.octets[0] == BLOCK), out)
+        return
+    writer = Writer(out) if option.to == 'pcapng' else None
+    for event in frames:
+        if writer:
             writer.add(event.time, event.direction, event.octets)
-    else:
-        text = TEXTS[option.to]
-        for event in read.frames():
+        else:
             time = '%.6f ' % event.time if option.times and event.time is not None else ''
-            out.write(time + text(event) + '\n')
+            out.write('%s%s%s\n' % (time, event.direction + ' ' if option.to == 'transcript' else '', event.octets.hex()))
 
 
 def run(option):
     """Converts the logs; status 1 if there is no frame."""
     is_binary = option.to == 'pcapng'
+    if option.to == 'vcd' and log.has_several(option):
+        raise Refused('a VCD file has the blocks of one log: name one file, or --merge the files of one line')
     standard = contextlib.nullcontext(sys.stdout.buffer if is_binary else sys.stdout)
     with made(option.output, is_binary) if option.output else standard as out:
         read = log.Log(option, out.flush, writes=not option.output)
-        write(option, read, out)
+        write(option, (event for event in read.events() if event.kind == FRAME), out)
     return 0 if read.summary() else 1

@@ -99,9 +99,6 @@ class Counts:
         kinds = batch.kinds_of_events()
         self.damaged += kinds[BAD] + kinds[DAMAGED] + kinds[DOUBTFUL]
         self.responses.add(self.now.batch(batch.said))
-        self._note_times(batch)
-
-    def _note_times(self, batch):
         times = [seconds_of(batch.said.told(line).time) for line in batch.timed()]
         if times:
             self.first, self.last = times[0] if self.first is None else self.first, times[-1]

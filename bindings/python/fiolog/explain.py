@@ -5,7 +5,7 @@ import textwrap
 
 from .fields import BITS
 from .log_words import TERMS
-from .protocol import ADVANCE, CONTENT_RULES, RIGHT, RULES
+from .protocol import ADVANCE, CONTENT_RULES, RIGHT, RULES, SOURCES
 
 WIDTH = 100
 # What the bits of statuses mean, by their letters.
@@ -22,8 +22,9 @@ def explanation(name):
         breach = next(words for rule, words in CONTENT_RULES.values() if rule == name)
         said = ['In a right link: %s' % RIGHT[name],
                 'A breach means: %s.' % breach.format(input='I', state='S')]
+    said.append('Source: behaviour %s, layout %s (docs/PROTOCOL.md).' % SOURCES[name])
     terms = ['%s: %s.' % pair for pair in (*TERMS.items(), *LETTERS.items())
-             if re.search(r'\b%s\b' % pair[0], said[0]) or '(%s)' % pair[0] in said[-1]]
+             if re.search(r'\b%s\b' % pair[0], said[0]) or '(%s)' % pair[0] in said[-2]]
     return [name, *(line for part in said for line in textwrap.wrap(part, WIDTH, initial_indent='  ', subsequent_indent='  ')),
             *(line for term in terms for line in textwrap.wrap(term, WIDTH, initial_indent='  ', subsequent_indent='    ')),
             '  docs/FORMATS.md has all rules.']

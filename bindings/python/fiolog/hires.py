@@ -3,12 +3,14 @@ with its time, the signal, code 82 (detector on) or 81 (detector off), and the c
 
 The link has no time of day: the first block that the CPU took was made at `--start`, and the module's counter says how much
 later or earlier each transition was. Such a log has no row for what is missing, so each gap mark is reported, and each step of the
-counter back, after which the times are not known."""
+counter back, after which the times are not known. Of several logs each begins at `--start`, and a last column has its file."""
 
 import argparse
 
+from . import log
 from .output import Refused, made
 from .protocol import INPUTS
+from .shown import shown
 from .terminal import say
 from .waveform import Clock, each_once
 
@@ -52,41 +54,32 @@ def add_arguments(parser):
                        help='inputs and channels, as 12:5,0-7:1 (the default is 0-63:1); other inputs are left out')
 
 
-def missing(option):
-    """Returns the options that such a log needs and the command line lacks."""
-    return ['--' + name for name in ('start', 'signal', 'on') if getattr(option, name) is None]
-
-
 class Events:
-    """Rows of events, block by block."""
+    """Rows of the events of a log, block by block; with the name of its file if there are several."""
 
-    def __init__(self, out, option):
-        import csv
-        self.option, self.clock, self.first, self.now = option, Clock(), None, 0
-        self.rows, self.left_out, self.gaps = csv.writer(out, lineterminator='\n'), set(), 0
-        self.rows.writerow(HEAD)
+    def __init__(self, rows, option, name=''):
+        self.option, self.clock, self.first = option, Clock(), None
+        self.rows, self.left_out, self.name = rows, set(), name
 
     def add(self, block):
-        """Writes the transitions of a block that the CPU took."""
-        is_back, times = self.clock.go_on(block, self.now)
+        """Writes the transitions of a block that the CPU took, if their inputs have channels."""
+        is_back, times = self.clock.go_on(block)
         if self.first is None:
             self.first = self.clock.time
         if is_back:
-            say('the counter went back before %s: times from there on are not known' % self.shown(min(times)))
+            self.say('the counter went back before %s: times from there on are not known' % self.shown(min(times)))
         if block.is_lost:
-            self.gaps += 1
-            say('gap mark: transitions are missing before %s' % self.shown(min(times)))
+            self.say('gap mark: transitions are missing before %s' % self.shown(min(times)))
         for (number, state, _), time in zip(block.entries, times):
-            self.row(number, state, time)
-        self.now = self.clock.time
+            if number in self.option.channels:
+                self.rows.writerow([self.shown(time), self.option.signal, ON if state == self.option.on else OFF,
+                                    self.option.channels[number], *[shown(self.name)] * bool(self.name)])
+            else:
+                self.left_out.add(number)
 
-    def row(self, number, state, time):
-        """Writes a transition, if its input has a channel."""
-        if number not in self.option.channels:
-            self.left_out.add(number)
-            return
-        self.rows.writerow([self.shown(time), self.option.signal, ON if state == self.option.on else OFF,
-                            self.option.channels[number]])
+    def say(self, words):
+        """Says it of this log."""
+        say(shown(self.name) + ' ' * bool(self.name) + words)
 
     def shown(self, time):
         """The time of day of a time of the counter."""
@@ -98,11 +91,22 @@ class Events:
         return moment.isoformat(' ', 'milliseconds')
 
 
-def write(blocks, option):
-    """Writes blocks as they come; says what was left out."""
+def write(logs, option):
+    """Writes the blocks of each log as they come; says what was left out."""
+    import csv
+    missing = ['--' + name for name in ('start', 'signal', 'on') if getattr(option, name) is None]
+    if missing:
+        raise Refused('--hires needs %s too' % ', '.join(missing))
+    left_out, has_several = set(), log.has_several(option)
     with made(option.hires) as out:
-        events = Events(out, option)
-        for block in each_once(blocks):
-            events.add(block)
-    if events.left_out:
-        say('left out, since --channels has no channel for them: inputs %s' % ', '.join(map(str, sorted(events.left_out))))
+        rows = csv.writer(out, lineterminator='\n')
+        rows.writerow(HEAD + ['File'] * has_several)
+        for name, blocks in logs:
+            events = Events(rows, option, name)
+            for block in each_once(blocks):
+                events.add(block)
+            left_out |= events.left_out
+    if has_several and not option.quiet:
+        say('each of the %d logs begins at --start' % len(option.files))
+    if left_out:
+        say('left out, since --channels has no channel for them: inputs %s' % ', '.join(map(str, sorted(left_out))))

@@ -155,7 +155,7 @@ class Station:
         if option.pcapng:
             self.file = sys.stdout.buffer if option.pcapng == '-' else output.recorded(option.pcapng, option.force, is_binary=True)
             self.capture = Writer(self.file)
-        self.last, self.waiting = time.monotonic(), Waiting(option.address)
+        self.last, self.waiting = time.monotonic(), Waiting()
 
     def add(self, events):
         """Frames, good or bad; other lines are passed over, and at a damaged one the place is lost."""
@@ -200,7 +200,7 @@ class Station:
             self.restarts += found.is_restart
             self.content_breaches += found.is_content
             self.breaches += not (found.is_restart or found.is_content)
-            self._write('line %d: %s: %s\n' % (event.number, self.paint('fault', found.rule), found.says))
+            self._write('line %d: %s: %s\n' % (event.number, self.paint('fault', found.rule), found.meaning))
 
     def flush(self):
         """Writes out what is held, and the status line on a terminal; and what lines would be that wait, if the log ended now."""
@@ -348,6 +348,8 @@ def run(option):
         given = getattr(option, name)
         if given is not None and not given.strip():
             raise output.Refused('--%s has no name' % name)
+    if option.udp is not None and option.address:
+        raise output.Refused('--address is of frames of SDLC, and a datagram is a message without one')
     output.refuse_old((option.transcript, option.pcapng), option.force)
     try:
         file, read, source, end = opened(option)

@@ -4,13 +4,14 @@ import os
 import sys
 from collections import Counter
 
-from . import source
+from . import files, source
 from .batch import made_of
 from .events import BAD, FRAME, LOSSES, PASSED, PIECE, POSSIBLE
 from .log_words import CURES, REASONS
 from .line import LINES
 from .options import line_address
 from .reader import CHECKED, FORMS, UNCHECKED, Reader
+from .shown import shown
 from .terminal import Progress, say
 from .unjudged import reasons_in_words
 
@@ -47,6 +48,11 @@ def settings_of(option):
             'address': getattr(option, 'address', None)}
 
 
+def has_several(option):
+    """Whether the files of the command line are several logs."""
+    return len(option.files) > 1 and not getattr(option, 'merge', False)
+
+
 class Log:
     """Goes through the lines of the files. `idle` is called before each read that may wait. If the command writes
     as it reads, `writes` is true: then a terminal has no progress bar beside what is written."""
@@ -54,11 +60,12 @@ class Log:
     def __init__(self, option, idle=lambda: None, writes=True):
         self.option, self.idle, self.writes = option, idle, writes
         self.name, self.reader, self.lines = '-', None, 0
+        self.is_merged, self.has_several = getattr(option, 'merge', False), has_several(option)
         self.kinds, self.reasons, self.damages, self.others = Counter(), Counter(), Counter(), Counter()
-        self.balance = 0    # of how many more frames the log says another sender than of how many that of their type
+        self.balance = 0    # of how many more frames the log says another sender than that of their type: above 0 it is of the module's end
         self.above = 0      # the frames above the first poll, where the log is to begin there
         self.judgements = []    # of each file that is judged
-        self.is_binary = None   # whether the first file is no text
+        self.kind = ''          # what the first file is, or None for a text that may be a log
         self.why = ''           # why a file of what a line carried has no frame
         self.flagged = 0        # lines with the beginning of a frame of SDLC that give no frame
         self.unjudged = Counter()   # what of the files is not judged, by its reason
@@ -68,7 +75,7 @@ class Log:
         """All lines, file after file, or of all files in the order of time. With -v lines that are skipped are named before the next
         batch, or as far as the command asks for it by `name_passed`."""
         readers = [Reader(**settings_of(self.option)) for _ in self.option.files]
-        for batch in self._merged(readers) if getattr(self.option, 'merge', False) else self._in_turn(readers):
+        for batch in self._merged(readers) if self.is_merged else self._in_turn(readers):
             self._unnamed = [one for one in batch.others if one[1].kind in (PASSED, *LOSSES)] if self.option.verbose else []
             yield batch
             self.name_passed(len(batch.kinds))
@@ -77,7 +84,7 @@ class Log:
         """Names the lines that are passed over above this one of the batch."""
         while self._unnamed and self._unnamed[0][0] < line:
             event = self._unnamed.pop(0)[1]
-            say('%sline %d: %s: %s' % (event.head, event.number, event.why, event.text[:100]))
+            say('%sline %d: %s: %s' % (shown(self.name) + ' ' if self.has_several else event.head, event.number, event.why, event.text[:100]))
 
     def events(self):
         """The events of all lines."""
@@ -93,9 +100,9 @@ class Log:
 
     def _in_turn(self, readers):
         for self.name, self.reader in zip(self.option.files, readers):
+            above = self.lines
             for batch in self._of_file(self.name, self.reader):
-                last = batch.last_line()
-                self.lines = self.lines if last is None else last
+                self.lines = max(self.lines, above + (batch.last_line() or 0))
                 yield batch
             self._note(self.reader)
 
@@ -115,72 +122,61 @@ class Log:
 
     def _note(self, reader):
         """Notes what a reader found, at the end of its file."""
-        self.kinds += reader.kinds
-        self.reasons += reader.reasons
-        self.damages += reader.damages
-        self.others += reader.others
-        self.flagged += reader.flagged
+        for name in ('kinds', 'reasons', 'damages', 'others', 'flagged'):
+            setattr(self, name, getattr(self, name) + getattr(reader, name))
         self.why = self.why or reader.words()
         for words in () if self.option.quiet else reader.doubts():
             say(words)
-
-    def frames(self):
-        """The frames alone."""
-        return (event for event in self.events() if event.kind == FRAME)
 
     def _of_file(self, name, reader):
         descriptor = source.opened(name)
         if not self.option.quiet and os.isatty(descriptor):
             say('reading from the terminal: to read a log, name its file after the command')
+
+        def begins(first):
+            self.kind = files.kind_of(first) if self.kind == '' else self.kind
         with Progress(descriptor, self.option.quiet, self.writes) as progress:
-            for chunk in source.chunks_of(descriptor, progress.add, self.idle, name, not getattr(self.option, 'line', '')):
-                self.is_binary = source.is_binary(chunk) if self.is_binary is None else self.is_binary
-                yield from reader.feed(chunk)
-            yield from reader.end()
+            yield from reader.read(source.chunks_of(descriptor, progress.add, self.idle, name, not getattr(self.option, 'line', ''), begins))
         if descriptor != sys.stdin.fileno():
             os.close(descriptor)
 
     def summary(self, takes_possible=False):
         """Says how many lines were passed over and why; false without a frame or, if the command `takes_possible` ones, one that
         is possible."""
-        passed, found = self.kinds[PASSED], self.kinds[FRAME] + self.kinds[BAD]
-        if passed and not self.option.quiet:
-            say('%d of %d line%s skipped: %s%s' % (passed, self.lines, 's' * (self.lines != 1), reasons_in_words(self.reasons),
-                                                  '' if self.option.verbose else ' (-v names each)'))
-        for reason, cure in () if self.option.quiet else CURES.items():
-            if self.reasons[reason] or self.damages[reason]:
-                say('%s: %s' % (reason, cure))
-        less = self.damages[REASONS['one less']]
-        if less and less == self.damaged and not self.option.quiet:
-            say('%d message%s last octet: does the logger cut lines off?' % (less, ' lacks its' if less == 1 else 's lack their'))
-        if self.flagged and not self.option.quiet and not self.option.sdlc:
-            say('%d line%s a flag, address and control octet of SDLC, and no frame that is read: try --sdlc' % (
-                self.flagged, ' has' if self.flagged == 1 else 's have'))
-        damaged = self.damaged
-        if self.kinds[PIECE] and not self.option.quiet:
-            say('messages split over two lines, which are not read: %d (%d lines)' % (self.kinds[PIECE] // 2, self.kinds[PIECE]))
-        if damaged and not self.option.quiet:
-            say('%d damaged line%s may have held a frame: nobody is accused up to the next poll%s'
-                % (damaged, 's' * (damaged > 1), '' if self.option.verbose else ' (-v names each)'))
-        if self.kinds[POSSIBLE] and not self.option.quiet:
-            say('possible messages, which nothing in the log confirms: %d%s' % (
-                self.kinds[POSSIBLE], '' if takes_possible else '; `fiolog decode` shows them'))
+        found = self.kinds[FRAME] + self.kinds[BAD]
+        for words in () if self.option.quiet else self._remarks(takes_possible):
+            say(words)
         say_others(self.others, self.option.quiet and found)
         if not found and not (takes_possible and self.kinds[POSSIBLE]):
-            say(self.why or ('this is a binary file: pass it through `xxd` or `hexdump -C`; or, if it is what a line carried, see --line'
-                             if self.is_binary else 'no frame in %d line%s: docs/CAPTURES.md says what is read' % (self.lines, 's' * (self.lines != 1))))
+            say(self.why or (files.words(self.kind) if self.kind
+                             else 'no frame in %d line%s: docs/CAPTURES.md says what is read' % (self.lines, 's' * (self.lines != 1))))
             return False
         return True
+
+    def _remarks(self, takes_possible):
+        """What is said of the lines that give no frame."""
+        passed, pieces, possible, damaged = (*(self.kinds[kind] for kind in (PASSED, PIECE, POSSIBLE)), self.damaged)
+        less, names = self.damages[REASONS['one less']], '' if self.option.verbose else ' (-v names each)'
+        if passed:
+            yield '%d of %d line%s skipped: %s%s' % (passed, self.lines, 's' * (self.lines != 1), reasons_in_words(self.reasons), names)
+        yield from ('%s: %s' % one for one in CURES.items() if self.reasons[one[0]] or self.damages[one[0]])
+        if less and less == damaged:
+            yield '%d message%s last octet: does the logger cut lines off?' % (less, ' lacks its' if less == 1 else 's lack their')
+        if self.flagged and not self.option.sdlc:
+            yield '%d line%s a flag, address and control octet of SDLC, and no frame that is read: try --sdlc' % (
+                self.flagged, ' has' if self.flagged == 1 else 's have')
+        if pieces:
+            yield 'messages split over two lines, which are not read: %d (%d lines)' % (pieces // 2, pieces)
+        if damaged:
+            yield '%d damaged line%s may have held a frame: nobody is accused up to the next poll%s' % (damaged, 's' * (damaged > 1), names)
+        if possible:
+            yield 'possible messages, which nothing in the log confirms: %d%s' % (
+                possible, '' if takes_possible else '; `fiolog decode` shows them')
 
     @property
     def damaged(self):
         """How many lines are damaged."""
         return sum(self.kinds[kind] for kind in LOSSES if kind != PIECE)
-
-    @property
-    def is_reversed(self):
-        """Whether most directions contradict the types: then it is the log of the module's end."""
-        return self.balance > 0
 
 
 def say_others(others, is_quiet):

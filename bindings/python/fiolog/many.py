@@ -7,6 +7,7 @@ from operator import add
 from . import log, sides, terminal, unjudged
 from .counts import in_words
 from .options import number_in
+from .output import Refused
 from .shown import shown
 from .summary import Summary, summary_of
 
@@ -34,6 +35,8 @@ def summary_or_fault(settings, name):
         return summary_of(sys.stdin.buffer if name == '-' else name, **settings)
     except OSError as fault:
         return fault.strerror or str(fault)
+    except Refused as refusal:
+        return str(refusal)
     except Exception as fault:      # the rows of the other files are kept
         return '%s: %s' % (type(fault).__name__, fault)
 

@@ -10,15 +10,6 @@ DAY = 86_400
 DATE, CLOCK, SECONDS = 'a date', 'a time of day', 'seconds'
 
 
-class CannotMerge(Refused):
-    """The times of files do not say in which order their frames came."""
-
-
-def form_of(event):
-    """What the time of a frame is."""
-    return DATE if event.time >= DATED else CLOCK if OF_DAY.search(event.text) else SECONDS
-
-
 class File:
     """The events of a file, each with a time that is not before the one above: a line without a time, or with an earlier one, has
     that of the line above; a time of day that is earlier by more than half a day is of the next day."""
@@ -31,8 +22,9 @@ class File:
             self.held.append(event)
             if event.kind == FRAME:
                 if event.time is None:
-                    raise CannotMerge('%s line %d: --merge needs a time at the first frame of a file' % (shown(name), event.number))
-                self.form, self.last = form_of(event), event.time
+                    raise Refused('%s line %d: --merge needs a time at the first frame of a file' % (shown(name), event.number))
+                self.form = DATE if event.time >= DATED else CLOCK if OF_DAY.search(event.text) else SECONDS
+                self.last = event.time
                 break
 
     def begin(self, is_of_day):
@@ -64,7 +56,7 @@ class Merge:
         self.files, self.command = files, None     # the latest command, until it is answered
         forms = {one.form for one in files if one.form}
         if SECONDS in forms and len(forms) > 1:
-            raise CannotMerge('the files have different times: ' + ', '.join('%s %s' % (shown(one.name), one.form) for one in files if one.form))
+            raise Refused('the files have different times: ' + ', '.join('%s %s' % (shown(one.name), one.form) for one in files if one.form))
         for one in files:
             one.begin(CLOCK in forms)
 

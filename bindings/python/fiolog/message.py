@@ -70,11 +70,6 @@ class Message(NamedTuple):
         """Returns whether it is a block that is sent again, by its own word."""
         return self.code == BLOCK and bool(self.fields['status'] & AGAIN)
 
-    @property
-    def is_answer(self):
-        """Whether the module sent it."""
-        return self.code >= TYPE_ANSWER
-
 
 def _lines(octets):
     return fio2070.show(octets).splitlines()

@@ -53,6 +53,11 @@ def line_address(text):
     return octets[0], octets[-1] if len(octets) > 1 else WIRE_CONTROL
 
 
+def address_words(address, control):
+    """The word that `line_address` reads as these."""
+    return 'any' if address is None else '%02X' % address + '%02X' % control * (control != WIRE_CONTROL)
+
+
 def status_letters(text):
     """Letters of bits of a block's status."""
     if not text or set(text.upper()) - set(LETTERS):

@@ -14,6 +14,12 @@ from .terminal import say
 
 STANDARD = 'standard output'
 STREAMS = {1: STANDARD, 2: 'standard error'}
+# The signals that end a command as Ctrl-C does, as far as a system has them.
+ENDING = 'SIGTERM', 'SIGHUP'
+# Where Linux shows the open files of a process.
+_OPEN_FILES = '/proc/self/fd'
+# The octets of an output's name in that of the file that takes its place; a name has 255 at most.
+_MOST_NAME = 200
 _BEGIN = os.O_WRONLY | os.O_CREAT | getattr(os, 'O_BINARY', 0)
 
 
@@ -21,35 +27,41 @@ class Refused(Exception):
     """A file is not written to; the text says why."""
 
 
-class _Named(io.FileIO):
-    """A file whose faults name it."""
+class _Named(io.BufferedWriter):
+    """A file whose faults name it. It does so above its buffer: a signal between a write of the system and its end would otherwise have the
+    same octets written again."""
 
-    title = STANDARD
+    def __init__(self, descriptor, title, is_kept=False):
+        super().__init__(io.FileIO(descriptor, 'wb', closefd=not is_kept))
+        self.title = title
 
     def write(self, octets):
-        try:
+        with self._faults_named():
             return super().write(octets)
+
+    def flush(self):
+        with self._faults_named():
+            super().flush()
+
+    @contextlib.contextmanager
+    def _faults_named(self):
+        try:
+            yield
         except OSError as fault:
             fault.filename = self.title
             raise
 
 
-def _buffered(descriptor, title, is_kept=False):
-    raw = _Named(descriptor, 'wb', closefd=not is_kept)
-    raw.title = title
-    return io.BufferedWriter(raw)
-
-
 def _file_of(descriptor, title, is_binary):
     """The file of a descriptor. Text is UTF-8; octets of the command line that are none stay as they are."""
-    file = _buffered(descriptor, title)
+    file = _Named(descriptor, title)
     return file if is_binary else io.TextIOWrapper(file, encoding='utf-8', errors='surrogateescape', newline='')
 
 
 def standard(stream):
     """Standard output, whose faults name it, and which can say every text."""
     try:
-        file = _buffered(stream.fileno(), STANDARD, is_kept=True)
+        file = _Named(stream.fileno(), STANDARD, is_kept=True)
     except (AttributeError, OSError, ValueError):
         return stream       # none of the system's
     stream.flush()
@@ -121,14 +133,14 @@ def made(name, is_binary=False):
         with _file_of(os.open(name, _BEGIN | os.O_TRUNC, 0o666), name, is_binary) as file:
             yield file
         return
-    import secrets
     place = os.path.realpath(name)
-    beside = os.path.join(os.path.dirname(place), '.fiolog-' + secrets.token_hex(4))
+    beside = _beside(place)
     try:    # a signal may come as soon as the file is there
         with _file_of(_opened_beside(name, beside, state), name, is_binary) as file:
             yield file
             file.flush()
             os.fsync(file.fileno())     # what takes the place of a file is on the disk
+            _give_name(file.fileno(), beside)
         os.replace(beside, place)
     except BaseException:
         with contextlib.suppress(OSError):
@@ -136,27 +148,60 @@ def made(name, is_binary=False):
         raise
 
 
+def _beside(place):
+    """A name in the same folder that says whose file it is, for as long as that is not whole."""
+    import secrets
+    folder, name = os.path.split(os.fsencode(place))
+    return os.fsdecode(os.path.join(folder, b'.%s.fiolog-%s' % (name[:_MOST_NAME], secrets.token_hex(4).encode())))
+
+
+def _give_name(descriptor, beside):
+    """Gives a file its name, if it has none yet."""
+    if os.name != 'posix' or os.fstat(descriptor).st_nlink:
+        return
+    folder = os.open(_OPEN_FILES, os.O_RDONLY)      # with a folder it is `linkat`, which follows this link
+    try:
+        os.link(str(descriptor), beside, src_dir_fd=folder, follow_symlinks=True)
+    finally:
+        os.close(folder)
+
+
+def _opened_new(beside, mode):
+    """The descriptor of a new file: without a name where the system has such files, since a kill would leave it."""
+    with contextlib.suppress(OSError, AttributeError):      # not in this folder, or not of this system
+        if os.path.isdir(_OPEN_FILES):
+            return os.open(os.path.dirname(beside) or '.', os.O_WRONLY | os.O_TMPFILE, mode)
+    return os.open(beside, _BEGIN | os.O_EXCL, mode)
+
+
 def _opened_beside(name, beside, old):
     """The descriptor of a new file, with the owner and the mode of the old one if there is one."""
     if old and not os.access(name, os.W_OK):
         raise PermissionError(errno.EACCES, os.strerror(errno.EACCES), name)
     try:
-        descriptor = os.open(beside, _BEGIN | os.O_EXCL, 0o666 if old is None else 0o600)
+        descriptor = _opened_new(beside, 0o666 if old is None else 0o600)
     except OSError as fault:
         fault.filename = name
         raise
     if old:
         with contextlib.suppress(OSError, AttributeError):      # no leave, or no owners here
-            os.chown(beside, old.st_uid, old.st_gid)
-        os.chmod(beside, stat.S_IMODE(old.st_mode))
+            os.fchown(descriptor, old.st_uid, old.st_gid)
+        _set_mode(descriptor, beside, stat.S_IMODE(old.st_mode))
     return descriptor
+
+
+def _set_mode(descriptor, beside, mode):
+    if os.chmod in os.supports_fd:
+        os.chmod(descriptor, mode)
+    else:
+        os.chmod(beside, mode)
 
 
 def end_at_signals():
     """Lets what ends a process from outside be as Ctrl-C, so that all is put in order."""
     def interrupt(number, frame):
         raise KeyboardInterrupt
-    for name in ('SIGTERM', 'SIGHUP'):
+    for name in ENDING:
         number = getattr(signal, name, None)
         if number and signal.getsignal(number) == signal.SIG_DFL:
             signal.signal(number, interrupt)
@@ -167,7 +212,11 @@ def guarded(name, run):
     if a file cannot be read or written, 130 at Ctrl-C, 1 without a word if nobody reads its output."""
     sys.stdout = standard(sys.stdout)
     try:
-        status = run()
+        try:
+            status = run()
+        except SystemExit:      # at the end of --help
+            sys.stdout.flush()
+            raise
         sys.stdout.flush()
         return status
     except BrokenPipeError:

@@ -50,12 +50,6 @@ def most_exact(inputs, filter_length, per_block, every, lag):
     return waiting, lag - 1 + late
 
 
-def lossy_pace(longest, within):
-    """How far apart rounds may begin if at most `LOST` of each `EACH` are lost, a clean one makes up for `longest` scans, and
-    the blocks may lag by `within` scans."""
-    return min((EACH - 1 - LOST) * longest // (EACH - 1), within // (LOST + 1))
-
-
 def most_reported(groups, scans):
     """The most transitions that the inputs of these groups report in `scans` scans: each reports once, and once more for each
     filter that ends in them."""
@@ -115,7 +109,7 @@ def row(option, per_block, waiting):
     yield 'outage without loss, at most', '%d ms' % ridden_out, '`room` of `IsOutage`; `outage` of `settled_links_lose_nothing`'
     if every > 0:
         yield 'outage within the pace, at most', '%d ms' % within, '`possible` of `outages_within_a_pace`'
-        yield from lossy(inputs, length, per_block, lossy_pace(longest, within))
+        yield from lossy(inputs, length, per_block, longest, within)
     if option.every is not None:
         fits = 'nothing is lost' if option.every <= every else 'some may be lost in the densest traffic'
         yield 'a poll every %d ms' % option.every, fits, pace if option.every <= every else COMPUTED
@@ -136,9 +130,10 @@ def bounds(inputs, length, per_block, every, every_lost):
         yield 'late, at most, answers lost', '%d ms' % late, '`exactly` of `IsLateBy`'
 
 
-def lossy(inputs, length, per_block, apart):
-    """The pace and the lateness if some of each number of rounds are lost. The fewest scans for which a clean round has to
-    make up give the least lateness."""
+def lossy(inputs, length, per_block, longest, within):
+    """The pace and the lateness if at most `LOST` of each `EACH` rounds are lost, a clean one makes up for `longest` scans, and the
+    blocks may lag by `within` scans. The fewest scans for which a clean round has to make up give the least lateness."""
+    apart = min((EACH - 1 - LOST) * longest // (EACH - 1), within // (LOST + 1))
     if apart > 0:
         name = '%d of each %d rounds lost' % (LOST, EACH)
         yield 'begin a round every, ' + name, '%d ms' % apart, '`lost_rounds`'

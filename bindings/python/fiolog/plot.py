@@ -1,10 +1,10 @@
 """The record as a picture, by matplotlib: the states of each input over time, with gap marks, and crosses on entries that
-break a rule on content. Times go on as those of a VCD file do."""
+break a rule on content. Times go on as those of a VCD file do. Of several logs each has its own lanes."""
 
 from array import array
 
-from . import terminal
 from .output import made
+from .shown import shown
 from .waveform import Clock
 
 # A lane for each input, in inches, and the most that are drawn as high as that.
@@ -13,10 +13,11 @@ NONE = float('nan')
 
 
 class Lanes:
-    """The transitions of each input: their times, and the states from there on."""
+    """The transitions of each input of a log: their times, and the states from there on; `name` is that of its file, if there are
+    several."""
 
-    def __init__(self):
-        self.clock, self.now, self.first = Clock(), 0, None
+    def __init__(self, name=''):
+        self.name, self.clock = name, Clock()
         self.times, self.states, self.gaps, self.broken = {}, {}, [], []
 
     def put(self, number, time, state):
@@ -26,10 +27,9 @@ class Lanes:
 
     def add(self, block):
         """A block that the CPU took."""
-        before, (_, times) = self.now, self.clock.go_on(block, self.now)
+        before, (_, times) = self.clock.time, self.clock.go_on(block)
         first = times[0]
-        if self.first is None:
-            self.first = before = first
+        before = first if before is None else before
         if block.is_lost:
             self.gaps.append((min(before, first), first))
             for number in self.times:
@@ -38,14 +38,13 @@ class Lanes:
             self.put(number, time, state)
             if place == block.broken:
                 self.broken.append((number, time, state))
-        self.now = max(self.now, self.clock.time)
 
     def draw(self, axes):
-        """Draws each lane into its axes."""
-        for row, number in zip(axes, sorted(self.times)):
-            self.put(number, self.now, self.states[number][-1])
+        """Draws each lane into the next axes of this iterator."""
+        for number, row in zip(sorted(self.times), axes):
+            self.put(number, self.clock.time, self.states[number][-1])
             row.step(self.times[number], self.states[number], where='post', linewidth=1)
-            row.set(ylabel='input %d' % number, ylim=(-0.2, 1.2), yticks=[])
+            row.set(ylabel='%sinput %d' % (shown(self.name) + ' ' * bool(self.name), number), ylim=(-0.2, 1.2), yticks=[])
             row.yaxis.label.set(rotation=0, ha='right', va='center')
             for start, end in self.gaps:
                 row.axvspan(start, max(end, start + 1), color='red', alpha=0.3)
@@ -53,36 +52,42 @@ class Lanes:
                 row.plot(time, state, 'rx', markersize=8, clip_on=False)
 
 
-def figure_of(blocks):
-    """The picture of blocks; None without matplotlib."""
+def lanes_of(logs):
+    """The lanes of the blocks of each log."""
+    found = []
+    for name, blocks in logs:
+        found.append(Lanes(name))
+        for block in blocks:
+            found[-1].add(block)
+    return found or [Lanes()]
+
+
+def figure_of(logs):
+    """The picture of the blocks of each log. Raises OSError without matplotlib."""
     try:
         from matplotlib.figure import Figure
     except ImportError:
-        terminal.say('--plot needs matplotlib (Debian package python3-matplotlib)')
-        return None
-    lanes = Lanes()
-    for block in blocks:
-        lanes.add(block)
-    count = max(len(lanes.times), 1)
+        raise OSError('--plot needs matplotlib (Debian package python3-matplotlib)') from None
+    lanes = lanes_of(logs)
+    inputs, gaps, broken = (sum(len(getattr(one, what)) for one in lanes) for what in ('times', 'gaps', 'broken'))
+    count = max(inputs, 1)
     figure = Figure(figsize=(WIDTH, HEAD + LANE * min(count, HIGHEST)), layout='constrained')
     axes = figure.subplots(count, sharex=True, squeeze=False)[:, 0]
-    lanes.draw(axes)
-    title = '%d inputs, %d gap marks (red)' % (len(lanes.times), len(lanes.gaps))
-    title += ', %d breaches (crosses)' % len(lanes.broken) if lanes.broken else ''
+    rows = iter(axes)
+    for one in lanes:
+        one.draw(rows)
+    title = '%d inputs, %d gap marks (red)' % (inputs, gaps)
+    title += ', %d breaches (crosses)' % broken if broken else ''
     axes[0].set_title(title, loc='left', fontsize=10)
     axes[-1].set_xlabel("milliseconds of the module's counter")
     return figure
 
 
-def write(blocks, name):
-    """Writes the picture into a file, in the format of its ending. False where that cannot be done, with a word."""
-    figure = figure_of(blocks)
-    if figure is None:
-        return False
+def write(logs, name):
+    """Writes the picture into a file, in the format of its ending. Raises OSError if that cannot be done."""
+    figure = figure_of(logs)
     ending = name.rpartition('.')[2].lower()
     if ending not in figure.canvas.get_supported_filetypes():
-        terminal.say('--plot: matplotlib writes no picture that ends in .%s; .png, .svg and .pdf are some that it writes' % ending)
-        return False
+        raise OSError('--plot: matplotlib writes no picture that ends in .%s; .png, .svg and .pdf are some that it writes' % ending)
     with made(name, is_binary=True) as file:
         figure.savefig(file, format=ending)
-    return True

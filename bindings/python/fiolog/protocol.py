@@ -109,12 +109,36 @@ RIGHT = {
         'An answer 186 has Y, if another 186 is above.',
 }
 
+# The sources of what a rule says of behaviour, and of the octets and bits that it reads.
+SOURCES = {
+    'readable': ('TEES 2009', 'own profile'),
+    'pair': ('TEES 2009', 'TEES 2009'),
+    'number': ('TEES 2009', 'TEES 2009'),
+    'advance': ('own profile', 'TEES 2009'),
+    'same': ('TEES 2009', 'own profile'),
+    'sequence': ('TEES 2009 and own profile', 'own profile'),
+    'limits': ('TEES 2009 and own profile', 'own profile'),
+    'rest': ('TEES 2009', 'own profile'),
+    'refusal': ('own profile', 'own profile'),
+    'order': ('TEES 2009', 'own profile'),
+    'fresh': ('TEES 2009', 'own profile'),
+    'alternate': ('TEES 2009', 'own profile'),
+    'apart': ('TEES 2009 and own profile', 'own profile'),
+    'ignored': ('TEES 2009', 'own profile'),
+    'state': ('TEES 2009', 'own profile'),
+    'clock': ('TEES 2009', 'own profile'),
+    'done': ('own profile', 'own profile'),
+    'accepted': ('own profile', 'own profile'),
+    'cleared': ('own profile', 'TEES 2009'),
+    'watchdog': ('TEES 2009', 'own profile'),
+}
+
 # What a breach of `advance` means, if the number is ahead of the block that was due, or behind.
 ADVANCE = {
     'ahead':
-        'the CPU went on without an answer, and what block {due} had is lost; or the log lost a line (own '
-        'profile; TEES allows it)',
+        'the CPU went on without an answer, and what block {due} had is lost, which TEES allows; or the log '
+        'lost a line',
     'behind':
         'the CPU asks again for a block that was answered; or it did not hear that answer, and the log is not '
-        'its own (own profile)',
+        'its own',
 }

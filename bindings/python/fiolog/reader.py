@@ -6,6 +6,8 @@ from collections import Counter
 from .events import DAMAGED, OTHER, PASSED
 from .found import Found
 from .line import OWN, Beginning, Raw
+from .options import address_words
+from .output import Refused
 from .pieces import Pieces
 
 FORMS = 'auto', 'frames', 'transcript'
@@ -32,7 +34,8 @@ class Reader:
         else:
             self.text = Found(form)
         may_be_line = form == 'auto' and not pattern and framing in ('', CHECKED)
-        self.way = Raw(line, address or OWN) if line else None if may_be_line else self.text
+        self.has_addresses = framing == CHECKED
+        self.way = Raw(line, address or OWN) if line else None if may_be_line else self._way_of_text()
         self.beginning = Beginning(address or OWN)
 
     @property
@@ -45,6 +48,12 @@ class Reader:
         octets = octets if self.way else self._begin(octets)
         if self.way:
             yield from self._joined(self.way.feed(octets))
+
+    def read(self, chunks):
+        """Yields the lines of a log that comes in these pieces."""
+        for octets in chunks:
+            yield from self.feed(octets)
+        yield from self.end()
 
     def end(self):
         """Yields the lines that waited."""
@@ -61,8 +70,15 @@ class Reader:
         """Chooses the way by how the file begins, if that shows it, and returns the octets that are to be read."""
         form = self.beginning.form(octets, is_all)
         if form is not None:
-            self.way = Raw(form, self.address or OWN) if form else self.text
+            self.way = Raw(form, self.address or OWN) if form else self._way_of_text()
         return self.beginning.held
+
+    def _way_of_text(self):
+        """The way of a text. Raises Refused if an address is given, and its messages have none."""
+        if self.address and not self.has_addresses:
+            raise Refused('--address is of frames of SDLC: `fiolog check --sdlc --address %s LOG` judges those of this address in the '
+                          'lines of a log' % address_words(*self.address))
+        return self.text
 
     def waiting(self):
         """The lines that have no verdict yet, each with its number, if the lines below can show what they are."""

@@ -2,17 +2,21 @@
 rule, and where the module restarted."""
 
 import sys
-from typing import NamedTuple, Sequence, Union
+from itertools import chain, groupby
+from operator import attrgetter
+from typing import NamedTuple, Optional, Sequence
 
 import fio2070
 
 from . import hires, log, sides, terminal, unjudged
 from .check import add_place, judged
+from .convert import block_of
 from .events import LOSSES, Line
-from .message import BLOCK, LOST, POLL, message_of
-from .rules import Breach, Restart
+from .message import BLOCK, LOST, POLL
+from .output import Refused
+from .rules import Breach
 from .shown import shown
-from .waveform import Block, draw
+from .waveform import draw
 
 _POLL, _BLOCK = bytes([POLL]), bytes([BLOCK])
 # What follows on a right link below a poll, if there is no news: a block without items; and below that, the next poll.
@@ -34,10 +38,12 @@ def add_arguments(parser):
 
 
 class Taken(NamedTuple):
-    """What a frame added to the record, and its breach or restart; `is_block` is true where the CPU takes it."""
+    """What a frame added to the record, and its breach or restart; `is_block` is true where the CPU takes it. `log` is what judges the
+    log that has the frame."""
+    log: sides.Judgement
     event: Line
     items: Sequence
-    found: Union[Breach, Restart, None] = None
+    found: Optional[Breach] = None
     is_block: bool = False
 
 
@@ -77,13 +83,15 @@ class Hearing:
 
 
 def taken(read, option, is_drawn):
-    """What each frame adds to the record or breaks, where it does either, and each block that is taken if it `is_drawn`. As text the
-    record begins at the first command."""
-    hearing, is_text = Hearing(), getattr(option, 'text', False)
+    """What each frame adds to the record or breaks, where it does either, and each block that is taken if it `is_drawn`. The record
+    begins anew with each log, as text at its first command."""
+    hearing, heard_by, is_text = Hearing(), None, getattr(option, 'text', False)
     for batch, broken, judgement in judged(read, option):
         if not batch:
-            yield from (Taken(where, (), one) for _, where, one in broken)
+            yield from (Taken(judgement, judgement.named(where), (), one) for _, where, one in broken)
             continue
+        if judgement is not heard_by:
+            hearing, heard_by = Hearing(), judgement
         first = judgement.commands_from if is_text else 0
         frames, due = batch.octets, b''
         for frame, event in batch.steps():
@@ -101,12 +109,12 @@ def taken(read, option, is_drawn):
                 _, where, found = broken.pop(0)
                 if found is not judgement.found.get(frame):
                     read.name_passed(batch.line_of(frame))
-                    yield Taken(where, (), found)
+                    yield Taken(judgement, judgement.named(where), (), found)
                     found = None
             if octets[:1] == _POLL and frame not in batch.bad:
                 due = hearing.note(octets[1])
                 if due is not None and frame not in judgement.found and frame >= judgement.answers_from:
-                    where = batch.event(frame)
+                    where = judgement.named(batch.event(frame))
                     read.name_passed(batch.line_of(frame))
                     terminal.say('%sline %d: block %d was due by what was heard, the CPU asked for %d' % (where.head, where.number, due, octets[1]))
             elif octets[:1] == _BLOCK and frame >= first and frame not in batch.bad:
@@ -114,7 +122,7 @@ def taken(read, option, is_drawn):
             due = hearing.due(octets)
             if items or found or is_drawn and items is not None:
                 read.name_passed(batch.line_of(frame))
-                yield Taken(batch.event(frame), items or (), found, items is not None)
+                yield Taken(judgement, judgement.named(batch.event(frame)), items or (), found, items is not None)
 
 
 class Record:
@@ -128,16 +136,18 @@ class Record:
             self.faults += one.found is not None
             yield one
 
-    def blocks(self):
-        """The blocks that were taken, as they are drawn; breaches and restarts are said."""
-        for one in self._taken(True):
+    def logs(self):
+        """The blocks of each log that were taken, as they are drawn, with the name of its file if there are several; breaches and
+        restarts are said."""
+        for log_of_one, part in groupby(self._taken(True), attrgetter('log')):
+            yield log_of_one.name, self._blocks(part)
+
+    def _blocks(self, part):
+        for one in part:
             if one.found:
                 terminal.say(one.event.head + one.found.words(one.event.number))
             if one.is_block:
-                message = message_of(one.event.octets)
-                yield Block(message.fields['block'], message.fields['stamp'], bool(message.fields['status'] & LOST),
-                            [(item.input, item.state, item.wide) for item in one.items if not item.gap],
-                            one.found.entry if one.found else -1)
+                yield block_of(one.event.octets, one.found.entry if one.found else -1)
 
     def parts(self):
         """The items, the breaches and the restarts with their lines: a breach of a rule on content below the items that are above
@@ -180,12 +190,13 @@ def write_json(record):
 
 def write_csv(record):
     """A row for each item, each breach and each restart; a gap mark has `gap` in its last column, a breach its rule, a restart
-    `restarted`."""
+    `restarted`. Of several files the first column has the name."""
     import csv
     rows = csv.writer(sys.stdout, lineterminator='\n')
-    rows.writerow([*COLUMNS, 'mark'])
+    has_files = len(record.option.files) > 1
+    rows.writerow(['file'] * has_files + [*COLUMNS, 'mark'])
     for event, item, found in record.parts():
-        head = [event.number, '' if event.time is None else event.time]
+        head = [shown(event.file)] * has_files + [event.number, '' if event.time is None else event.time]
         if found:
             rows.writerow([*head, found.input if found.is_content else '', '', '', '', found.rule])
         elif item.gap:
@@ -221,18 +232,16 @@ def write_text(record):
 def run(option):
     """Writes the record; status 1 if a rule is broken, the module restarted, or there is no frame."""
     read = log.Log(option, sys.stdout.flush, writes=not option.plot)
-    record = Record(read, option)
+    record, form = Record(read, option), '--text' if option.text else '--vcd' if option.vcd else ''
+    if form and read.has_several:
+        raise Refused('%s has the record of one log: name one file, or --merge the files of one line' % form)
     if option.hires:
-        if hires.missing(option):
-            terminal.say('--hires needs %s too' % ', '.join(hires.missing(option)))
-            return 2
-        hires.write(record.blocks(), option)
+        hires.write(record.logs(), option)
     elif option.plot:
         from . import plot
-        if not plot.write(record.blocks(), option.plot):
-            return 3
+        plot.write(record.logs(), option.plot)
     elif option.vcd:
-        draw(record.blocks(), sys.stdout)
+        draw(chain.from_iterable(blocks for _, blocks in record.logs()), sys.stdout)
     else:
         (write_text if option.text else write_json if option.json else write_csv if option.csv else write)(record)
     is_read = read.summary()

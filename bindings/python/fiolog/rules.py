@@ -14,7 +14,7 @@ from fio2070.constants import WHY_PLACE_LOST, WHY_UNHEARD
 from .events import LOSSES, MISSING, PIECE
 from .log_words import BREACHES, LINE
 from .message import AGAIN, BLOCK, LOST, MORE, message_of, words_of
-from .protocol import ADVANCE, CONTENT_RULES, INPUTS, RULES
+from .protocol import ADVANCE, CONTENT_RULES, INPUTS, RULES, SOURCES
 
 # The note of what is in the place of a frame, and is none.
 WRONG_CHECK = LINE['damaged']
@@ -25,6 +25,7 @@ DUE = {'pair': 'an answer %d was due, %d came', 'number': 'block %d was asked fo
 NOT_JUDGED = {WHY_LOAD: 'frames_below_loads', WHY_UNHEARD: 'frames_not_at_the_cpu', WHY_LATE: 'late_answers',
               WHY_LATE_ABOVE: 'frames_below_late_answers', WHY_ABOVE_COMMAND: 'frames_above_a_command',
               WHY_PLACE_LOST: 'frames_at_lost_places'}
+RESTARTED = 'restarted'
 # What is said of a frame that shows a restart: by its stamp, or of an answer to a watchdog that was set before.
 WENT_BACK = 'the module restarted, or the stamp is wrong: its counter went back'
 FORGOTTEN = 'the module restarted, or forgot its watchdog: it says that none was set before'
@@ -33,33 +34,39 @@ FORGOTTEN = 'the module restarted, or forgot its watchdog: it says that none was
 class Breach(NamedTuple):
     """A breach in a line. Of a rule on content: how many items of the block are recorded above it, its input and the index of
     the entry that breaks the rule, where it has them. `says` is what was due and what came, or what the breach means; `due`
-    is what was due and what came, by the library."""
+    is what was due and what came, by the library. With RESTARTED in place of a rule it is no breach, and accuses neither end: the module
+    restarted above the frame, if that is right."""
     rule: str
     says: str = ''
     due: dict = {}
     items: int = -1
     input: int = -1
     entry: int = -1
-    is_restart = False
+
+    @property
+    def is_restart(self):
+        """Whether the module restarted."""
+        return self.rule == RESTARTED
+
+    @property
+    def source(self):
+        """The sources of the rule, in short: of its behaviour and, if that is another one, of its layout."""
+        behaviour, layout = SOURCES[self.rule]
+        return behaviour if behaviour == 'own profile' or layout in behaviour else '%s; layout %s' % (behaviour, layout)
+
+    @property
+    def meaning(self):
+        """What a line says of it: what was due and what came, or what the breach means, and the sources."""
+        return self.says if self.is_restart else '%s (%s)' % (self.says, self.source)
 
     @property
     def is_content(self):
         """Whether a rule on content is broken."""
-        return self.items >= 0
+        return self.items >= 0 and not self.is_restart
 
     def words(self, line):
         """As `fio2070 record` says it."""
-        return 'line %d %sbreaks %s' % (line, 'input %d ' % self.input if self.input >= 0 else '', self.rule)
-
-
-class Restart(NamedTuple):
-    """What is said of a frame above which the module restarted, if the frame is right. It is no breach: it accuses neither end."""
-    says: str
-    is_restart, is_content, rule, items, entry = True, False, 'restarted', 0, -1
-
-    def words(self, line):
-        """As `Breach.words`."""
-        return 'line %d restarted' % line
+        return 'line %d %s' % (line, self.rule if self.is_restart else '%sbreaks %s' % ('input %d ' % self.input if self.input >= 0 else '', self.rule))
 
 
 class Rules:
@@ -72,9 +79,9 @@ class Rules:
         self.judge = fio2070.LogJudge(*limits, place=at, begun=whole and not late, late_answers=late)
         self.at, self.excepted, self.with_content = at, frozenset(excepted), with_content
         self.unjudged = Counter()   # what is not judged, by its reason
-        self.is_above_polls = False     # whether the first breach is above the first poll
-        # Whether a breach is above, a poll, and a frame; whether the place is lost, up to the next poll.
-        self._has_breach = self._has_polls = self._has_frames = self._is_lost = False
+        self.is_above_polls = False     # whether a breach is above the first poll
+        # Whether a poll is above, and a frame; whether the place is lost, up to the next poll.
+        self._has_polls = self._has_frames = self._is_lost = False
 
     def take(self, batch):
         """Takes lines; returns what is said of a frame, a breach or that the module restarted above it, with the index of the frame."""
@@ -136,7 +143,7 @@ class Rules:
         if kind == OUTCOME_BROKEN:
             return self._told(transcript_breach(octets, breach))
         if kind == OUTCOME_RESTARTED:
-            return Restart(FORGOTTEN if octets[0] == TYPE_WATCHDOG + TYPE_ANSWER else WENT_BACK)
+            return Breach(RESTARTED, FORGOTTEN if octets[0] == TYPE_WATCHDOG + TYPE_ANSWER else WENT_BACK, items=0)
         self.unjudged[NOT_JUDGED[why]] += 1
         return None
 
@@ -145,8 +152,7 @@ class Rules:
         if found.rule in self.excepted:
             self.unjudged['excepted_breaches'] += 1
             return None
-        self.is_above_polls |= not (self._has_breach or self._has_polls)
-        self._has_breach = True
+        self.is_above_polls |= not self._has_polls
         return found
 
     @property
@@ -159,7 +165,8 @@ def transcript_breach(octets, found):
     """A breach of a rule of transcripts, with what was due and what came, or with what the message does."""
     rule, words = RULES[found.rule]
     if found.has_due:
-        meaning = ': ' + advance_words(found.due, found.got) if rule == 'advance' else ''
+        ahead = ADVANCE['ahead' if (found.got - found.due) % 256 < 128 else 'behind'].format(due=found.due)
+        meaning = ': ' + ahead if rule == 'advance' else ''
         return Breach(rule, DUE[rule] % (found.due, found.got) + meaning, {'due': found.due, 'got': found.got})
     if rule == 'readable':
         return Breach(rule, words_of(octets) or 'this line ' + words)
@@ -167,11 +174,6 @@ def transcript_breach(octets, found):
         return Breach(rule, limits_words(message_of(octets)))
     key = 'again' if rule == 'sequence' and octets[-5] & AGAIN else rule
     return Breach(rule, BREACHES[key].format(code=octets[0], command=octets[0] - TYPE_ANSWER) if key in BREACHES else 'this line ' + words)
-
-
-def advance_words(due, got):
-    """What it means that a poll has another number than the one due."""
-    return ADVANCE['ahead' if (got - due) % 256 < 128 else 'behind'].format(due=due)
 
 
 def limits_words(block):

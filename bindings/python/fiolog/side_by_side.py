@@ -1,9 +1,12 @@
 """Work on many files in processes of their own: a fault, or a process that dies, costs its own file alone."""
 
+import contextlib
 import multiprocessing
+import multiprocessing.connection
 import os
 import signal
 import sys
+import threading
 from concurrent.futures import BrokenExecutor, ProcessPoolExecutor, as_completed
 
 from . import output, terminal
@@ -38,10 +41,37 @@ def results(work, names, jobs):
     return done
 
 
+def _mask(how):
+    """Holds back, or lets come, the signals that end a command, where a system can."""
+    if hasattr(signal, 'pthread_sigmask'):
+        signal.pthread_sigmask(how, {getattr(signal, name) for name in ('SIGINT', *output.ENDING)})
+
+
+@contextlib.contextmanager
+def _held():
+    """No signal comes meanwhile: one that came while a process is begun would be lost, or be reported by that process."""
+    _mask(signal.SIG_BLOCK)
+    try:
+        yield
+    finally:
+        _mask(signal.SIG_UNBLOCK)
+
+
 def _begin():
-    """Ctrl-C at a terminal is for all processes of a command; the first of them ends the others."""
+    """Ctrl-C at a terminal is for all processes of a command; the first of them ends the others, and they end with it."""
     signal.signal(signal.SIGINT, signal.SIG_IGN)
-    signal.signal(signal.SIGTERM, signal.SIG_DFL)
+    for name in output.ENDING:
+        number = getattr(signal, name, None)
+        if number and signal.getsignal(number) != signal.SIG_IGN:
+            signal.signal(number, signal.SIG_DFL)
+    _mask(signal.SIG_UNBLOCK)
+    threading.Thread(target=_end_with_first, daemon=True).start()
+
+
+def _end_with_first():
+    """Ends this process once the first one has ended, in whatever way."""
+    multiprocessing.connection.wait([multiprocessing.parent_process().sentinel])
+    os._exit(1)
 
 
 def _end_all():
@@ -49,17 +79,25 @@ def _end_all():
         child.terminate()
 
 
+@contextlib.contextmanager
+def _pool(jobs):
+    """So many processes."""
+    with ProcessPoolExecutor(jobs, initializer=_begin) as pool:
+        try:
+            yield pool
+        except BaseException:
+            _end_all()      # else the pool waits for them
+            raise
+
+
 def _together(work, names, jobs, done):
     """Does the work in several processes, as far as none of them dies."""
     try:
-        with ProcessPoolExecutor(jobs, initializer=_begin) as pool:
-            try:
+        with _pool(jobs) as pool:
+            with _held():
                 futures = {pool.submit(work, name): index for index, name in enumerate(names) if name != '-'}
-                for future in as_completed(futures):
-                    done[futures[future]] = future.result()
-            except BaseException:
-                _end_all()      # else the pool waits for them
-                raise
+            for future in as_completed(futures):
+                done[futures[future]] = future.result()
     except (BrokenExecutor, *_NO_PROCESS):
         pass
 
@@ -67,8 +105,10 @@ def _together(work, names, jobs, done):
 def _alone(work, name):
     """Does the work in a process of its own, or in this one if the system lets none begin."""
     try:
-        with ProcessPoolExecutor(1, initializer=_begin) as pool:
-            return pool.submit(work, name).result()
+        with _pool(1) as pool:
+            with _held():
+                future = pool.submit(work, name)
+            return future.result()
     except BrokenExecutor:
         return DIED
     except _NO_PROCESS:

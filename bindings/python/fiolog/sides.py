@@ -105,8 +105,9 @@ class Held:
 class Judgement:
     """What rules find in a log: nothing, if it has one direction alone."""
 
-    def __init__(self, rules):
-        self.rules, self.sides, self.held, self._signs = rules, Sides(), Held(), fio2070.LogSigns()
+    def __init__(self, rules, name=''):
+        self.rules, self.name = rules, name     # the name of the log's file, if there are several logs
+        self.sides, self.held, self._signs = Sides(), Held(), fio2070.LogSigns()
         self.frames = self.left_out = self.losses = self.pieces = 0
         self.verdict, self.words = '', ''
         self.commands_from = self.answers_from = 0      # the frames of the latest lines from which both directions are known
@@ -144,6 +145,10 @@ class Judgement:
                 self.answers_from = min(self.answers_from, frame if sides.answers else count)
             if sides.answers and sides.commands:
                 return
+
+    def named(self, event):
+        """An event of the log with the name of its file, if there are several logs."""
+        return event._replace(file=self.name) if self.name else event
 
     def leave_out(self, event):
         """Takes a frame that is not to be judged."""

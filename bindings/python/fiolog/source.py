@@ -2,43 +2,33 @@
 
 import codecs
 import errno
+import itertools
 import os
 import sys
 import zlib
 
+from . import captures, files
 from .terminal import say
 
 CHUNK = 1 << 16
 GZIP = b'\x1f\x8b\x08'
-# How files of pcap and pcapng begin.
-_CAPTURES = (b'\xd4\xc3\xb2\xa1', b'\xa1\xb2\xc3\xd4', b'\x4d\x3c\xb2\xa1', b'\xa1\xb2\x3c\x4d', b'\n\r\r\n')
-_CONTROLS = bytes(octet for octet in range(32) if octet not in b'\t\n\r\f\x1b')
 _MARKS = ((codecs.BOM_UTF8, 'utf-8'), (codecs.BOM_UTF16_LE, 'utf-16-le'), (codecs.BOM_UTF16_BE, 'utf-16-be'))
 
 
-def decoded(chunks, is_text=True):
-    """The octets as UTF-8, without a byte order mark if they are a text, and without what gzip does to them."""
+def decoded(chunks, is_text=True, begins=lambda first: None):
+    """The octets as UTF-8, without a byte order mark if they are a text, and without what gzip does to them; of captured packets
+    the lines. `begins` is called with the first octets."""
     first = next(chunks, b'')
     if first.startswith(GZIP):
         chunks = _unpacked(first, chunks)
         first = next(chunks, b'')
-    if first.startswith(_CAPTURES):
-        say('this is a capture file: tshark reads it by tools/wireshark/fio2070.lua, as docs/CAPTURES.md says')
-    for mark, name in _MARKS if is_text else ():
-        if first.startswith(mark):
-            decoder = codecs.getincrementaldecoder(name)('replace')
-            yield decoder.decode(first[len(mark):]).encode('utf-8', 'surrogatepass')
-            for chunk in chunks:
-                yield decoder.decode(chunk).encode('utf-8', 'surrogatepass')
-            return
-    yield first
-    yield from chunks
-
-
-def is_binary(octets):
-    """Whether octets are no text: one in ten is a control character or no UTF-8. A capture file is none of these."""
-    strange = len(octets) - len(octets.translate(None, _CONTROLS)) + octets.decode('utf-8', 'replace').count('\ufffd')
-    return 10 * strange > len(octets) and not octets.startswith(_CAPTURES)
+    begins(first)
+    mark, name = next((one for one in _MARKS if is_text and first.startswith(one[0])), (b'', ''))
+    chunks = itertools.chain([first[len(mark):]], chunks)
+    if is_text and files.kind_of(first) == 'capture':
+        return captures.lines_of(chunks)
+    decode = name and codecs.getincrementaldecoder(name)('replace').decode
+    return (decode(chunk).encode('utf-8', 'surrogatepass') for chunk in chunks) if name else chunks
 
 
 def _unpacked(first, chunks):
@@ -58,9 +48,9 @@ def _unpacked(first, chunks):
         say('the file packed by gzip is damaged: what comes before is read (%s)' % fault)
 
 
-def chunks_of(descriptor, seen=lambda count: None, idle=lambda: None, name='-', is_text=True):
+def chunks_of(descriptor, seen=lambda count: None, idle=lambda: None, name='-', is_text=True, begins=lambda first: None):
     """The octets of a file descriptor, piece by piece, each as soon as it comes. `seen` is called with the number of octets
-    that were read, `idle` before each read. A fault has the name."""
+    that were read, `idle` before each read, `begins` with the first octets. A fault has the name."""
     def pieces():
         while True:
             idle()
@@ -73,7 +63,7 @@ def chunks_of(descriptor, seen=lambda count: None, idle=lambda: None, name='-', 
                 return
             seen(len(chunk))
             yield chunk
-    return decoded(pieces(), is_text)
+    return decoded(pieces(), is_text, begins)
 
 
 def opened(name):

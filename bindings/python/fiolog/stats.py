@@ -6,7 +6,7 @@ from . import log, many, terminal, unjudged
 from .counts import Counts, in_words, placed
 from .events import OTHER, PASSED, PIECE
 
-MILLI = 1000
+MILLI = 1000    # microseconds
 
 
 def add_arguments(parser):
@@ -15,21 +15,16 @@ def add_arguments(parser):
     parser.add_argument('--json', action='store_true', help='one object; with several logs one for each, and one for all')
 
 
-def milliseconds(micro):
-    """Microseconds as milliseconds."""
-    return None if micro is None else micro / MILLI
-
-
 def numbers(counts):
     """All that is counted, by name."""
     times, length = counts.responses, counts.seconds
+    median, percentile, most = (None if micro is None else micro / MILLI for micro in (times.at(0.5), times.at(0.99), times.most))
     return {
         'frames': counts.frames, 'damaged': counts.damaged, 'seconds': None if length is None else round(length, 6),
         'types': {str(code): count for code, count in sorted(counts.types.items())},
         'polls': counts.polls, 'polls_a_second': round(counts.polls / length, 3) if length else None,
         'repeats': counts.repeats, 'answers_lost': counts.in_short()['answers_lost'],
-        'response_ms': {'count': times.count, 'median': milliseconds(times.at(0.5)),
-                        'percentile_99': milliseconds(times.at(0.99)), 'most': milliseconds(times.most)},
+        'response_ms': {'count': times.count, 'median': median, 'percentile_99': percentile, 'most': most},
         'entries': counts.entries, 'entries_a_second': round(counts.entries / length, 3) if length else None,
         'entries_by_input': {str(number): count for number, count in sorted(counts.inputs.items())},
         'block_fill': {'blocks': sum(counts.fills.values()), 'median': placed(counts.fills, 0.5), 'most': max(counts.fills, default=None)},

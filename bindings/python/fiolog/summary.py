@@ -75,18 +75,12 @@ def summary_of(source, at='auto', whole=False, limits=(), excepted=(), **setting
     settings are the reader's."""
     summary, judgement = Summary(), Judgement(Rules(at, whole, limits, excepted))
     reader = Reader(**settings)
-    for chunk in decoded(iter(chunks_of(source)), not settings.get('line')):
-        _take(summary, judgement, reader.feed(chunk))
-    _take(summary, judgement, reader.end())
+    for batch in reader.read(decoded(iter(chunks_of(source)), not settings.get('line'))):
+        summary.add_breaches(judgement.take(batch))
+        summary.counts.take(batch)
     summary.add_breaches(judgement.end(reader.reasons, reader.kinds[POSSIBLE]))
     summary.lines, summary.reasons = reader.count, reader.reasons
     if judgement.verdict:
         summary.verdicts[judgement.verdict] += 1
     summary.unjudged = judgement.unjudged + Counter(lines_passed_over=sum(summary.reasons.values()), frames_of_others=reader.kinds[OTHER])
     return summary
-
-
-def _take(summary, judgement, batches):
-    for batch in batches:
-        summary.add_breaches(judgement.take(batch))
-        summary.counts.take(batch)

@@ -12,13 +12,13 @@ SHORT = 1 << 22
 COLOURS = {'sent': '36', 'heard': '32', 'fault': '31;1', 'mark': '33', 'dim': '2'}
 
 
-def say(words, name='fiolog'):
-    """A line on standard error, below what was written so far."""
+def say(words, name='fiolog', end='\n'):
+    """A line on standard error, below what was written so far; with an empty name the rest of one that has no end yet."""
     with contextlib.suppress(OSError):      # nobody hears it
         if sys.stdout is not None:
             sys.stdout.flush()
     with contextlib.suppress(OSError):
-        sys.stderr.write('%s: %s\n' % (name, shown(words)))
+        sys.stderr.write('%s %s%s' % (name and name + ':', shown(words), end))
         sys.stderr.flush()
 
 
@@ -26,16 +26,10 @@ def say(words, name='fiolog'):
 say_once = functools.lru_cache(maxsize=None)(say)
 
 
-def has_colours(wish):
-    """Whether to write colours: `always`, `never`, or on a terminal that wants them."""
-    if wish == 'auto':
-        return sys.stdout.isatty() and not os.environ.get('NO_COLOR') and os.environ.get('TERM') != 'dumb'
-    return wish == 'always'
-
-
 def painter(wish):
-    """A function that paints a text in a colour of COLOURS, or leaves it."""
-    if has_colours(wish):
+    """A function that paints a text in a colour of COLOURS, or leaves it: `always`, `never`, or `auto` on a terminal that wants colours."""
+    is_wanted = sys.stdout.isatty() and not os.environ.get('NO_COLOR') and os.environ.get('TERM') != 'dumb'
+    if wish == 'always' or wish == 'auto' and is_wanted:
         return lambda colour, text: '\x1b[%sm%s\x1b[0m' % (COLOURS[colour], text)
     return lambda colour, text: text
 

@@ -1,88 +1,54 @@
-"""The texts of lines, cut from the octets of a log where one is asked for."""
-
-from functools import cached_property
+"""The texts of lines, cut from the octets of a log."""
 
 from . import doubts
 from .events import LONGEST_TEXT
-
-
-def split(text):
-    """The lines of a text: one ends at a line feed, at a carriage return, or at both."""
-    return text.splitlines(keepends=True)
-
-
-class Piece:
-    """Whole lines, of which the first has this number: their text, or they themselves."""
-
-    def __init__(self, first, text, lines=None):
-        self.first, self.text, self._lines = first, text, lines
-        self.end = first + (text.count(b'\n') if lines is None else len(lines))
-
-    def lines(self):
-        """The lines."""
-        if self._lines is None:
-            self._lines = split(self.text)
-        return self._lines
-
-    @cached_property
-    def may_have_numbers(self):
-        """Whether octets may be written in it as numbers."""
-        return doubts.may_have_numbers(self.text if self._lines is None else b''.join(self._lines))
 
 
 class Texts:
     """The texts of the lines that have no verdict yet."""
 
     def __init__(self):
-        self.pieces, self.left, self.count = [], b'', 0
+        self.lines, self.left, self.count = [], b'', 0      # the last of the lines that were counted; what came of the next one
 
     def add(self, octets):
-        """Takes octets."""
-        text = self.left + octets
-        if b'\r' in text and text.count(b'\r') != text.count(b'\r\n'):
-            lines = split(text)
-            # A line feed may follow a carriage return.
-            self.left = lines.pop() if lines and not lines[-1].endswith(b'\n') else b''
-            self._keep(b'', lines)
-        else:
-            end = text.rfind(b'\n') + 1
-            self.left = text[end:]
-            self._keep(text[:end])
+        """Takes octets. A line ends at a line feed, at a carriage return, or at both."""
+        lines = (self.left + octets).splitlines(keepends=True)
+        # A line feed may follow a carriage return.
+        self.left = lines.pop() if lines and not lines[-1].endswith(b'\n') else b''
+        self._keep(lines)
         if len(self.left) > LONGEST_TEXT:
             self.left = self.left[:LONGEST_TEXT] + b'\r' * self.left.endswith(b'\r')
 
-    def _keep(self, text, lines=None):
-        if text or lines:
-            self.pieces.append(Piece(self.count + 1, text, lines))
-            self.count = self.pieces[-1].end - 1
+    def _keep(self, lines):
+        self.lines += lines
+        self.count += len(lines)
 
     def end(self):
         """Takes the line that has no end, if there is one."""
-        self._keep(b'', [self.left] if self.left else [])
+        self._keep([self.left] if self.left else [])
         self.left = b''
+
+    def _index(self, number):
+        return number - self.count + len(self.lines) - 1
 
     def of(self, number):
         """Returns a line; what came of it if its end was not seen yet: a line feed may follow its carriage return."""
-        for piece in self.pieces:
-            if number < piece.end:
-                return piece.lines()[number - piece.first]
-        return self.left
+        return self.lines[self._index(number)] if number <= self.count else self.left
 
     def below(self, number):
         """Returns the lines below this one."""
-        return [line for piece in self.pieces if piece.end > number + 1 for line in piece.lines()[max(number + 1 - piece.first, 0):]]
+        return self.lines[max(self._index(number + 1), 0):]
 
     def may_have_numbers(self, lines):
         """Whether octets may be written as numbers in a range of lines."""
-        return any(piece.may_have_numbers for piece in self.pieces if piece.first < lines.stop and lines.start < piece.end)
+        texts = self.lines[self._index(lines.start):self._index(lines.stop)] + [self.left] * (lines.stop > self.count + 1)
+        return doubts.may_have_numbers(b''.join(texts))
 
     def take(self):
         """Returns the lines that are whole, and forgets them."""
-        lines = self.below(0)
-        self.pieces.clear()
+        lines, self.lines = self.lines, []
         return lines
 
     def drop(self, number):
         """Forgets lines above this one."""
-        while self.pieces and self.pieces[0].end <= number:
-            del self.pieces[0]
+        self.lines = self.below(number - 1)

@@ -14,8 +14,8 @@ PATIENCE, MOST = 1.0, 128
 class Waiting:
     """Which lines wait, since when, and which of them were shown."""
 
-    def __init__(self, address=None):
-        self._address, self._since, self._shown = address, {}, {}
+    def __init__(self):
+        self._since, self._shown = {}, {}
 
     def due(self, lines):
         """The messages of lines that have waited long enough, each once and as a possible one. `lines` are those that wait, each with
@@ -24,7 +24,7 @@ class Waiting:
         self._since = {number: self._since.get(number, now) for number, _ in lines}
         if not any(now - since >= PATIENCE and number not in self._shown for number, since in self._since.items()):
             return
-        reader = Reader(address=self._address)
+        reader = Reader()
         batches = chain(reader.feed(b''.join(raw for _, raw in lines)), reader.end())
         for event in chain.from_iterable(batch.events() for batch in batches):
             number = lines[min(event.number, len(lines)) - 1][0]

@@ -25,16 +25,17 @@ class Clock:
     def __init__(self):
         self.stamp = self.time = None
 
-    def go_on(self, block, now):
-        """Goes on to a block; `now` is the latest time so far. Returns whether the counter went back, and the time of each entry, or that
-        of the block if it has none. The stamp says of which turn of the counter an entry is, since no entry is a turn older."""
+    def go_on(self, block, now=None):
+        """Goes on to a block; `now` is the latest time so far, by default that of the block above. Returns whether the counter went back,
+        and the time of each entry, or that of the block if it has none. The stamp says of which turn of the counter an entry is, since
+        no entry is a turn older."""
         ages = [(block.stamp - wide) % TURN for _, _, wide in block.entries] or [0]
         step = (block.stamp - (self.stamp or 0)) % TURN
         is_back = self.stamp is not None and step >= TURN // 2
         if self.stamp is None:
             self.time = block.stamp if ages[0] <= block.stamp else block.stamp + TURN
         else:
-            self.time = now + 1 + max(ages) if is_back else self.time + step
+            self.time = (self.time if now is None else now) + 1 + max(ages) if is_back else self.time + step
         self.stamp = block.stamp
         return is_back, [self.time - age for age in ages]
 

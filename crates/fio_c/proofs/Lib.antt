@@ -6,6 +6,9 @@ pub mod TextLengths
 pub mod Checkers
 pub mod LogJudges
 pub mod Decoded
+pub mod CommandsGiven
+pub mod AnswersGiven
+pub mod GivenBack
 mod Rings
 mod Replies
 pub mod Batches

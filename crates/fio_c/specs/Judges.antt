@@ -1,5 +1,5 @@
 -- The judge of a link as C sees it.
-use Rattle.std.specs.Prelude.{ℕ, ◌==◌, not, unwrap_or, if◌then◌else◌}
+use Rattle.std.specs.Prelude.{ℕ, ◌≡◌, ◌==◌, replicate, unwrap_or, if◌then◌else◌}
 use Rattle.fio_check.specs.ContentKept.{content_checking}
 use Rattle.fio_check.specs.ContentRules.{content_rule_number}
 use Rattle.fio_check.specs.LinkJudges.{Judging}
@@ -24,8 +24,12 @@ judge_in flat = record {
   content = content_checking flat.content;
   latest = octet_if flat.has_latest flat.latest;
   asked = octet_if flat.has_asked flat.asked;
-  lost = not (flat.lost == 0);
+  polls = flat.polls;
 }
+
+-- the octets that the struct of a judge reserves are 0, those of its checker of transcripts too
+abbrev pub ReservesZeros : FlatJudge → Type 0
+ReservesZeros flat = (flat.reserved ≡ replicate 5 0) × (flat.checker.reserved ≡ replicate 4 0)
 
 -- where a frame was logged: 0 the CPU's end, 1 the module, else the bus
 abbrev pub place_in : ℕ → LogPlace

@@ -2,6 +2,7 @@ pub mod AnswerNumbers
 pub mod Checkers
 pub mod Judges
 pub mod Flat
+pub mod Given
 pub mod Logs
 pub mod Told
 pub mod BatchItems

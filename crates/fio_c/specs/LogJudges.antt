@@ -1,5 +1,5 @@
 -- The judge of a log as C sees it.
-use Rattle.std.specs.Prelude.{ℕ, ◌==◌, ◌&&◌, ◌||◌, Bool, true, false, not, nat_lt, List, [], ◌∷◌, slice_get, unwrap_or, Option, Some, None, if◌then◌else◌}
+use Rattle.std.specs.Prelude.{ℕ, ◌≡◌, ◌==◌, ◌&&◌, ◌||◌, Bool, true, false, not, nat_lt, List, [], ◌∷◌, replicate, slice_get, unwrap_or, Option, Some, None, if◌then◌else◌}
 use Rattle.fio_check.specs.LogJudges.{Found, LogEvent, LogJudging, Lost, Missing, Possible, log_below_events, log_with_event, outcome_in_log}
 use Rattle.fio_check.specs.declared.late_answers.LateAnswers.{LateAnswers}
 use Rattle.fio_check.specs.declared.log_judge.LogOutcome.{LogOutcome}
@@ -12,7 +12,7 @@ use Rattle.fio_check.specs.declared.outcome.LogPlace.{LogPlace}
 use Rattle.fio_check.specs.declared.outcome.LogPlace.TheVariants.{Bus, Cpu, Module}
 use Rattle.fio_c.specs.BatchItems.{BatchItem}
 use Rattle.fio_c.specs.Checkers.{octet_if}
-use Rattle.fio_c.specs.Judges.{flat_outcome, judge_in, without_breach}
+use Rattle.fio_c.specs.Judges.{ReservesZeros, flat_outcome, judge_in, without_breach}
 use Rattle.fio_c.specs.declared.judge.JudgeOutcome.{JudgeOutcome}
 use Rattle.fio_c.specs.declared.log_batch.LogVerdict.{LogVerdict}
 use Rattle.fio_c.specs.declared.log_judge.FlatLogJudge.{FlatLogJudge}
@@ -68,6 +68,10 @@ log_judge_in flat = record {
   has_frames = not (flat.has_frames == 0);
   missing = missing_in flat.missing;
 }
+
+-- the octets that the struct of a judge of a log reserves are 0, those of its judge of the link too
+abbrev pub LogReservesZeros : FlatLogJudge → Type 0
+LogReservesZeros flat = (flat.reserved ≡ replicate 5 0) × ReservesZeros flat.link
 
 -- the outcome of a frame as C sees it
 abbrev pub flat_log_outcome : LogOutcome → JudgeOutcome

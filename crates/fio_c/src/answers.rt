@@ -10,7 +10,7 @@ use fio_flat::Fault;
 use fio_message::{AnswerView, read_answer};
 
 /// An answer of the module: the fields of its type, the others 0.
-#[derive(Clone, Copy)]
+#[derive(Clone, Copy, PartialEq, Eq)]
 #[repr(C)]
 pub struct FlatAnswer {
     /// The type: 177 to 188 (TEES 2009).
@@ -39,7 +39,7 @@ pub struct FlatAnswer {
 }
 
 /// Returns an answer of this type with all its fields 0.
-const fn answer_of_type(code: u8) -> FlatAnswer
+pub(crate) const fn answer_of_type(code: u8) -> FlatAnswer
     ensures { result ≡ answer_of_type code }
 {
     FlatAnswer {

@@ -12,7 +12,7 @@ use fio_flat::{Fault, NO_MESSAGE};
 use fio_message::{CommandView, InputItem, ItemsView, read_command};
 
 /// A command of the CPU: the fields of its type, the others 0.
-#[derive(Clone, Copy)]
+#[derive(Clone, Copy, PartialEq, Eq)]
 #[repr(C)]
 pub struct FlatCommand {
     /// The type: 49 to 60 (TEES 2009).
@@ -53,7 +53,7 @@ pub struct ConfigurationItem {
 }
 
 /// Returns a command of this type with all its fields 0.
-const fn command_of_type(code: u8) -> FlatCommand
+pub(crate) const fn command_of_type(code: u8) -> FlatCommand
     ensures { result ≡ command_of_type code }
 {
     FlatCommand {

@@ -4,7 +4,7 @@ ghost use Rattle.fio_check.specs.LinkJudges.{judging_anywhere, judging_begun, ju
 ghost use Rattle.fio_check.specs.LinkKept.{judging};
 ghost use Rattle.fio_flat.specs.Module.{are_flat_limits};
 ghost use Rattle.fio_c.specs.Checkers.{limits_of, octet_if};
-ghost use Rattle.fio_c.specs.Judges.{excuse_number, flat_outcome, judge_in, place_in, unjudged_number, without_breach};
+ghost use Rattle.fio_c.specs.Judges.{ReservesZeros, excuse_number, flat_outcome, judge_in, place_in, unjudged_number, without_breach};
 
 use crate::checker::{FlatChecker, breach_from, checker_from, flat_from, limits_from};
 use fio_check::{ContentChecker, Excuse, FrameOutcome, LinkJudge, LogPlace, Unjudged};
@@ -29,8 +29,8 @@ pub struct FlatJudge {
     pub has_latest: u8,
     /// 1 if there was a latest stamp at that poll.
     pub has_asked: u8,
-    /// 1 if lines are lost below the latest stamp.
-    pub lost: u8,
+    /// The number of polls below the latest stamp, up to 2.
+    pub polls: u8,
     /// 0 in each octet that the library writes.
     pub reserved: [u8; 5],
 }
@@ -66,6 +66,7 @@ pub struct JudgeOutcome {
 #[unsafe(no_mangle)]
 pub extern "C" fn fio2070_judge_start_anywhere(judge: &mut FlatJudge, limits: FlatLimits) -> u8
     ensures made { are_flat_limits limits ≡ true → (result ≡ 0) × (judge_in judge.new ≡ judging_anywhere (limits_of limits)) }
+    ensures reserved { are_flat_limits limits ≡ true → ReservesZeros judge.new }
     ensures refused { are_flat_limits limits ≡ false → (result ≡ 1) × (judge.new ≡ judge.old) }
 {
     let Some(limits) = limits_from(limits) else {
@@ -80,6 +81,7 @@ pub extern "C" fn fio2070_judge_start_anywhere(judge: &mut FlatJudge, limits: Fl
 #[unsafe(no_mangle)]
 pub extern "C" fn fio2070_judge_start_begun(judge: &mut FlatJudge, limits: FlatLimits) -> u8
     ensures made { are_flat_limits limits ≡ true → (result ≡ 0) × (judge_in judge.new ≡ judging_begun (limits_of limits)) }
+    ensures reserved { are_flat_limits limits ≡ true → ReservesZeros judge.new }
     ensures refused { are_flat_limits limits ≡ false → (result ≡ 1) × (judge.new ≡ judge.old) }
 {
     let Some(limits) = limits_from(limits) else {
@@ -93,7 +95,8 @@ pub extern "C" fn fio2070_judge_start_begun(judge: &mut FlatJudge, limits: FlatL
 /// next poll, and what the lost lines may explain accuses nobody.
 #[unsafe(no_mangle)]
 pub extern "C" fn fio2070_judge_lose(judge: &mut FlatJudge)
-    ensures { judge_in judge.new ≡ judging_lost (judge_in judge.old) }
+    ensures next { judge_in judge.new ≡ judging_lost (judge_in judge.old) }
+    ensures reserved { ReservesZeros judge.new }
 {
     let mut kept = judge_from(judge);
     kept.lose();
@@ -110,6 +113,7 @@ pub extern "C" fn fio2070_judge_sent(
     outcome: &mut JudgeOutcome,
 ) -> u8
     ensures next { judge_in judge.new ≡ judging_with (judge_in judge.old) (place_in at) true octets.now }
+    ensures reserved { ReservesZeros judge.new }
     ensures outcome { outcome.new ≡ flat_outcome (outcome_in (judge_in judge.old) (place_in at) true octets.now) }
     ensures kind { result ≡ outcome.new.kind }
 {
@@ -117,25 +121,26 @@ pub extern "C" fn fio2070_judge_sent(
     outcome.kind
 }
 
-/// As `fio2070_judge_sent`, for a frame that the CPU's end heard, or was sent.
+/// As `fio2070_judge_sent`, for a frame that the CPU's end heard, or was sent. Where that was logged does not matter.
 #[unsafe(no_mangle)]
 pub extern "C" fn fio2070_judge_heard(
     judge: &mut FlatJudge,
-    at: u8,
     octets: &[u8],
     outcome: &mut JudgeOutcome,
 ) -> u8
-    ensures next { judge_in judge.new ≡ judging_with (judge_in judge.old) (place_in at) false octets.now }
-    ensures outcome { outcome.new ≡ flat_outcome (outcome_in (judge_in judge.old) (place_in at) false octets.now) }
+    ensures next { judge_in judge.new ≡ judging_with (judge_in judge.old) (place_in 0) false octets.now }
+    ensures reserved { ReservesZeros judge.new }
+    ensures outcome { outcome.new ≡ flat_outcome (outcome_in (judge_in judge.old) (place_in 0) false octets.now) }
     ensures kind { result ≡ outcome.new.kind }
 {
-    *outcome = take(judge, at, false, octets);
+    *outcome = take(judge, 0, false, octets);
     outcome.kind
 }
 
 /// Takes a frame, and returns its outcome as C sees it.
 fn take(judge: &mut FlatJudge, at: u8, from_cpu: bool, octets: &[u8]) -> JudgeOutcome
     ensures next { judge_in judge.new ≡ judging_with (judge_in judge.old) (place_in at) from_cpu octets.now }
+    ensures reserved { ReservesZeros judge.new }
     ensures outcome { result ≡ flat_outcome (outcome_in (judge_in judge.old) (place_in at) from_cpu octets.now) }
 {
     let mut kept = judge_from(judge);
@@ -153,7 +158,7 @@ pub(crate) fn judge_from(flat: &FlatJudge) -> LinkJudge
         content: flat.content,
         latest: stamp_in(flat.has_latest, flat.latest),
         asked: stamp_in(flat.has_asked, flat.asked),
-        lost: flat.lost != 0,
+        polls: flat.polls,
     }
 }
 
@@ -167,7 +172,8 @@ fn stamp_in(has: u8, stamp: u32) -> Option<u32>
 /// Returns the struct of C that represents a judge.
 #[tactic(auto, using(crate::proofs::Checkers::checker_kept))]
 pub(crate) fn flat_of(judge: &LinkJudge) -> FlatJudge
-    ensures { judge_in result ≡ judging judge.now }
+    ensures kept { judge_in result ≡ judging judge.now }
+    ensures reserved { ReservesZeros result }
 {
     FlatJudge {
         content: judge.content,
@@ -176,7 +182,7 @@ pub(crate) fn flat_of(judge: &LinkJudge) -> FlatJudge
         asked: judge.asked.unwrap_or(0),
         has_latest: u8::from(judge.latest.is_some()),
         has_asked: u8::from(judge.asked.is_some()),
-        lost: u8::from(judge.lost),
+        polls: judge.polls,
         reserved: [0; 5],
     }
 }

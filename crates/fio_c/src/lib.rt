@@ -10,7 +10,7 @@
 //! |---|---|
 //! | read a block answer in place | `fio2070_read_block`, `fio2070_block_entries` |
 //! | read any message | `fio2070_decode_command`, `fio2070_command_items`, `fio2070_decode_answer`; an answer's one number, `fio2070_read_outputs_answer`, `fio2070_read_identification` |
-//! | write a message | `fio2070_encode_..` |
+//! | write a message | `fio2070_encode_command`, `fio2070_encode_answer` |
 //! | write what `show` writes of a message | `fio2070_show` |
 //! | write a code in words | `fio2070_fault_text`, `fio2070_rule_text`, `fio2070_content_rule_text`, `fio2070_heard_text` |
 //! | judge what the CPU's end sends and hears | `fio2070_checker_..`, `fio2070_content_..` |
@@ -23,10 +23,34 @@
 //! | say which library it is | `fio2070_version` |
 //! | use its parts | `fio2070_counter_..`, `fio2070_filters_..`, `fio2070_widen` |
 //!
-//! The definitions are in `specs/`: flat forms of commands, answers and blocks (`Flat`), checkers (`Checkers`), the judge of a
+//! The definitions are in `specs/`: flat forms of commands, answers and blocks (`Flat`), what C gives to write a message
+//! (`Given`, whose laws are the contracts of the module `laws`), checkers (`Checkers`), the judge of a
 //! link (`Judges`), the judge of a log (`LogJudges`), logs (`Logs`, `Told`), batches of the reader (`BatchItems`), counts
 //! (`LogCounts`), texts (`Texts`), versions (`Version`), lines (`Wires`). `fio_flat` has the other structs, and what calls do to
 //! them and to the caller's arrays.
+//!
+//! # What is proved
+//!
+//! A call whose input has a fault, or whose output does not fit, changes no memory (`no_room`, `no_command`, `refused`), with
+//! two exceptions: `fio2070_show` writes the text of the fault, and a checker takes such a frame too. Each `_start` sets every
+//! octet (`octets`); for those of the rules on content and of the judges this is tested only.
+//!
+//! `fio2070_judge_sent` and `_heard` write the outcome of the judge of a link, and `fio2070_log_judge_frame` that of the judge
+//! of a log, each field of it, and return its kind (`outcome`, `next`, `kind`); with limits out of range no judge is started,
+//! and nothing changes (`refused`). `fio2070_log_judge_batch` writes what the judge of a log says of each frame of a batch, in
+//! their order, and nothing else (`next`, `outcomes`, `count`; of what a reader returned `told` and `all`).
+//! `fio2070_log_counts_frame` counts a frame, and writes and returns what is known of its time (`next`, `taken`, `known`).
+//! `fio2070_log_counts_batch` counts the frames of a batch, takes the lines between them, and writes the times that are known,
+//! in order, and nothing else (`next`, `taken`, `count`; of what a reader returned `told`). `fio2070_log_signs_batch` takes its
+//! frames (`next`, `told`).
+//!
+//! `fio2070_log_start` sets the octets of its reader, which may be fewer than the room. The verdicts that `fio2070_log_read`
+//! puts into a batch are those that `Reader` of `fio_log` returns of the next lines, each once, in order and no other, octet
+//! for octet, with all their frames and places (`HasRead` in `specs/Logs.antt`, `HasVerdicts` in `specs/Told.antt`); what is
+//! proved of `Reader` is true of the batch. A call makes progress: if its batch has no verdict, it took all octets, and after
+//! the end of the log each line has had its verdict. When a log has ended and all its verdicts are given, octets begin another
+//! log of the same form (see `IsReadFrom`). `fio2070_log_end` makes the octets after the last line end the last line, and keeps a
+//! verdict that is ready (see `HasEnded`).
 #![tactic(auto)]
 
 mod answer_frames;
@@ -43,6 +67,7 @@ mod counter;
 mod faults;
 mod filters;
 mod judge;
+pub mod laws;
 mod log;
 mod log_batch;
 mod log_counts;

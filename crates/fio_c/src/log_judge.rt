@@ -3,7 +3,7 @@ ghost use Rattle.std.specs.Prelude.{◌≡◌, ◌==◌, None, Some, false, not,
 ghost use Rattle.fio_check.specs.LogJudges.{log_judging, log_lost, log_missing, log_possible, log_starting, log_with, outcome_in_log};
 ghost use Rattle.fio_flat.specs.Module.{are_flat_limits};
 ghost use Rattle.fio_c.specs.Checkers.{limits_of, octet_if};
-ghost use Rattle.fio_c.specs.LogJudges.{end_in, flat_log_outcome, late_in, log_judge_in, missing_in, missing_number, place_number, place_taken, start_in};
+ghost use Rattle.fio_c.specs.LogJudges.{LogReservesZeros, end_in, flat_log_outcome, late_in, log_judge_in, missing_in, missing_number, place_number, place_taken, start_in};
 
 use crate::checker::limits_from;
 use crate::judge::{FlatJudge, JudgeOutcome, flat_of, judge_from, outcome_from, without_breach};
@@ -60,6 +60,7 @@ pub extern "C" fn fio2070_log_judge_start(
 ) -> u8
     ensures made { are_flat_limits limits ≡ true → (result ≡ 0)
         × (log_judge_in judge.new ≡ log_starting (limits_of limits) (place_taken place) (start_in start)) }
+    ensures reserved { are_flat_limits limits ≡ true → LogReservesZeros judge.new }
     ensures refused { are_flat_limits limits ≡ false → (result ≡ 1) × (judge.new ≡ judge.old) }
 {
     let Some(limits) = limits_from(limits) else {
@@ -72,7 +73,8 @@ pub extern "C" fn fio2070_log_judge_start(
 /// Takes a line that may have held a frame: nothing is judged until the next poll.
 #[unsafe(no_mangle)]
 pub extern "C" fn fio2070_log_judge_lose(judge: &mut FlatLogJudge)
-    ensures { log_judge_in judge.new ≡ log_lost (log_judge_in judge.old) }
+    ensures next { log_judge_in judge.new ≡ log_lost (log_judge_in judge.old) }
+    ensures reserved { LogReservesZeros judge.new }
 {
     let mut kept = log_judge_from(judge);
     kept.lose();
@@ -83,7 +85,8 @@ pub extern "C" fn fio2070_log_judge_lose(judge: &mut FlatLogJudge)
 /// it acts as `fio2070_log_judge_lose`.
 #[unsafe(no_mangle)]
 pub extern "C" fn fio2070_log_judge_possible(judge: &mut FlatLogJudge)
-    ensures { log_judge_in judge.new ≡ log_possible (log_judge_in judge.old) }
+    ensures next { log_judge_in judge.new ≡ log_possible (log_judge_in judge.old) }
+    ensures reserved { LogReservesZeros judge.new }
 {
     let mut kept = log_judge_from(judge);
     kept.possible();
@@ -93,7 +96,8 @@ pub extern "C" fn fio2070_log_judge_possible(judge: &mut FlatLogJudge)
 /// Takes a line without octets that speaks of loss: nobody is accused of what a frame explains that is missing here.
 #[unsafe(no_mangle)]
 pub extern "C" fn fio2070_log_judge_miss(judge: &mut FlatLogJudge)
-    ensures { log_judge_in judge.new ≡ log_missing (log_judge_in judge.old) }
+    ensures next { log_judge_in judge.new ≡ log_missing (log_judge_in judge.old) }
+    ensures reserved { LogReservesZeros judge.new }
 {
     let mut kept = log_judge_from(judge);
     kept.miss();
@@ -112,6 +116,7 @@ pub extern "C" fn fio2070_log_judge_frame(
     outcome: &mut JudgeOutcome,
 ) -> u8
     ensures next { log_judge_in judge.new ≡ log_with (log_judge_in judge.old) (not (from_cpu == 0)) (end_in said) octets.now }
+    ensures reserved { LogReservesZeros judge.new }
     ensures outcome { outcome.new ≡ flat_log_outcome (outcome_in_log (log_judge_in judge.old) (not (from_cpu == 0)) (end_in said) octets.now) }
     ensures kind { result ≡ outcome.new.kind }
 {
@@ -122,6 +127,7 @@ pub extern "C" fn fio2070_log_judge_frame(
 /// Takes a frame, and returns its outcome as C sees it.
 fn take(judge: &mut FlatLogJudge, from_cpu: bool, said: Option<bool>, octets: &[u8]) -> JudgeOutcome
     ensures next { log_judge_in judge.new ≡ log_with (log_judge_in judge.old) from_cpu said octets.now }
+    ensures reserved { LogReservesZeros judge.new }
     ensures outcome { result ≡ flat_log_outcome (outcome_in_log (log_judge_in judge.old) from_cpu said octets.now) }
 {
     let mut kept = log_judge_from(judge);
@@ -181,7 +187,8 @@ pub(crate) fn octet_from(has: u8, octet: u8) -> Option<u8>
 
 /// Returns the struct of C that represents a judge.
 pub(crate) fn log_flat_of(judge: &LogJudge) -> FlatLogJudge
-    ensures { log_judge_in result ≡ log_judging judge.now }
+    ensures kept { log_judge_in result ≡ log_judging judge.now }
+    ensures reserved { LogReservesZeros result }
 {
     let flat = flat_without_late(judge);
     match judge.late {
@@ -193,7 +200,8 @@ pub(crate) fn log_flat_of(judge: &LogJudge) -> FlatLogJudge
 /// Returns the struct of a judge that leaves out no late answer.
 #[tactic(auto, using(crate::proofs::LogJudges::place_kept, crate::proofs::LogJudges::missing_kept))]
 fn flat_without_late(judge: &LogJudge) -> FlatLogJudge
-    ensures { log_judge_in result ≡ (record (log_judging judge.now) { late = None }) }
+    ensures kept { log_judge_in result ≡ (record (log_judging judge.now) { late = None }) }
+    ensures reserved { LogReservesZeros result }
 {
     FlatLogJudge {
         link: flat_of(&judge.link),
@@ -216,7 +224,8 @@ fn flat_without_late(judge: &LogJudge) -> FlatLogJudge
 
 /// Returns the struct with what decides which answers are late.
 fn flat_with_late(flat: FlatLogJudge, late: LateAnswers) -> FlatLogJudge
-    ensures { log_judge_in result ≡ (record (log_judge_in flat) { late = Some late }) }
+    ensures kept { log_judge_in result ≡ (record (log_judge_in flat) { late = Some late }) }
+    ensures reserved { LogReservesZeros flat → LogReservesZeros result }
 {
     FlatLogJudge {
         has_late: 1,

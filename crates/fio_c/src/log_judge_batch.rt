@@ -3,7 +3,7 @@ ghost use Rattle.std.specs.Prelude.{◌≡◌, ◌==◌, ◌++◌, ◌≤◌, Li
 ghost use Rattle.std.specs.List.{sum_by};
 ghost use Rattle.fio_check.specs.LogJudges.{log_below_events, log_judging};
 ghost use Rattle.fio_c.specs.BatchItems.{frame_count, items_of_content, items_of_told};
-ghost use Rattle.fio_c.specs.LogJudges.{event_of_line, is_sent_frame, log_below_item, log_judge_in, outcome_of_item, outcomes_of_items};
+ghost use Rattle.fio_c.specs.LogJudges.{LogReservesZeros, event_of_line, is_sent_frame, log_below_item, log_judge_in, outcome_of_item, outcomes_of_items};
 ghost use Rattle.fio_c.specs.Logs.{Content, Holds, content_of};
 ghost use Rattle.fio_c.specs.Told.{Told};
 
@@ -38,6 +38,7 @@ pub extern "C" fn fio2070_log_judge_batch(
         ≡ fold (log_below_item (not (as_said == 0))) (log_judge_in judge.old) (items_of_told told) }
     ensures all { (told : List Told) → Holds batch.now (content_of told) → result ≡ length (content_of told).frames }
     ensures within { result ≤ LOG_FRAMES }
+    ensures reserved { LogReservesZeros judge.new }
 {
     let mut kept = log_judge_from(judge);
     let count = judge_items(&mut kept, as_said != 0, items_of(batch), outcomes);

@@ -61,7 +61,8 @@ pub struct FlatLogSigns {
 /// Starts above the first frame of a log.
 #[unsafe(no_mangle)]
 pub extern "C" fn fio2070_log_signs_start(signs: &mut FlatLogSigns)
-    ensures { log_signs_in signs.new ≡ no_signs }
+    ensures next { log_signs_in signs.new ≡ no_signs }
+    ensures reserved { signs.new.reserved ≡ 0 }
 {
     *signs = flat_signs_of(&LogSigns::new());
 }
@@ -75,7 +76,8 @@ pub extern "C" fn fio2070_log_signs_frame(
     said: u8,
     octets: &[u8],
 )
-    ensures { log_signs_in signs.new ≡ signs_with (log_signs_in signs.old) (not (from_cpu == 0)) (end_in said) octets.now }
+    ensures next { log_signs_in signs.new ≡ signs_with (log_signs_in signs.old) (not (from_cpu == 0)) (end_in said) octets.now }
+    ensures reserved { signs.new.reserved ≡ 0 }
 {
     let mut kept = signs_from(signs);
     kept.frame(from_cpu != 0, end_from(said), octets);
@@ -90,6 +92,7 @@ pub extern "C" fn fio2070_log_signs_batch(signs: &mut FlatLogSigns, as_said: u8,
         ≡ fold (signs_with_item (not (as_said == 0))) (log_signs_in signs.old) (items_of_content content) }
     ensures told { (told : List Told) → Holds batch.now (content_of told) → log_signs_in signs.new
         ≡ fold (signs_with_item (not (as_said == 0))) (log_signs_in signs.old) (items_of_told told) }
+    ensures reserved { signs.new.reserved ≡ 0 }
 {
     let mut kept = signs_from(signs);
     take_items(&mut kept, as_said != 0, items_of(batch));
@@ -185,7 +188,8 @@ fn block_from(flat: &FlatLogSigns) -> Option<BlockSeen>
 
 /// Returns the struct of C that represents counts.
 fn flat_signs_of(signs: &LogSigns) -> FlatLogSigns
-    ensures { log_signs_in result ≡ signs.now }
+    ensures kept { log_signs_in result ≡ signs.now }
+    ensures reserved { result.reserved ≡ 0 }
 {
     let (frames, order, rows) = (&signs.frames, &signs.order, &signs.rows);
     FlatLogSigns {

@@ -11,11 +11,11 @@ ghost use Rattle.fio_flat.specs.Faults.{NeedFitsFrame};
 ghost use Rattle.fio_flat.specs.Hearing.{Hears, HearsAs, flat_heard, flat_record_item, with_block};
 ghost use Rattle.fio_flat.specs.Written.{Writes};
 
-use crate::command_frames::fio2070_encode_poll;
+use crate::command_frames::write_command;
 use crate::faults::{NO_FAULT, fault_from};
 use fio_cpu::{BlockItems, Item, Record, hear_read_answer};
 use fio_flat::{FlatHeard, FlatPoller, RecordItem};
-use fio_message::{AnswerView, BlockStatus, read_answer};
+use fio_message::{AnswerView, BlockStatus, Command, read_answer};
 
 /// A gap mark.
 const GAP: RecordItem = RecordItem {
@@ -56,7 +56,10 @@ pub extern "C" fn fio2070_poller_start(poller: &mut FlatPoller, number: u8)
 pub extern "C" fn fio2070_poller_poll(poller: &FlatPoller, out: &mut [u8]) -> usize
     ensures { Writes (command_octets (commands.Poll poller.now.number)) out.old out.new result }
 {
-    fio2070_encode_poll(poller.number, out)
+    let poll = Command::Poll {
+        block: poller.number,
+    };
+    write_command(&poll, out)
 }
 
 /// Hears the octets of a frame. A block answer (TEES 2009, answer 182) with the present number is taken

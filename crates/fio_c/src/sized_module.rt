@@ -6,7 +6,7 @@
 //!
 //! C gives a ring by value, as the struct `fio2070_ring`. It is always the second parameter: so the
 //! conventions of x86-64 and of AArch64 pass it in two registers, the same as for a slice here.
-ghost use Rattle.std.specs.Prelude.{◌≡◌, ◌<◌, ◌≤◌, ◌-◌, ℕ, true, false, List, ◌∷◌, [], drop, length, min, unwrap_or, None, Some};
+ghost use Rattle.std.specs.Prelude.{◌≡◌, ◌<◌, ◌≤◌, ◌-◌, ℕ, true, false, List, ◌∷◌, [], drop, length, min, replicate, unwrap_or, None, Some};
 ghost use Rattle.fio_message.specs.declared.commands.Command.{Command};
 ghost use Rattle.fio_message.specs.declared.limits.TheConstants.{INPUTS};
 ghost use Rattle.fio_message.specs.Bits.{is_set};
@@ -174,85 +174,70 @@ pub extern "C" fn fio2070_sized_module_receive(
     answer(state, place, slots, errors, command, out)
 }
 
-/// As `fio_module::ModuleState::flags`.
-#[unsafe(no_mangle)]
-pub extern "C" fn fio2070_sized_module_flags(device: &SizedModule) -> u8
-    ensures { (settings : Settings) (slots : List (List ℕ)) (history : DeviceHistory)
-        → IsDeviceAfter settings device.now slots history
-        → result ≡ flags_of (life_of (events_reached history)) }
-{
-    device.state.flags()
+/// What a module is at present.
+#[derive(Clone, Copy)]
+#[repr(C)]
+pub struct FlatState {
+    /// The filtered states, also of ignored inputs; bit i is input i.
+    pub filtered: u64,
+    /// The levels of the last scan, all 1 before any (own profile); bit i is input i.
+    pub raw: u64,
+    /// The outputs, all 0 before the first command 55 (own profile).
+    pub outputs: Outputs,
+    /// The milliseconds counted, modulo 2^32 (TEES 2009).
+    pub counter: u32,
+    /// How many entries wait for a poll, 0 to the limit.
+    pub waiting: u16,
+    /// The flags that are up: from bit 7 down P, E, K, R, T, M, L, W (own profile).
+    pub flags: u8,
+    /// The timeout of the watchdog in milliseconds, 10 to 100; 0 before the first command 58.
+    pub watchdog_ms: u8,
+    /// The error counts that the answer 177 has.
+    pub errors: ErrorCounts,
+    /// 0 in each octet that the library writes.
+    pub reserved: [u8; 6],
 }
 
-/// Returns the error counts, as the answer 177 has them.
+/// Returns what the module is at present.
 #[unsafe(no_mangle)]
-pub extern "C" fn fio2070_sized_module_errors(device: &SizedModule) -> ErrorCounts
-    ensures { (settings : Settings) (slots : List (List ℕ)) (history : DeviceHistory)
-        → IsDeviceAfter settings device.now slots history
-        → result ≡ errors_of history }
-{
-    device.errors
-}
-
-/// As `fio_module::Module::outputs`.
-#[unsafe(no_mangle)]
-pub extern "C" fn fio2070_sized_module_outputs(device: &SizedModule) -> Outputs
-    ensures { (settings : Settings) (slots : List (List ℕ)) (history : DeviceHistory)
-        → IsDeviceAfter settings device.now slots history
-        → result ≡ outputs_of (life_of (events_reached history)) }
-{
-    device.state.outputs()
-}
-
-/// Returns the timeout of the watchdog in milliseconds, 10 to 100: 0 before the first command that
-/// sets it.
-#[unsafe(no_mangle)]
-pub extern "C" fn fio2070_sized_module_watchdog_ms(device: &SizedModule) -> u8
-    ensures { (settings : Settings) (slots : List (List ℕ)) (history : DeviceHistory)
-        → IsDeviceAfter settings device.now slots history
-        → result ≡ unwrap_or (watchdog_of (life_of (events_reached history))) 0 }
-{
-    device.state.watchdog_ms().unwrap_or(0)
-}
-
-/// Returns the milliseconds counted, modulo 2^32 (TEES 2009).
-#[unsafe(no_mangle)]
-pub extern "C" fn fio2070_sized_module_counter(device: &SizedModule) -> u32
-    ensures { (settings : Settings) (slots : List (List ℕ)) (history : DeviceHistory)
-        → IsDeviceAfter settings device.now slots history
-        → result ≡ counter_of (life_of (events_reached history)) }
-{
-    device.state.counter()
-}
-
-/// As `fio_module::Module::filtered`.
-#[unsafe(no_mangle)]
-pub extern "C" fn fio2070_sized_module_filtered(device: &SizedModule) -> u64
-    ensures { (settings : Settings) (slots : List (List ℕ)) (history : DeviceHistory)
+pub extern "C" fn fio2070_sized_module_state(device: &SizedModule) -> FlatState
+    ensures filtered { (settings : Settings) (slots : List (List ℕ)) (history : DeviceHistory)
         → IsDeviceAfter settings device.now slots history
         → (input : ℕ) → input < INPUTS
-        → is_set result input ≡ input_state input (filter_events (life_of (events_reached history))) }
-{
-    device.state.filtered()
-}
-
-/// As `fio_module::ModuleState::raw`.
-#[unsafe(no_mangle)]
-pub extern "C" fn fio2070_sized_module_raw(device: &SizedModule) -> u64
-    ensures { (settings : Settings) (slots : List (List ℕ)) (history : DeviceHistory)
+        → is_set result.filtered input ≡ input_state input (filter_events (life_of (events_reached history))) }
+    ensures raw { (settings : Settings) (slots : List (List ℕ)) (history : DeviceHistory)
         → IsDeviceAfter settings device.now slots history
-        → result ≡ raw_levels (filter_events (life_of (events_reached history))) }
-{
-    device.state.raw()
-}
-
-/// Returns the number of entries that wait for a poll, at most the limit.
-#[unsafe(no_mangle)]
-pub extern "C" fn fio2070_sized_module_waiting(device: &SizedModule) -> usize
-    ensures { (settings : Settings) (slots : List (List ℕ)) (history : DeviceHistory)
+        → result.raw ≡ raw_levels (filter_events (life_of (events_reached history))) }
+    ensures outputs { (settings : Settings) (slots : List (List ℕ)) (history : DeviceHistory)
         → IsDeviceAfter settings device.now slots history
-        → result ≡ min settings.waiting
+        → result.outputs ≡ outputs_of (life_of (events_reached history)) }
+    ensures counter { (settings : Settings) (slots : List (List ℕ)) (history : DeviceHistory)
+        → IsDeviceAfter settings device.now slots history
+        → result.counter ≡ counter_of (life_of (events_reached history)) }
+    ensures waiting { (settings : Settings) (slots : List (List ℕ)) (history : DeviceHistory)
+        → IsDeviceAfter settings device.now slots history
+        → result.waiting ≡ min settings.waiting
         (length (log_of (life_of (events_reached history))) - newest_end settings (life_of (events_reached history))) }
+    ensures flags { (settings : Settings) (slots : List (List ℕ)) (history : DeviceHistory)
+        → IsDeviceAfter settings device.now slots history
+        → result.flags ≡ flags_of (life_of (events_reached history)) }
+    ensures watchdog { (settings : Settings) (slots : List (List ℕ)) (history : DeviceHistory)
+        → IsDeviceAfter settings device.now slots history
+        → result.watchdog_ms ≡ unwrap_or (watchdog_of (life_of (events_reached history))) 0 }
+    ensures errors { (settings : Settings) (slots : List (List ℕ)) (history : DeviceHistory)
+        → IsDeviceAfter settings device.now slots history
+        → result.errors ≡ errors_of history }
+    ensures reserved { result.reserved ≡ replicate 6 0 }
 {
-    usize::from(device.place.len(device.waiting))
+    FlatState {
+        filtered: device.state.filtered(),
+        raw: device.state.raw(),
+        outputs: device.state.outputs(),
+        counter: device.state.counter(),
+        waiting: device.place.len(device.waiting),
+        flags: device.state.flags(),
+        watchdog_ms: device.state.watchdog_ms().unwrap_or(0),
+        errors: device.errors,
+        reserved: [0; 6],
+    }
 }

@@ -1,9 +1,9 @@
 //! Frames on lines of octets and of bits, with decoders in memory of the caller.
-ghost use Rattle.std.specs.Prelude.{◌≡◌, ◌≤◌, ◌<◌, ◌+◌, ◌-◌, ◌*◌, ◌%◌, ◌==◌, ◌⊎◌, [], fold, length, take, drop};
+ghost use Rattle.std.specs.Prelude.{◌≡◌, ◌≤◌, ◌<◌, ◌+◌, ◌-◌, ◌*◌, ◌⊎◌, [], fold, length, take, drop};
 ghost use Rattle.fio_message.specs.declared.limits.TheConstants.{FRAME_OCTETS};
 ghost use Rattle.fio_wire.specs.Checks.{frame_check_of};
 ghost use Rattle.fio_wire.specs.Frames.{WireSettings, address_in, control_in, wire_heard, message_of_frame};
-ghost use Rattle.fio_wire.specs.Octets.{IsWire, held_frame, lost, next, reading_of, said_of, says, sent, settings_of, start, wire_at_start};
+ghost use Rattle.fio_wire.specs.Octets.{IsWire, held_frame, lost, next, reading_of, said_of, sent, settings_of, start, wire_at_start};
 ghost use Rattle.fio_wire.specs.Bits as line;
 ghost use Rattle.fio_c.specs.Wires.{heard_code};
 
@@ -33,22 +33,11 @@ pub extern "C" fn fio2070_wire_start(wire: &mut Wire, address: u16, control: u16
     wire.start(address, control);
 }
 
-/// Reads the next octet of the line. Returns 0 if no frame ends with it, 1 if a frame of one's own does, 2 if a frame with
-/// another address or control octet does, 3 if something that is no frame does.
-#[unsafe(no_mangle)]
-pub extern "C" fn fio2070_wire_read(wire: &mut Wire, octet: u8) -> u8
-    ensures is { IsWire wire.old → IsWire wire.new }
-    ensures heard { IsWire wire.old → result ≡ heard_code (wire_heard (settings_of wire.old) (says (reading_of wire.old) octet)) }
-    ensures next { IsWire wire.old → reading_of wire.new ≡ next (reading_of wire.old) octet }
-    ensures settings { settings_of wire.new ≡ settings_of wire.old }
-{
-    heard_code(wire.read(octet))
-}
-
 /// Reads octets of the line up to the end of the next frame, or of something that is no frame, and returns how many it read.
-/// `heard` is what `fio2070_wire_read` returns for the last of them, 0 if there are none.
+/// `heard` is what the last of them ends: 0 if no frame ends with it or there are none, 1 if a frame of one's own does, 2 if a
+/// frame with another address or control octet does, 3 if something that is no frame does.
 #[unsafe(no_mangle)]
-pub extern "C" fn fio2070_wire_read_many(wire: &mut Wire, octets: &[u8], heard: &mut u8) -> usize
+pub extern "C" fn fio2070_wire_read(wire: &mut Wire, octets: &[u8], heard: &mut u8) -> usize
     ensures within { result ≤ length octets.now }
     ensures is { IsWire wire.old → IsWire wire.new }
     ensures heard { IsWire wire.old → heard.new ≡ heard_code (wire_heard (settings_of wire.old) (said_of (reading_of wire.old) (take result octets.now))) }
@@ -122,22 +111,10 @@ pub extern "C" fn fio2070_wire_bits_start(bits: &mut WireBits, address: u16, con
     bits.start(address, control);
 }
 
-/// Reads the next bit of the line, the lowest of the octet, and returns as `fio2070_wire_read` does.
-#[unsafe(no_mangle)]
-pub extern "C" fn fio2070_wire_bits_read(bits: &mut WireBits, bit: u8) -> u8
-    ensures is { line.IsWireBits bits.old → line.IsWireBits bits.new }
-    ensures heard { line.IsWireBits bits.old
-        → result ≡ heard_code (wire_heard (line.settings_of bits.old) (line.says (line.reading_of bits.old) (bit % 2 == 1))) }
-    ensures next { line.IsWireBits bits.old → line.reading_of bits.new ≡ line.next (line.reading_of bits.old) (bit % 2 == 1) }
-    ensures settings { line.settings_of bits.new ≡ line.settings_of bits.old }
-{
-    heard_code(bits.read(bit % 2 == 1))
-}
-
 /// Reads bits of the line, each the lowest of an octet, up to the end of the next frame, or of something that is no frame, and
-/// returns how many it read. `heard` is what `fio2070_wire_bits_read` returns for the last of them, 0 if there are none.
+/// returns how many it read. `heard` is as for `fio2070_wire_read`.
 #[unsafe(no_mangle)]
-pub extern "C" fn fio2070_wire_bits_read_many(
+pub extern "C" fn fio2070_wire_bits_read(
     bits: &mut WireBits,
     octets: &[u8],
     heard: &mut u8,

@@ -41,18 +41,18 @@ pub here-is : (judging : Judging) (from_cpu : Bool) (octets : List ℕ) (breach 
 here-is judging from_cpu octets breach found = here-by judging judging.checker.skips from_cpu octets breach found
 
 -- a restart that the rule on the watchdog tells, below a frame that both checkers took
-pub restart-loses : (before : Judging) (checker : Checker) (asked stamp : Option ℕ) (from_cpu : Bool) (octets : List ℕ) (breach : ContentBreach)
+pub restart-loses : (before : Judging) (checker : Checker) (asked stamp : Option ℕ) (polls : ℕ) (from_cpu : Bool) (octets : List ℕ) (breach : ContentBreach)
     → checker ≡ checker_with before.checker from_cpu (observation_in from_cpu octets)
     → found_in_frame (content_here before) from_cpu octets ≡ Some breach
-    → place_lost (record before { checker = checker; content = checking_with (content_here before) from_cpu octets; asked = asked })
+    → place_lost (record before { checker = checker; content = checking_with (content_here before) from_cpu octets; asked = asked; polls = polls })
     (checking_with (content_here before) from_cpu octets).kept.facts.excuses stamp
     ≡ place_lost before (loads_below before from_cpu octets) stamp
-restart-loses before checker asked stamp from_cpu octets breach is found =
+restart-loses before checker asked stamp polls from_cpu octets breach is found =
     ap₂ {C = Judging} (λ limits loads. record {
       checker = checker_below_breach limits;
       content = checking_again loads;
       latest = stamp;
       asked = None;
-      lost = false;
+      polls = 0;
     }) (ap (λ (c : Checker). c.limits) is ∙ limits-stay before.checker from_cpu (observation_in from_cpu octets))
     (ap (λ content. (checking_with content from_cpu octets).kept.facts.excuses) (here-is before from_cpu octets breach found))

@@ -7,8 +7,8 @@ use Rattle.fio_check.specs.ContentAbove.{one_excuse_more}
 use Rattle.fio_check.specs.ContentEvents.{content_events}
 use Rattle.fio_check.specs.ContentSaid.{is_loading}
 use Rattle.fio_check.specs.Lines.{command_from}
-use Rattle.fio_check.specs.LinkJudges.{Frame, Judging, LogLine, Lost, checker_below_lines, checking_above, content_here, is_set_back, judging_anywhere, judging_at, judging_begun, judging_below, judging_below_outcome, is_unheard, judging_kept, judging_lost, judging_taken, judging_with, loads_left, outcome_found, outcome_in, outcome_judged, outcome_of_content, outcome_set_back, outcomes_of, stamp_in, unjudged_by, with_loads}
-use Rattle.fio_check.specs.LinkLaws.{Accused, HasOutcomes, IsLost, LinkGoesOn, LosesPlace, RunsOn, SaysTheSame, accused, accused_first, are_lost, both_find_first, broken_on, content_on, is_frame_line, is_of_watchdog, is_poll, is_poll_line, judging_again, loads_below_lines, loads_with, loses_place}
+use Rattle.fio_check.specs.LinkJudges.{Frame, Judging, LogLine, Lost, checker_below_lines, checking_above, content_here, is_of_rest, is_set_back, judging_anywhere, judging_at, judging_begun, judging_below, judging_below_outcome, is_unheard, judging_kept, judging_lost, judging_taken, judging_with, loads_left, may_be_anew, outcome_anew, outcome_found, outcome_in, outcome_judged, outcome_of_content, outcome_set_back, outcomes_of, stamp_in, unjudged_by, with_loads}
+use Rattle.fio_check.specs.LinkLaws.{Accused, HasOutcomes, IsLost, LinkGoesOn, LosesPlace, RunsOn, SaysTheSame, accused, accused_first, both_find_first, broken_on, content_on, is_frame_line, is_poll, is_poll_line, is_set_anew, judging_again, loads_below_lines, loads_with, loses_place}
 use Rattle.fio_check.specs.Observations.{observation_in}
 use Rattle.fio_check.specs.declared.checker.Breach.{Breach}
 use Rattle.fio_check.specs.declared.checker.Checker.{Checker}
@@ -41,13 +41,13 @@ has_outcomes judging (Lost ∷ lines) = has_outcomes (judging_lost judging) line
 -- ---- a place that is lost
 
 -- a judge where the place is lost
-abbrev lost_at : RuleLimits → ContentChecking → Option ℕ → Option ℕ → Bool → Judging
-lost_at limits content latest asked lost = record {
+abbrev lost_at : RuleLimits → ContentChecking → Option ℕ → Option ℕ → ℕ → Judging
+lost_at limits content latest asked polls = record {
   checker = checker_below_breach limits;
   content = content;
   latest = latest;
   asked = asked;
-  lost = lost;
+  polls = polls;
 }
 
 none-is : (number : Option ℕ) → is_some number ≡ false → number ≡ None
@@ -63,38 +63,38 @@ abbrev content-passed : ContentChecking → Bool → List ℕ → ContentCheckin
 content-passed content true octets = checking_with content true octets
 content-passed content false octets = content
 
-module _ (limits : RuleLimits) (latest asked : Option ℕ) where
-  outcome-lost : (content : ContentChecking) (lost : Bool) (at : LogPlace) (from_cpu : Bool) (octets : List ℕ)
+module _ (limits : RuleLimits) (latest asked : Option ℕ) (polls : ℕ) where
+  outcome-lost : (content : ContentChecking) (at : LogPlace) (from_cpu : Bool) (octets : List ℕ)
       → is_poll from_cpu octets ≡ false
-      → outcome_in (lost_at limits content latest asked lost) at from_cpu octets ≡ NotJudged PlaceLost
-  outcome-lost content lost at from_cpu octets other =
+      → outcome_in (lost_at limits content latest asked polls) at from_cpu octets ≡ NotJudged PlaceLost
+  outcome-lost content at from_cpu octets other =
       rw (passes-it limits from_cpu (observation_in from_cpu octets) (none-is (number_polled (observation_in from_cpu octets)) other)) refl
 
-  passed-is : (content : ContentChecking) (lost : Bool) (from_cpu : Bool) (octets : List ℕ)
-      → judging_below_outcome (NotJudged PlaceLost) (lost_at limits content latest asked lost) from_cpu octets
-      ≡ lost_at limits (content-passed content from_cpu octets) latest asked lost
-  passed-is content lost true octets = refl
-  passed-is content lost false octets = refl
+  passed-is : (content : ContentChecking) (from_cpu : Bool) (octets : List ℕ)
+      → judging_below_outcome (NotJudged PlaceLost) (lost_at limits content latest asked polls) from_cpu octets
+      ≡ lost_at limits (content-passed content from_cpu octets) latest asked polls
+  passed-is content true octets = refl
+  passed-is content false octets = refl
 
-  with-lost : (content : ContentChecking) (lost : Bool) (at : LogPlace) (from_cpu : Bool) (octets : List ℕ)
+  with-lost : (content : ContentChecking) (at : LogPlace) (from_cpu : Bool) (octets : List ℕ)
       → is_poll from_cpu octets ≡ false
-      → judging_with (lost_at limits content latest asked lost) at from_cpu octets
-      ≡ lost_at limits (content-passed content from_cpu octets) latest asked lost
-  with-lost content lost at from_cpu octets other =
-      ap (λ outcome. judging_below_outcome outcome (lost_at limits content latest asked lost) from_cpu octets)
-      (outcome-lost content lost at from_cpu octets other)
-      ∙ passed-is content lost from_cpu octets
+      → judging_with (lost_at limits content latest asked polls) at from_cpu octets
+      ≡ lost_at limits (content-passed content from_cpu octets) latest asked polls
+  with-lost content at from_cpu octets other =
+      ap (λ outcome. judging_below_outcome outcome (lost_at limits content latest asked polls) from_cpu octets)
+      (outcome-lost content at from_cpu octets other)
+      ∙ passed-is content from_cpu octets
 
-  passes_lines : (content : ContentChecking) (lost : Bool) (lines : List LogLine) → list_any is_poll_line lines ≡ false
-      → outcomes_of (lost_at limits content latest asked lost) lines ≡ map (λ line. NotJudged PlaceLost) (filter is_frame_line lines)
-  passes_lines content lost [] none = refl
-  passes_lines content lost (Frame at from_cpu octets ∷ lines) none =
+  passes_lines : (content : ContentChecking) (lines : List LogLine) → list_any is_poll_line lines ≡ false
+      → outcomes_of (lost_at limits content latest asked polls) lines ≡ map (λ line. NotJudged PlaceLost) (filter is_frame_line lines)
+  passes_lines content [] none = refl
+  passes_lines content (Frame at from_cpu octets ∷ lines) none =
       let both = either-not (is_poll from_cpu octets) (list_any is_poll_line lines) none in
-      ap₂ (◌∷◌) (outcome-lost content lost at from_cpu octets both.0)
-      (ap (λ judging. outcomes_of judging lines) (with-lost content lost at from_cpu octets both.0)
-      ∙ passes_lines (content-passed content from_cpu octets) lost lines both.1)
-  passes_lines content lost (Lost ∷ lines) none =
-      passes_lines (with_loads (max 1 content.kept.facts.excuses) content) true lines none
+      ap₂ (◌∷◌) (outcome-lost content at from_cpu octets both.0)
+      (ap (λ judging. outcomes_of judging lines) (with-lost content at from_cpu octets both.0)
+      ∙ passes_lines (content-passed content from_cpu octets) lines both.1)
+  passes_lines content (Lost ∷ lines) none =
+      passes_lines (with_loads (max 1 content.kept.facts.excuses) content) lines none
 
   -- the checker of the rules on content below lines that are not judged
   abbrev content-below : ContentChecking → List LogLine → ContentChecking
@@ -102,16 +102,16 @@ module _ (limits : RuleLimits) (latest asked : Option ℕ) where
   content-below content (Frame at from_cpu octets ∷ lines) = content-below (content-passed content from_cpu octets) lines
   content-below content (Lost ∷ lines) = content-below (with_loads (max 1 content.kept.facts.excuses) content) lines
 
-  below-lost : (content : ContentChecking) (lost : Bool) (lines : List LogLine) → list_any is_poll_line lines ≡ false
-      → judging_below (lost_at limits content latest asked lost) lines
-      ≡ lost_at limits (content-below content lines) latest asked (are_lost lost lines)
-  below-lost content lost [] none = refl
-  below-lost content lost (Frame at from_cpu octets ∷ lines) none =
+  below-lost : (content : ContentChecking) (lines : List LogLine) → list_any is_poll_line lines ≡ false
+      → judging_below (lost_at limits content latest asked polls) lines
+      ≡ lost_at limits (content-below content lines) latest asked polls
+  below-lost content [] none = refl
+  below-lost content (Frame at from_cpu octets ∷ lines) none =
       let both = either-not (is_poll from_cpu octets) (list_any is_poll_line lines) none in
-      ap (λ judging. judging_below judging lines) (with-lost content lost at from_cpu octets both.0)
-      ∙ below-lost (content-passed content from_cpu octets) lost lines both.1
-  below-lost content lost (Lost ∷ lines) none =
-      below-lost (with_loads (max 1 content.kept.facts.excuses) content) true lines none
+      ap (λ judging. judging_below judging lines) (with-lost content at from_cpu octets both.0)
+      ∙ below-lost (content-passed content from_cpu octets) lines both.1
+  below-lost content (Lost ∷ lines) none =
+      below-lost (with_loads (max 1 content.kept.facts.excuses) content) lines none
 
   loads-by : (facts : ContentFacts) (number : Option ℕ) (command : Option Command)
       → (fold content_with facts (content_events number command None)).excuses
@@ -141,12 +141,12 @@ poll-is (Block number status entries absent) is = absurd (cc)
 poll-is (Answer code accepted) is = absurd (cc)
 poll-is Unreadable is = absurd (cc)
 
-module _ (limits : RuleLimits) (latest asked : Option ℕ) (content : ContentChecking) (lost : Bool) where
+module _ (limits : RuleLimits) (latest asked : Option ℕ) (polls : ℕ) (content : ContentChecking) where
   abbrev here : Judging
-  here = lost_at limits content latest asked lost
+  here = lost_at limits content latest asked polls
 
   abbrev anew : Judging
-  anew = judging_again here content.kept.facts.excuses lost
+  anew = judging_again here content.kept.facts.excuses
 
   -- the poll keeps all rules
   poll-kept : (at : LogPlace) (octets : List ℕ) (number : ℕ) → observation_in true octets ≡ Poll number
@@ -179,7 +179,7 @@ module _ (limits : RuleLimits) (latest asked : Option ℕ) (content : ContentChe
 
 -- a judge where the place is lost, by its fields
 is-lost : (judging : Judging) → IsLost judging
-    → judging ≡ lost_at judging.checker.limits judging.content judging.latest judging.asked judging.lost
+    → judging ≡ lost_at judging.checker.limits judging.content judging.latest judging.asked judging.polls
 is-lost judging lost = ap {B = Judging} (λ checker. record judging { checker = checker }) lost
 
 pub goes_on : (judging : Judging) (above : List LogLine) → LinkGoesOn judging above
@@ -188,15 +188,14 @@ goes_on judging above =
     let content = judging.content in
     record {
       passes = λ lost none. ap (λ j. outcomes_of j above) (is-lost judging lost)
-          ∙ passes_lines limits judging.latest judging.asked content judging.lost above none;
+          ∙ passes_lines limits judging.latest judging.asked judging.polls content above none;
       starts = λ at octets below lost none polls.
-          (let later = content-below limits judging.latest judging.asked content above in
-          let lost_below = are_lost judging.lost above in
+          (let later = content-below limits judging.latest judging.asked judging.polls content above in
           ap (λ j. outcomes_of (judging_below j above) (Frame at true octets ∷ below)) (is-lost judging lost)
-          ∙ ap (λ j. outcomes_of j (Frame at true octets ∷ below)) (below-lost limits judging.latest judging.asked content judging.lost above none)
-          ∙ starts-at limits judging.latest judging.asked later lost_below at octets below polls
-          ∙ ap (λ loads. outcomes_of (judging_again judging loads lost_below) (Frame at true octets ∷ below))
-          (loads-below limits judging.latest judging.asked content above));
+          ∙ ap (λ j. outcomes_of j (Frame at true octets ∷ below)) (below-lost limits judging.latest judging.asked judging.polls content above none)
+          ∙ starts-at limits judging.latest judging.asked judging.polls later at octets below polls
+          ∙ ap (λ loads. outcomes_of (judging_again judging loads) (Frame at true octets ∷ below))
+          (loads-below limits judging.latest judging.asked judging.polls content above));
     }
 
 -- ---- where the place is lost
@@ -208,10 +207,23 @@ mark-loses checker ToPoll other = refl
 mark-loses checker ToCommand other = absurd (other refl)
 
 -- below a frame that breaks a rule of transcripts
-set-back-is : (lost left : Bool) (breach : Breach) → (if lost || left then Excused Load else Restarted) ≡ Broken breach → ⊥
-set-back-is true left breach is = cc
-set-back-is false true breach is = cc
-set-back-is false false breach is = cc
+set-back-is : (left : Bool) (breach : Breach) → (if left then Excused Load else Restarted) ≡ Broken breach → ⊥
+set-back-is true breach is = cc
+set-back-is false breach is = cc
+
+-- if a frame may be of a module that was restarted, and it is said to break a rule, it breaks that rule
+rest-is : (rest : Bool) (one breach : Breach) → (if rest then Restarted else Broken one) ≡ Broken breach → Broken one ≡ Broken breach
+rest-is true one breach is = absurd (cc)
+rest-is false one breach is = is
+
+anew-is : (anew : Bool) (judged : FrameOutcome) (breach : Breach) → outcome_anew anew judged ≡ Broken breach → judged ≡ Broken breach
+anew-is false judged breach is = is
+anew-is true Kept breach is = absurd (cc)
+anew-is true (BrokenContent content) breach is = absurd (cc)
+anew-is true (Broken one) breach is = rest-is (is_of_rest one.rule) one breach is
+anew-is true (Excused why) breach is = absurd (cc)
+anew-is true Restarted breach is = absurd (cc)
+anew-is true (NotJudged why) breach is = absurd (cc)
 
 content-is : (content : ContentBreach) (rule : ContentRule) (breach : Breach) → outcome_of_content content rule ≡ Broken breach → ⊥
 content-is content rule.Order breach is = cc
@@ -247,13 +259,14 @@ module _ (judging : Judging) (at : LogPlace) (from_cpu : Bool) (octets : List �
       → checker_with judging.checker from_cpu says_it ≡ checker_below_breach judging.checker.limits
   broken-lost breach is =
       let judged = in-is (passes_over judging.checker from_cpu says_it) (is_set_back judging from_cpu octets)
-      (unjudged_by judging.checker.skips) (outcome_set_back judging) (outcome_judged judging at from_cpu octets) breach
-      (set-back-is judging.lost (nat_lt 0 (loads_left judging)) breach) is in
+      (unjudged_by judging.checker.skips) (outcome_set_back judging) (outcome_anew (may_be_anew judging from_cpu octets) (outcome_judged judging at from_cpu octets)) breach
+      (set-back-is (nat_lt 0 (loads_left judging)) breach) is in
       with-breach judging.checker.limits judging.checker
       (record judging.checker { facts = facts_with judging.checker.facts says_it; skips = Nothing })
       (passes_over judging.checker from_cpu says_it) (breach_of judging.checker.limits judging.checker.facts says_it)
       (found-is (is_unheard judging at says_it) (found_by judging.checker from_cpu says_it)
-      (found_in_frame (content_here judging) from_cpu octets) breach judged)
+      (found_in_frame (content_here judging) from_cpu octets) breach
+      (anew-is (may_be_anew judging from_cpu octets) (outcome_judged judging at from_cpu octets) breach judged))
 
   outcome-loses : (outcome : FrameOutcome) → outcome_in judging at from_cpu octets ≡ outcome → loses_place outcome ≡ true
       → IsLost (judging_below_outcome outcome judging from_cpu octets)
@@ -309,18 +322,48 @@ taken-is limits checker taken true breach is none = absurd (cc)
 taken-is limits checker taken false None is none = refl
 taken-is limits checker taken false (Some breach) is none = absurd (cc)
 
-not-dog : (breach : ContentBreach) (rule : ContentRule) → is_of_watchdog rule ≡ false → outcome_of_content breach rule ≡ BrokenContent breach
-not-dog breach rule.Order other = refl
-not-dog breach rule.Fresh other = refl
-not-dog breach rule.Alternate other = refl
-not-dog breach rule.Apart other = refl
-not-dog breach rule.Ignored other = refl
-not-dog breach rule.State other = refl
-not-dog breach rule.Clock other = refl
-not-dog breach rule.Done other = refl
-not-dog breach rule.Accepted other = refl
-not-dog breach rule.Cleared other = refl
-not-dog breach rule.Watchdog other = absurd (cc)
+not-dog : (anew : Bool) (breach : ContentBreach) (rule : ContentRule) → is_set_anew (outcome_anew anew (outcome_of_content breach rule)) ≡ false
+    → outcome_anew anew (outcome_of_content breach rule) ≡ BrokenContent breach
+not-dog true breach rule.Order other = absurd (cc)
+not-dog true breach rule.Fresh other = absurd (cc)
+not-dog true breach rule.Alternate other = absurd (cc)
+not-dog true breach rule.Apart other = absurd (cc)
+not-dog true breach rule.Ignored other = absurd (cc)
+not-dog true breach rule.State other = absurd (cc)
+not-dog true breach rule.Clock other = absurd (cc)
+not-dog true breach rule.Done other = absurd (cc)
+not-dog true breach rule.Accepted other = absurd (cc)
+not-dog true breach rule.Cleared other = absurd (cc)
+not-dog true breach rule.Watchdog other = absurd (cc)
+not-dog false breach rule.Order other = refl
+not-dog false breach rule.Fresh other = refl
+not-dog false breach rule.Alternate other = refl
+not-dog false breach rule.Apart other = refl
+not-dog false breach rule.Ignored other = refl
+not-dog false breach rule.State other = refl
+not-dog false breach rule.Clock other = refl
+not-dog false breach rule.Done other = refl
+not-dog false breach rule.Accepted other = refl
+not-dog false breach rule.Cleared other = refl
+not-dog false breach rule.Watchdog other = absurd (cc)
+
+-- a breach of a rule of transcripts that is no restart
+not-rest : (anew : Bool) (breach : Breach) → is_set_anew (outcome_anew anew (Broken breach)) ≡ false → outcome_anew anew (Broken breach) ≡ Broken breach
+not-rest false breach other = refl
+not-rest true breach other = by (is_of_rest breach.rule) other
+  where
+    by : (rest : Bool) → is_set_anew (if rest then Restarted else Broken breach) ≡ false → (if rest then Restarted else Broken breach) ≡ Broken breach
+    by true other = absurd (cc)
+    by false other = refl
+
+none-anew : (anew : Bool) → outcome_anew anew Kept ≡ Kept
+none-anew true = refl
+none-anew false = refl
+
+-- a stamp that is set back says so
+back-says : (left : Bool) → is_set_anew (if left then Excused Load else Restarted) ≡ true
+back-says true = refl
+back-says false = refl
 
 at-checker : (judging : Judging) (stamp : Option ℕ) → (judging_at judging stamp).checker ≡ judging.checker
 at-checker judging None = refl
@@ -377,36 +420,40 @@ module _ (judging : Judging) (number : ℕ) (from_cpu : Bool) (octets : List ℕ
       → is_set_back judging from_cpu octets ≡ false
       → (broken : Option Breach) → found_by judging.checker from_cpu observed ≡ broken
       → (content : Option ContentBreach) → found_in_frame judging.content from_cpu octets ≡ content
-      → is_some_and content (λ breach. is_of_watchdog breach.rule) ≡ false
+      → is_set_anew (outcome_in judging Cpu from_cpu octets) ≡ false
       → Loud judging number from_cpu octets ⊎ Quiet judging number from_cpu octets
   judged-step aligned passes runs broken broken_is content content_is other =
       let same = unfolded-here judging aligned in
-      let judged : outcome_in judging Cpu from_cpu octets ≡ outcome_judged judging Cpu from_cpu octets = rw (passes, runs) refl in
-      let outcome : outcome_in judging Cpu from_cpu octets ≡ outcome_found false broken content =
+      let judged : outcome_in judging Cpu from_cpu octets ≡ outcome_anew anew (outcome_judged judging Cpu from_cpu octets) = rw (passes, runs) refl in
+      let outcome : outcome_in judging Cpu from_cpu octets ≡ outcome_anew anew (outcome_found false broken content) =
       judged
-      ∙ ap₂ (outcome_found false) broken_is (ap (λ c. found_in_frame c from_cpu octets) same ∙ content_is) in
-      by broken content outcome broken_is content_is other
+      ∙ ap (outcome_anew anew) (ap₂ (outcome_found false) broken_is (ap (λ c. found_in_frame c from_cpu octets) same ∙ content_is)) in
+      by broken content outcome broken_is content_is (sym (ap is_set_anew outcome) ∙ other)
     where
+      anew : Bool
+      anew = may_be_anew judging from_cpu octets
+
       by : (broken : Option Breach) (content : Option ContentBreach)
-          → outcome_in judging Cpu from_cpu octets ≡ outcome_found false broken content
+          → outcome_in judging Cpu from_cpu octets ≡ outcome_anew anew (outcome_found false broken content)
           → found_by judging.checker from_cpu observed ≡ broken
           → found_in_frame judging.content from_cpu octets ≡ content
-          → is_some_and content (λ breach. is_of_watchdog breach.rule) ≡ false
+          → is_set_anew (outcome_anew anew (outcome_found false broken content)) ≡ false
           → Loud judging number from_cpu octets ⊎ Quiet judging number from_cpu octets
       by (Some breach) content outcome broken_is content_is other = inl (record {
         accusation = broken_on number breach;
-        mine = ap (accused number) outcome;
+        mine = ap (accused number) (outcome ∙ not-rest anew breach other);
         theirs = λ rest. ap (λ b. option_or (option_map (broken_on number) b)
             (option_or (option_map (content_on number) (found_in_frame judging.content from_cpu octets)) rest)) broken_is;
       })
       by None (Some breach) outcome broken_is content_is other = inl (record {
         accusation = content_on number breach;
-        mine = ap (accused number) (outcome ∙ not-dog breach breach.rule other);
+        mine = ap (accused number) (outcome ∙ not-dog anew breach breach.rule other);
         theirs = λ rest. ap₂ (λ b c. option_or (option_map (broken_on number) b) (option_or (option_map (content_on number) c) rest))
             broken_is content_is;
       })
       by None None outcome broken_is content_is other =
-          let same = ap (λ o. judging_below_outcome o judging from_cpu octets) outcome in
+          let kept = outcome ∙ none-anew anew in
+          let same = ap (λ o. judging_below_outcome o judging from_cpu octets) kept in
           let stamp = stamp_in from_cpu octets in
           let taken = judging_taken judging judging.checker from_cpu octets in
           let checker = ap (λ (j : Judging). j.checker) same ∙ at-checker taken stamp in
@@ -415,7 +462,7 @@ module _ (judging : Judging) (number : ℕ) (from_cpu : Bool) (octets : List ℕ
           (passes_over judging.checker from_cpu observed) (breach_of judging.checker.limits judging.checker.facts observed)
           passes broken_is in
           inr (record {
-            mine = ap (accused number) outcome;
+            mine = ap (accused number) kept;
             broken = broken_is;
             content = content_is;
             aligned = inl (ap (λ (c : Checker). c.skips) (checker ∙ opened));
@@ -424,15 +471,18 @@ module _ (judging : Judging) (number : ℕ) (from_cpu : Bool) (octets : List ℕ
                 ∙ ap (λ c. checking_with c from_cpu octets) (unfolded-here judging aligned);
           })
 
-  step : Aligned judging → is_set_back judging from_cpu octets ≡ false
-      → is_some_and (found_in_frame judging.content from_cpu octets) (λ breach. is_of_watchdog breach.rule) ≡ false
+  step : Aligned judging → is_set_anew (outcome_in judging Cpu from_cpu octets) ≡ false
       → Loud judging number from_cpu octets ⊎ Quiet judging number from_cpu octets
-  step aligned runs other = by (passes_over judging.checker from_cpu observed) refl
+  step aligned other = by (passes_over judging.checker from_cpu observed) refl (is_set_back judging from_cpu octets) refl
     where
       by : (passes : Bool) → passes_over judging.checker from_cpu observed ≡ passes
+          → (back : Bool) → is_set_back judging from_cpu octets ≡ back
           → Loud judging number from_cpu octets ⊎ Quiet judging number from_cpu octets
-      by true passes = inr (passed-quiet judging number from_cpu octets aligned passes)
-      by false passes = judged-step aligned passes runs (found_by judging.checker from_cpu observed) refl
+      by true passes back runs = inr (passed-quiet judging number from_cpu octets aligned passes)
+      by false passes true back =
+          let is : outcome_in judging Cpu from_cpu octets ≡ outcome_set_back judging = rw (passes, back) refl in
+          absurd (let says : true ≡ false = sym (back-says (nat_lt 0 (loads_left judging))) ∙ sym (ap is_set_anew is) ∙ other in cc)
+      by false passes false runs = judged-step aligned passes runs (found_by judging.checker from_cpu observed) refl
           (found_in_frame judging.content from_cpu octets) refl other
 
 says : (judging : Judging) (lines : List TranscriptLine) → Aligned judging → RunsOn judging lines
@@ -443,11 +493,11 @@ says judging (line ∷ lines) aligned runs =
     let octets = line.octets in
     let next = judging_with judging Cpu from_cpu octets in
     let rest = both_find_first (checker_with judging.checker from_cpu (observation_in from_cpu octets)) (checking_with judging.content from_cpu octets) lines in
-    elim (step judging line.number from_cpu octets aligned runs.0 runs.1) as (λ _. accused_first judging (line ∷ lines)
+    elim (step judging line.number from_cpu octets aligned runs.0) as (λ _. accused_first judging (line ∷ lines)
     ≡ both_find_first judging.checker judging.content (line ∷ lines)) [
       | inl loud ↦ ap (λ mine. option_or mine (accused_first next lines)) loud.mine ∙ sym (loud.theirs rest)
       | inr quiet ↦ ap (λ mine. option_or mine (accused_first next lines)) quiet.mine
-          ∙ says next lines quiet.aligned runs.2
+          ∙ says next lines quiet.aligned runs.1
           ∙ ap₂ (λ checker content. both_find_first checker content lines) quiet.checker quiet.kept
           ∙ sym (ap₂ (λ b c. option_or (option_map (broken_on line.number) b) (option_or (option_map (content_on line.number) c) rest)) quiet.broken quiet.content)
     ]

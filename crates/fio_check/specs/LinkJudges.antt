@@ -4,7 +4,7 @@
 -- It runs the checker of the rules of transcripts and that of the rules on content. The place is *lost* below a lost line, a
 -- restart, a load that took effect, and a breach of a rule of transcripts: nothing is judged until the next poll, at which both
 -- checkers begin anew.
-use Rattle.std.specs.Prelude.{ℕ, ◌==◌, Bool, ◌&&◌, ◌||◌, true, false, List, [], ◌∷◌, ◌++◌, Option, Some, None, max, nat_lt, not, option_and_then, if◌then◌else◌}
+use Rattle.std.specs.Prelude.{ℕ, ◌==◌, Bool, ◌&&◌, ◌+◌, true, false, List, [], ◌∷◌, ◌++◌, Option, Some, None, max, nat_le, nat_lt, not, option_and_then, if◌then◌else◌}
 use Rattle.fio_message.specs.Status.{says_again}
 use Rattle.fio_message.specs.declared.answers.Answer.{Answer}
 use Rattle.fio_message.specs.declared.answers.Answer.TheVariants.{Block}
@@ -26,6 +26,8 @@ use Rattle.fio_check.specs.declared.facts.Facts.{Facts}
 use Rattle.fio_check.specs.declared.limits.RuleLimits.{RuleLimits}
 use Rattle.fio_check.specs.declared.observation.Observation.{Observation}
 use Rattle.fio_check.specs.declared.observation.Observation.TheVariants.{Poll}
+use Rattle.fio_check.specs.declared.rules.Rule.{Rule}
+use Rattle.fio_check.specs.declared.rules.Rule.TheVariants.{Rest}
 use Rattle.fio_check.specs.declared.outcome.Excuse.TheVariants.{Load, Unheard}
 use Rattle.fio_check.specs.declared.outcome.LogPlace.{LogPlace}
 use Rattle.fio_check.specs.declared.outcome.LogPlace.TheVariants.{Cpu}
@@ -42,8 +44,8 @@ pub record Judging : Type 0 where
   pub latest : Option ℕ
   -- the latest stamp at the time of the first poll for the block that is due, if that poll was judged and another is above it
   pub asked : Option ℕ
-  -- lines are lost below the latest stamp
-  pub lost : Bool
+  -- the number of polls below the latest stamp, up to 2
+  pub polls : ℕ
 
 -- ---- where it begins
 
@@ -54,7 +56,7 @@ judging_anywhere limits = record {
   content = checking_at_start false;
   latest = None;
   asked = None;
-  lost = false;
+  polls = 0;
 }
 
 -- a judge above the first line of a log that begins with both ends
@@ -64,7 +66,7 @@ judging_begun limits = record {
   content = checking_at_start true;
   latest = None;
   asked = None;
-  lost = false;
+  polls = 0;
 }
 
 -- ---- where the place is lost
@@ -94,7 +96,7 @@ place_lost judging loads stamp = record {
   content = checking_again loads;
   latest = stamp;
   asked = None;
-  lost = false;
+  polls = 0;
 }
 
 -- the checker of transcripts below lost lines: above the first command it goes on skipping what is heard
@@ -108,7 +110,6 @@ abbrev pub judging_lost : Judging → Judging
 judging_lost judging = record judging {
   checker = checker_below_lines judging.checker judging.checker.skips;
   content = with_loads (max 1 (loads_left judging)) judging.content;
-  lost = true;
 }
 
 -- ---- what a frame is
@@ -171,7 +172,23 @@ unjudged_by skips = PlaceLost
 
 -- A stamp is set back: by a load of the counter, if one may take effect; else the module was restarted.
 abbrev pub outcome_set_back : Judging → FrameOutcome
-outcome_set_back judging = if judging.lost || nat_lt 0 (loads_left judging) then Excused Load else Restarted
+outcome_set_back judging = if nat_lt 0 (loads_left judging) then Excused Load else Restarted
+
+-- Whether a module that was restarted below the latest stamp may have sent an answer that is not set back: a repeated block with an
+-- earlier stamp, if its poll was sent twice below the latest one. A module repeats only what it made itself.
+abbrev pub may_answer_anew : Judging → Answer → Bool
+may_answer_anew judging (Block block entries status stamp) =
+    says_again status && nat_le 2 judging.polls && is_some_and judging.latest (is_before stamp)
+may_answer_anew judging answer = false
+
+-- whether such a module may have sent a frame
+abbrev pub may_be_anew : Judging → Bool → List ℕ → Bool
+may_be_anew judging from_cpu octets = is_some_and (answer_from from_cpu octets) (may_answer_anew judging)
+
+-- the rule that compares a block with the one above it
+abbrev pub is_of_rest : Rule → Bool
+is_of_rest Rest = true
+is_of_rest rule = false
 
 -- A rule on content is broken. A breach of the rule on the watchdog means that the module was restarted.
 abbrev pub outcome_of_content : ContentBreach → ContentRule → FrameOutcome
@@ -191,13 +208,20 @@ outcome_judged judging at from_cpu octets = outcome_found (is_unheard judging at
     (found_by judging.checker from_cpu (observation_in from_cpu octets))
     (found_in_frame (content_here judging) from_cpu octets)
 
+-- The outcome of a frame, by whether a module that was restarted may have sent it. If that broke a rule by what is known from above
+-- the restart, it shows that there was one.
+abbrev pub outcome_anew : Bool → FrameOutcome → FrameOutcome
+outcome_anew true (BrokenContent breach) = Restarted
+outcome_anew true (Broken breach) = if is_of_rest breach.rule then Restarted else Broken breach
+outcome_anew anew outcome = outcome
+
 -- the outcome of a frame logged at this place that the CPU sent or heard
 abbrev pub outcome_in : Judging → LogPlace → Bool → List ℕ → FrameOutcome
 outcome_in judging at from_cpu octets = if passes_over judging.checker from_cpu (observation_in from_cpu octets)
     then NotJudged (unjudged_by judging.checker.skips)
     else (if is_set_back judging from_cpu octets
     then outcome_set_back judging
-    else outcome_judged judging at from_cpu octets)
+    else outcome_anew (may_be_anew judging from_cpu octets) (outcome_judged judging at from_cpu octets))
 
 -- ---- the judge with a frame more
 
@@ -218,18 +242,24 @@ asked_below judging (Poll number) =
     option_and_then (λ polled. if number == polled then judging.asked else judging.latest) judging.checker.facts.polled
 asked_below judging observation = judging.asked
 
+-- the number of polls below the latest stamp, after a frame
+abbrev pub polls_below : ℕ → Observation → ℕ
+polls_below polls (Poll number) = if nat_lt polls 2 then polls + 1 else 2
+polls_below polls observation = polls
+
 -- the judge after a frame in which this checker of transcripts finds no breach
 abbrev pub judging_taken : Judging → Checker → Bool → List ℕ → Judging
 judging_taken judging checker from_cpu octets = record judging {
   checker = checker_with checker from_cpu (observation_in from_cpu octets);
   content = checking_with (content_here judging) from_cpu octets;
   asked = asked_below judging (observation_in from_cpu octets);
+  polls = polls_below judging.polls (observation_in from_cpu octets);
 }
 
 -- the judge after a stamp, if there is one, that is not set back
 abbrev pub judging_at : Judging → Option ℕ → Judging
 judging_at judging None = judging
-judging_at judging (Some stamp) = record judging { latest = Some stamp; lost = false }
+judging_at judging (Some stamp) = record judging { latest = Some stamp; polls = 0 }
 
 -- the judge after a frame that keeps the rules of transcripts
 abbrev pub judging_kept : Judging → Bool → List ℕ → Judging

@@ -10,5 +10,5 @@ judging judge = record {
   content = content_checking judge.content;
   latest = judge.latest;
   asked = judge.asked;
-  lost = judge.lost;
+  polls = judge.polls;
 }

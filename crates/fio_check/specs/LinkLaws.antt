@@ -73,19 +73,12 @@ abbrev pub loads_below_lines : ℕ → List LogLine → ℕ
 loads_below_lines loads [] = loads
 loads_below_lines loads (line ∷ lines) = loads_below_lines (loads_with loads line) lines
 
--- lines are lost among these
-abbrev pub are_lost : Bool → List LogLine → Bool
-are_lost lost [] = lost
-are_lost lost (Frame at from_cpu octets ∷ lines) = are_lost lost lines
-are_lost lost (Lost ∷ lines) = are_lost true lines
-
--- a judge that begins at a poll, with this number of loads that may take effect, after this stamp
-abbrev pub judging_again : Judging → ℕ → Bool → Judging
-judging_again judging loads lost = record judging {
+-- a judge that begins at a poll, with this number of loads that may take effect
+abbrev pub judging_again : Judging → ℕ → Judging
+judging_again judging loads = record judging {
   checker = checker_within judging.checker.limits;
   content = checking_again loads;
   asked = None;
-  lost = lost;
 }
 
 -- Where the place is lost nothing is judged above the next poll. From that poll on, the judge says what a judge says that
@@ -96,7 +89,7 @@ pub record LinkGoesOn (judging : Judging) (above : List LogLine) : Type 0 where
   pub starts : (at : LogPlace) (octets : List ℕ) (below : List LogLine) → IsLost judging
       → list_any is_poll_line above ≡ false → is_poll true octets ≡ true
       → outcomes_of (judging_below judging above) (Frame at true octets ∷ below)
-      ≡ outcomes_of (judging_again judging (loads_below_lines (loads_left judging) above) (are_lost judging.lost above))
+      ≡ outcomes_of (judging_again judging (loads_below_lines (loads_left judging) above))
       (Frame at true octets ∷ below)
 
 -- where the place is lost
@@ -167,21 +160,20 @@ pub record FindFirst (checker : Checker) (content : ContentChecking) (lines : Li
       → option_and_then fault_accused (both_find_first checker content lines) ≡ found_first content lines
   pub by_transcript : found_first content lines ≡ None → both_find_first checker content lines ≡ broken_first checker lines
 
--- a breach is of the rule on the watchdog
-abbrev pub is_of_watchdog : ContentRule → Bool
-is_of_watchdog Watchdog = true
-is_of_watchdog rule = false
+-- an outcome says that the module was restarted, or that a load took effect
+abbrev pub is_set_anew : FrameOutcome → Bool
+is_set_anew Restarted = true
+is_set_anew (Excused Load) = true
+is_set_anew outcome = false
 
--- no line shows a restart of the module or a load that took effect: no stamp is set back, and the rule on the watchdog is not
--- broken
+-- the judge says in no line that the module was restarted, or that a load took effect
 abbrev pub RunsOn : Judging → List TranscriptLine → Type 0
 RunsOn judging [] = Unit {0}
-RunsOn judging (line ∷ lines) = (is_set_back judging line.from_cpu line.octets ≡ false)
-    × (is_some_and (found_in_frame judging.content line.from_cpu line.octets) (λ breach. is_of_watchdog breach.rule) ≡ false)
+RunsOn judging (line ∷ lines) = (is_set_anew (outcome_in judging Cpu line.from_cpu line.octets) ≡ false)
     × RunsOn (judging_with judging Cpu line.from_cpu line.octets) lines
 
--- In a whole log at the CPU's end in which the counter runs on, the judge accuses first what the checker of transcripts and
--- that of the rules on content find first.
+-- In a whole log at the CPU's end in which it says that nowhere, the judge accuses first what the checker of transcripts and that
+-- of the rules on content find first.
 pub record SaysTheSame (limits : RuleLimits) (lines : List TranscriptLine) : Type 0 where
   pub anywhere : RunsOn (judging_anywhere limits) lines → accused_first (judging_anywhere limits) lines
       ≡ both_find_first (checker_anywhere limits) (checking_at_start false) lines

@@ -27,7 +27,7 @@ use Rattle.fio_check.specs.declared.observation.Observation.{Observation}
 use Rattle.fio_check.specs.declared.observation.Observation.TheVariants.{Block}
 use Rattle.fio_check.specs.declared.outcome.Excuse.TheVariants.{Load}
 use Rattle.fio_check.specs.declared.outcome.LogPlace.{LogPlace}
-use Rattle.fio_check.specs.declared.outcome.LogPlace.TheVariants.{Bus, Cpu, Module}
+use Rattle.fio_check.specs.declared.outcome.LogPlace.TheVariants.{Bus, Cpu}
 use Rattle.fio_check.specs.declared.outcome.FrameOutcome.{FrameOutcome}
 use Rattle.fio_check.specs.declared.outcome.FrameOutcome.TheVariants.{Broken, BrokenContent, Excused, Restarted, NotJudged}
 use Rattle.fio_check.specs.declared.rules.Rule.{Rule}
@@ -143,11 +143,9 @@ log_reaching log from_cpu said observation = record (log_above (log_counting log
 }
 
 -- Where a frame with a direction was logged: at the CPU's end, if at least four of five directions agree with the types of the
--- messages; at the module, if at least four of five contradict them. Else they say nothing of where it was: on the bus.
+-- messages. Else it counts as logged on the bus, where the same is excused as at the module.
 abbrev pub end_of : LogJudging → LogPlace
-end_of log = if nat_le (4 * log.contrary) log.agreeing then Cpu
-    else if nat_le (4 * log.agreeing) log.contrary then Module
-    else Bus
+end_of log = if nat_le (4 * log.contrary) log.agreeing then Cpu else Bus
 
 -- where a frame with this direction, or none, was logged
 abbrev pub place_found : LogJudging → Option Bool → LogPlace

@@ -11,8 +11,8 @@ ghost use Rattle.fio_check.specs.ContentRules.{content_rule_name, content_rule_n
 /// than their 16 bits say. The rules on time are `order`, `fresh`, `apart`, `state` and `clock`. A load of the counter that
 /// is sent excuses one breach of them, somewhere below: it may have taken effect before. Then all that is known of times is
 /// forgotten, until the end of a clear block that is heard below; 255 excuses are never used up. Each rule says what a right
-/// link does, when it is judged, and what a breach means, with the input I and its state S. `tools/generate-constants` makes
-/// the words of pages and tools of these.
+/// link does, when it is judged, and what a breach means, with the input I and its state S; and its source, as those of `Rule`:
+/// which block is clear is read of C and E. `tools/generate-constants` makes the words of pages and tools of these.
 #[derive(Clone, Copy, Debug, PartialEq, Eq, PartialOrd, Ord, Hash)]
 pub enum ContentRule {
     /// An entry is later than the entry above it, or has its time and a higher input.
@@ -22,6 +22,8 @@ pub enum ContentRule {
     ///
     /// Breach: input I has an entry that is not later than the one above it, but a module logs changes in order of time, then
     /// of input: two entries are swapped, one is doubled, a time is wrong, or the module restarted
+    ///
+    /// Source: behaviour TEES 2009, layout own profile.
     Order,
     /// An entry is later than the stamp of the latest block without C, which had all entries up to that stamp.
     ///
@@ -30,6 +32,8 @@ pub enum ContentRule {
     ///
     /// Breach: input I changed before the block above was made, and that block had all changes until then: this entry is
     /// doubled or late, or its time is wrong
+    ///
+    /// Source: behaviour TEES 2009, layout own profile.
     Fresh,
     /// The entries of an input have the states 0 and 1 in turn.
     ///
@@ -37,6 +41,8 @@ pub enum ContentRule {
     ///
     /// Breach: input I went to S twice in a row, and neither an overflow (F) nor a configuration that was sent can have
     /// hidden a change between: an entry was lost, or this entry is doubled or has the wrong state
+    ///
+    /// Source: behaviour TEES 2009, layout own profile.
     Alternate,
     /// An entry of an input follows the one before no sooner than the filter for its change lets it.
     ///
@@ -45,6 +51,8 @@ pub enum ContentRule {
     /// that settles the input sets it to its last item, if the answer to that says done.
     ///
     /// Breach: input I went to S sooner than the shortest filter that it can have allows: a time or a filter is wrong
+    ///
+    /// Source: behaviour TEES 2009 and own profile, layout own profile.
     Apart,
     /// An input that is ignored has no entry.
     ///
@@ -53,6 +61,8 @@ pub enum ContentRule {
     ///
     /// Breach: input I has an entry, but it was ignored, and no configuration that was sent since says to report it: the
     /// module does not ignore the input, or the entry is of another input
+    ///
+    /// Source: behaviour TEES 2009, layout own profile.
     Ignored,
     /// An answer 181 has the states of the record at its stamp.
     ///
@@ -64,6 +74,8 @@ pub enum ContentRule {
     ///
     /// Breach: input I has another state in an answer 181 than by its entries, and neither an overflow (F) nor a configuration
     /// that was sent can have hidden a change between: an entry was lost or has the wrong state, or the answer is wrong
+    ///
+    /// Source: behaviour TEES 2009, layout own profile.
     State,
     /// The stamp of a 177, 180 or 181, or of a block without E, is not before the latest one above.
     ///
@@ -71,24 +83,34 @@ pub enum ContentRule {
     ///
     /// Breach: the counter of the module went back, and no load that was sent explains it: the module restarted, or a stamp
     /// is wrong
+    ///
+    /// Source: behaviour TEES 2009, layout own profile.
     Clock,
     /// An answer 178 has no S: a load of the counter is never refused.
     ///
     /// Breach: the module refused to load its counter, but it can load any number
+    ///
+    /// Source: behaviour own profile, layout own profile.
     Done,
     /// An answer 179 has no S, if its configuration names no input above 63.
     ///
     /// Breach: the module refused a configuration, but each input that it names exists
+    ///
+    /// Source: behaviour own profile, layout own profile.
     Accepted,
     /// An answer 177 has none of the flags that its command clears.
     ///
     /// Breach: the answer gives the flags that are left, and one that the command clears is still set: the module did not
     /// clear it
+    ///
+    /// Source: behaviour own profile, layout TEES 2009.
     Cleared,
     /// An answer 186 has Y, if another 186 is above.
     ///
     /// Breach: the module says that no watchdog was set before, but it has answered a command that sets one: it restarted,
     /// or forgot it
+    ///
+    /// Source: behaviour TEES 2009, layout own profile.
     Watchdog,
 }
 

@@ -30,6 +30,27 @@
 //! (`ContentEvents`), the rules (`ContentRules`), what is above an event, by places (`ContentAbove`) and updated event by event
 //! (`ContentFacts`), and the checker (`ContentCheckers`); then the judges (`LinkJudges`, `LogJudges`), the signs of other logs
 //! (`LogSigns`) and the counts (`LogCounts`).
+//!
+//! # What is proved
+//!
+//! `Checker` finds what `check_trace` does, one frame at a time; there is one verdict (`verdicts_are_one`; through the first
+//! breach `checkers_find_the_first_breach`, after one `checkers_go_on`; of a log that begins anywhere, from its first command
+//! on, `checkers_begin_anywhere`). `ContentChecker` finds the first fault of a log by the rules on content, whether the log
+//! begins with both ends or later (`content_checkers_find_the_fault`).
+//!
+//! `LinkJudge` says of each frame of a log, in which lines may be lost, the outcome that `outcome_in` defines (`outcome` and
+//! `next` of `LinkJudge::frame`). `LogJudge` says of each frame that a reader finds the outcome that `outcome_in_log` defines,
+//! by what the log says of the lines between the frames too (`outcome` and `next` of `LogJudge::frame`; the clauses of
+//! `LogJudge::lose`, `LogJudge::possible` and `LogJudge::miss`). Without late answers it is the judge of a link, of the frames
+//! at the places that it finds, with a mark where it loses its place (`logs_are_judged_as_links`). So what is proved of that
+//! judge holds of this one, if its premises hold with these marks.
+//!
+//! `LogCounts` counts of each frame what `counts_with` says, and returns how long the module took for an answer (`next` and
+//! `time` of `LogCounts::frame`; the clause of `LogCounts::lose`). `LogSigns` counts as `signs_with` says (clause of
+//! `LogSigns::frame`), and says the sign that `sign_of` defines by the counts (clause of `LogSigns::sign`).
+//!
+//! Only tested: that no right end is accused where late answers are left out, or where the judge finds by itself where the log
+//! was taken; that the logs of right links have no sign, and the four other kinds of logs theirs.
 #![tactic(auto)]
 
 mod block_order;

@@ -1,10 +1,10 @@
 //! The judge of a link: which end a log accuses, if lines of it may be lost and the module may be restarted.
-ghost use Rattle.std.specs.Prelude.{◌≡◌, Bool, None, false};
+ghost use Rattle.std.specs.Prelude.{◌≡◌, Bool, None, false, if◌then◌else◌, true};
 ghost use Rattle.fio_message.specs.Views.{answer_of};
 ghost use Rattle.fio_check.specs.ContentCheckers.{checking_with, found_in_frame};
 ghost use Rattle.fio_check.specs.Checkers.{checker_with};
 ghost use Rattle.fio_check.specs.ContentKept.{content_checking};
-ghost use Rattle.fio_check.specs.LinkJudges.{any_stamp_in, asked_below, content_here, is_answer_set_back, is_asked_again, is_at_cpu, is_set_back, is_unheard, judging_anywhere, judging_at, judging_begun, judging_below_outcome, judging_lost, judging_passed, judging_with, loads_below, loads_left, outcome_found, outcome_in, outcome_judged, outcome_set_back, place_lost, stamp_above, unjudged_by};
+ghost use Rattle.fio_check.specs.LinkJudges.{any_stamp_in, asked_below, content_here, is_answer_set_back, is_asked_again, is_at_cpu, is_set_back, is_unheard, judging_anywhere, judging_at, judging_begun, judging_below_outcome, judging_lost, judging_passed, judging_with, loads_below, loads_left, may_answer_anew, may_be_anew, outcome_anew, outcome_found, outcome_in, outcome_judged, outcome_set_back, place_lost, polls_below, stamp_above, unjudged_by};
 ghost use Rattle.fio_check.specs.LinkKept.{judging};
 ghost use Rattle.fio_check.specs.LogJudges.{outcome_without_content, without_content};
 ghost use Rattle.fio_check.specs.Observations.{observation_in};
@@ -18,6 +18,7 @@ use crate::frame_stamps::{any_stamp_in, any_stamp_of, stamp_in};
 use crate::limits::RuleLimits;
 use crate::observation::Observation;
 use crate::outcome::{Excuse, FrameOutcome, LogPlace, Unjudged};
+use crate::rules::Rule;
 use fio_message::{AnswerView, BlockStatus, read_answer};
 
 /// The judge of a link: it takes a log frame by frame, and returns the outcome of each. What lost lines may explain accuses
@@ -48,8 +49,8 @@ pub struct LinkJudge {
     pub latest: Option<u32>,
     /// The latest stamp at the time of the first poll for the block that is due.
     pub asked: Option<u32>,
-    /// Whether lines are lost below the latest stamp.
-    pub lost: bool,
+    /// The number of polls below the latest stamp, up to 2.
+    pub polls: u8,
 }
 
 impl LinkJudge {
@@ -69,14 +70,14 @@ impl LinkJudge {
 
     #[inline(always)]
     fn above(checker: Checker, content: ContentChecker) -> LinkJudge
-        ensures { result ≡ (record { checker = checker; content = content; latest = None; asked = None; lost = false }) }
+        ensures { result ≡ (record { checker = checker; content = content; latest = None; asked = None; polls = 0 }) }
     {
         LinkJudge {
             checker,
             content,
             latest: None,
             asked: None,
-            lost: false,
+            polls: 0,
         }
     }
 
@@ -88,7 +89,6 @@ impl LinkJudge {
             self.checker = Checker::skipping(Skips::ToPoll, self.checker.limits);
         }
         self.content.may_miss_load();
-        self.lost = true;
     }
 
     /// Takes a frame that was logged at `at` and that the CPU's end sent or heard, and returns its outcome.
@@ -102,6 +102,9 @@ impl LinkJudge {
         }
         if self.is_set_back(from_cpu, octets) {
             return self.set_back(from_cpu, octets);
+        }
+        if self.may_be_anew(from_cpu, octets) {
+            return self.judge_anew(at, from_cpu, octets, observation);
         }
         self.judge(at, from_cpu, octets, observation)
     }
@@ -160,14 +163,72 @@ impl LinkJudge {
         ensures next { judging self.new ≡ place_lost (judging self.old)
             (loads_below (judging self.old) from_cpu octets.now) (any_stamp_in from_cpu octets.now) }
     {
-        let loaded = self.lost || self.content.loads_left() > 0;
-        let _excused = take_content(&mut self.content, from_cpu, octets);
-        self.lose_place(any_stamp_in(from_cpu, octets));
+        let loaded = self.content.loads_left() > 0;
+        self.lose_place_at(from_cpu, octets);
         if loaded {
             FrameOutcome::Excused(Excuse::Load)
         } else {
             FrameOutcome::Restarted
         }
+    }
+
+    /// Returns whether a module that was restarted below the latest stamp may have sent a frame that is not set back.
+    fn may_be_anew(&self, from_cpu: bool, octets: &[u8]) -> bool
+        ensures { result ≡ may_be_anew (judging self.now) from_cpu octets.now }
+    {
+        if from_cpu || self.polls < 2 {
+            return false;
+        }
+        match read_answer(octets) {
+            Ok(answer) => self.may_answer_anew(&answer),
+            Err(_) => false,
+        }
+    }
+
+    /// Returns whether a module that was restarted below the latest stamp may have sent an answer that is not set back.
+    fn may_answer_anew(&self, answer: &AnswerView<'_>) -> bool
+        ensures { result ≡ may_answer_anew (judging self.now) (answer_of answer.now) }
+    {
+        match (*answer, self.latest) {
+            (AnswerView::Block { status, stamp, .. }, Some(latest)) => {
+                BlockStatus::from_octet(status).again()
+                    && self.polls >= 2
+                    && is_before(stamp, latest)
+            }
+            _ => false,
+        }
+    }
+
+    /// Judges a frame that a module that was restarted may have sent: if that broke a rule by what is known from above the
+    /// restart, there was one.
+    fn judge_anew(
+        &mut self,
+        at: LogPlace,
+        from_cpu: bool,
+        octets: &[u8],
+        observation: Observation,
+    ) -> FrameOutcome
+        requires { observation ≡ observation_in from_cpu octets.now }
+        ensures outcome { result ≡ outcome_anew true (outcome_judged (judging self.old) at from_cpu octets.now) }
+        ensures next { judging self.new ≡ judging_below_outcome result (judging self.old) from_cpu octets.now }
+    {
+        let mut below = *self;
+        let outcome = below.judge(at, from_cpu, octets, observation);
+        if shows_restart(outcome) {
+            self.lose_place_at(from_cpu, octets);
+            return FrameOutcome::Restarted;
+        }
+        *self = below;
+        outcome
+    }
+
+    /// Loses the place at a frame: below its stamp, if it has one.
+    fn lose_place_at(&mut self, from_cpu: bool, octets: &[u8])
+        ensures { judging self.new ≡ place_lost (judging self.old)
+            (loads_below (judging self.old) from_cpu octets.now) (any_stamp_in from_cpu octets.now) }
+    {
+        let _excused = take_content(&mut self.content, from_cpu, octets);
+        self.lose_place(any_stamp_in(from_cpu, octets));
     }
 
     /// Loses the place below a stamp, if there is one.
@@ -178,7 +239,7 @@ impl LinkJudge {
         self.content.begin_again();
         self.latest = stamp;
         self.asked = None;
-        self.lost = false;
+        self.polls = 0;
     }
 
     /// Forgets content and stamps, except the loads of the counter.
@@ -220,14 +281,13 @@ impl LinkJudge {
         ensures outcome { result ≡ outcome_judged (judging self.old) at from_cpu octets.now }
         ensures next { judging self.new ≡ judging_below_outcome result (judging self.old) from_cpu octets.now }
     {
-        let asked = self.asked_below(observation);
         let mut checker = self.checker;
         match checker.take(from_cpu, observation) {
-            None => self.judge_content(checker, asked, from_cpu, octets),
+            None => self.judge_content(checker, from_cpu, octets, observation),
             Some(_) if self.is_unheard(at, observation) => {
                 let mut anew = Checker::within(self.checker.limits);
                 let _none = anew.take(from_cpu, observation);
-                let _nothing = self.take(anew, asked, from_cpu, octets);
+                let _nothing = self.take(anew, from_cpu, octets, observation);
                 FrameOutcome::Excused(Excuse::Unheard)
             }
             Some(breach) => {
@@ -241,17 +301,17 @@ impl LinkJudge {
     fn judge_content(
         &mut self,
         checker: Checker,
-        asked: Option<u32>,
         from_cpu: bool,
         octets: &[u8],
+        observation: Observation,
     ) -> FrameOutcome
-        requires checker { checker ≡ checker_with self.old.checker from_cpu (observation_in from_cpu octets.now) }
-        requires asked { asked ≡ asked_below (judging self.old) (observation_in from_cpu octets.now) }
+        requires said { observation ≡ observation_in from_cpu octets.now }
+        requires checker { checker ≡ checker_with self.old.checker from_cpu observation }
         ensures outcome { (unheard : Bool) → result
             ≡ outcome_found unheard None (found_in_frame (content_here (judging self.old)) from_cpu octets.now) }
         ensures next { judging self.new ≡ judging_below_outcome result (judging self.old) from_cpu octets.now }
     {
-        match self.take(checker, asked, from_cpu, octets) {
+        match self.take(checker, from_cpu, octets, observation) {
             Some(breach) if breach.rule == ContentRule::Watchdog => {
                 self.lose_place(any_stamp_in(from_cpu, octets));
                 FrameOutcome::Restarted
@@ -267,25 +327,27 @@ impl LinkJudge {
         }
     }
 
-    /// Takes a frame after which the checker of transcripts and the latest stamp at the first poll are these, and returns its
-    /// breach of a rule on content.
+    /// Takes a frame after which the checker of transcripts is this one, and returns its breach of a rule on content.
     fn take(
         &mut self,
         checker: Checker,
-        asked: Option<u32>,
         from_cpu: bool,
         octets: &[u8],
+        observation: Observation,
     ) -> Option<ContentBreach>
+        requires { observation ≡ observation_in from_cpu octets.now }
         ensures found { result ≡ found_in_frame (content_here (judging self.old)) from_cpu octets.now }
         ensures next { judging self.new ≡ (record (judging self.old) {
           checker = checker;
           content = checking_with (content_here (judging self.old)) from_cpu octets.now;
-          asked = asked;
+          asked = asked_below (judging self.old) (observation_in from_cpu octets.now);
+          polls = polls_below self.old.polls (observation_in from_cpu octets.now);
         }) }
     {
+        self.asked = self.asked_below(observation);
+        self.polls = polls_below(self.polls, observation);
         self.begin_content();
         self.checker = checker;
-        self.asked = asked;
         take_content(&mut self.content, from_cpu, octets)
     }
 
@@ -304,7 +366,7 @@ impl LinkJudge {
     {
         if stamp.is_some() {
             self.latest = stamp;
-            self.lost = false;
+            self.polls = 0;
         }
     }
 
@@ -330,6 +392,28 @@ impl LinkJudge {
         ensures { result ≡ is_unheard (judging self.now) at observation }
     {
         !is_at_cpu(at) && is_asked_again(&self.checker.facts, observation)
+    }
+}
+
+/// Returns the number of polls below the latest stamp, up to 2, after a frame with this observation.
+fn polls_below(polls: u8, observation: Observation) -> u8
+    ensures { result ≡ polls_below polls observation }
+{
+    match observation {
+        Observation::Poll { .. } if polls < 2 => polls + 1,
+        Observation::Poll { .. } => 2,
+        _ => polls,
+    }
+}
+
+/// Returns whether a frame with this outcome shows that the module was restarted, if a module that was restarted may have sent it.
+fn shows_restart(outcome: FrameOutcome) -> bool
+    ensures { outcome_anew true outcome ≡ (if result then FrameOutcome.Restarted else outcome) }
+{
+    match outcome {
+        FrameOutcome::BrokenContent(_) => true,
+        FrameOutcome::Broken(breach) => matches!(breach.rule, Rule::Rest),
+        _ => false,
     }
 }
 

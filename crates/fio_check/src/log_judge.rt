@@ -57,8 +57,8 @@ pub enum LogOutcome {
 /// # Where the log was taken
 ///
 /// A log from the module or from the bus has answers that the CPU's end may not have heard, so a poll that asks again for an
-/// answered block accuses nobody there. If `new` gets no place, the judge decides at each frame: on the bus, if its line names no
-/// sender; at the module, if so far more lines name the wrong end as the sender than the right one; else at the CPU's end.
+/// answered block accuses nobody there. If `new` gets no place, the judge decides at each frame: at the CPU's end, if its line names
+/// a sender, and so far at least four of five lines that do so name the right one; else on the bus.
 #[derive(Clone, Copy, Debug)]
 pub struct LogJudge {
     /// The judge of the link.
@@ -199,8 +199,6 @@ impl LogJudge {
         let (agreeing, contrary) = (u64::from(self.agreeing), u64::from(self.contrary));
         if 4 * contrary <= agreeing {
             LogPlace::Cpu
-        } else if 4 * agreeing <= contrary {
-            LogPlace::Module
         } else {
             LogPlace::Bus
         }

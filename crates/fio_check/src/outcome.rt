@@ -43,7 +43,8 @@ pub enum FrameOutcome {
     BrokenContent(ContentBreach),
     /// The frame would break a rule, but may be right.
     Excused(Excuse),
-    /// The module was restarted above the frame, or the frame's stamp is wrong.
+    /// The module was restarted above the frame, or the frame's stamp is wrong. (Or the module has forgotten its watchdog. Or the
+    /// frame is a repeated block with an earlier stamp than the latest one, and what it says is wrong.)
     Restarted,
     /// No rule is applied to the frame.
     NotJudged(Unjudged),

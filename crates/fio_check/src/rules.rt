@@ -9,38 +9,57 @@ use fio_message::BlockStatus;
 use fio_message::types::BLOCK_ANSWER;
 
 /// What a line of a transcript may break, in the order in which the rules are tried (own profile). `Advance` also says
-/// what a breach means: with the number ahead of block N, which was due, and with an earlier number.
+/// what a breach means: with the number ahead of block N, which was due, and with an earlier number. The source of a rule is that
+/// of what the module or the CPU does, and that of the octets and bits that the rule reads, by docs/PROTOCOL.md.
 /// `tools/generate-constants` makes the words of pages and tools of these.
 #[derive(Clone, Copy, Debug, PartialEq, Eq, PartialOrd, Ord, Hash)]
 pub enum Rule {
     /// Broken by a line that is no message of its direction.
+    ///
+    /// Source: behaviour TEES 2009, layout own profile.
     Readable,
     /// Broken by a line that is an answer, but not directly below a command whose type is 128 less.
+    ///
+    /// Source: behaviour TEES 2009, layout TEES 2009.
     Pair,
     /// Broken by a line that is a block answer with another number than the poll directly above.
+    ///
+    /// Source: behaviour TEES 2009, layout TEES 2009.
     Number,
     /// Broken by a line that is a poll, not the first, with another number than the one due: that of
     /// the poll before, plus one modulo 256 if a block answer is directly below that poll.
     ///
-    /// Breach ahead: the CPU went on without an answer, and what block N had is lost; or the log lost a line (own
-    /// profile; TEES allows it)
+    /// Breach ahead: the CPU went on without an answer, and what block N had is lost, which TEES allows; or the log lost a
+    /// line
     ///
     /// Breach behind: the CPU asks again for a block that was answered; or it did not hear that answer, and the log is
-    /// not its own (own profile)
+    /// not its own
+    ///
+    /// Source: behaviour own profile, layout TEES 2009.
     Advance,
     /// Broken by a line that is a block answer with E, though the poll directly above has another
     /// number than the poll before that.
+    ///
+    /// Source: behaviour TEES 2009, layout own profile.
     Same,
     /// Broken by a line that is a block answer with G and E, or with G and a block answer before it.
+    ///
+    /// Source: behaviour TEES 2009 and own profile, layout own profile.
     Sequence,
     /// Broken by a line that is a block answer with F and without C, or with C and a count other
     /// than 255, or with an input above 63. With other limits of the module: F without C only if more
     /// entries may wait than a block takes, and C with any other count than a block takes.
+    ///
+    /// Source: behaviour TEES 2009 and own profile, layout own profile.
     RuleLimits,
     /// Broken by a line that is a block answer without entries, and the block answer before it has C.
+    ///
+    /// Source: behaviour TEES 2009, layout own profile.
     Rest,
     /// Broken by a line that is an answer 179 that says done (bit 0 is 0) to a configuration 51 that
     /// names an input above 63.
+    ///
+    /// Source: behaviour own profile, layout own profile.
     Refusal,
 }
 

@@ -10,6 +10,10 @@
 //! The logic is in one place, `hear_frame` and `hear_read_answer`, which append to any `Record`. `Poller` has its record on
 //! the heap.
 //!
+//! # What is proved
+//!
+//! `hear` returns exactly what the octets are (`heard`), and allocates only for a block that adds to the record (`memory`).
+//!
 //! # Examples
 //!
 //! ```rust

@@ -233,9 +233,10 @@ module _ (settings : Settings) (range : AreInRange settings) (first : ℕ) (load
 
 pub accuses_none_below_loads : AccusesNoneBelowLoads
 unfolding AccusesNoneBelowLoads
-accuses_none_below_loads loads settings first before later machine last range run leads under_way near lines has =
+accuses_none_below_loads loads settings first before later machine last lines log =
+    let range = log.in_range in
     none_above lines (kept_again loads)
     (from_any settings first last (λ lines. found_first (record { begun = true; kept = kept_again loads }) lines ≡ None)
     (λ machine later. AreUnderWay loads settings first machine later × AreTimesNear false settings first machine later last)
     (λ before later machine run leads begins holds lines has. begun_again settings range first loads later before machine last run leads begins holds lines has)
-    refl later before machine run leads (under_way, near) lines has)
+    refl later before machine log.run log.leads (log.under_way, log.near) lines log.has)

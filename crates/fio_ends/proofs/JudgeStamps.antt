@@ -29,6 +29,8 @@ use Rattle.fio_ends.proofs.Stamps.{stamp_says}
 pub record StampState : Type 0 where
   pub latest : Option ℕ
   pub asked : Option ℕ
+  -- the latest stamp, also of a block that is sent again
+  pub any : Option ℕ
   -- the number of the latest poll
   pub polled : Option ℕ
   -- a stamp was set back
@@ -48,7 +50,7 @@ comes_back s answer = is_some_and (any_stamp answer) (λ stamp. is_some_and (abo
 
 abbrev pub stamps_heard : StampState → Option Answer → StampState
 stamps_heard s None = s
-stamps_heard s (Some answer) = record s { latest = option_or (stamp_of answer) s.latest; back = s.back || comes_back s answer }
+stamps_heard s (Some answer) = record s { latest = option_or (stamp_of answer) s.latest; any = option_or (any_stamp answer) s.any; back = s.back || comes_back s answer }
 
 -- at a poll
 abbrev pub stamps_polled : StampState → ℕ → StampState
@@ -96,6 +98,8 @@ module _ (settings : Settings) (range : AreInRange settings) (first : ℕ) (begi
     pub none : s.back ≡ false
     pub latest : (stamp : ℕ) → s.latest ≡ Some stamp → IsOf from stamp
     pub asked : (stamp : ℕ) → s.asked ≡ Some stamp → IsAbove from machine.round stamp
+    -- if the log begins above the first block
+    pub any : blocks_of settings begun_life ≡ [] → (stamp : ℕ) → s.any ≡ Some stamp → IsOf from stamp
     pub polled : (number : ℕ) → s.polled ≡ Some number → (number ≡ number_of first machine.round) ⊎ AreBefore machine.to_module machine.polls machine.round (length machine.to_module)
 
   -- what is asked of the rest of a log: it is short, and no load takes effect in it
@@ -160,13 +164,15 @@ module _ (settings : Settings) (range : AreInRange settings) (first : ℕ) (begi
 
     -- below it, if it is not set back
     heard_with : (answer : Answer) (later : Machine) (facts_below : ContentFacts) (life : Life) → GoesOn from life → GoesOn life now
-        → ((stamp : ℕ) → stamp_of answer ≡ Some stamp → stamp ≡ counter_of life) → comes_back s answer ≡ false
+        → ((stamp : ℕ) → stamp_of answer ≡ Some stamp → stamp ≡ counter_of life)
+        → (blocks_of settings begun_life ≡ [] → (stamp : ℕ) → any_stamp answer ≡ Some stamp → IsOf now stamp) → comes_back s answer ≡ false
         → machine.round ≤ later.round
         → ((number : ℕ) → s.polled ≡ Some number → (number ≡ number_of first later.round) ⊎ AreBefore later.to_module later.polls later.round (length later.to_module))
         → KeepsStamps (stamps_heard s (Some answer)) now later facts_below
-    heard_with answer later facts_below life g upto says none rounds polled = record {
+    heard_with answer later facts_below life g upto says says_any none rounds polled = record {
       none = neither s.back (comes_back s answer) p.none none;
       latest = λ stamp at. by (stamp_of answer) refl stamp at;
+      any = λ first stamp at. by_any first (any_stamp answer) refl stamp at;
       asked = λ stamp at. (let a = p.asked stamp at in record {
         life = a.life;
         upto = goes_on-both a.life from now a.upto known.now;
@@ -183,6 +189,10 @@ module _ (settings : Settings) (range : AreInRange settings) (first : ℕ) (begi
             subst (IsOf now) (sym (says here is) ∙ same) (of_later life now (counter_of life) upto (of_counter now life calm (goes_on-both begun_life from life known.begun g) upto))
         by None is stamp at = of_later from now stamp known.now (p.latest stamp at)
 
+        by_any : blocks_of settings begun_life ≡ [] → (found : Option ℕ) → any_stamp answer ≡ found → (stamp : ℕ) → option_or found s.any ≡ Some stamp → IsOf now stamp
+        by_any first (Some here) is stamp at = says_any first stamp (is ∙ at)
+        by_any first None is stamp at = of_later from now stamp known.now (p.any first stamp at)
+
   -- ---- the invariant
 
   stamps_hear : (s : StampState) (from : Life) (machine : Machine) (facts : ContentFacts) (place : ℕ) (rest : List Event) (command : Command) (answer : Answer) → IsKnown settings first begin from machine
@@ -197,9 +207,19 @@ module _ (settings : Settings) (range : AreInRange settings) (first : ℕ) (begi
       ap (option_and_then (λ (frame : SentFrame). answer_in frame.octets)) (frame_at_place machine.to_cpu place ∙ h.at_place) ∙ h.spells in
       subst (λ found. KeepsStamps (stamps_heard s found) now (record machine { last_to_cpu = place + 1 }) (content_with facts (Heard answer))) (sym heard)
       (heard_with s from machine facts known p calm answer (record machine { last_to_cpu = place + 1 }) (content_with facts (Heard answer)) h.life h.goes_on upto says
+      (λ first stamp is. of_answer calm upto answer (ap (observation_of None) (sym h.spells) ∙ h.heard_as.heard) says stamp is)
       (none answer (ap (observation_of None) (sym h.spells) ∙ h.heard_as.heard) says
       (λ stamp life_stamp. latest_before s from machine facts known p calm h.life h.goes_on upto stamp life_stamp)) (omega arith) p.polled)
     where
+      of_answer : IsCalm (life_of machine.history) → GoesOn h.life (life_of machine.history) → (answer : Answer) → observation_of None (Some answer) ≡ seen.Answer (answer_type_to command) h.heard_as.accepted
+          → ((stamp : ℕ) → stamp_of answer ≡ Some stamp → stamp ≡ counter_of h.life) → (stamp : ℕ) → any_stamp answer ≡ Some stamp → IsOf (life_of machine.history) stamp
+      of_answer calm upto (answers.Block count entries status stamp) said says at is =
+          let never : seen.Block count status (length entries.items) (list_any (λ entry. is_absent entry.input) entries.items) ≡ seen.Answer (answer_type_to command) h.heard_as.accepted = said in
+          absurd (cc never)
+      of_answer calm upto other said says stamp is =
+          subst (IsOf (life_of machine.history)) (sym (says stamp is))
+          (of_later h.life (life_of machine.history) (counter_of h.life) upto (of_counter (life_of machine.history) h.life calm (goes_on-both begun_life from h.life known.begun h.goes_on) upto))
+
       none : (answer : Answer) → observation_of None (Some answer) ≡ seen.Answer (answer_type_to command) h.heard_as.accepted → ((stamp : ℕ) → stamp_of answer ≡ Some stamp → stamp ≡ counter_of h.life)
           → ((stamp : ℕ) → s.latest ≡ Some stamp → is_before (counter_of h.life) stamp ≡ false) → comes_back s answer ≡ false
       none (answers.Block count entries status stamp) said says later =
@@ -223,6 +243,7 @@ module _ (settings : Settings) (range : AreInRange settings) (first : ℕ) (begi
       subst (λ found. KeepsStamps (stamps_heard s found) now (after_taken machine place answer) facts_below) (sym heard)
       (heard_with s from machine facts known p calm said (after_taken machine place answer) facts_below t.life t.goes_on upto
       (says calm upto (says_again answer.status) refl)
+      (λ first stamp is. of_block calm first stamp (same_Some _ _ is))
       (by_again calm upto (says_again answer.status) refl) (omega arith)
       (λ number at. inr (record { sent = λ place n r low has. (let le = k.always.polls.sent place n r has in omega (arith, le)); received = k.always.at_most })))
     where
@@ -242,6 +263,13 @@ module _ (settings : Settings) (range : AreInRange settings) (first : ℕ) (begi
 
       fresh : says_again answer.status ≡ false → answer.stamp ≡ counter_of t.life
       fresh is = t.carried.stamp ∙ ap (λ (b : MadeBlock). b.stamp) (made_now settings first begin from machine place number answer block known t is).is
+
+      of_block : IsCalm now → blocks_of settings begun_life ≡ [] → (stamp : ℕ) → answer.stamp ≡ stamp → IsOf now stamp
+      of_block calm first stamp is =
+          let begun = goes_on-both begun_life from now known.begun known.now in
+          let m = made_since settings begun_life now machine.round block begun (let none = ap length first in omega (arith, none)) t.made in
+          let stamp_is : answer.stamp ≡ counter_of m.life = t.carried.stamp ∙ ap (λ (b : MadeBlock). b.stamp) m.is in
+          subst (IsOf now) (sym stamp_is ∙ is) (of_later m.life now (counter_of m.life) m.upto (of_counter now m.life calm m.begun m.upto))
 
       says : IsCalm now → GoesOn t.life now → (again : Bool) → says_again answer.status ≡ again → (stamp : ℕ) → stamp_of said ≡ Some stamp → stamp ≡ counter_of t.life
       says calm upto true is stamp at = absurd (cc (sym (ap (λ a. if a then None else Some answer.stamp) is) ∙ at))
@@ -266,6 +294,7 @@ module _ (settings : Settings) (range : AreInRange settings) (first : ℕ) (begi
   stamps_poll s from machine facts facts_below known p = record {
     none = p.none;
     latest = λ stamp at. of_later from now stamp known.now (p.latest stamp at);
+    any = λ first stamp at. of_later from now stamp known.now (p.any first stamp at);
     asked = λ stamp at. by s.polled refl stamp at;
     polled = λ polled at. inl (sym (same_Some _ _ at));
   }
@@ -304,6 +333,7 @@ module _ (settings : Settings) (range : AreInRange settings) (first : ℕ) (begi
   stamps_send s from machine facts facts_below command no_poll known p = record {
     none = p.none;
     latest = λ stamp at. of_later from (life_of machine.history) stamp known.now (p.latest stamp at);
+    any = λ first stamp at. of_later from (life_of machine.history) stamp known.now (p.any first stamp at);
     asked = λ stamp at. (let a = p.asked stamp at in
         record { life = a.life; upto = goes_on-both a.life from (life_of machine.history) a.upto known.now; begun = a.begun; few = a.few; of = a.of });
     polled = λ number at. elim (p.polled number at) as (λ _. (number ≡ number_of first machine.round) ⊎ AreBefore (after_sending machine command).to_module machine.polls machine.round (length (after_sending machine command).to_module)) [
@@ -314,9 +344,9 @@ module _ (settings : Settings) (range : AreInRange settings) (first : ℕ) (begi
 
   stamps_past : (s : StampState) (from : Life) (machine : Machine) (facts : ContentFacts) (event : Event) → IsPastBus event → KeepsStamps s from machine facts
       → KeepsStamps (stamps_after first s machine event) from (after settings first machine event) facts
-  stamps_past s from machine facts (events.Scan raw) past p = record { none = p.none; latest = p.latest; asked = p.asked; polled = p.polled }
-  stamps_past s from machine facts events.LineSync past p = record { none = p.none; latest = p.latest; asked = p.asked; polled = p.polled }
-  stamps_past s from machine facts (events.Raise mask) past p = record { none = p.none; latest = p.latest; asked = p.asked; polled = p.polled }
+  stamps_past s from machine facts (events.Scan raw) past p = record { none = p.none; latest = p.latest; asked = p.asked; any = p.any; polled = p.polled }
+  stamps_past s from machine facts events.LineSync past p = record { none = p.none; latest = p.latest; asked = p.asked; any = p.any; polled = p.polled }
+  stamps_past s from machine facts (events.Raise mask) past p = record { none = p.none; latest = p.latest; asked = p.asked; any = p.any; polled = p.polled }
   stamps_past s from machine facts events.Poll past p = absurd past
   stamps_past s from machine facts (events.Send command) past p = absurd past
   stamps_past s from machine facts (events.ToModule index) past p = absurd past
@@ -339,10 +369,10 @@ module _ (settings : Settings) (range : AreInRange settings) (first : ℕ) (begi
   stamps_sent s from machine facts events.Restart command known may within p = absurd may
 
   abbrev pub stamps_above : StampState
-  stamps_above = record { latest = None; asked = None; polled = None; back = false }
+  stamps_above = record { latest = None; asked = None; any = None; polled = None; back = false }
 
   pub stamps_begin : (from : Life) (machine : Machine) (facts : ContentFacts) → KeepsStamps stamps_above from machine facts
-  stamps_begin from machine facts = record { none = refl; latest = λ stamp at. absurd (cc at); asked = λ stamp at. absurd (cc at); polled = λ number at. absurd (cc at) }
+  stamps_begin from machine facts = record { none = refl; latest = λ stamp at. absurd (cc at); asked = λ stamp at. absurd (cc at); any = λ first stamp at. absurd (cc at); polled = λ number at. absurd (cc at) }
 
   pub stamps_are_invariant : IsInvariant settings first begin Done StampState stamps_above (stamps_after first) (λ s machine later. IsCalmOn machine later) KeepsStamps
   stamps_are_invariant = record {
@@ -354,6 +384,7 @@ module _ (settings : Settings) (range : AreInRange settings) (first : ℕ) (begi
       none = p.none;
       latest = p.latest;
       asked = p.asked;
+      any = p.any;
       polled = λ number is. elim (p.polled number is) as (λ _. (number ≡ number_of first machine.round)
           ⊎ AreBefore machine.to_module (polls_with (poll_in frame.octets) frame.round machine.polls) machine.round (length machine.to_module)) [
             | inl here ↦ inl here

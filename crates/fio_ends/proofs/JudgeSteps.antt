@@ -1,9 +1,8 @@
 -- What the judge of a link does with a frame in which no breach is found.
 use Rattle.fio_ends.proofs.Names.{◌≡◌, ◌∙◌, ℕ, Bool, true, false, List, [], ◌∷◌, ◌++◌, ◌⊎◌, inl, inr, Option, Some, None, refl, ap, sym, subst, if◌then◌else◌, nat_lt, AllByRecursion, ContentKept, kept_with, facts_with, no_facts, first_broken_within, Facts, RuleLimits, Observation, observation_in, observation_of}
-use Rattle.std.specs.Prelude.{◌||◌}
 use Rattle.fio_check.specs.Checkers.{checker_skipping, checker_with, found_by, passes_over}
 use Rattle.fio_check.specs.ContentCheckers.{checking_with, content_found, found_in_frame}
-use Rattle.fio_check.specs.LinkJudges.{Frame, Judging, LogLine, Lost, checking_above, content_here, is_set_back, is_unheard, judging_at, judging_below, judging_below_outcome, judging_kept, judging_passed, judging_taken, judging_with, judging_with_line, loads_below, loads_left, outcome_found, outcome_in, outcome_judged, outcome_set_back, outcomes_of, place_lost, stamp_in, unjudged_by}
+use Rattle.fio_check.specs.LinkJudges.{Frame, Judging, LogLine, Lost, checking_above, content_here, is_set_back, is_unheard, judging_at, judging_below, judging_below_outcome, judging_kept, judging_passed, judging_taken, judging_with, judging_with_line, loads_below, loads_left, may_be_anew, outcome_anew, outcome_found, outcome_in, outcome_judged, outcome_set_back, outcomes_of, place_lost, stamp_in, unjudged_by}
 use Rattle.fio_check.specs.declared.checker.Checker.{Checker}
 use Rattle.fio_check.specs.declared.checker.Skips.{Skips}
 use Rattle.fio_check.specs.declared.checker.Skips.TheVariants.{Nothing, ToCommand, ToPoll}
@@ -52,15 +51,21 @@ module _ (judging : Judging) (at : LogPlace) (from_cpu : Bool) (octets : List �
   none_found true = refl
   none_found false = refl
 
+  none_anew : (anew : Bool) → outcome_anew anew Kept ≡ Kept
+  none_anew true = refl
+  none_anew false = refl
+
   -- one in which nothing is found
   pub kept_is : passes_over judging.checker from_cpu said ≡ false → back_here ≡ false
       → found_by judging.checker from_cpu said ≡ None → found_in_frame (content_here judging) from_cpu octets ≡ None
       → outcome_in judging at from_cpu octets ≡ Kept
   kept_is over back rules content =
-      ap (λ b. here (outcome_judged judging at from_cpu octets) b back_here) over
-      ∙ ap (here (outcome_judged judging at from_cpu octets) false) back
-      ∙ ap (λ found. outcome_found (is_unheard judging at said) found (found_in_frame (content_here judging) from_cpu octets)) rules
-      ∙ ap (outcome_found (is_unheard judging at said) None) content ∙ none_found (is_unheard judging at said)
+      let anew = may_be_anew judging from_cpu octets in
+      ap (λ b. here (outcome_anew anew (outcome_judged judging at from_cpu octets)) b back_here) over
+      ∙ ap (here (outcome_anew anew (outcome_judged judging at from_cpu octets)) false) back
+      ∙ ap (λ found. outcome_anew anew (outcome_found (is_unheard judging at said) found (found_in_frame (content_here judging) from_cpu octets))) rules
+      ∙ ap (λ found. outcome_anew anew (outcome_found (is_unheard judging at said) None found)) content
+      ∙ ap (outcome_anew anew) (none_found (is_unheard judging at said)) ∙ none_anew anew
 
   pub kept : passes_over judging.checker from_cpu said ≡ false → back_here ≡ false
       → found_by judging.checker from_cpu said ≡ None → found_in_frame (content_here judging) from_cpu octets ≡ None
@@ -70,7 +75,7 @@ module _ (judging : Judging) (at : LogPlace) (from_cpu : Bool) (octets : List �
   -- one whose stamp is set back: the place is lost
   pub set_back : passes_over judging.checker from_cpu said ≡ false → back_here ≡ true
       → (stamp : Option ℕ) × Judged judging at from_cpu octets (place_lost judging (loads_below judging from_cpu octets) stamp)
-  set_back over back = by (outcome_set_back judging) refl (excused_or_restarted (judging.lost || nat_lt 0 (loads_left judging)))
+  set_back over back = by (outcome_set_back judging) refl (excused_or_restarted (nat_lt 0 (loads_left judging)))
     where
       excused_or_restarted : (may : Bool) → ((if may then Excused Load else Restarted) ≡ Excused Load) ⊎ ((if may then Excused Load else Restarted) ≡ Restarted)
       excused_or_restarted true = inl refl

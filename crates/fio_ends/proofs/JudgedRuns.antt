@@ -514,10 +514,10 @@ begun_whole settings range first limits suit last steps run marks few near =
 
 pub judge_accuses_none : JudgeAccusesNone
 unfolding JudgeAccusesNone
-judge_accuses_none false settings limits first before steps machine last range suit run leads begins marks few near =
-    above_it settings range first limits suit last steps before machine 0 0 false (judging_anywhere limits) (record { checker = refl; content = refl })
-    (record { run = run; leads = leads; few_excused = omega arith; marks = marks; few = few }) near
-judge_accuses_none true settings limits first before steps machine last range suit run leads begins marks few near = nothing_before before begins run leads
+judge_accuses_none false settings limits first before steps machine last log =
+    above_it settings log.in_range first limits log.suit last steps before machine 0 0 false (judging_anywhere limits) (record { checker = refl; content = refl })
+    (record { run = log.run; leads = log.leads; few_excused = omega arith; marks = log.marked; few = log.few }) log.near
+judge_accuses_none true settings limits first before steps machine last log = nothing_before before log.begins log.run log.leads
   where
     nothing_before : (before : List Event) → before ≡ [] → IsPromptRun settings first (before ++ events_of steps) last → Leads settings first start before machine
         → AllByRecursion AccusesNeither (outcomes_of (judging_begun limits) (log_from settings first machine steps))
@@ -525,4 +525,4 @@ judge_accuses_none true settings limits first before steps machine last range su
     nothing_before [] none run leads =
         subst (λ m. FewAreUnderWay settings first m None steps → AreTimesNear true settings first m (events_of steps) last
         → AllByRecursion AccusesNeither (outcomes_of (judging_begun limits) (log_from settings first m steps))) (sym leads)
-        (begun_whole settings range first limits suit last steps run marks) few near
+        (begun_whole settings log.in_range first limits log.suit last steps run log.marked) log.few log.near

@@ -91,7 +91,6 @@ pub mod PollEntries
 pub mod PollBlocks
 pub mod PollTurns
 pub mod PollLogs
-pub mod WholePollLogs
 pub mod PollExamples
 pub mod AllRules
 pub mod BegunAgain
@@ -102,3 +101,4 @@ pub mod JudgeStamps
 pub mod JudgedCalm
 pub mod RestartedFrames
 pub mod Restarted
+pub mod JudgeExamples

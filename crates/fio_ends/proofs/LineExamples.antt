@@ -17,8 +17,8 @@ use Rattle.fio_wire.specs.Octets as wire
 use Rattle.fio_module.specs.Life as lives
 use Rattle.fio_ends.proofs.LinePremises.{at_module, at_cpu, frame_comes, struck_comes}
 use Rattle.fio_wire.specs.Laws.{Octet, Loss}
-use Rattle.fio_ends.specs.Lines.{Framing, WiredEnds, ends_at_start, EndOf, WireEvent, IsStruck, Happens, AtModule, AtCpu, events_on_wire, after_line_event, Arrives}
-use Rattle.fio_ends.specs.LineRuns.{LinesBringRecords, MayFollow, LeadOverLines, part_brought}
+use Rattle.fio_ends.specs.Lines.{Framing, WiredEnds, ends_at_start, EndOf, WireEvent, Happens, AtModule, AtCpu, events_on_wire, after_line_event, Arrives}
+use Rattle.fio_ends.specs.LineRuns.{IsStruck, LinesBringRecords, MayFollow, LeadOverLines, part_brought}
 
 abbrev framing : Framing
 framing = record { address = 20; control = 131; own = record { address = 20; control = 131 } }

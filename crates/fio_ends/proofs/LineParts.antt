@@ -1,5 +1,5 @@
 -- What a decoder hears of a line, octet by octet.
-use Rattle.fio_ends.proofs.Names.{◌≡◌, ◌≢◌, ◌∙◌, drop, inl, inr, ◌⊎◌, ℕ, Bool, true, false, List, [], ◌∷◌, ◌++◌, Option, Some, None, refl, ap, sym, subst, append-nil, append_assoc, if◌then◌else◌, option_map, eqb_tells}
+use Rattle.fio_ends.proofs.Names.{◌≡◌, ◌≢◌, ◌∙◌, drop, inl, inr, ℕ, Bool, true, false, List, [], ◌∷◌, ◌++◌, Option, Some, None, refl, ap, sym, subst, append-nil, append_assoc, if◌then◌else◌, option_map, eqb_tells}
 use Rattle.std.proofs.lemmas.Bool.{false≢true}
 use Rattle.std.proofs.lemmas.List.{same_from_push}
 use Rattle.fio_message.specs.Octets.{IsOctet}
@@ -12,7 +12,8 @@ use Rattle.fio_wire.specs.Octets.{HasNoFlag, Phase, Hunting, Within, Escaped, Lo
 use Rattle.fio_wire.specs.Laws.{Octet, Struck}
 use Rattle.fio_wire.proofs.Lines.{no_flag, part_said}
 use Rattle.fio_wire.proofs.Sent.{arrive, message_again, sent_frame}
-use Rattle.fio_ends.specs.Lines.{Framing, IsFraming, WireLine, Arrives, IsStruck, IsNoise, ComesWhole, MayBring, message_if, message_heard, part_after}
+use Rattle.fio_ends.specs.Lines.{Framing, IsFraming, WireLine, Arrives, IsNoise, ComesWhole, MayBring, message_if, message_heard, part_after}
+use Rattle.fio_ends.specs.LineRuns.{IsStruck}
 use Rattle.fio_ends.proofs.LineMessages.{IsMessage}
 
 -- ---- What is known of lines
@@ -33,6 +34,11 @@ struck_said part free struck =
     sym (flag_said part free)
     ∙ ap (said_of fresh) (sym (append-nil (part ++ FLAG ∷ [])))
     ∙ arrive (Struck struck.0 struck.1 part ∷ []) (struck.2, tt)
+
+-- so it is noise
+pub struck_noise : (own : frames.WireSettings) (part : List ℕ) → IsStruck part → IsNoise own part
+struck_noise own part struck e =
+    let damage : wire_heard own (said_in part) ≡ Damaged = ap (wire_heard own) (struck_said part struck.2.0 struck) in cc (e, damage)
 
 -- ---- Readings
 
@@ -127,15 +133,12 @@ no_message Damaged reading other = refl
 
 -- at a flag after which a line may bring no frame whole
 flag_heard : (own : frames.WireSettings) (part : Option (List ℕ)) (reading : Reading) → IsReading part reading
-    → ((octets : List ℕ) → part ≡ Some octets → IsStruck octets ⊎ IsNoise own octets)
+    → ((octets : List ℕ) → part ≡ Some octets → IsNoise own octets)
     → wire_heard own (says reading FLAG) ≢ Message
 flag_heard own None reading deaf brings e = deaf_flag own reading.octets reading.phase deaf e
 flag_heard own (Some part) reading r brings e =
     let said : wire_heard own (says reading FLAG) ≡ wire_heard own (said_in part) = ap (wire_heard own) (flag_says part reading r) in
-    elim (brings part refl) [
-      | inl struck ↦ (let damage : wire_heard own (said_in part) ≡ Damaged = ap (wire_heard own) (struck_said part r.free struck) in absurd (cc (e, said, damage)))
-      | inr noise ↦ absurd (noise (sym said ∙ e))
-    ]
+    absurd (brings part refl (sym said ∙ e))
 
 -- An octet that ends no frame whole is heard as no message.
 pub octet_heard : (own : frames.WireSettings) (line : WireLine) (o : ℕ) → IsReading line.part line.reading → MayBring own line (Arrives (Octet o))

@@ -1,13 +1,14 @@
 -- What a line may bring leaves open that frames come, whole and struck.
-use Rattle.fio_ends.proofs.Names.{◌≡◌, ◌∙◌, ◌≤◌, inl, ℕ, List, [], ◌∷◌, ◌++◌, Option, Some, None, option_map, refl, ap, sym, subst, arith, append-nil, append_assoc, same_Some, if◌then◌else◌, Settings}
+use Rattle.fio_ends.proofs.Names.{◌≡◌, ◌∙◌, ◌≤◌, ℕ, List, [], ◌∷◌, ◌++◌, Option, Some, None, option_map, refl, ap, sym, subst, arith, append-nil, append_assoc, same_Some, if◌then◌else◌, Settings}
 use Rattle.fio_link.specs.Link.{item_numbered}
 use Rattle.fio_wire.specs.declared.limits.TheConstants.{FLAG}
 use Rattle.fio_wire.specs.Frames.{frame_of}
 use Rattle.fio_wire.specs.Octets.{HasNoFlag, sent, stuffed}
 use Rattle.fio_wire.proofs.Sent.{free_of_flags}
 use Rattle.fio_wire.specs.Laws.{Octet}
-use Rattle.fio_ends.specs.Lines.{Framing, WireLine, WiredEnds, Brought, EndOf, WireEvent, AtModule, AtCpu, IsStruck, MayBring, MayCome, line_after, part_after, message_heard, after_receipt, after_message, after_line_event, Arrives, arrival_of}
-use Rattle.fio_ends.specs.LineRuns.{MayFollow, part_brought, EachFrameMayCome, EachStruckFrameMayCome}
+use Rattle.fio_ends.specs.Lines.{Framing, WireLine, WiredEnds, Brought, EndOf, WireEvent, AtModule, AtCpu, MayBring, MayCome, line_after, part_after, message_heard, after_receipt, after_message, after_line_event, Arrives, arrival_of}
+use Rattle.fio_ends.proofs.LineParts.{struck_noise}
+use Rattle.fio_ends.specs.LineRuns.{IsStruck, MayFollow, part_brought, EachFrameMayCome, EachStruckFrameMayCome}
 use Rattle.fio_wire.proofs.Lines.{no_flag}
 
 -- a direction: what its events bring, and the line that they change
@@ -96,7 +97,7 @@ module _ {line_of : WiredEnds → WireLine} {at : Brought → WireEvent} (d : Is
       → MayFollow settings framing ends (part_brought at part (Arrives (Octet FLAG)))
   struck_comes ends part begun struck =
       part_comes (line_of ends) [] part (Arrives (Octet FLAG)) ends struck.2.0 (record { same_part = begun; same_last = refl; same_written = refl })
-      (λ line h flag octets is. inl (subst IsStruck (same_Some _ _ (sym h.same_part ∙ is)) struck))
+      (λ line h flag octets is. struck_noise framing.own octets (subst IsStruck (same_Some _ _ (sym h.same_part ∙ is)) struck))
 
 pub frames_to_module : EachFrameMayCome (λ ends. ends.to_module) AtModule
 frames_to_module settings framing ends number message begun order is =

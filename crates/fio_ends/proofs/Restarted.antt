@@ -1,16 +1,21 @@
 -- Where a module is started anew the judge of a link accuses nobody, and says once at most that it was restarted: it goes on up to
 -- the first stamp, which is set back, and begins anew at the next poll.
 use Rattle.std.proofs.lemmas.List.Elements.{filter-append}
-use Rattle.fio_ends.proofs.Names.{length-append, append_assoc, ◌%◌, ◌≡◌, ◌∙◌, ◌+◌, ◌<◌, same_Some, command_in, ◌≤◌, ◌⊎◌, inl, inr, ℕ, suc, Bool, true, false, List, [], ◌∷◌, ◌++◌, length, map, Option, Some, None, refl, ap, ap₂, sym, subst, arith, is_some, option_and_then, AllByRecursion, Answer, Command, IsCommand, answer_in, answered_block, block_in, command_octets, Life, life_of, loads_of, Settings, AreInRange, ContentFacts, ContentKept, kept_with, Done, facts_with, no_facts, number_due, Facts, RuleLimits, Observation, first_broken_within, is_some_and, observation_in, Event, Machine, SentFrame, start, number_of, number_of-fits, after, after_delivered_block, after_delivery_to_cpu, after_delivery_to_module, Leads, item_numbered, IsNotRestart, HaveNoRestart, kept, CpuFrame, frame_heard, frames_at, due_after, ArePrompt, IsWithinRanges, SuitModule}
-use Rattle.std.specs.Prelude.{filter, ◌||◌, nat_lt}
+use Rattle.fio_ends.proofs.Names.{length-append, append_assoc, ◌%◌, ◌≡◌, ◌∙◌, ◌+◌, ◌<◌, same_Some, nat_tests, command_in, ◌≤◌, ◌⊎◌, inl, inr, ℕ, suc, Bool, true, false, List, [], ◌∷◌, ◌++◌, length, map, Option, Some, None, refl, ap, ap₂, sym, subst, arith, is_some, option_and_then, AllByRecursion, Answer, Command, IsCommand, answer_in, answered_block, block_in, command_octets, Life, life_of, loads_of, Settings, AreInRange, ContentFacts, ContentKept, kept_with, Done, facts_with, no_facts, number_due, Facts, RuleLimits, Observation, first_broken_within, is_some_and, observation_in, Event, Machine, SentFrame, start, number_of, number_of-fits, after, after_delivered_block, after_delivery_to_cpu, after_delivery_to_module, Leads, item_numbered, IsNotRestart, HaveNoRestart, kept, CpuFrame, frame_heard, frames_at, due_after, ArePrompt, IsWithinRanges, SuitModule}
+use Rattle.std.specs.Prelude.{filter, nat_lt, nat_le, not, ◌&&◌, ◌==◌, option_map}
 use Rattle.fio_message.specs.declared.commands.Command.TheVariants as commands
-use Rattle.fio_check.specs.Checkers.{checker_below_breach, checker_skipping, found_by, passes_over}
+use Rattle.fio_check.specs.Checkers.{breach_of, checker_below_breach, checker_skipping, found_by, passes_over}
 use Rattle.fio_check.specs.ContentCheckers.{content_found, found_in_frame}
 use Rattle.fio_check.specs.ContentSaid.{is_before, stamp_of}
-use Rattle.fio_check.specs.LinkJudges.{judging_anywhere, Judging, LogLine, checking_above, any_stamp_in, any_stamp_of, is_set_back, judging_at, judging_below, judging_below_outcome, judging_taken, judging_with, judging_with_line, loads_below, loads_left, outcome_in, outcome_on, outcome_set_back, outcomes_of, place_lost}
+use Rattle.fio_check.specs.LinkJudges.{judging_anywhere, Judging, LogLine, may_be_anew, polls_below, checking_above, any_stamp_in, any_stamp_of, is_set_back, judging_at, judging_below, judging_below_outcome, judging_taken, judging_with, judging_with_line, loads_below, loads_left, outcome_in, outcome_on, outcome_set_back, outcomes_of, place_lost}
 use Rattle.fio_check.specs.declared.checker.Checker.{Checker}
 use Rattle.fio_check.specs.declared.checker.Skips.TheVariants.{Nothing, ToPoll}
+use Rattle.fio_check.specs.Observations.{answer_type_to, names_absent}
+use Rattle.fio_check.specs.declared.checker.Breach.{Breach}
 use Rattle.fio_check.specs.declared.observation.Observation.TheVariants as seen
+use Rattle.fio_check.specs.declared.rules.Rule.TheVariants as tried
+use Rattle.fio_message.specs.declared.answers.Answer.TheVariants as answers
+use Rattle.fio_message.specs.declared.types.TheConstants.{BLOCK_ANSWER}
 use Rattle.fio_check.specs.declared.outcome.Excuse.TheVariants.{Load}
 use Rattle.fio_check.specs.declared.outcome.LogPlace.{LogPlace}
 use Rattle.fio_check.specs.declared.outcome.FrameOutcome.{FrameOutcome}
@@ -27,19 +32,19 @@ use Rattle.fio_ends.proofs.ContentFrame.{Agrees}
 use Rattle.fio_ends.proofs.ContentLines.{content_below}
 use Rattle.fio_ends.proofs.ContentRuns.{content-event, content-poll}
 use Rattle.fio_ends.proofs.ContentSteps.{IsKnown}
-use Rattle.fio_ends.proofs.Following.{Follows, facts_below, follows-start, from_after, goes_on-both, goes_on-same}
+use Rattle.fio_ends.proofs.Following.{Follows, facts_below, from_after, goes_on-both, goes_on-same}
 use Rattle.fio_ends.proofs.JudgeLost.{life_on}
 use Rattle.fio_ends.proofs.JudgeStamps.{IsCalmOn, IsOf, KeepsStamps, StampState, calm_on, of_later, stamps_above, stamps_after, stamps_are_invariant, stamps_begin, stamps_heard, stamps_polled}
 use Rattle.fio_ends.proofs.JudgeSteps.{frame_again, frame_kept, heard_passed, outcomes-append, passed, passed_is, takes_all}
 use Rattle.fio_ends.proofs.JudgedCalm.{EndsAt, below_both, calm_above, calm_all, ends_judging, kept_on, none_loaded, polled_stamps}
 use Rattle.fio_ends.proofs.Lives.{loads_grow}
-use Rattle.fio_ends.proofs.Rules.{no_rule_broken}
+use Rattle.fio_ends.proofs.Rules.{KeepsRules, no_rule_broken, rules_kept_within}
 use Rattle.fio_ends.proofs.Sends.{other_said, poll_keeps, said_of}
 use Rattle.fio_ends.proofs.Stamps.{ClockState, clock_after}
 use Rattle.fio_ends.proofs.StateKept.{state_above}
 use Rattle.fio_ends.proofs.StateKnown.{StateState, state_after}
 use Rattle.fio_ends.proofs.TimesKept.{AsksTimes, TimeState}
-use Rattle.fio_ends.proofs.RestartedFrames.{AreQuiet, HaveOneRestart, are_quiet, IsPlain, IsQuiet, IsSame, back_of, either, is_none, latest_heard, lost_by, not_back, one_back, one_quiet, plain_heard, quiet_of, same_stamp, sent_absent, sent_none, set_back_is, watchdog_is, answered_option}
+use Rattle.fio_ends.proofs.RestartedFrames.{AreQuiet, HaveOneRestart, IsAgain, IsBlockAgain, KnowsPolls, again_found, anew_is, any_heard, are_quiet, block_again, breach_is_rest, none_of_breach, polls_kept, polls_polled, IsPlain, IsQuiet, IsSame, back_of, either, is_none, lost_by, not_back, one_back, one_quiet, plain_heard, quiet_of, same_stamp, sent_absent, sent_none, set_back_is, watchdog_is, answered_option}
 
 -- ---- a run
 
@@ -194,9 +199,9 @@ module _ (settings : Settings) (range : AreInRange settings) (first : ℕ) (limi
           let known : IsKnown settings first start now machine =
           record { is_kept = k.known.is_kept; begun = goes_on-both (life_of start.history) from now k.known.begun k.known.now; rounds = k.known.rounds; now = goes_on-same now now refl } in
           let grown = loads_grow (life_of start.history) now known.begun in
-          let s_above : StampState = record { latest = judging.latest; asked = None; polled = None; back = false } in
+          let s_above : StampState = record { latest = judging.latest; asked = None; any = None; polled = None; back = false } in
           let stamped : Stamped s_above now machine (kept_again excuses).facts =
-          record { none = refl; latest = λ stamp is. l.latest_of stamp is; asked = λ stamp is. absurd (cc is); polled = λ number is. absurd (cc is) } in
+          record { none = refl; latest = λ stamp is. l.latest_of stamp is; asked = λ stamp is. absurd (cc is); any = λ first stamp is. absurd (cc is); polled = λ number is. absurd (cc is) } in
           let w = went-again settings range first start false None (times c t 0) from machine due facts known k.follows excuses (record { enough = inr (omega (arith, grown)) }) events.Poll tt r.leads.0 r.within.0 in
           let stamps = (content-poll settings range first start Done StampState (stamps_above settings range first start) (stamps_after first) (λ s here later. IsCalmOn settings range first start here later) Stamped
           (stamps_are_invariant settings range first start) s_above now machine no_facts (kept_again excuses) known (agrees_again settings range first start false None machine excuses) stamped).holds in
@@ -253,6 +258,7 @@ module _ (settings : Settings) (range : AreInRange settings) (first : ℕ) (limi
     pub due : (due : ℕ) → number_due above ≡ Some due → due ≡ number_of first round
     pub same : (facts.awaited ≡ None) ⊎ IsSame above facts content.facts kept.facts
     pub latest_is : judging.latest ≡ latest
+    pub polls : KnowsPolls above facts judging.polls
 
   -- what comes of a frame, by how the log goes on below it
   abbrev GoesOnBetween : Machine → Option ℕ → ClockState → StateState → ℕ → Life → Machine → ℕ → List LogLine → Type 0
@@ -275,9 +281,11 @@ module _ (settings : Settings) (range : AreInRange settings) (first : ℕ) (limi
         × ((due : ℕ) → number_due (facts_with above (observation_in true (command_octets command))) ≡ Some due → due ≡ number_of first round)
         × ((facts_with above (observation_in true (command_octets command))).awaited ≡ (facts_with facts (observation_in true (command_octets command))).awaited)
         × ((facts_with above (observation_in true (command_octets command))).absent_named ≡ (facts_with facts (observation_in true (command_octets command))).absent_named))
+        → ((above : Facts) (polls : ℕ) → KnowsPolls above facts polls
+        → KnowsPolls (facts_with above (observation_in true (command_octets command))) (facts_with facts (observation_in true (command_octets command))) (polls_below polls (observation_in true (command_octets command))))
         → BeginsEarlier latest lines
         → OneRestartTo last judging (logged_at at (record { from_cpu = true; octets = command_octets command }) ∷ lines)
-    sent_between s round judging command within b round_is g rules earlier =
+    sent_between s round judging command within b round_is g rules polls_on earlier =
         let octets = command_octets command in
         let frame : CpuFrame = record { from_cpu = true; octets = octets } in
         let said = observation_in true octets in
@@ -293,6 +301,7 @@ module _ (settings : Settings) (range : AreInRange settings) (first : ℕ) (limi
           due = λ due is. subst (λ round. due ≡ number_of first round) (sym round_is) (r.1 due is);
           same = inr (record { awaited = r.2; named = r.3; absent = sent_absent b.content kept command within });
           latest_is = ap (λ (j : Judging). j.latest) k.is ∙ b.latest_is;
+          polls = subst (KnowsPolls (facts_with b.above said) (facts_with facts said)) (sym (ap (λ (j : Judging). j.polls) k.is)) (polls_on b.above judging.polls b.polls);
         }) earlier) in
         (one_quiet (outcome_in judging at true octets) (outcomes_of (judging_with judging at true octets) lines) k.outcome rest.0, rest.1)
 
@@ -304,7 +313,7 @@ module _ (settings : Settings) (range : AreInRange settings) (first : ℕ) (limi
         → OneRestartTo last judging (map (logged_at at) (frame_heard found) ++ lines)
     heard_between above round judging None b round_is g earlier =
         between_on above facts kept judging (knows_of c t above sent from facts kept [] next due g)
-        (record { above = b.above; content = b.content; checker_is = b.checker_is; content_is = b.content_is; same = b.same; latest_is = b.latest_is; due = λ due is. subst (λ round. due ≡ number_of first round) (sym (round_is refl)) (b.due due is) }) earlier
+        (record { above = b.above; content = b.content; checker_is = b.checker_is; content_is = b.content_is; same = b.same; latest_is = b.latest_is; polls = b.polls; due = λ due is. subst (λ round. due ≡ number_of first round) (sym (round_is refl)) (b.due due is) }) earlier
     heard_between above round judging (Some sent_frame) b round_is g earlier = by (is_some (any_stamp_in false octets)) refl
       where
         octets : List ℕ
@@ -346,13 +355,89 @@ module _ (settings : Settings) (range : AreInRange settings) (first : ℕ) (limi
             })) in
             (subst (λ o. HaveOneRestart (o ∷ outcomes_of below lines)) (sym is) (one_back outcome (outcomes_of below lines) which rest.0), rest.1)
 
-        set_back : is_earlier latest false octets ≡ true → goal
-        set_back early =
+        of : (stamp : ℕ) → any_stamp_in false octets ≡ Some stamp → IsOf settings range first start from stamp
+        of stamp is = know.stamps.any refl stamp (any_heard above (answer_in octets) stamp is)
+
+        back_at : is_set_back judging false octets ≡ true → goal
+        back_at back = lost_at (outcome_set_back judging) (set_back_is judging at false octets over back) (either (nat_lt 0 (loads_left judging))) of
+
+        set_back : is_some (option_and_then stamp_of (answer_in octets)) ≡ true → is_earlier latest false octets ≡ true → goal
+        set_back stamped early =
+            let same : option_and_then any_stamp_of (answer_in octets) ≡ option_and_then stamp_of (answer_in octets) = same_stamp (answer_in octets) stamped in
             let here : is_some_and (option_and_then stamp_of (answer_in octets)) (λ s. is_some_and judging.latest (is_before s)) ≡ true =
-            ap (λ l. is_some_and (option_and_then stamp_of (answer_in octets)) (λ s. is_some_and l (is_before s))) b.latest_is ∙ early in
-            let back : is_set_back judging false octets ≡ true = back_of judging (answer_in octets) here in
-            lost_at (outcome_set_back judging) (set_back_is judging at false octets over back) (either (judging.lost || nat_lt 0 (loads_left judging)))
-            (λ stamp is. know.stamps.latest stamp (latest_heard above (answer_in octets) stamp (sym (same_stamp latest (answer_in octets) early) ∙ is)))
+            ap (λ l. is_some_and (option_and_then stamp_of (answer_in octets)) (λ s. is_some_and l (is_before s))) b.latest_is
+            ∙ sym (ap (λ stamp. is_some_and stamp (λ s. is_some_and latest (is_before s))) same) ∙ early in
+            back_at (back_of judging (answer_in octets) here)
+
+        -- a block that is sent again
+        again : IsBlockAgain (answer_in octets) → is_earlier latest false octets ≡ true → option_and_then stamp_of (answer_in octets) ≡ None → BeginsEarlier latest lines → goal
+        again block early no_stamp earlier_rest = by_back (is_set_back judging false octets) refl
+          where
+            heard_said : Observation
+            heard_said = seen.Block block.number block.status block.count block.absent
+
+            said_is : said ≡ heard_said
+            said_is = block.said
+
+            keeps : KeepsRules limits facts heard_said
+            keeps = rules_kept_within limits facts heard_said (sym (ap (first_broken_within limits facts) said_is) ∙ (g.went.rules limits suit).0)
+
+            awaited : b.above.awaited ≡ facts.awaited
+            awaited = elim b.same as (λ _. b.above.awaited ≡ facts.awaited) [
+              | inl nothing ↦
+                  absurd (let unasked : true ≡ false = sym (ap (λ a. not (is_some_and a (λ awaited. awaited == BLOCK_ANSWER))) nothing) ∙ keeps tried.Pair in cc unasked)
+              | inr is ↦ is.awaited
+            ]
+
+            found : IsAgain limits b.above facts judging.polls heard_said
+            found = again_found limits b.above facts judging.polls block.number block.status block.count block.absent block.again awaited b.polls keeps
+
+            may : may_be_anew judging false octets ≡ true
+            may =
+                let before : is_some_and latest (is_before block.stamp) ≡ true =
+                sym (ap (λ stamp. is_some_and stamp (λ s. is_some_and latest (is_before s))) block.any) ∙ early in
+                let enough : nat_le 2 judging.polls ≡ true = (let twice = found.twice in grind (arith, nat_tests, twice)) in
+                block.may judging
+                ∙ ap (λ a. a && nat_le 2 judging.polls && is_some_and judging.latest (is_before block.stamp)) block.again
+                ∙ ap (λ e. true && e && is_some_and judging.latest (is_before block.stamp)) enough
+                ∙ ap (λ l. is_some_and l (is_before block.stamp)) b.latest_is ∙ before
+
+            found_here : found_by judging.checker false said ≡ breach_of limits b.above said
+            found_here = ap (λ c. found_by c false said) b.checker_is ∙ found-taking limits b.above false said
+
+            rest_alone : (breach : Breach) → found_by judging.checker false said ≡ Some breach → breach.rule ≡ tried.Rest
+            rest_alone breach is = breach_is_rest limits b.above said heard_said breach (ap (first_broken_within limits b.above) said_is) found.found (sym found_here ∙ is)
+
+            by_back : (back : Bool) → is_set_back judging false octets ≡ back → goal
+            by_back true back = back_at back
+            by_back false back =
+                elim (anew_is judging at octets block.number block.status block.count block.absent said_is over back may rest_alone) as (λ _. goal) [
+                  | inl restarted ↦ lost_at Restarted restarted (inl refl) of
+                  | inr none ↦
+                      let rules : first_broken_within limits b.above said ≡ None = none_of_breach limits b.above said (sym found_here ∙ none.0) in
+                      let content : content_found b.content false octets ≡ None =
+                      sym (ap (λ c. found_in_frame c false octets) (ap (λ (c : Checker). checking_above judging c.skips) b.checker_is ∙ b.content_is)) ∙ none.1 in
+                      let k = frame_kept limits judging at frame b.above b.content b.checker_is b.content_is back rules content in
+                      let rest = (between_on stamped (facts_with facts said) (kept_with kept false octets) below know
+                      (record {
+                        above = facts_with b.above said;
+                        content = kept_with b.content false octets;
+                        checker_is = k.checker;
+                        content_is = k.content;
+                        due = λ due is. know.follows.number due
+                            (ap (λ said. number_due (facts_with facts said)) said_is
+                            ∙ sym (ap (option_map (λ polled. (polled + 1) % 256)) found.polled.polled)
+                            ∙ sym (ap (λ said. number_due (facts_with b.above said)) said_is) ∙ is);
+                        same = inl (ap (λ said. (facts_with facts said).awaited) said_is);
+                        latest_is = ap (λ (j : Judging). j.latest) k.is
+                            ∙ ap (λ stamp. (judging_at (judging_taken judging judging.checker false octets) stamp).latest) no_stamp ∙ b.latest_is;
+                        polls = subst (KnowsPolls (facts_with b.above said) (facts_with facts said))
+                            (sym (ap (λ (j : Judging). j.polls) k.is ∙ ap (λ stamp. (judging_at (judging_taken judging judging.checker false octets) stamp).polls) no_stamp))
+                            (subst (λ said. KnowsPolls (facts_with b.above said) (facts_with facts said) (polls_below judging.polls said)) (sym said_is)
+                            (inr (record { polled = found.polled.polled; once = found.polled.once; twice = found.polled.twice })));
+                      }) earlier_rest) in
+                      (one_quiet (outcome_in judging at false octets) (outcomes_of below lines) k.outcome rest.0, rest.1)
+                ]
 
         none_heard : option_and_then any_stamp_of (answer_in octets) ≡ None → IsPlain limits b.above b.content (answer_in octets) → BeginsEarlier latest lines → goal
         none_heard none p earlier_rest = elim p.found as (λ _. goal) [
@@ -369,6 +454,10 @@ module _ (settings : Settings) (range : AreInRange settings) (first : ℕ) (limi
                 same = inl (ap (λ said. (facts_with facts said).awaited) p.said);
                 latest_is = ap (λ (j : Judging). j.latest) k.is
                     ∙ ap (λ stamp. (judging_at (judging_taken judging judging.checker false octets) stamp).latest) p.no_stamp ∙ b.latest_is;
+                polls = subst (KnowsPolls (facts_with b.above said) (facts_with facts said))
+                    (sym (ap (λ (j : Judging). j.polls) k.is ∙ ap (λ stamp. (judging_at (judging_taken judging judging.checker false octets) stamp).polls) p.no_stamp))
+                    (subst (λ said. KnowsPolls (facts_with b.above said) (facts_with facts said) (polls_below judging.polls said)) (sym p.said)
+                    (polls_kept b.above facts judging.polls None None false false b.polls));
               }) earlier_rest) in
               (one_quiet (outcome_in judging at false octets) (outcomes_of below lines) k.outcome rest.0, rest.1)
           | inr (breach, dog, is) ↦
@@ -383,11 +472,20 @@ module _ (settings : Settings) (range : AreInRange settings) (first : ℕ) (limi
             block_none None is = refl
             block_none (Some answer) is = is
 
+        stamp_absent : (answer : Option Answer) → is_some (option_and_then any_stamp_of answer) ≡ false → is_some (option_and_then stamp_of answer) ≡ false
+        stamp_absent None is = refl
+        stamp_absent (Some (answers.Block number entries status stamp)) is = absurd (cc is)
+        stamp_absent (Some other) is = is
+
+        with_stamp : is_some (any_stamp_in false octets) ≡ true → (first_of : Bool) → is_some (option_and_then stamp_of (answer_in octets)) ≡ first_of → goal
+        with_stamp is true stamped = set_back stamped (earlier.0 is)
+        with_stamp is false stamped = again (block_again (answer_in octets) is stamped) (earlier.0 is) (is_none (option_and_then stamp_of (answer_in octets)) stamped) (earlier.1 stamped)
+
         by : (stamped : Bool) → is_some (any_stamp_in false octets) ≡ stamped → goal
-        by true is = set_back (earlier.0 is)
+        by true is = with_stamp is (is_some (option_and_then stamp_of (answer_in octets))) refl
         by false is =
             none_heard (is_none (option_and_then any_stamp_of (answer_in octets)) is)
-            (plain_heard limits b.above facts b.content kept b.same (answer_in octets) is (g.went.rules limits suit).0 g.went.content.keep.done.0 g.went.content.keep.accepted.0) (earlier.1 is)
+            (plain_heard limits b.above facts b.content kept b.same (answer_in octets) is (g.went.rules limits suit).0 g.went.content.keep.done.0 g.went.content.keep.accepted.0) (earlier.1 (stamp_absent (answer_in octets) is))
 
   -- the round goes on with a block alone
   round_heard : (machine : Machine) (index : ℕ) (found : Option SentFrame) → option_and_then (λ (frame : SentFrame). block_in frame.octets) found ≡ None
@@ -445,7 +543,7 @@ module _ (settings : Settings) (range : AreInRange settings) (first : ℕ) (limi
           let rest = log_from settings first next steps in
           subst (λ frames. BeginsEarlier latest (map (logged_at at) frames ++ rest) → OneRestartTo last judging (map (logged_at at) frames ++ rest)) (sym none)
           (λ earlier. on again event r (stamps_after first s machine event) facts kept judging (knows_of (clock_after c machine event) (state_after settings t machine event) (stamps_after first s machine event) (sent + loads_sent event) (from_after machine from event) facts kept [] next (due_after machine due event) here)
-          (record { above = b.above; content = b.content; checker_is = b.checker_is; content_is = b.content_is; same = b.same; latest_is = b.latest_is; due = λ due is. subst (λ round. due ≡ number_of first round) (sym round_is) (b.due due is) }) earlier)
+          (record { above = b.above; content = b.content; checker_is = b.checker_is; content_is = b.content_is; same = b.same; latest_is = b.latest_is; polls = b.polls; due = λ due is. subst (λ round. due ≡ number_of first round) (sym round_is) (b.due due is) }) earlier)
 
       by : BetweenAll latest steps last → (event : Event) → Rest c t sent machine last due (event ∷ events_of steps) → OneRestart event
       by again events.Poll r earlier =
@@ -461,7 +559,9 @@ module _ (settings : Settings) (range : AreInRange settings) (first : ℕ) (limi
             (λ n is. sym (same_Some _ _ (sym (ap (λ said. number_due (facts_with above said)) said) ∙ is))),
             ap (λ said. (facts_with above said).awaited) said ∙ sym (ap (λ said. (facts_with facts said).awaited) said),
             ap (λ said. (facts_with above said).absent_named) said ∙ sym (ap (λ said. (facts_with facts said).absent_named) said),
-          )) e
+          ))
+          (λ above polls know. subst (λ said. KnowsPolls (facts_with above said) (facts_with facts said) (polls_below polls said)) (sym said)
+          (polls_polled above facts polls number (λ n is. k.follows.number n is) know)) e
       by again (events.Send command) r earlier =
           let said = said_of command r.within.0 ∙ other_said command r.leads.0 in
           let next = after settings first machine (events.Send command) in
@@ -474,7 +574,9 @@ module _ (settings : Settings) (range : AreInRange settings) (first : ℕ) (limi
             (λ n is. due n (sym (ap (λ said. number_due (facts_with above said)) said) ∙ is)),
             ap (λ said. (facts_with above said).awaited) said ∙ sym (ap (λ said. (facts_with facts said).awaited) said),
             ap (λ said. (facts_with above said).absent_named) said ∙ sym (ap (λ said. (facts_with facts said).absent_named) said),
-          )) e
+          ))
+          (λ above polls know. subst (λ said. KnowsPolls (facts_with above said) (facts_with facts said) (polls_below polls said)) (sym said)
+          (polls_kept above facts polls (Some (answer_type_to command)) (Some (answer_type_to command)) (names_absent command) (names_absent command) know)) e
       by again (events.ToCpu index) r earlier =
           let event = events.ToCpu index in
           let next = after settings first machine event in
@@ -490,6 +592,22 @@ module _ (settings : Settings) (range : AreInRange settings) (first : ℕ) (limi
 checker_of : (limits : RuleLimits) (checker : Checker) → checker.limits ≡ limits → checker.skips ≡ Nothing → checker ≡ taking limits checker.facts
 checker_of limits checker limits_are all = ap₂ (λ l s. record checker { limits = l; skips = s }) limits_are all
 
+-- what a CPU's end that goes on with this number knows where a life begins: the block before it was answered, the first time that it was asked for
+abbrev facts_anew : ℕ → Facts
+facts_anew number = record no_facts { polled = Some (number + 255); answered = true; advanced = true }
+
+follows_anew : (settings : Settings) (first : ℕ) → Follows settings first [] start 0 (facts_anew (number_of first 0))
+follows_anew settings first = record {
+  number = λ n is.
+      (let fits = number_of-fits first 0 in
+      let due : (number_of first 0 + 255 + 1) % 256 ≡ n = same_Some _ _ is in
+      omega (arith, fits, due));
+  answered = λ is. record { sent = λ place n r low has. absurd (omega (arith, low)); received = omega arith };
+  more = λ m is. absurd (cc is);
+  now = record { more = []; is = refl };
+  stage = inl (record { all = refl; past = omega arith });
+}
+
 -- a life, below whatever a judge took
 one_life : (settings : Settings) (limits : RuleLimits) (first : ℕ) (steps : List LogStep) (last : Machine) (judging : Judging) (range : AreInRange settings) (suit : SuitModule settings limits)
     → IsRestarted settings first judging steps last → JudgesOn limits (number_of first 0) judging
@@ -502,11 +620,12 @@ one_life settings limits first steps last judging range suit life j =
     let steady = calm.no_loads in
     let known : IsKnown settings first start now start =
     record { is_kept = kept settings range first [] start refl tt; begun = goes_on-same now now refl; rounds = omega arith; now = goes_on-same now now refl } in
-    between settings range first limits suit judging.latest steps last life.logged (clock_above false) state_above (stamps_above settings range first start) 0 now no_facts (kept_again 0) start 0 judging
+    let again = agrees_again settings range first start false None start 0 in
+    between settings range first limits suit judging.latest steps last life.logged (clock_above false) state_above (stamps_above settings range first start) 0 now (facts_anew (number_of first 0)) (record { number = Some (number_of first 0); facts = (kept_again 0).facts }) start 0 judging
     (record {
       known = known;
-      follows = follows-start settings first;
-      agrees = agrees_again settings range first start false None start 0;
+      follows = follows_anew settings first;
+      agrees = record { number = λ polled is. refl; unpolled = λ is. absurd (cc is); awaits = λ code command is. absurd (cc is); polls = again.polls };
       content = again_known settings range first start false None (record { clock = clock_above false; state = state_above; sent = 0 }) start 0 (goes_on-same now now refl) (record { enough = inr (omega arith) });
       stamps = stamps_begin settings range first start now start (kept_again 0).facts;
     })
@@ -518,6 +637,7 @@ one_life settings limits first steps last judging range suit life j =
       due = j.due;
       same = inl refl;
       latest_is = refl;
+      polls = inl (record { polled = refl; answered = refl; advanced = refl });
     })
     (record {
       asks = asks_begun false settings first start last 0 events run.no_restart run.is_run
@@ -587,13 +707,13 @@ none_more outcomes more count quiet rest = record { none_accused = both outcomes
 
 pub judge_finds_restarts : JudgeFindsRestarts
 unfolding JudgeFindsRestarts
-judge_finds_restarts settings limits first before steps machine last lives range suit run leads logged calm near restarted =
+judge_finds_restarts settings limits first before steps machine last lives log =
     let lines = log_from settings first machine steps in
     let more = lines_of_lives settings (first + last.round) lives in
     let judging = judging_anywhere limits in
-    let right = calm_above settings range first limits suit last steps before machine run leads logged (calm, near) in
+    let right = calm_above settings log.in_range first limits log.suit last steps before machine log.run log.leads log.logged (log.calm, log.near) in
     let same : number_of first last.round ≡ number_of (first + last.round) 0 = ap (λ n. n % 256) (omega arith) in
     subst (HaveRestarts (length lives)) (sym (outcomes_both judging lines more))
     (none_more (outcomes_of judging lines) (outcomes_of (judging_below judging lines) more) (length lives) (are_quiet (outcomes_of judging lines) (quiet_of (outcomes_of judging lines) right.0))
-    (lives_found settings limits range suit lives (first + last.round) (judging_below judging lines)
-    (λ all. subst (λ number. JudgesOn limits number (judging_below judging lines)) same (right.1 all)) restarted))
+    (lives_found settings limits log.in_range log.suit lives (first + last.round) (judging_below judging lines)
+    (λ all. subst (λ number. JudgesOn limits number (judging_below judging lines)) same (right.1 all)) log.restarted))

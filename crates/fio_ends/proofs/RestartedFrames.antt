@@ -1,23 +1,32 @@
 -- The frames of a module that was started anew, as a judge of a link sees them that does not know it.
-use Rattle.fio_ends.proofs.Names.{◌≡◌, ◌∙◌, ◌==◌, fold, Accepted, Cleared, Clock, ◌⊎◌, inl, inr, ◌&&◌, not, ℕ, Bool, true, false, List, [], ◌∷◌, length, Option, Some, None, refl, ap, ap₂, sym, subst, arith, if◌then◌else◌, is_some, option_and_then, AllByRecursion, Answer, Command, IsCommand, answered_block, command_octets, says_again, says_error, ContentFacts, ContentKept, content_with, content_events, kept_with, Heard, Done, Facts, RuleLimits, names_absent, first_broken_within, is_some_and, observation_in, observation_of, Watchdog, kept}
+use Rattle.fio_ends.proofs.Names.{◌≡◌, ◌∙◌, ◌==◌, fold, Accepted, Cleared, Clock, ◌⊎◌, inl, inr, ◌&&◌, not, ℕ, Bool, true, false, List, [], ◌∷◌, length, Option, Some, None, refl, ap, ap₂, sym, subst, arith, if◌then◌else◌, is_some, option_and_then, nat_tests, same_Some, number_due, facts_with, ◌+◌, ◌%◌, ◌≤◌, AllByRecursion, Answer, Command, IsCommand, answered_block, command_octets, says_again, says_error, ContentFacts, ContentKept, content_with, content_events, kept_with, Heard, Done, Facts, RuleLimits, names_absent, first_broken_within, is_some_and, observation_in, observation_of, Watchdog, kept}
 use Rattle.std.specs.Option.{option_or}
-use Rattle.std.specs.Prelude.{filter}
+use Rattle.std.specs.Prelude.{filter, ◌||◌, nat_le, nat_lt, option_map}
 use Rattle.fio_message.specs.Blocks.{Block}
 use Rattle.fio_message.specs.declared.answers.Answer.TheVariants as answers
-use Rattle.fio_check.specs.Checkers.{found_by, passes_over}
+use Rattle.fio_check.specs.Checkers.{breach_of, due_in, found_by, passes_over}
 use Rattle.fio_check.specs.ContentCheckers.{breach_among, found_in_frame}
 use Rattle.fio_check.specs.ContentRules.{breaks_answer}
 use Rattle.fio_check.specs.ContentSaid.{is_before, stamp_of}
-use Rattle.fio_check.specs.LinkJudges.{Judging, outcome_of_content, stamp_above, any_stamp_in, any_stamp_of, content_here, is_answer_set_back, is_set_back, is_unheard, judging_below_outcome, loads_below, outcome_found, outcome_in, outcome_judged, outcome_set_back, place_lost, unjudged_by}
+use Rattle.fio_check.specs.LinkJudges.{Judging, is_at_cpu, is_of_rest, may_answer_anew, may_be_anew, outcome_anew, polls_below, outcome_of_content, stamp_above, any_stamp_in, any_stamp_of, content_here, is_answer_set_back, is_set_back, is_unheard, judging_below_outcome, loads_below, outcome_found, outcome_in, outcome_judged, outcome_set_back, place_lost, unjudged_by}
+use Rattle.fio_check.specs.declared.checker.Breach.{Breach}
 use Rattle.fio_check.specs.declared.content.ContentBreach.{ContentBreach}
+use Rattle.fio_check.specs.declared.content_rules.ContentRule.{ContentRule}
+use Rattle.fio_check.specs.declared.observation.Observation.{Observation}
 use Rattle.fio_check.specs.declared.observation.Observation.TheVariants as seen
+use Rattle.fio_check.specs.declared.rules.Rule.{Rule}
 use Rattle.fio_check.specs.declared.rules.Rule.TheVariants as tried
-use Rattle.fio_check.specs.Observations.{accepts}
+use Rattle.std.specs.List.{list_any}
+use Rattle.fio_check.specs.Observations.{accepts, is_absent}
+use Rattle.fio_check.specs.Rules.{breaks_within}
+use Rattle.fio_message.specs.Status.{says_out_of_sequence}
+use Rattle.fio_message.specs.declared.types.TheConstants.{BLOCK_ANSWER}
+use Rattle.fio_ends.proofs.Rules.{KeepsRules}
 use Rattle.fio_message.specs.Answers.{answer_code}
 use Rattle.fio_check.specs.declared.outcome.Excuse.TheVariants.{Load}
 use Rattle.fio_check.specs.declared.outcome.LogPlace.{LogPlace}
 use Rattle.fio_check.specs.declared.outcome.FrameOutcome.{FrameOutcome}
-use Rattle.fio_check.specs.declared.outcome.FrameOutcome.TheVariants.{Excused, Kept, NotJudged, Restarted}
+use Rattle.fio_check.specs.declared.outcome.FrameOutcome.TheVariants.{Broken, Excused, Kept, NotJudged, Restarted}
 use Rattle.fio_check.proofs.Unexcused.{sent_step}
 use Rattle.fio_ends.specs.LinkLogs.{AccusesNeither, IsRight}
 use Rattle.fio_ends.specs.RestartedLogs.{HaveRestarts, is_restart}
@@ -94,16 +103,19 @@ back_of judging (Some (answers.FilteredInputs inputs stamp)) is = is
 back_of judging (Some other) is = absurd (cc is)
 
 -- it is no block that is sent again
-block_stamp : (again : Bool) (stamp : ℕ) (latest : Option ℕ) → is_some_and (if again then None else Some stamp) (λ s. is_some_and latest (is_before s)) ≡ true
-    → Some stamp ≡ (if again then None else Some stamp)
-block_stamp true stamp latest is = absurd (cc is)
-block_stamp false stamp latest is = refl
+block_stamp : (again : Bool) (stamp : ℕ) → is_some (if again then None else Some stamp) ≡ true → Some stamp ≡ (if again then None else Some stamp)
+block_stamp true stamp is = absurd (cc is)
+block_stamp false stamp is = refl
 
-pub same_stamp : (latest : Option ℕ) (answer : Option Answer) → is_some_and (option_and_then stamp_of answer) (λ s. is_some_and latest (is_before s)) ≡ true
-    → option_and_then any_stamp_of answer ≡ option_and_then stamp_of answer
-same_stamp latest None is = refl
-same_stamp latest (Some (answers.Block number entries status stamp)) is = block_stamp (says_again status) stamp latest is
-same_stamp latest (Some other) is = refl
+pub same_stamp : (answer : Option Answer) → is_some (option_and_then stamp_of answer) ≡ true → option_and_then any_stamp_of answer ≡ option_and_then stamp_of answer
+same_stamp None is = refl
+same_stamp (Some (answers.Block number entries status stamp)) is = block_stamp (says_again status) stamp is
+same_stamp (Some other) is = refl
+
+pub any_heard : (s : StampState) (answer : Option Answer) (stamp : ℕ) → option_and_then any_stamp_of answer ≡ Some stamp → (stamps_heard s answer).any ≡ Some stamp
+any_heard s None stamp is = absurd (cc is)
+any_heard s (Some (answers.Block number entries status at)) stamp is = is
+any_heard s (Some other) stamp is = ap (λ o. option_or o s.any) is
 
 pub latest_heard : (s : StampState) (answer : Option Answer) (stamp : ℕ) → option_and_then stamp_of answer ≡ Some stamp → (stamps_heard s answer).latest ≡ Some stamp
 latest_heard s None stamp is = absurd (cc is)
@@ -252,6 +264,132 @@ sent_absent one other command within = by one ∙ sym (by other)
     by kept = ap (λ read. (fold content_with kept.facts (content_events kept.number read None)).absent_named) (read_back command within)
         ∙ ap (λ (facts : ContentFacts). facts.absent_named) (sent_step kept.facts command)
 
+-- ---- a block that is sent again
+
+-- what the facts of a judge that took lines above the life have of its polls: none was sent yet; or they have the same ones
+pub record IsUnpolled (facts : Facts) : Type 0 where
+  pub polled : is_some facts.polled ≡ true
+  pub answered : facts.answered ≡ true
+  pub advanced : facts.advanced ≡ true
+
+pub record IsPolled (above facts : Facts) (polls : ℕ) : Type 0 where
+  pub polled : above.polled ≡ facts.polled
+  pub once : 1 ≤ polls
+  pub twice : facts.advanced ≡ false → (above.advanced ≡ false) × (2 ≤ polls)
+
+abbrev pub KnowsPolls : Facts → Facts → ℕ → Type 0
+KnowsPolls above facts polls = IsUnpolled facts ⊎ IsPolled above facts polls
+
+-- below a line that is neither a poll nor a block
+pub polls_kept : (above facts : Facts) (polls : ℕ) (above_awaited facts_awaited : Option ℕ) (above_named facts_named : Bool) → KnowsPolls above facts polls
+    → KnowsPolls (record above { awaited = above_awaited; absent_named = above_named }) (record facts { awaited = facts_awaited; absent_named = facts_named }) polls
+polls_kept above facts polls above_awaited facts_awaited above_named facts_named (inl u) = inl (record { polled = u.polled; answered = u.answered; advanced = u.advanced })
+polls_kept above facts polls above_awaited facts_awaited above_named facts_named (inr k) = inr (record { polled = k.polled; once = k.once; twice = k.twice })
+
+one_more : (polls least : ℕ) → least ≤ polls + 1 → least ≤ 2 → least ≤ (if nat_lt polls 2 then polls + 1 else 2)
+one_more polls least one two = by (nat_lt polls 2)
+  where
+    by : (few : Bool) → least ≤ (if few then polls + 1 else 2)
+    by true = one
+    by false = two
+
+-- below a poll
+pub polls_polled : (above facts : Facts) (polls number : ℕ) → ((due : ℕ) → number_due facts ≡ Some due → due ≡ number) → KnowsPolls above facts polls
+    → KnowsPolls (facts_with above (seen.Poll number)) (facts_with facts (seen.Poll number)) (polls_below polls (seen.Poll number))
+polls_polled above facts polls number due (inr k) = inr (record {
+  polled = refl;
+  once = one_more polls 1 (omega arith) (omega arith);
+  twice = λ is. (ap (λ polled. is_some_and polled (λ polled. not (number == polled))) k.polled ∙ is, (let once = k.once in one_more polls 2 (omega (arith, once)) (omega arith)));
+})
+polls_polled above facts polls number due (inl u) = by facts.polled refl
+  where
+    by : (polled : Option ℕ) → facts.polled ≡ polled
+        → KnowsPolls (facts_with above (seen.Poll number)) (facts_with facts (seen.Poll number)) (polls_below polls (seen.Poll number))
+    by None is = absurd (let none : is_some {T = ℕ} None ≡ true = sym (ap (is_some {T = ℕ}) is) ∙ u.polled in cc none)
+    by (Some polled) is =
+        let next : (polled + 1) % 256 ≡ number = due ((polled + 1) % 256) (rw (is, u.answered) refl) in
+        let other : (number == polled) ≡ false = grind (arith, nat_tests, next) in
+        let goes : (facts_with facts (seen.Poll number)).advanced ≡ true = ap (λ found. is_some_and found (λ before. not (number == before))) is ∙ ap not other in
+        inr (record { polled = refl; once = one_more polls 1 (omega arith) (omega arith); twice = λ not_so. absurd (let both : true ≡ false = sym goes ∙ not_so in cc both) })
+
+-- such a block breaks no rule but that on the rest, below facts of a judge that took lines above the life
+pub record IsAgain (limits : RuleLimits) (above facts : Facts) (polls : ℕ) (said : Observation) : Type 0 where
+  pub polled : IsPolled above facts polls
+  pub twice : 2 ≤ polls
+  pub found : (first_broken_within limits above said ≡ None) ⊎ (first_broken_within limits above said ≡ Some tried.Rest)
+
+pub again_found : (limits : RuleLimits) (above facts : Facts) (polls number status entries : ℕ) (absent : Bool) → says_again status ≡ true → above.awaited ≡ facts.awaited
+    → KnowsPolls above facts polls → KeepsRules limits facts (seen.Block number status entries absent) → IsAgain limits above facts polls (seen.Block number status entries absent)
+again_found limits above facts polls number status entries absent again awaited (inl u) keeps =
+    absurd (let both : true ≡ false = sym (rw (again, u.advanced) refl) ∙ keeps tried.Same in cc both)
+again_found limits above facts polls number status entries absent again awaited (inr k) keeps = record {
+  polled = k;
+  twice = twice.1;
+  found = by (breaks_within limits above said tried.Rest) refl;
+}
+  where
+    said : Observation
+    said = seen.Block number status entries absent
+
+    advanced : facts.advanced ≡ false
+    advanced = sym (ap (λ a. a && facts.advanced) again) ∙ keeps tried.Same
+
+    twice : (above.advanced ≡ false) × (2 ≤ polls)
+    twice = k.twice advanced
+
+    pair : breaks_within limits above said tried.Pair ≡ false
+    pair = ap (λ a. not (is_some_and a (λ awaited. awaited == BLOCK_ANSWER))) awaited ∙ keeps tried.Pair
+
+    numbered : breaks_within limits above said tried.Number ≡ false
+    numbered = ap (λ p. is_some_and p (λ polled. not (number == polled))) k.polled ∙ keeps tried.Number
+
+    same : breaks_within limits above said tried.Same ≡ false
+    same = ap (λ a. says_again status && a) twice.0 ∙ never (says_again status)
+
+    sequence : breaks_within limits above said tried.Sequence ≡ false
+    sequence = ap (λ a. says_out_of_sequence status && (a || is_some above.more)) again ∙ sym (ap (λ a. says_out_of_sequence status && (a || is_some facts.more)) again)
+        ∙ keeps tried.Sequence
+
+    by : (rest : Bool) → breaks_within limits above said tried.Rest ≡ rest → (first_broken_within limits above said ≡ None) ⊎ (first_broken_within limits above said ≡ Some tried.Rest)
+    by true rest = inr (rw (pair, numbered, same, sequence, keeps tried.RuleLimits, rest) refl)
+    by false rest = inl (rw (pair, numbered, same, sequence, keeps tried.RuleLimits, rest) refl)
+
+-- an answer with a stamp that is none for those that follow is such a block
+pub record IsBlockAgain (answer : Option Answer) : Type 0 where
+  pub number : ℕ
+  pub status : ℕ
+  pub count : ℕ
+  pub absent : Bool
+  pub stamp : ℕ
+  pub again : says_again status ≡ true
+  pub said : observation_of None answer ≡ seen.Block number status count absent
+  pub any : option_and_then any_stamp_of answer ≡ Some stamp
+  pub may : (judging : Judging) → is_some_and answer (may_answer_anew judging)
+      ≡ (says_again status && nat_le 2 judging.polls && is_some_and judging.latest (is_before stamp))
+
+says_again_by : (again : Bool) (stamp : ℕ) → is_some (if again then None else Some stamp) ≡ false → again ≡ true
+says_again_by true stamp is = refl
+says_again_by false stamp is = absurd (cc is)
+
+pub block_again : (answer : Option Answer) → is_some (option_and_then any_stamp_of answer) ≡ true → is_some (option_and_then stamp_of answer) ≡ false → IsBlockAgain answer
+block_again None any is = absurd (cc any)
+block_again (Some (answers.Block number entries status stamp)) any is =
+    record {
+      number = number;
+      status = status;
+      count = length entries.items;
+      absent = list_any (λ entry. is_absent entry.input) entries.items;
+      stamp = stamp;
+      again = says_again_by (says_again status) stamp is;
+      said = refl;
+      any = refl;
+      may = λ judging. refl;
+    }
+block_again (Some (answers.Status flags receive transmit stamp)) any is = absurd (cc is)
+block_again (Some (answers.RawInputs inputs stamp)) any is = absurd (cc is)
+block_again (Some (answers.FilteredInputs inputs stamp)) any is = absurd (cc is)
+block_again (Some other) any is = absurd (cc any)
+
 -- ---- the judge
 
 -- below a frame whose stamp is set back
@@ -274,9 +412,11 @@ pub watchdog_is : (judging : Judging) (at : LogPlace) (octets : List ℕ) (breac
     → is_set_back judging false octets ≡ false → found_by judging.checker false (observation_in false octets) ≡ None → found_in_frame (content_here judging) false octets ≡ Some breach → breach.rule ≡ Watchdog
     → outcome_in judging at false octets ≡ Restarted
 watchdog_is judging at octets breach over back rules content is =
-    ap (λ b. here (outcome_judged judging at false octets) b (is_set_back judging false octets)) over ∙ ap (here (outcome_judged judging at false octets) false) back
-    ∙ ap (λ found. outcome_found unheard found (found_in_frame (content_here judging) false octets)) rules ∙ ap (outcome_found unheard None) content
-    ∙ by unheard ∙ ap (outcome_of_content breach) is
+    ap (λ b. here (outcome_anew anew (outcome_judged judging at false octets)) b (is_set_back judging false octets)) over
+    ∙ ap (here (outcome_anew anew (outcome_judged judging at false octets)) false) back
+    ∙ ap (λ found. outcome_anew anew (outcome_found unheard found (found_in_frame (content_here judging) false octets))) rules
+    ∙ ap (λ found. outcome_anew anew (outcome_found unheard None found)) content
+    ∙ ap (outcome_anew anew) (by unheard ∙ ap (outcome_of_content breach) is) ∙ restarted anew
   where
     here : FrameOutcome → Bool → Bool → FrameOutcome
     here judged over back = if over then NotJudged (unjudged_by judging.checker.skips) else (if back then outcome_set_back judging else judged)
@@ -284,6 +424,70 @@ watchdog_is judging at octets breach over back rules content is =
     unheard : Bool
     unheard = is_unheard judging at (observation_in false octets)
 
+    anew : Bool
+    anew = may_be_anew judging false octets
+
     by : (b : Bool) → outcome_found b None (Some breach) ≡ outcome_of_content breach breach.rule
     by true = refl
     by false = refl
+
+    restarted : (b : Bool) → outcome_anew b Restarted ≡ Restarted
+    restarted true = refl
+    restarted false = refl
+
+-- a block that a module that was restarted may have sent: that shows the restart, or it keeps all rules
+content_anew : (breach : ContentBreach) (rule : ContentRule) → outcome_anew true (outcome_of_content breach rule) ≡ Restarted
+content_anew breach Watchdog = refl
+content_anew breach other = refl
+
+pub anew_is : (judging : Judging) (at : LogPlace) (octets : List ℕ) (number status entries : ℕ) (absent : Bool) → observation_in false octets ≡ seen.Block number status entries absent
+    → passes_over judging.checker false (observation_in false octets) ≡ false → is_set_back judging false octets ≡ false → may_be_anew judging false octets ≡ true
+    → ((breach : Breach) → found_by judging.checker false (observation_in false octets) ≡ Some breach → breach.rule ≡ tried.Rest)
+    → (outcome_in judging at false octets ≡ Restarted)
+    ⊎ ((found_by judging.checker false (observation_in false octets) ≡ None) × (found_in_frame (content_here judging) false octets ≡ None))
+anew_is judging at octets number status entries absent said over back may rest =
+    by (found_by judging.checker false (observation_in false octets)) refl (found_in_frame (content_here judging) false octets) refl
+  where
+    unheard : is_unheard judging at (observation_in false octets) ≡ false
+    unheard = ap (is_unheard judging at) said ∙ never (not (is_at_cpu at))
+
+    here : FrameOutcome → Bool → Bool → FrameOutcome
+    here judged over back = if over then NotJudged (unjudged_by judging.checker.skips) else (if back then outcome_set_back judging else judged)
+
+    judged : FrameOutcome
+    judged = outcome_judged judging at false octets
+
+    outcome : (found : Option Breach) → found_by judging.checker false (observation_in false octets) ≡ found → (content : Option ContentBreach) → found_in_frame (content_here judging) false octets ≡ content
+        → outcome_in judging at false octets ≡ outcome_anew true (outcome_found false found content)
+    outcome found found_is content content_is =
+        ap (λ b. here (outcome_anew (may_be_anew judging false octets) judged) b (is_set_back judging false octets)) over
+        ∙ ap (here (outcome_anew (may_be_anew judging false octets) judged) false) back
+        ∙ ap (λ anew. outcome_anew anew judged) may
+        ∙ ap (λ b. outcome_anew true (outcome_found b (found_by judging.checker false (observation_in false octets)) (found_in_frame (content_here judging) false octets))) unheard
+        ∙ ap (λ f. outcome_anew true (outcome_found false f (found_in_frame (content_here judging) false octets))) found_is
+        ∙ ap (λ c. outcome_anew true (outcome_found false found c)) content_is
+
+    by : (found : Option Breach) → found_by judging.checker false (observation_in false octets) ≡ found → (content : Option ContentBreach) → found_in_frame (content_here judging) false octets ≡ content
+        → (outcome_in judging at false octets ≡ Restarted)
+        ⊎ ((found_by judging.checker false (observation_in false octets) ≡ None) × (found_in_frame (content_here judging) false octets ≡ None))
+    by (Some breach) found_is content content_is =
+        inl (outcome (Some breach) found_is content content_is ∙ ap (λ rule. if is_of_rest rule then Restarted else Broken breach) (rest breach found_is))
+    by None found_is (Some content) content_is = inl (outcome None found_is (Some content) content_is ∙ content_anew content content.rule)
+    by None found_is None content_is = inr (found_is, content_is)
+
+-- by the first rule that is broken
+pub none_of_breach : (limits : RuleLimits) (facts : Facts) (said : Observation) → breach_of limits facts said ≡ None → first_broken_within limits facts said ≡ None
+none_of_breach limits facts said is = by (first_broken_within limits facts said) is
+  where
+    by : (rule : Option Rule) → option_map {U = Breach} (λ rule. record { rule = rule; due = due_in facts said rule }) rule ≡ None → rule ≡ None
+    by None is = refl
+    by (Some rule) is = absurd (cc is)
+
+pub breach_is_rest : (limits : RuleLimits) (facts : Facts) (said other : Observation) (breach : Breach) → first_broken_within limits facts said ≡ first_broken_within limits facts other
+    → (first_broken_within limits facts other ≡ None) ⊎ (first_broken_within limits facts other ≡ Some tried.Rest) → breach_of limits facts said ≡ Some breach → breach.rule ≡ tried.Rest
+breach_is_rest limits facts said other breach same (inl none) is =
+    absurd (let never : None ≡ Some breach = sym (ap (option_map {U = Breach} (λ rule. record { rule = rule; due = due_in facts said rule })) (same ∙ none)) ∙ is in cc never)
+breach_is_rest limits facts said other breach same (inr rest) is =
+    let one : Some (record { rule = tried.Rest; due = due_in facts said tried.Rest }) ≡ Some breach =
+    sym (ap (option_map {U = Breach} (λ rule. record { rule = rule; due = due_in facts said rule })) (same ∙ rest)) ∙ is in
+    sym (ap (λ (b : Breach). b.rule) (same_Some _ _ one))

@@ -42,11 +42,16 @@ kept_of broken kept rule = each-at (λ one. broken one ≡ false) rules (rule_nu
 abbrev pub KeepsRules : RuleLimits → Facts → Observation → Type 0
 KeepsRules limits facts observation = (rule : Rule) → breaks_within limits facts observation rule ≡ false
 
--- if no first rule is broken with the limits of TEES 2009, none is
+-- if no first rule is broken, none is
+pub rules_kept_within : (limits : RuleLimits) (facts : Facts) (observation : Observation) → first_broken_within limits facts observation ≡ None
+    → KeepsRules limits facts observation
+rules_kept_within limits facts observation none =
+    kept_of (breaks_within limits facts observation) (each_kept (breaks_within limits facts observation) rules none)
+
+-- with the limits of TEES 2009
 pub rules_kept : (facts : Facts) (observation : Observation) → first_broken facts observation ≡ None
     → KeepsRules standard_rule_limits facts observation
-rules_kept facts observation none =
-    kept_of (breaks_within standard_rule_limits facts observation) (each_kept (breaks_within standard_rule_limits facts observation) rules none)
+rules_kept facts observation none = rules_kept_within standard_rule_limits facts observation none
 
 -- and conversely, with any limits
 pub no_rule_broken : (limits : RuleLimits) (facts : Facts) (observation : Observation) → KeepsRules limits facts observation

@@ -1,5 +1,5 @@
 -- Both ends over two lines of octets are a run of the link.
-use Rattle.std.specs.Prelude.{◌≡◌, ◌≢◌, ℕ, ◌≤◌, List, [], ◌∷◌, map, Some}
+use Rattle.std.specs.Prelude.{◌≡◌, ◌≢◌, ℕ, ◌≤◌, Bool, List, [], ◌∷◌, map, Some}
 use Rattle.fio_message.specs.Octets.{IsOctet}
 use Rattle.fio_module.specs.Settings.{Settings, AreInRange, standard_settings}
 use Rattle.fio_link.specs.declared.event.Event.{Event}
@@ -8,9 +8,9 @@ use Rattle.fio_link.specs.Link.{Machine, SentFrame, item_numbered, polling_of}
 use Rattle.fio_link.specs.Sound.{IsSoundRun}
 use Rattle.fio_wire.specs.declared.limits.TheConstants.{FLAG}
 use Rattle.fio_wire.specs.Frames.{frame_of}
-use Rattle.fio_wire.specs.Laws.{Octet}
+use Rattle.fio_wire.specs.Laws.{IsFate, Octet, Struck}
 use Rattle.fio_wire.specs.Octets.{sent, stuffed}
-use Rattle.fio_ends.specs.Lines.{Framing, IsFraming, WireLine, WiredEnds, ends_at_start, Brought, WireEvent, events_on_wire, IsStruck, MayCome, after_line_event, Arrives, EndOf}
+use Rattle.fio_ends.specs.Lines.{Framing, IsFraming, WireLine, WiredEnds, ends_at_start, Brought, WireEvent, events_on_wire, MayCome, after_line_event, Arrives, EndOf}
 
 -- these events may come one after the other, and lead from some ends to others
 abbrev pub LeadOverLines : Settings → Framing → WiredEnds → List WireEvent → WiredEnds → Type 0
@@ -73,7 +73,11 @@ EachFrameMayCome line_of at =
     → MayFollow settings framing ends
     (part_brought at (stuffed (frame_of framing.address framing.control message)) (EndOf number))
 
--- Directly after a flag a line may bring each frame that was struck.
+-- octets between two flags that are a frame as it was struck: some of its bits are flipped, in a way that the frame check finds
+abbrev pub IsStruck : List ℕ → Type 0
+IsStruck part = (frame : List ℕ) × (errors : List Bool) × IsFate (Struck frame errors part)
+
+-- Directly after a flag a line may bring each frame that was struck: it is noise.
 abbrev pub EachStruckFrameMayCome : (WiredEnds → WireLine) → (Brought → WireEvent) → Type 0
 EachStruckFrameMayCome line_of at =
     (settings : Settings) (framing : Framing) (ends : WiredEnds) (part : List ℕ)

@@ -1,5 +1,5 @@
 -- Both ends and two lines of octets between them: what a line may bring, and what the ends do.
-use Rattle.std.specs.Prelude.{◌≡◌, ◌≢◌, ℕ, ◌≤◌, ◌==◌, ◌⊎◌, Bool, true, List, [], ◌∷◌, ◌++◌, Option, Some, None, option_map, if◌then◌else◌}
+use Rattle.std.specs.Prelude.{◌≡◌, ◌≢◌, ℕ, ◌≤◌, ◌==◌, true, List, [], ◌∷◌, ◌++◌, Option, Some, None, option_map, if◌then◌else◌}
 use Rattle.fio_message.specs.declared.answers.Answer.{Answer}
 use Rattle.fio_message.specs.declared.commands.Command.TheVariants as commands
 use Rattle.fio_message.specs.Answers.{answer_octets}
@@ -20,7 +20,7 @@ use Rattle.fio_wire.specs.declared.heard.WireHeard.TheVariants.{Message}
 use Rattle.fio_wire.specs.declared.limits.TheConstants.{FLAG}
 use Rattle.fio_wire.specs.Frames.{wire_heard, is_own, message_of_frame}
 use Rattle.fio_wire.specs.Frames as frames
-use Rattle.fio_wire.specs.Laws.{Arrival, IsFate, Loss, Octet, Struck, after_arrival, arrival_says}
+use Rattle.fio_wire.specs.Laws.{Arrival, Loss, Octet, after_arrival, arrival_says}
 use Rattle.fio_wire.specs.Octets.{Reading, held_frame, said_in, sent}
 use Rattle.fio_wire.specs.Octets as octets
 
@@ -101,10 +101,6 @@ events_on_wire (other ∷ events) = events_on_wire events
 
 -- ---- What a line may bring
 
--- octets between two flags that are a frame as it was struck: some of its bits are flipped, in a way that the frame check finds
-abbrev pub IsStruck : List ℕ → Type 0
-IsStruck part = (frame : List ℕ) × (errors : List Bool) × IsFate (Struck frame errors part)
-
 -- octets between two flags that are not a frame of the decoder's own: no octets, octets with a wrong check, or another's frame
 abbrev pub IsNoise : frames.WireSettings → List ℕ → Type 0
 IsNoise own part = wire_heard own (said_in part) ≢ Message
@@ -116,11 +112,11 @@ pub record ComesWhole (line : WireLine) (number : ℕ) : Type 0 where
   pub is_written : item_numbered line.written number ≡ Some (FLAG ∷ part ++ FLAG ∷ [])
   pub in_order : line.last ≤ number
 
--- What a line may bring: any octets, if between two flags they are a frame, whole and in order, a struck frame, or noise. A
+-- What a line may bring: any octets, if between two flags they are a frame, whole and in order, or noise, as a struck frame is. A
 -- frame that does not come is lost.
 abbrev pub MayBring : frames.WireSettings → WireLine → Brought → Type 0
 MayBring own line (Arrives (Octet octet)) =
-    octet ≡ FLAG → (part : List ℕ) → line.part ≡ Some part → IsStruck part ⊎ IsNoise own part
+    octet ≡ FLAG → (part : List ℕ) → line.part ≡ Some part → IsNoise own part
 MayBring own line (Arrives Loss) = Unit {0}
 MayBring own line (EndOf number) = ComesWhole line number
 

@@ -1,17 +1,19 @@
 -- Logs of a right link that begin anywhere, while loads of the counter may still take effect, and in which lines may be lost.
-use Rattle.std.specs.Prelude.{◌≡◌, ℕ, ◌+◌, ◌<◌, ◌^◌, Bool, true, false, List, [], ◌∷◌, ◌++◌, map, Option, Some, None, if◌then◌else◌}
+use Rattle.std.specs.Prelude.{◌≡◌, ◌≢◌, ℕ, ◌+◌, ◌<◌, ◌^◌, Bool, true, false, List, [], ◌∷◌, ◌++◌, map, Option, Some, None, if◌then◌else◌}
 use Rattle.std.specs.List.{AllByRecursion}
-use Rattle.fio_module.specs.Settings.{Settings, AreInRange}
+use Rattle.fio_module.specs.Settings.{Settings, AreInRange, standard_settings}
 use Rattle.fio_module.specs.Life.{life_of, loads_of, scans_of}
 use Rattle.fio_check.specs.ContentCheckers.{found_first}
 use Rattle.fio_check.specs.Lines.{TranscriptLine}
 use Rattle.fio_check.specs.LinkJudges.{Judging, LogLine, Frame, Lost, checking_again, judging_anywhere, judging_begun, outcomes_of}
+use Rattle.fio_check.specs.Rules.{standard_rule_limits}
 use Rattle.fio_check.specs.declared.limits.RuleLimits.{RuleLimits}
 use Rattle.fio_check.specs.declared.outcome.LogPlace.{LogPlace}
 use Rattle.fio_check.specs.declared.outcome.FrameOutcome.{FrameOutcome}
 use Rattle.fio_check.specs.declared.outcome.FrameOutcome.TheVariants.{Broken, BrokenContent, Kept, NotJudged}
 use Rattle.fio_check.specs.declared.outcome.Unjudged.TheVariants.{AboveCommand}
 use Rattle.fio_link.specs.declared.event.Event.{Event}
+use Rattle.fio_link.specs.declared.event.Event.TheVariants.{ToCpu}
 use Rattle.fio_link.specs.Link.{Machine, Leads, after, start}
 use Rattle.fio_ends.specs.ContentPremises.{AreTimesNear, LoadsAreSent}
 use Rattle.fio_ends.specs.ContentRuns.{MayBegin, judged_events, judged_from}
@@ -26,17 +28,31 @@ abbrev pub AreUnderWay : ℕ → Settings → ℕ → Machine → List Event →
 AreUnderWay loads settings first machine events =
     LoadsAreSent settings first (loads_of (life_of machine.history) + loads) machine events
 
+-- what the CPU's end logs of a prompt run from any event on, while at most this number of loads may still take effect
+pub record IsLogBelowLoads (loads : ℕ) (settings : Settings) (first : ℕ) (before later : List Event) (machine last : Machine)
+    (lines : List TranscriptLine) : Type 0 where
+  pub in_range : AreInRange settings
+  pub run : IsPromptRun settings first (before ++ later) last
+  pub leads : Leads settings first start before machine
+  pub under_way : AreUnderWay loads settings first (machine_at_command settings first machine later) (events_from_command later)
+  pub near :
+      AreTimesNear false settings first (machine_at_command settings first machine later) (events_from_command later) last
+  pub has : HaveFrames lines (frames_from settings first machine later)
+
 -- A checker of content that begins anywhere, given the number of loads that may still take effect, accuses no right link: it
--- finds nothing in what the CPU's end logs of a prompt run from any event on.
+-- finds nothing in such a log.
 unfoldable pub AccusesNoneBelowLoads : Type 0
 AccusesNoneBelowLoads =
-    (loads : ℕ) (settings : Settings) (first : ℕ) (before later : List Event) (machine last : Machine) →
-    AreInRange settings → IsPromptRun settings first (before ++ later) last →
-    Leads settings first start before machine →
-    AreUnderWay loads settings first (machine_at_command settings first machine later) (events_from_command later) →
-    AreTimesNear false settings first (machine_at_command settings first machine later) (events_from_command later) last →
-    (lines : List TranscriptLine) → HaveFrames lines (frames_from settings first machine later) →
+    (loads : ℕ) (settings : Settings) (first : ℕ) (before later : List Event) (machine last : Machine) (lines : List TranscriptLine) →
+    IsLogBelowLoads loads settings first before later machine last lines →
     found_first (checking_again loads) lines ≡ None
+
+-- There is such a log, for one load, in which a checker that knows of none would accuse a right link.
+unfoldable pub LoadsMayBeUnderWay : Type 0
+LoadsMayBeUnderWay =
+    (before later : List Event) × (machine last : Machine) × (lines : List TranscriptLine)
+    × IsLogBelowLoads 1 (standard_settings 2) 0 before later machine last lines
+    × (found_first (checking_again 0) lines ≢ None)
 
 -- ---- a log in which lines may be lost
 
@@ -110,21 +126,39 @@ judging_at_start begun limits = if begun then judging_begun limits else judging_
 abbrev pub loads_at_start : Bool → Option ℕ
 loads_at_start begun = if begun then None else Some 0
 
--- The judge of a link accuses no right link: in what the CPU's end logs of a prompt run, from the start of both ends or from
--- any event on, no outcome accuses, though any frames may be missing at marks. The judge's limits suit the module; at most one
--- load of the counter is under way where the log goes on below a mark, and none where it begins; and all that is compared is
--- near.
+-- What the CPU's end logs of a prompt run, from the start of both ends or from any event on, though any frames may be missing at
+-- marks. The judge's limits suit the module; at most one load of the counter is under way where the log goes on below a mark,
+-- and none where it begins; and all that is compared is near.
+pub record IsMarkedLog (begun : Bool) (settings : Settings) (limits : RuleLimits) (first : ℕ) (before : List Event)
+    (steps : List LogStep) (machine last : Machine) : Type 0 where
+  pub in_range : AreInRange settings
+  pub suit : SuitModule settings limits
+  pub run : IsPromptRun settings first (before ++ events_of steps) last
+  pub leads : Leads settings first start before machine
+  pub begins : MayBegin begun before
+  pub marked : AreMarked false steps
+  pub few : FewAreUnderWay settings first machine (loads_at_start begun) steps
+  pub near : AreTimesNear begun settings first (judged_from begun settings first machine (events_of steps))
+      (judged_events begun (events_of steps)) last
+
+-- The judge of a link accuses no right link: no outcome of such a log accuses.
 unfoldable pub JudgeAccusesNone : Type 0
 JudgeAccusesNone =
     (begun : Bool) (settings : Settings) (limits : RuleLimits) (first : ℕ) (before : List Event) (steps : List LogStep) (machine last : Machine) →
-    AreInRange settings → SuitModule settings limits →
-    IsPromptRun settings first (before ++ events_of steps) last →
-    Leads settings first start before machine → MayBegin begun before →
-    AreMarked false steps →
-    FewAreUnderWay settings first machine (loads_at_start begun) steps →
-    AreTimesNear begun settings first (judged_from begun settings first machine (events_of steps))
-    (judged_events begun (events_of steps)) last →
+    IsMarkedLog begun settings limits first before steps machine last →
     AllByRecursion AccusesNeither (outcomes_of (judging_at_start begun limits) (log_from settings first machine steps))
+
+-- the outcomes of a log of a module with the limits of TEES 2009, which begins with both ends
+abbrev pub outcomes_begun : List LogStep → List FrameOutcome
+outcomes_begun steps = outcomes_of (judging_begun standard_rule_limits) (log_from (standard_settings 2) 0 start steps)
+
+-- There is such a log in which an answer is missing at a mark, and one frame above it and two below keep all rules.
+unfoldable pub FramesMayBeMissing : Type 0
+FramesMayBeMissing =
+    (above below : List LogStep) × (index : ℕ) × (last : Machine)
+    × IsMarkedLog true (standard_settings 2) standard_rule_limits 0 [] (above ++ Marked ∷ Missing (ToCpu index) ∷ below) start last
+    × (outcomes_begun above ≡ Kept ∷ [])
+    × (outcomes_begun (above ++ Marked ∷ Missing (ToCpu index) ∷ below) ≡ Kept ∷ Kept ∷ Kept ∷ [])
 
 -- ---- a log without marks
 

@@ -105,13 +105,7 @@ scans_of_turns before (Saw levels stamp ∷ turns) = scans_of_turns before turns
 scans_of_turns before (Answered entries stamp ∷ turns) = milliseconds_between before stamp + scans_of_turns stamp turns
 scans_of_turns before (Repeated entries stamp ∷ turns) = milliseconds_between before stamp + scans_of_turns stamp turns
 
--- the states are never seen
-abbrev pub AreUnseen : List Turn → Type 0
-AreUnseen [] = Unit {0}
-AreUnseen (Saw levels stamp ∷ turns) = ⊥
-AreUnseen (turn ∷ turns) = AreUnseen turns
-
--- A log of polls that begins later: the first poll is answered. It lasts fewer than 2^30 scans, which are twelve days.
+-- A log of polls, which begins later than both ends: the first poll is answered. It lasts fewer than 2^30 scans, which are twelve days.
 pub record IsLogOfPolls (lines : List TranscriptLine) : Type 0 where
   pub number : ℕ
   pub entries : List Entry
@@ -123,25 +117,10 @@ pub record IsLogOfPolls (lines : List TranscriptLine) : Type 0 where
   pub lasts : scans_of_turns stamp turns < 2 ^ 30
   pub has : HaveFrames lines (frames_of_turns number (Answered entries stamp ∷ turns))
 
--- A log of polls that begins with both ends, in which no states are seen. The counter is 0 at its beginning.
-pub record IsWholeLogOfPolls (lines : List TranscriptLine) : Type 0 where
-  pub number : ℕ
-  pub turns : List Turn
-  pub number_fits : number < 256
-  pub in_step : AreInStep 0 None turns
-  pub unseen : AreUnseen turns
-  pub lasts : scans_of_turns 0 turns < 2 ^ 30
-  pub has : HaveFrames lines (frames_of_turns number turns)
-
 -- Exactly those logs of polls are accused that no right link explains.
 unfoldable pub LogsOfPollsAreDecided : Type 0
 LogsOfPollsAreDecided = (lines : List TranscriptLine) → IsLogOfPolls lines →
     (content_fault_in false lines ≡ None) ↔ IsExplainable standard_rule_limits false lines
-
--- exactly those logs of polls that begin with both ends are accused that no right link explains
-unfoldable pub WholeLogsOfPollsAreDecided : Type 0
-WholeLogsOfPollsAreDecided = (lines : List TranscriptLine) → IsWholeLogOfPolls lines →
-    (content_fault_in true lines ≡ None) ↔ IsExplainable standard_rule_limits true lines
 
 -- there are logs of polls of both kinds: one that a right link explains, and one that none explains
 unfoldable pub AreOfBothKinds : Type 0

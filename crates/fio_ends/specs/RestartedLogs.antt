@@ -1,12 +1,13 @@
 -- The log of a link whose module is restarted, below whatever a judge of a link took: it accuses nobody there, and says once at most
 -- for each restart that the module was restarted, if a stamp shows it.
 use Rattle.std.specs.Prelude.{◌≡◌, ℕ, ◌+◌, ◌≤◌, Bool, true, false, List, [], ◌∷◌, ◌++◌, Option, Some, filter, is_some, length}
-use Rattle.std.specs.List.{AllByRecursion}
-use Rattle.fio_module.specs.Settings.{Settings, AreInRange}
+use Rattle.std.specs.List.{AllByRecursion, list_any}
+use Rattle.fio_module.specs.Settings.{Settings, AreInRange, standard_settings}
 use Rattle.fio_check.specs.ContentSaid.{is_before}
 use Rattle.fio_check.specs.Facts.{number_due}
 use Rattle.fio_check.specs.LinkJudges.{Judging, LogLine, Frame, Lost, any_stamp_in, judging_anywhere, judging_below, outcomes_of, stamp_in}
 use Rattle.fio_check.specs.Places.{is_some_and}
+use Rattle.fio_check.specs.Rules.{standard_rule_limits}
 use Rattle.fio_check.specs.declared.checker.Skips.TheVariants.{Nothing}
 use Rattle.fio_check.specs.declared.limits.RuleLimits.{RuleLimits}
 use Rattle.fio_check.specs.declared.outcome.FrameOutcome.{FrameOutcome}
@@ -24,18 +25,18 @@ pub record JudgesOn (limits : RuleLimits) (number : ℕ) (judging : Judging) : T
   pub content : judging.content.begun ≡ true
   pub due : (due : ℕ) → number_due judging.checker.facts ≡ Some due → due ≡ number
 
--- a frame has a stamp before this one, if there is one, and is no block that is sent again
+-- a frame has a stamp before this one, if there is one
 abbrev pub is_earlier : Option ℕ → Bool → List ℕ → Bool
 is_earlier latest from_cpu octets =
-    is_some_and (stamp_in from_cpu octets) (λ stamp. is_some_and latest (is_before stamp))
+    is_some_and (any_stamp_in from_cpu octets) (λ stamp. is_some_and latest (is_before stamp))
 
--- the first frame with a stamp on these lines is such a frame
+-- each stamp on these lines, through the first that is not that of a block that is sent again, is before this one
 abbrev pub BeginsEarlier : Option ℕ → List LogLine → Type 0
 BeginsEarlier latest [] = Unit {0}
 BeginsEarlier latest (Lost ∷ lines) = BeginsEarlier latest lines
 BeginsEarlier latest (Frame at from_cpu octets ∷ lines) =
     (is_some (any_stamp_in from_cpu octets) ≡ true → is_earlier latest from_cpu octets ≡ true)
-    × (is_some (any_stamp_in from_cpu octets) ≡ false → BeginsEarlier latest lines)
+    × (is_some (stamp_in from_cpu octets) ≡ false → BeginsEarlier latest lines)
 
 -- an outcome says that the module was restarted
 abbrev pub is_restart : FrameOutcome → Bool
@@ -61,7 +62,8 @@ lines_of_lives settings first (life ∷ lives) =
     log_from settings first start life.steps ++ lines_of_lives settings (first + life.last.round) lives
 
 -- A life below whatever a judge took: the module is started anew with nothing under way, no frame is missing from there on, no load
--- of the counter takes effect, and it lasts fewer than 2^31 scans. The first stamp that is heard is before the latest one above.
+-- of the counter takes effect, and it lasts fewer than 2^31 scans. Stamps that are heard are before the latest one above, through the
+-- first that is not that of a block that is sent again.
 pub record IsRestarted (settings : Settings) (first : ℕ) (judging : Judging) (steps : List LogStep) (last : Machine) : Type 0 where
   pub run : IsPromptRun settings first (events_of steps) last
   pub logged : AreLogged steps
@@ -87,17 +89,35 @@ JudgeFindsRestartsAnywhere =
     AreRestarted settings first judging lives →
     HaveRestarts (length lives) (outcomes_of judging (lines_of_lives settings first lives))
 
--- So it is with a log that begins in one life, at any event, as `JudgeKeepsAll` asks of it, and goes on over restarts.
+-- A log that begins in one life, at any event, as `JudgeKeepsAll` asks of it, and goes on over restarts.
+pub record IsLogOfLives (settings : Settings) (limits : RuleLimits) (first : ℕ) (before : List Event) (steps : List LogStep)
+    (machine last : Machine) (lives : List LoggedLife) : Type 0 where
+  pub in_range : AreInRange settings
+  pub suit : SuitModule settings limits
+  pub run : IsPromptRun settings first (before ++ events_of steps) last
+  pub leads : Leads settings first start before machine
+  pub logged : AreLogged steps
+  pub calm : IsCalm (machine_at_command settings first machine (events_of steps)) last
+  pub near : AreTimesNear false settings first (machine_at_command settings first machine (events_of steps))
+      (events_from_command (events_of steps)) last
+  pub restarted : AreRestarted settings (first + last.round)
+      (judging_below (judging_anywhere limits) (log_from settings first machine steps)) lives
+
+-- the outcomes of its frames
+abbrev pub outcomes_over_lives : Settings → RuleLimits → ℕ → List LogStep → Machine → Machine → List LoggedLife → List FrameOutcome
+outcomes_over_lives settings limits first steps machine last lives = outcomes_of (judging_anywhere limits)
+    (log_from settings first machine steps ++ lines_of_lives settings (first + last.round) lives)
+
+-- So it is with such a log.
 unfoldable pub JudgeFindsRestarts : Type 0
 JudgeFindsRestarts =
     (settings : Settings) (limits : RuleLimits) (first : ℕ) (before : List Event) (steps : List LogStep) (machine last : Machine) (lives : List LoggedLife) →
-    AreInRange settings → SuitModule settings limits →
-    IsPromptRun settings first (before ++ events_of steps) last →
-    Leads settings first start before machine →
-    AreLogged steps →
-    IsCalm (machine_at_command settings first machine (events_of steps)) last →
-    AreTimesNear false settings first (machine_at_command settings first machine (events_of steps))
-    (events_from_command (events_of steps)) last →
-    AreRestarted settings (first + last.round) (judging_below (judging_anywhere limits) (log_from settings first machine steps)) lives →
-    HaveRestarts (length lives) (outcomes_of (judging_anywhere limits)
-    (log_from settings first machine steps ++ lines_of_lives settings (first + last.round) lives))
+    IsLogOfLives settings limits first before steps machine last lives →
+    HaveRestarts (length lives) (outcomes_over_lives settings limits first steps machine last lives)
+
+-- There is such a log in which a restart is found.
+unfoldable pub RestartsAreFound : Type 0
+RestartsAreFound =
+    (steps : List LogStep) × (last : Machine) × (life : LoggedLife)
+    × IsLogOfLives (standard_settings 2) standard_rule_limits 0 [] steps start last (life ∷ [])
+    × (list_any is_restart (outcomes_over_lives (standard_settings 2) standard_rule_limits 0 steps start last (life ∷ [])) ≡ true)

@@ -5,12 +5,12 @@ ghost use Rattle.fio_ends.specs.ContentPremises.{HasNearTimes};
 ghost use Rattle.fio_ends.specs.ContentRuns.{AccusesNone, Always, ContentNeverAccuses};
 ghost use Rattle.fio_ends.specs.LineRuns.{EachFrameMayCome, EachStruckFrameMayCome, HeadlineOverLines, LinesAreRuns, LinesBringRecords};
 ghost use Rattle.fio_ends.specs.Lines.{AtCpu, AtModule};
-ghost use Rattle.fio_ends.specs.LinkLogs.{AccusesNoneBelowLoads, JudgeAccusesNone, JudgeKeepsAll};
+ghost use Rattle.fio_ends.specs.LinkLogs.{AccusesNoneBelowLoads, FramesMayBeMissing, JudgeAccusesNone, JudgeKeepsAll, LoadsMayBeUnderWay};
 ghost use Rattle.fio_ends.specs.Explainable.{AccusedAreNotExplainable};
-ghost use Rattle.fio_ends.specs.PollLogs.{AreOfBothKinds, LogsOfPollsAreDecided, WholeLogsOfPollsAreDecided};
+ghost use Rattle.fio_ends.specs.PollLogs.{AreOfBothKinds, LogsOfPollsAreDecided};
 ghost use Rattle.fio_ends.specs.Pollers.{GoodIsOfPoller};
 ghost use Rattle.fio_ends.specs.PromptRuns.{FromCommand, HasNoBreach, HasNoBreachAnywhere, IsGood, NeverAccuses, NeverAccusesLater};
-ghost use Rattle.fio_ends.specs.RestartedLogs.{JudgeFindsRestarts, JudgeFindsRestartsAnywhere};
+ghost use Rattle.fio_ends.specs.RestartedLogs.{JudgeFindsRestarts, JudgeFindsRestartsAnywhere, RestartsAreFound};
 ghost use Rattle.fio_ends.specs.RunRecords.{KeepsRecord};
 
 /// A good transcript comes from a right CPU's end: a poller that starts with the first poll's number has at each poll that
@@ -129,12 +129,25 @@ pub fn content_accuses_no_right_link_below_loads()
     ensures { AccusesNoneBelowLoads }
 {}
 
+/// Such a log exists: one in which a load takes effect that was sent above it, so that a checker that knows of none would accuse a
+/// right link.
+#[tactic(auto, using(crate::proofs::JudgeExamples::under_way))]
+pub fn loads_may_be_under_way()
+    ensures { LoadsMayBeUnderWay }
+{}
+
 /// The judge of a link accuses no right link: in what the CPU's end logs of a prompt run, from the start of both ends or from
 /// any event on, no frame breaks a rule, though any frames may be missing at marks. At most one load of the counter is under
 /// way where the log goes on below a mark, and none where it begins; and all that is compared is near.
 #[tactic(auto, using(crate::proofs::JudgedRuns::judge_accuses_none))]
 pub fn judge_accuses_no_right_link()
     ensures { JudgeAccusesNone }
+{}
+
+/// Such a log exists: one in which an answer is missing at a mark, and one frame above it and two below keep all rules.
+#[tactic(auto, using(crate::proofs::JudgeExamples::may_be_missing))]
+pub fn frames_may_be_missing()
+    ensures { FramesMayBeMissing }
 {}
 
 /// If no frame is missing, the judge also excuses no frame and never takes the module for restarted: from the first command on
@@ -145,14 +158,21 @@ pub fn judge_keeps_each_right_frame()
     ensures { JudgeKeepsAll }
 {}
 
-/// Over restarts of the module the judge accuses nobody either, and says once at most for each that it was restarted: if the first
-/// stamp that is heard below each is before the latest one above, and no block that is sent again has it. Nothing is under way at a
-/// restart, no frame is missing, no load of the counter takes effect, and the log of each life of the module lasts fewer than 2^31
-/// scans. Above the first restart the judge may have taken anything, too.
+/// Over restarts of the module the judge accuses nobody either, and says once at most for each that it was restarted: if the stamps
+/// that are heard below each, through the first that is not that of a block that is sent again, are before the latest one above.
+/// Nothing is under way at a restart, no frame is missing, no load of the counter takes effect, and the log of each life of the
+/// module lasts fewer than 2^31 scans. Above the first restart the judge may have taken anything, too. That it says so of each is
+/// in its definition alone.
 #[tactic(auto, using(crate::proofs::Restarted::judge_finds_restarts, crate::proofs::Restarted::judge_finds_restarts_anywhere))]
 pub fn judge_finds_restarts()
     ensures anywhere { JudgeFindsRestartsAnywhere }
     ensures whole { JudgeFindsRestarts }
+{}
+
+/// Such a log exists, and a restart is found in it.
+#[tactic(auto, using(crate::proofs::JudgeExamples::restarts_found))]
+pub fn restarts_are_found()
+    ensures { RestartsAreFound }
 {}
 
 /// Each log that the checker of content accuses is one that no right link explains, whatever its samples, losses and earlier
@@ -175,12 +195,6 @@ pub fn logs_of_polls_are_decided()
 #[tactic(auto, using(crate::proofs::PollExamples::of_both_kinds))]
 pub fn logs_of_polls_are_of_both_kinds()
     ensures { AreOfBothKinds }
-{}
-
-/// Exactly those of such logs that begin with both ends are accused that no right link explains, if no request is answered.
-#[tactic(auto, using(crate::proofs::WholePollLogs::whole_logs_of_polls_are_decided))]
-pub fn whole_logs_of_polls_are_decided()
-    ensures { WholeLogsOfPollsAreDecided }
 {}
 
 /// Any calls of the exports of one module, whatever its limits, with its ring, and of one poller, with

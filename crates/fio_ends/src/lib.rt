@@ -8,6 +8,17 @@
 //! of which exactly those are accused that no right link explains (`PollLogs`), what a caller in C does with one module and one
 //! poller (`Calls`), what lines bring and both ends do (`Lines`), and that this is a run (`LineRuns`). The laws are the contracts
 //! of the module `laws`.
+//!
+//! # What is proved
+//!
+//! A checker with the limits of the module, whatever they are, finds nothing in the transcript of a run without restarts if no
+//! frame is delivered twice, and each answer directly after its command or never (`prompt_runs_are_good`). The log of such a
+//! run may also begin at any event (`later_logs_are_good`). The judge of a link accuses neither end of such a log, whichever
+//! frames are missing at marks (`judge_accuses_no_right_link`), nor one over restarts that a stamp shows
+//! (`judge_finds_restarts`). The transcript's record is the run's (`prompt_runs_are_recorded`). A good transcript's poller has
+//! the number of each poll, and takes each block answer (`good_transcripts_are_of_pollers`). Calls of both ends in C are a run
+//! (`calls_are_runs`), and so are both ends over two lines of octets (`lines_are_runs`). `docs/PROMISES.md` says what is
+//! assumed.
 #![tactic(auto)]
 
 pub mod laws;

@@ -13,6 +13,11 @@
 //!
 //! Nothing here allocates.
 //!
+//! # What is proved
+//!
+//! `scan` reports exactly the inputs whose filtered state the history of samples changes (`reported`). A refused configuration
+//! changes nothing (`err`).
+//!
 //! # Examples
 //!
 //! ```rust

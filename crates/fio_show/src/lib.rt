@@ -9,6 +9,11 @@
 //! (`CommandLines`), of answers (`AnswerLines`) and of frames (`FrameLines`), what follows a first line (`FurtherLines`),
 //! and what a poller heard (`HeardWords`).
 //!
+//! # What is proved
+//!
+//! The lines of a frame are those of the message that its octets encode, or the decoder's fault (`text`). What follows the
+//! first line of a message, and the lines of a record, are appended whole (`append_further`, `push_items`).
+//!
 //! # Examples
 //!
 //! ```rust

@@ -10,6 +10,11 @@
 //! (`FirstFaults`). What is written: octets as digits (`Digits`), the faults of lines (`LineFaults`). The laws are the
 //! contracts of the module `laws`.
 //!
+//! # What is proved
+//!
+//! Lines are read back as they were written (`lines_are_read_back`), and a word is read as the octets or the number that its
+//! digits say, or as neither. `read_octets` allocates only for a word with an octet (`memory`).
+//!
 //! # Examples
 //!
 //! ```rust

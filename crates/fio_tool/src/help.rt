@@ -90,6 +90,8 @@ Writes:  `good N frames`, or `line N breaks RULE` for the first line that breaks
          bus that repeats no frame and delivers an answer before the next command or
          never, a module with the standard limits that was not restarted, and a CPU that
          never ran out of memory. Where a line is no frame, `line N: bad line`.
+         What entries say, such as a change that comes twice, is not judged here: fio2070
+         record judges it. If standard error is a terminal, it says so below `good`.
 
 Exit status:
   0  the transcript keeps the rules

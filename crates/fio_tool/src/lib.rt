@@ -11,6 +11,13 @@
 //! `fio_check`; and `Record`, what the CPU of a transcript recorded. What is reported for an input with a fault is in
 //! `InputFaults`, what is read and written in `Streams`. The laws are the contracts of the module `laws`.
 //!
+//! # What is proved
+//!
+//! Each tool (`show`, `simulate`, `check`, `record`) takes at most 1,048,577 octets, and writes nothing if a read failed or
+//! memory ran out. `choose` gives the tool that `clap` finds (`tool`, `fault`), and each tool's name gives that tool
+//! (`a_name_names_its_tool`). `run_program` ends with a status of 0 to 3 (`known`, `reported`, `named`, `no_subcommand`,
+//! `refused`), and reads nothing if no tool is named (`unread`).
+//!
 //! # Examples
 //!
 //! ```rust

@@ -10,6 +10,13 @@
 //! stored end to end (`EndToEnd`), both ends (`Ends`), how a world shows the machine (`Worlds`), and what an event did
 //! (`Effects`). The laws are the contracts of the module `laws`.
 //!
+//! # What is proved
+//!
+//! `step` does one event of the link machine, with its exact outcome, or refuses it as the machine does and changes nothing
+//! (`row`). `step_all` stops at the first event that is refused, and returns its position (`err`). `run` is `step_all` on a new
+//! world; its `Memory` at position 0 may come from the start. `report_text` returns exactly the report of a script, or its
+//! first faulty line (`ok`, `err`); the report is good if all events were done (`good_reports_are_of_whole_runs`).
+//!
 //! # Examples
 //!
 //! ```rust

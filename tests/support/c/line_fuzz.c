@@ -22,7 +22,7 @@ static void write_and_read(const uint8_t *message, size_t length) {
     require(length > 0 ? count > length && count <= sizeof frame : count == 0);
     if (length == 0) return;
     start(&wire);
-    require(fio2070_wire_read_many(&wire, frame, count, &heard) == count && heard == FIO2070_WIRE_MESSAGE);
+    require(fio2070_wire_read(&wire, frame, count, &heard) == count && heard == FIO2070_WIRE_MESSAGE);
     require(fio2070_wire_message_length(&wire) == length);
     require(memcmp(wire.octets + 2, message, length) == 0);
 }
@@ -41,6 +41,7 @@ int LLVMFuzzerTestOneInput(const uint8_t *octets, size_t length) {
     struct controller_settings settings = {50, 1000, inputs, 2};
     const uint8_t *end = octets + length;
     uint32_t now = 0;
+    uint8_t heard;
     start(&line);
     require(controller_link_start(&link, settings, length > 0 ? *octets : 0) == 0);
     for (; octets < end; octets++) {
@@ -52,7 +53,7 @@ int LLVMFuzzerTestOneInput(const uint8_t *octets, size_t length) {
             octets += 1 + octets[1];
         } else if (*octets == LOSS) {
             fio2070_wire_lose(&line);
-        } else if (fio2070_wire_read(&line, *octets) == FIO2070_WIRE_MESSAGE) {
+        } else if (fio2070_wire_read(&line, octets, 1, &heard) == 1 && heard == FIO2070_WIRE_MESSAGE) {
             size_t count = fio2070_wire_message_length(&line);
             require(count > 0 && count <= FIO2070_LONGEST_FRAME);
             controller_link_hear(&link, line.octets + 2, count, items);

@@ -16,12 +16,12 @@ void drops(uint8_t *out, size_t room, char *text) {
     struct fio2070_command command;
     struct fio2070_entry entries[1];
     struct fio2070_fault fault = fio2070_decode_command(frame, sizeof frame, &command);
-    if (fio2070_encode_poll(5, out, room) > room || fio2070_poller_poll(&poller, out, room) > room) return;
+    if (fio2070_encode_command(&command, NULL, 0, NULL, 0, out, room) > room || fio2070_poller_poll(&poller, out, room) > room) return;
     if (fio2070_block_entries(out, room, entries, 1) > 1 || fio2070_fault_text(&fault, text, room) >= room) return;
 #if MISUSE == 1
     fio2070_decode_command(frame, sizeof frame, &command);
 #elif MISUSE == 2
-    fio2070_encode_poll(5, out, room);
+    fio2070_encode_command(&command, NULL, 0, NULL, 0, out, room);
 #elif MISUSE == 3
     fio2070_block_entries(out, room, entries, 1);
 #elif MISUSE == 4
@@ -34,7 +34,7 @@ void drops(uint8_t *out, size_t room, char *text) {
 #elif MISUSE == 7
     if (fio2070_fault_text(&fault, out, room) > room) return;
 #elif MISUSE == 8
-    if (fio2070_encode_poll(out, 5, room) > room) return;
+    if (fio2070_encode_command(out, NULL, 0, NULL, 0, &command, room) > room) return;
 #elif MISUSE == 9
     if (fio2070_block_entries(out, room, 1, entries) > 1) return;
 #elif MISUSE == 10
@@ -119,19 +119,19 @@ const char *faults(uint8_t kind, uint8_t configured, uint8_t started, uint8_t ty
 const char *lines(struct fio2070_wire *wire, struct fio2070_wire_bits *bits, uint8_t *out) {
     uint8_t heard = FIO2070_WIRE_NOTHING;
     if (fio2070_wire_write(FIO2070_WIRE_ADDRESS, FIO2070_WIRE_CONTROL, frame, sizeof frame, out, FIO2070_WIRE_LONGEST) == 0) return "";
-    if (fio2070_wire_bits_read(bits, 1) != FIO2070_WIRE_NOTHING || fio2070_wire_read_many(wire, out, 1, &heard) != 1) return "";
+    if (fio2070_wire_bits_read(bits, out, 1, &heard) != 1 || fio2070_wire_read(wire, out, 1, &heard) != 1) return "";
 #if MISUSE == 31
-    fio2070_wire_read(wire, *out);
+    fio2070_wire_read(wire, out, 1, &heard);
 #elif MISUSE == 32
-    fio2070_wire_read_many(wire, out, 1, &heard);
+    fio2070_wire_bits_read(bits, out, 1, &heard);
 #elif MISUSE == 33
     fio2070_wire_write(FIO2070_WIRE_ADDRESS, FIO2070_WIRE_CONTROL, frame, sizeof frame, out, FIO2070_WIRE_LONGEST);
 #elif MISUSE == 34
-    heard = fio2070_wire_read(bits, *out);
+    if (fio2070_wire_read(bits, out, 1, &heard) != 1) return "";
 #elif MISUSE == 35
-    heard = fio2070_wire_read(wire, out);
+    if (fio2070_wire_read(wire, *out, 1, &heard) != 1) return "";
 #elif MISUSE == 36
-    if (fio2070_wire_read_many(wire, out, &heard, 1) != 1) return "";
+    if (fio2070_wire_read(wire, out, &heard, 1) != 1) return "";
 #endif
     switch ((enum fio2070_wire_heard)heard) {
     case FIO2070_WIRE_NOTHING: break;

@@ -1,5 +1,6 @@
 /* The worked examples that tests/rows.json does not have: where there is little room, of ends that answer call by call, of null
  * pointers. The last line is `N passed, M failed`. */
+#include "encode.h"
 #include "fio2070.h"
 
 #include "checks.h"
@@ -89,15 +90,76 @@ static void writes_into_little_room(void) {
     static const struct fio2070_configuration_item items[] = {{12, 0, 5, 3}, {3, 1, 0, 0}};
     static const struct fio2070_entry entry = {12, 1, 999};
     static const uint8_t body[773] = {0};
+    struct fio2070_command poll = command_of(FIO2070_TYPE_POLL);
+    poll.block = 6;
     memset(out, 9, sizeof out);
-    CHECK(fio2070_encode_configure_inputs(items, 2, out, 4) == 8 && out[0] == 9);
-    CHECK(fio2070_encode_poll(6, out, 1) == 2 && out[0] == 9 && fio2070_encode_poll(6, out, 2) == 2 && out[1] == 6);
+    CHECK(encode_items(items, 2, out, 4) == 8 && out[0] == 9);
+    CHECK(fio2070_encode_command(&poll, NULL, 0, NULL, 0, out, 1) == 2 && out[0] == 9);
+    CHECK(fio2070_encode_command(&poll, NULL, 0, NULL, 0, out, 2) == 2 && out[1] == 6);
     out[0] = 9;
-    CHECK(fio2070_encode_other_command(57, body, 772, out, 1) == 773 && out[0] == 9);
-    CHECK(fio2070_encode_other_command(54, body, 1, out, sizeof out) == FIO2070_NO_MESSAGE && out[0] == 9);
-    CHECK(fio2070_encode_block_answer(6, &entry, 1, 0, 1000, out, sizeof BLOCK - 1) == sizeof BLOCK && out[0] == 9);
-    CHECK(fio2070_encode_other_answer(184, body, 772, out, 772) == 773 && out[0] == 9);
-    CHECK(fio2070_encode_other_answer(184, body, 773, out, sizeof out) == FIO2070_NO_MESSAGE && out[0] == 9);
+    CHECK(encode_body(57, body, 772, out, 1) == 773 && out[0] == 9);
+    CHECK(encode_body(54, body, 1, out, sizeof out) == FIO2070_NO_MESSAGE && out[0] == 9);
+    CHECK(encode_block(6, &entry, 1, 0, 1000, out, sizeof BLOCK - 1) == sizeof BLOCK && out[0] == 9);
+    CHECK(encode_body(184, body, 772, out, 772) == 773 && out[0] == 9);
+    CHECK(encode_body(184, body, 773, out, sizeof out) == FIO2070_NO_MESSAGE && out[0] == 9);
+}
+
+/* A struct that is of no message, or not with this list and this body. */
+static void writes_no_message(void) {
+    static struct fio2070_configuration_item items[256];
+    static struct fio2070_entry entries[256];
+    static const uint8_t body[773] = {0};
+    struct fio2070_command command, commands[8];
+    struct fio2070_answer answer, answers[10];
+    unsigned code, place;
+    memset(out, 9, sizeof out);
+    for (code = 0; code < 256; code++) {
+        command = command_of((uint8_t)code), answer = answer_of((uint8_t)code);
+        CHECK((fio2070_encode_command(&command, NULL, 0, NULL, 0, out, 0) == FIO2070_NO_MESSAGE) == (code < 49 || code > 60));
+        CHECK((fio2070_encode_answer(&answer, NULL, 0, NULL, 0, out, 0) == FIO2070_NO_MESSAGE) == (code < 177 || code > 188));
+    }
+    /* Each field but those of its type, and each octet that is reserved. */
+    for (place = 0; place < 8; place++) commands[place] = command_of(FIO2070_TYPE_RAW_INPUTS);
+    commands[0].clear = commands[1].block = commands[2].timeout = commands[3].reserved = 1;
+    commands[4].load = 1, commands[5].levels[7] = commands[6].controls[0] = 1;
+    commands[7].code = FIO2070_TYPE_POLL, commands[7].clear = 1;
+    for (place = 0; place < 8; place++)
+        CHECK(fio2070_encode_command(&commands[place], NULL, 0, NULL, 0, out, sizeof out) == FIO2070_NO_MESSAGE);
+    for (place = 0; place < 10; place++) answers[place] = answer_of(FIO2070_TYPE_IDENTIFY + FIO2070_TYPE_ANSWER);
+    answers[0].flags = answers[1].receive_errors = answers[2].transmit_errors = answers[3].status = answers[4].block = 1;
+    answers[5].reserved[0] = answers[6].reserved[2] = 1, answers[7].stamp = 1, answers[8].inputs = 1;
+    answers[9].code = FIO2070_TYPE_STATUS + FIO2070_TYPE_ANSWER, answers[9].block = 1;
+    for (place = 0; place < 10; place++)
+        CHECK(fio2070_encode_answer(&answers[place], NULL, 0, NULL, 0, out, sizeof out) == FIO2070_NO_MESSAGE);
+    /* Lists and bodies that the struct does not count, that its type does not have, or that are too long. */
+    command = command_of(FIO2070_TYPE_CONFIGURE_INPUTS), answer = answer_of(FIO2070_TYPE_POLL + FIO2070_TYPE_ANSWER);
+    CHECK(fio2070_encode_command(&command, items, 1, NULL, 0, out, sizeof out) == FIO2070_NO_MESSAGE);
+    CHECK(fio2070_encode_answer(&answer, entries, 1, NULL, 0, out, sizeof out) == FIO2070_NO_MESSAGE);
+    CHECK(fio2070_encode_command(&command, items, 256, NULL, 0, out, sizeof out) == FIO2070_NO_MESSAGE);
+    CHECK(fio2070_encode_answer(&answer, entries, 256, NULL, 0, out, sizeof out) == FIO2070_NO_MESSAGE);
+    command.count = 1, answer.count = 1;
+    CHECK(fio2070_encode_command(&command, NULL, 0, NULL, 0, out, sizeof out) == FIO2070_NO_MESSAGE);
+    CHECK(fio2070_encode_answer(&answer, NULL, 0, NULL, 0, out, sizeof out) == FIO2070_NO_MESSAGE);
+    command.code = FIO2070_TYPE_POLL, answer.code = FIO2070_TYPE_WATCHDOG + FIO2070_TYPE_ANSWER;
+    CHECK(fio2070_encode_command(&command, items, 1, NULL, 0, out, sizeof out) == FIO2070_NO_MESSAGE);
+    CHECK(fio2070_encode_answer(&answer, entries, 1, NULL, 0, out, sizeof out) == FIO2070_NO_MESSAGE);
+    items[254].input = entries[254].input = 128;
+    CHECK(encode_items(items, 255, out, sizeof out) == FIO2070_NO_MESSAGE && encode_items(items, 254, out, 0) == 764);
+    CHECK(encode_block(1, entries, 255, 0, 0, out, sizeof out) == FIO2070_NO_MESSAGE);
+    command = command_of(FIO2070_TYPE_CONTROLLER_ID), answer = answer_of(FIO2070_TYPE_CONTROLLER_ID + FIO2070_TYPE_ANSWER);
+    CHECK(fio2070_encode_command(&command, NULL, 0, body, 1, out, sizeof out) == FIO2070_NO_MESSAGE);
+    CHECK(fio2070_encode_answer(&answer, NULL, 0, body, 1, out, sizeof out) == FIO2070_NO_MESSAGE);
+    CHECK(encode_body(FIO2070_TYPE_CONTROLLER_ID, body, 773, out, sizeof out) == FIO2070_NO_MESSAGE);
+    for (place = 0; place < sizeof out && out[place] == 9; place++) continue;
+    CHECK(place == sizeof out);
+}
+
+/* What an item or an entry from C says beside 0 and 1. */
+static void writes_any_yes(void) {
+    static const struct fio2070_configuration_item item = {3, 200, 0, 0};
+    static const struct fio2070_entry entry = {12, 255, 999};
+    CHECK(is_written(encode_items(&item, 1, out, sizeof out), "\x33\1\x83\0\0", 5));
+    CHECK(is_written(encode_block(5, &entry, 1, 0, 1000, out, sizeof out), BLOCK, sizeof BLOCK));
 }
 
 static void reads_items_into_little_room(void) {
@@ -308,7 +370,7 @@ static void overflows(void) {
     CHECK(starts(1024, 255) == FIO2070_STARTED);
     CHECK(fio2070_module_receive(&device, configuration, sizeof configuration, out, sizeof out) == 2 && out[1] == 0);
     for (place = 0; place < 20; place++) fio2070_module_scan(&device, place % 2 ? ~(uint64_t)0 : 0);
-    CHECK(fio2070_module_waiting(&device) == 1024);
+    CHECK(fio2070_module_state(&device).waiting == 1024);
     for (block = 0; block < 5; block++) {
         uint8_t poll[2] = {54, (uint8_t)block}, count = block < 4 ? 255 : 4;
         int first = 256 + 255 * block, scan = first / 64 + 1;
@@ -317,7 +379,7 @@ static void overflows(void) {
         CHECK(out[3] == (first % 64 | (scan % 2 ? 0 : 128)) && out[4] == 0 && out[5] == scan);
         CHECK(out[3 + 3 * count] == (block == 0 ? 12 : block < 4 ? 8 : 0) && out[7 + 3 * count] == 20);
     }
-    CHECK(fio2070_module_waiting(&device) == 0);
+    CHECK(fio2070_module_state(&device).waiting == 0);
 }
 
 /* ---- Pointers that are null, with length 0 ---- */
@@ -337,15 +399,15 @@ static void takes_nulls(void) {
     CHECK(fio2070_command_items(NULL, 0, NULL, 0) == FIO2070_NO_MESSAGE);
     CHECK(fio2070_command_items((const uint8_t *)"3", 2, NULL, 0) == 0);
     CHECK(fio2070_show(NULL, 0, NULL, 0) == 6 && fio2070_show(NULL, 0, text, sizeof text) == 6 && strcmp(text, "empty\n") == 0);
-    CHECK(fio2070_fault_text(&empty, NULL, 0) == 5 && fio2070_encode_poll(5, NULL, 0) == 2);
+    CHECK(fio2070_fault_text(&empty, NULL, 0) == 5);
     CHECK(fio2070_rule_text(FIO2070_RULE_REST, NULL, 0) == 4 && fio2070_content_rule_text(FIO2070_CONTENT_ORDER, NULL, 0) == 5);
-    CHECK(is_written(fio2070_encode_configure_inputs(NULL, 0, out, sizeof out), "\x33\0", 2));
-    CHECK(fio2070_encode_configure_inputs(NULL, 0, NULL, 0) == 2);
-    CHECK(is_written(fio2070_encode_block_answer(5, NULL, 0, 0, 1000, out, sizeof out), SHORTEST, sizeof SHORTEST));
-    CHECK(fio2070_encode_block_answer(5, NULL, 0, 0, 0, NULL, 0) == 8);
-    CHECK(is_written(fio2070_encode_other_command(56, NULL, 0, out, sizeof out), "\x38", 1));
-    CHECK(is_written(fio2070_encode_other_answer(183, NULL, 0, out, sizeof out), "\xb7", 1));
-    CHECK(fio2070_encode_other_command(56, NULL, 0, NULL, 0) == 1 && fio2070_encode_other_answer(183, NULL, 0, NULL, 0) == 1);
+    CHECK(is_written(encode_items(NULL, 0, out, sizeof out), "\x33\0", 2));
+    CHECK(encode_items(NULL, 0, NULL, 0) == 2);
+    CHECK(is_written(encode_block(5, NULL, 0, 0, 1000, out, sizeof out), SHORTEST, sizeof SHORTEST));
+    CHECK(encode_block(5, NULL, 0, 0, 0, NULL, 0) == 8);
+    CHECK(is_written(encode_body(56, NULL, 0, out, sizeof out), "\x38", 1));
+    CHECK(is_written(encode_body(183, NULL, 0, out, sizeof out), "\xb7", 1));
+    CHECK(encode_body(56, NULL, 0, NULL, 0) == 1 && encode_body(183, NULL, 0, NULL, 0) == 1);
 }
 
 static void ends_take_nulls(void) {
@@ -451,7 +513,7 @@ static void writes_lines(void) {
     count = fio2070_wire_write(0x7d, 0x7e, longest, FIO2070_LONGEST_FRAME, line, FIO2070_WIRE_LONGEST);
     CHECK(count > 2 * FIO2070_LONGEST_FRAME + 6 && count <= FIO2070_WIRE_LONGEST && line[sizeof line - 1] == 9);
     fio2070_wire_start(&wire, 0x7d, FIO2070_WIRE_ANY);
-    CHECK(fio2070_wire_read_many(&wire, line, count, &heard) == count && heard == FIO2070_WIRE_MESSAGE);
+    CHECK(fio2070_wire_read(&wire, line, count, &heard) == count && heard == FIO2070_WIRE_MESSAGE);
     CHECK(fio2070_wire_message_length(&wire) == FIO2070_LONGEST_FRAME);
     CHECK(wire.octets[0] == 0x7d && wire.octets[1] == 0x7e && memcmp(wire.octets + 2, longest, FIO2070_LONGEST_FRAME) == 0);
 }
@@ -461,11 +523,12 @@ static void holds_frames(void) {
     struct fio2070_wire wire;
     uint8_t heard = 9;
     fio2070_wire_start(&wire, 0x15, FIO2070_WIRE_ANY);
-    CHECK(fio2070_wire_read_many(&wire, POLL_LINE, 0, &heard) == 0 && heard == FIO2070_WIRE_NOTHING);
-    CHECK(fio2070_wire_read_many(&wire, POLL_LINE, sizeof POLL_LINE, &heard) == sizeof POLL_LINE && heard == FIO2070_WIRE_OTHER);
+    CHECK(fio2070_wire_read(&wire, POLL_LINE, 0, &heard) == 0 && heard == FIO2070_WIRE_NOTHING);
+    CHECK(fio2070_wire_read(&wire, POLL_LINE, sizeof POLL_LINE, &heard) == sizeof POLL_LINE && heard == FIO2070_WIRE_OTHER);
     CHECK(fio2070_wire_message_length(&wire) == 2 && memcmp(wire.octets, POLL_LINE + 1, 4) == 0);
-    CHECK(fio2070_wire_read(&wire, 0x7e) == FIO2070_WIRE_NOTHING && fio2070_wire_message_length(&wire) == 0);
-    CHECK(fio2070_wire_read_many(&wire, POLL_LINE, sizeof POLL_LINE, &heard) == sizeof POLL_LINE && heard == FIO2070_WIRE_OTHER);
+    CHECK(fio2070_wire_read(&wire, POLL_LINE, 1, &heard) == 1 && heard == FIO2070_WIRE_NOTHING);
+    CHECK(fio2070_wire_message_length(&wire) == 0);
+    CHECK(fio2070_wire_read(&wire, POLL_LINE, sizeof POLL_LINE, &heard) == sizeof POLL_LINE && heard == FIO2070_WIRE_OTHER);
     fio2070_wire_lose(&wire);
     CHECK(fio2070_wire_message_length(&wire) == 0);
 }
@@ -476,15 +539,18 @@ static void holds_bits(void) {
     struct fio2070_wire_bits bits;
     uint8_t heard = 9;
     fio2070_wire_bits_start(&bits, FIO2070_WIRE_ANY, FIO2070_WIRE_ANY);
-    CHECK(fio2070_wire_bits_read_many(&bits, (const uint8_t *)line, sizeof line - 1, &heard) == sizeof line - 1 && heard == FIO2070_WIRE_MESSAGE);
+    CHECK(fio2070_wire_bits_read(&bits, (const uint8_t *)line, sizeof line - 1, &heard) == sizeof line - 1 && heard == FIO2070_WIRE_MESSAGE);
     CHECK(fio2070_wire_bits_message_length(&bits) == 2 && memcmp(bits.octets, POLL_LINE + 1, 4) == 0);
-    CHECK(fio2070_wire_bits_read(&bits, 255) == FIO2070_WIRE_NOTHING && fio2070_wire_bits_message_length(&bits) == 0);
+    CHECK(fio2070_wire_bits_read(&bits, (const uint8_t *)"\377", 1, &heard) == 1 && heard == FIO2070_WIRE_NOTHING);
+    CHECK(fio2070_wire_bits_message_length(&bits) == 0);
 }
 
 int main(void) {
     reads_blocks();
     says_faults();
     writes_into_little_room();
+    writes_no_message();
+    writes_any_yes();
     reads_items_into_little_room();
     hears();
     says_what_was_heard();

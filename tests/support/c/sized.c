@@ -55,7 +55,7 @@ static void keeps_the_latest(size_t room) {
     for (block = 0; waiting != 0 || block == 0; block++) {
         uint8_t poll[2] = {54, (uint8_t)block};
         size_t count = waiting < most ? waiting : most, scan = next / 64 + 1;
-        CHECK(fio2070_sized_module_waiting(&device) == waiting);
+        CHECK(fio2070_sized_module_state(&device).waiting == waiting);
         CHECK(receive(poll, 2) == 8 + 3 * count);
         CHECK(out[0] == 182 && out[1] == block && out[2] == count && out[7 + 3 * count] == 20);
         CHECK(out[3] == (next % 64 | (scan % 2 ? 0 : 128)) && out[4] == 0 && out[5] == scan);
@@ -74,7 +74,7 @@ static void moves(void) {
     int scan;
     starts_with_all_inputs(5);
     for (scan = 0; scan < 4; scan++) fio2070_sized_module_scan(&device, ring, scan % 2 ? ALL : ~(uint64_t)3);
-    CHECK(fio2070_sized_module_waiting(&device) == 5);
+    CHECK(fio2070_sized_module_state(&device).waiting == 5);
     memcpy(&moved, &device, sizeof moved);
     memcpy(other, slots, sizeof other);
     memset(&device, 0xa5, sizeof device);
@@ -112,8 +112,8 @@ static void counts_errors(void) {
     for (time = 1; time < 300; time++) {
         fio2070_sized_module_count_receive_error(&device);
         if (time % 2 == 0) fio2070_sized_module_count_transmit_error(&device);
-        CHECK(fio2070_sized_module_errors(&device).receive == (time < 255 ? time : 255));
-        CHECK(fio2070_sized_module_errors(&device).transmit == time / 2);
+        CHECK(fio2070_sized_module_state(&device).errors.receive == (time < 255 ? time : 255));
+        CHECK(fio2070_sized_module_state(&device).errors.transmit == time / 2);
     }
     CHECK(receive("\x31\0", 2) == 8 && memcmp(out, "\xb1\x80\xff\x95\0\0\0\0", 8) == 0);
 }
@@ -129,7 +129,7 @@ static void takes_any_octets(void) {
             memset(&device, (int)fill, sizeof device);
             fio2070_sized_module_scan(&device, few, fill % 2 ? ALL : 0);
             CHECK(fio2070_sized_module_receive(&device, few, (const uint8_t *)"\x36\0", 2, out, sizeof out) <= sizeof out);
-            CHECK(fio2070_sized_module_waiting(&device) <= device.waiting && is_untouched(room));
+            CHECK(fio2070_sized_module_state(&device).waiting <= device.waiting && is_untouched(room));
         }
     }
 }

@@ -1,13 +1,14 @@
 /* Gives random frames and a lossy link to the library without its reader of logs, in 8 KB of memory, and writes a number that
  * depends on all that its calls answer, after each frame: the same text on each processor. On an AVR the text goes to the first
  * serial port, and the program ends as simavr expects it. */
+#include "encode.h"
 #include "fio2070.h"
 #include "random_frames.h"
 
 #include <stdio.h>
 #include <string.h>
 
-enum { FRAMES = 60, SCANS = 400, MOST = 64, ROOM = 37 };
+enum { FRAMES = 60, SCANS = 400, MOST = 16, ROOM = 37 };
 
 static uint32_t hash = 2166136261u;
 static uint8_t frame[LONGEST + 1], written[FIO2070_LONGEST_FRAME];
@@ -79,7 +80,7 @@ static void read_frame(size_t length) {
     memset(items, 3, sizeof items);
     count = amount(fio2070_command_items(frame, length, items, MOST), MOST);
     mix(items, sizeof items);
-    wrote(fio2070_encode_configure_inputs(items, count, written, sizeof written));
+    wrote(encode_items(items, count, written, sizeof written));
     memset(&answer, 9, sizeof answer);
     write_fault(fio2070_decode_answer(frame, length, &answer));
     number(answer.code); number(answer.status); number(answer.stamp); number(answer.inputs);
@@ -87,8 +88,8 @@ static void read_frame(size_t length) {
     write_fault(fio2070_read_block(frame, length, &header));
     count = amount(fio2070_block_entries(frame, length, entries, MOST), MOST);
     for (place = 0; place < count; place++) number(fio2070_widen(header.stamp, entries[place].stamp));
-    wrote(fio2070_encode_block_answer(header.number, entries, count, header.status, header.stamp, written, sizeof written));
-    wrote(fio2070_encode_other_command((uint8_t)(55 + below(5)), frame, length, written, sizeof written));
+    wrote(encode_block(header.number, entries, count, header.status, header.stamp, written, sizeof written));
+    wrote(encode_body((uint8_t)(55 + below(5)), frame, length, written, sizeof written));
 }
 
 static void judge(int is_sent, const uint8_t *octets, size_t length) {
@@ -134,7 +135,7 @@ static void begin(void) {
         items[place].input = (uint8_t)place;
         items[place].leading = items[place].trailing = (uint8_t)(1 + below(3));
     }
-    length = fio2070_encode_configure_inputs(items, MOST, frame, sizeof frame);
+    length = encode_items(items, MOST, frame, sizeof frame);
     answered(frame, length);
 }
 
@@ -152,10 +153,10 @@ int main(void) {
     for (turn = 0; turn < SCANS; turn++) {
         if (below(4) == 0) levels ^= next_random() & next_random() & next_random();
         fio2070_sized_module_scan(&device, FIO2070_RING(slots), levels);
-        number(fio2070_sized_module_waiting(&device));
+        number(fio2070_sized_module_state(&device).waiting);
         if (below(7) == 0) poll();
     }
-    number(fio2070_sized_module_counter(&device)); number(fio2070_sized_module_filtered(&device));
+    number(fio2070_sized_module_state(&device).counter); number(fio2070_sized_module_state(&device).filtered);
     say("link ");
     end();
     return 0;

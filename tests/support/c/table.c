@@ -29,42 +29,19 @@ static void say_fault(struct fio2070_fault fault) {
         say(" with numbers of another");
 }
 
-#define ENCODES(name, ...) \
-    if (is_call(row, "encode_" #name)) return fio2070_encode_##name(__VA_ARGS__, out, sizeof out)
-
-static size_t encoded(const struct row *row) {
-    const uint8_t first = (uint8_t)row->numbers[0];
-    const uint64_t *numbers = row->numbers;
-    size_t length = octets_in(row->text, octets);
-    ENCODES(status, first);
-    ENCODES(load_counter, (uint32_t)numbers[0]);
-    ENCODES(configure_inputs, items, items_in(row->text, items));
-    ENCODES(poll, first);
-    ENCODES(set_outputs, octets, octets + 8);
-    ENCODES(watchdog, first);
-    ENCODES(other_command, first, octets, length);
-    ENCODES(status_answer, first, (uint8_t)numbers[1], (uint8_t)numbers[2], (uint32_t)numbers[3]);
-    ENCODES(load_counter_answer, first);
-    ENCODES(configure_inputs_answer, first);
-    ENCODES(raw_inputs_answer, numbers[0], (uint32_t)numbers[1]);
-    ENCODES(filtered_inputs_answer, numbers[0], (uint32_t)numbers[1]);
-    ENCODES(block_answer, first, entries, entries_in(row->text, entries), (uint8_t)numbers[1], (uint32_t)numbers[2]);
-    ENCODES(watchdog_answer, first);
-    ENCODES(other_answer, first, octets, length);
-    if (is_call(row, "encode_raw_inputs")) return fio2070_encode_raw_inputs(out, sizeof out);
-    if (is_call(row, "encode_filtered_inputs")) return fio2070_encode_filtered_inputs(out, sizeof out);
-    if (is_call(row, "encode_identify")) return fio2070_encode_identify(out, sizeof out);
-    return (size_t)-2;
+/* Writes again what was decoded. */
+static size_t command_again(const struct fio2070_command *it, size_t length) {
+    size_t count = fio2070_command_items(octets, length, items, 256);
+    return fio2070_encode_command(it, items, count == FIO2070_NO_MESSAGE ? 0 : count, octets + 1, it->body, out, sizeof out);
 }
 
-static void say_encoded(const struct row *row) {
-    size_t count = encoded(row);
-    if (count == FIO2070_NO_MESSAGE) say("no message");
-    else if (count > sizeof out) say("no such call");
-    else say_octets(out, count);
+static size_t answer_again(const struct fio2070_answer *it, size_t length) {
+    size_t count = fio2070_block_entries(octets, length, entries, 256);
+    return fio2070_encode_answer(it, entries, count == FIO2070_NO_MESSAGE ? 0 : count, octets + 1, it->body, out, sizeof out);
 }
 
-/* Says the fields of a command or of an answer, or a fault, with which nothing is written. */
+/* Says the fields of a command or of an answer, and whether they are written as other octets; or a fault, with which nothing is
+ * written. */
 #define DECODES(message)                                                                           \
     static void decode_##message(size_t length) {                                                  \
         struct fio2070_##message it, before;                                                       \
@@ -73,8 +50,10 @@ static void say_encoded(const struct row *row) {
         before = it;                                                                               \
         fault = fio2070_decode_##message(octets, length, &it);                                     \
         say_fault(fault);                                                                          \
-        if (fault.kind == FIO2070_FAULT_NONE) say_##message(&it);                                  \
-        else if (memcmp(&it, &before, sizeof it) != 0) say(", and written");                       \
+        if (fault.kind == FIO2070_FAULT_NONE) {                                                    \
+            say_##message(&it);                                                                    \
+            if (message##_again(&it, length) != length || memcmp(out, octets, length) != 0) say(", written as others"); \
+        } else if (memcmp(&it, &before, sizeof it) != 0) say(", and written");                       \
     }
 DECODES(command)
 DECODES(answer)
@@ -144,9 +123,7 @@ static void say_reply(size_t count) {
         else if (is_step(step, "count_transmit_error")) fio2070_##kind##_count_transmit_error(it); \
         else if (is_step(step, "restart")) fio2070_##kind##_restart(it);                           \
         else if (is_step(step, "state"))                                                           \
-            say_state(fio2070_##kind##_filtered(it), fio2070_##kind##_raw(it), fio2070_##kind##_counter(it), \
-                      fio2070_##kind##_waiting(it), fio2070_##kind##_flags(it), fio2070_##kind##_watchdog_ms(it), \
-                      fio2070_##kind##_errors(it), fio2070_##kind##_outputs(it));                  \
+            say_state(fio2070_##kind##_state(it));                                                 \
         else say("no such step");                                                                  \
     }
 static struct fio2070_slot slots[FIO2070_STANDARD_WAITING];
@@ -209,6 +186,12 @@ static void say_content_breaches(const struct row *row) {
     }
 }
 
+/* Octets that the library writes and no field uses. */
+static void expect_zeros(const uint8_t *unused, size_t count) {
+    while (count > 0)
+        if (unused[--count] != 0) say(" not 0");
+}
+
 /* A line `-` is a place where lines are lost. */
 static void say_outcomes(const struct row *row) {
     struct fio2070_limits limits = {(uint16_t)row->numbers[1], (uint8_t)row->numbers[0], 0};
@@ -227,10 +210,11 @@ static void say_outcomes(const struct row *row) {
             continue;
         }
         kind = *frame == '>' ? fio2070_judge_sent(&judge, at, octets, length, &it)
-                             : fio2070_judge_heard(&judge, at, octets, length, &it);
+                             : fio2070_judge_heard(&judge, octets, length, &it);
         say_outcome(&it);
         if (it.kind != kind || it.reserved != 0) say(" not in the struct");
     }
+    if (started == FIO2070_STARTED) expect_zeros(judge.reserved, sizeof judge.reserved);
 }
 
 /* A line `-` may have held a frame, `?` is a possible message, `!` speaks of loss. */
@@ -260,6 +244,10 @@ static void say_log_outcomes(const struct row *row) {
         say_outcome(&it);
         if (it.kind != kind || it.reserved != 0) say(" not in the struct");
     }
+    if (started == FIO2070_STARTED) {
+        expect_zeros(judge.reserved, sizeof judge.reserved);
+        expect_zeros(judge.link.reserved, sizeof judge.link.reserved);
+    }
 }
 
 /* The sign below the last frame. */
@@ -271,7 +259,8 @@ static void say_sign(const struct row *row) {
     for (frame = *row->text ? row->text : NULL; frame != NULL; frame = next_frame(frame))
         fio2070_log_signs_frame(&signs, *frame == '>', side_said(frame), octets, octets_in(strchr(frame, ' ') + 1, octets));
     say("%u", fio2070_log_signs_sign(&signs));
-    if (signs.reserved != 0) say(" not in the struct");
+    expect_zeros(&signs.reserved, 1);
+    expect_zeros(signs.above + signs.length, sizeof signs.above - signs.length);
 }
 
 /* A line `-` may have held a frame. */
@@ -361,8 +350,8 @@ static void say_at_flag(uint8_t heard, const uint8_t *frame, size_t length) {
     if (is_frame) say(" %02x %02x ", frame[0], frame[1]), say_octets(frame + 2, length);
 }
 
-/* By the call for many, which leaves the same struct as that for one. */
-#define READS(kind, unit, length_of, lose)                                                         \
+/* By one octet a call, or by many, which leaves the same struct. */
+#define READS(kind, length_of, lose)                                                               \
     static void read_##kind(const struct row *row, int is_many) {                                  \
         static struct fio2070_##kind it, by_one;                                                   \
         const char *part = row->text;                                                              \
@@ -372,8 +361,7 @@ static void say_at_flag(uint8_t heard, const uint8_t *frame, size_t length) {
             uint8_t heard = 9;                                                                     \
             if (part != row->text) lose;                                                           \
             for (; at < length; at += more) {                                                      \
-                if (is_many) more = fio2070_##kind##_read_many(&it, octets + at, length - at, &heard); \
-                else heard = fio2070_##kind##_read(&it, unit);                                     \
+                more = fio2070_##kind##_read(&it, octets + at, is_many ? length - at : 1, &heard); \
                 if (more == 0 || more > length - at) say("no end"), more = length;                 \
                 if (is_many && heard == FIO2070_WIRE_NOTHING && at + more < length) say("too early"); \
                 say_at_flag(heard, it.octets, fio2070_##kind##_message_length(&it));               \
@@ -382,8 +370,8 @@ static void say_at_flag(uint8_t heard, const uint8_t *frame, size_t length) {
         if (is_many && memcmp(&it, &by_one, sizeof it) != 0) say(" otherwise by many");            \
         memcpy(&by_one, &it, sizeof it);                                                           \
     }
-READS(wire, octets[at], octets_in(part, octets), fio2070_wire_lose(&it))
-READS(wire_bits, octets[at] == '1', log_in(part, octets), say("lost"))
+READS(wire, octets_in(part, octets), fio2070_wire_lose(&it))
+READS(wire_bits, log_in(part, octets), say("lost"))
 
 static void say_heard_line(const struct row *row) {
     int is_many;
@@ -417,8 +405,7 @@ static void say_log(const struct row *row) {
 static void run(const struct row *row) {
     const uint64_t *numbers = row->numbers;
     size_t length = octets_in(row->text, octets);
-    if (strncmp(row->call, "encode_", 7) == 0) say_encoded(row);
-    else if (is_call(row, "decode_command")) decode_command(length);
+    if (is_call(row, "decode_command")) decode_command(length);
     else if (is_call(row, "decode_answer")) decode_answer(length);
     else if (is_call(row, "command_items") || is_call(row, "block_entries")) list_parts(row, length);
     else if (strncmp(row->call, "read_", 5) == 0) say_number(row, length);

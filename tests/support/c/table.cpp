@@ -7,42 +7,10 @@
 
 using List = std::vector<std::uint8_t>;
 
-static std::string hex(const fio2070::Frame &frame) {
-    *said = 0;
-    say_octets(frame.begin(), frame.size());
+// What a decoder read, and whether it is written as other octets.
+static std::string written_again(const List &octets, const std::optional<fio2070::Frame> &frame) {
+    if (!frame || List(frame->begin(), frame->end()) != octets) say(", written as others");
     return said;
-}
-
-static std::string hex(const std::optional<fio2070::Frame> &frame) { return frame ? hex(*frame) : "no message"; }
-
-static std::string encoded(const row &it, const List &octets) {
-    namespace encode = fio2070::encode;
-    const auto first = static_cast<std::uint8_t>(it.numbers[0]), second = static_cast<std::uint8_t>(it.numbers[1]);
-    const auto word = [&it](int place) { return static_cast<std::uint32_t>(it.numbers[place]); };
-    const std::string name = it.call + 7;
-    static fio2070::ConfigurationItem items[256];
-    static fio2070::Entry entries[256];
-    if (name == "status") return hex(encode::status(first));
-    if (name == "load_counter") return hex(encode::load_counter(word(0)));
-    if (name == "configure_inputs") return hex(encode::configure_inputs({items, items_in(it.text, items)}));
-    if (name == "raw_inputs") return hex(encode::raw_inputs());
-    if (name == "filtered_inputs") return hex(encode::filtered_inputs());
-    if (name == "poll") return hex(encode::poll(first));
-    if (name == "watchdog") return hex(encode::watchdog(first));
-    if (name == "identify") return hex(encode::identify());
-    if (name == "other_command") return hex(encode::other_command(first, octets));
-    if (name == "status_answer") return hex(encode::status_answer(first, second, static_cast<std::uint8_t>(word(2)), word(3)));
-    if (name == "load_counter_answer") return hex(encode::load_counter_answer(first));
-    if (name == "configure_inputs_answer") return hex(encode::configure_inputs_answer(first));
-    if (name == "raw_inputs_answer") return hex(encode::raw_inputs_answer(it.numbers[0], word(1)));
-    if (name == "filtered_inputs_answer") return hex(encode::filtered_inputs_answer(it.numbers[0], word(1)));
-    if (name == "block_answer") return hex(encode::block_answer(first, {entries, entries_in(it.text, entries)}, second, word(2)));
-    if (name == "watchdog_answer") return hex(encode::watchdog_answer(first));
-    if (name == "other_answer") return hex(encode::other_answer(first, octets));
-    fio2070::Outputs outputs{};
-    memcpy(outputs.levels, octets.data(), 8);
-    memcpy(outputs.controls, octets.data() + 8, 8);
-    return name == "set_outputs" ? hex(encode::set_outputs(outputs)) : "no such call";
 }
 
 static std::string decoded(const row &it, const List &octets) {
@@ -51,12 +19,12 @@ static std::string decoded(const row &it, const List &octets) {
         const auto read = fio2070::decode_command(octets);
         if (!read) return read.fault().text();
         say_command(&*read);
-        return said;
+        return written_again(octets, fio2070::encode_command(*read, fio2070::command_items(octets), {octets.data() + 1, read->body}));
     }
     const auto read = fio2070::decode_answer(octets);
     if (!read) return read.fault().text();
     say_answer(&*read);
-    return said;
+    return written_again(octets, fio2070::encode_answer(*read, fio2070::block_entries(octets), {octets.data() + 1, read->body}));
 }
 
 // What is no message has no items and no entries.
@@ -102,8 +70,7 @@ static void take_step(Module &module, const char *step) {
     else if (is_step(step, "count_receive_error")) module.count_receive_error();
     else if (is_step(step, "count_transmit_error")) module.count_transmit_error();
     else if (is_step(step, "restart")) module.restart();
-    else say_state(module.filtered(), module.raw(), module.counter(), module.waiting(), module.flags(),
-                   module.watchdog_ms().value_or(0), module.errors(), module.outputs());
+    else say_state(module.state());
 }
 
 template <std::uint16_t Waiting>
@@ -156,7 +123,7 @@ static std::string outcomes(const row &it) {
             continue;
         }
         octets.resize(octets_in(frame + 2, octets.data()));
-        const fio2070_judge_outcome outcome = *frame == '>' ? judge->sent(octets, at) : judge->heard(octets, at);
+        const fio2070_judge_outcome outcome = *frame == '>' ? judge->sent(octets, at) : judge->heard(octets);
         say_outcome(&outcome);
     }
     return said;
@@ -268,8 +235,9 @@ static std::string heard_line(const row &it) {
         List line(1024);
         line.resize(is_call(&it, "wire") ? octets_in(part, line.data()) : log_in(part, line.data()));
         if (part != it.text) lose(by_one), lose(by_many);
-        for (std::uint8_t octet : line) {
-            if (auto heard = by_one.read(octet)) append(one, *heard);
+        for (const std::uint8_t &octet : line) {
+            fio2070::Octets single(&octet, 1);
+            if (auto heard = by_one.read(single)) append(one, *heard);
         }
         fio2070::Octets rest = line;
         while (auto heard = by_many.read(rest)) append(many, *heard);
@@ -304,7 +272,6 @@ static std::string run(const row &it) {
     const std::string call = it.call;
     List octets(1024);
     octets.resize(octets_in(it.text, octets.data()));
-    if (call.rfind("encode_", 0) == 0) return encoded(it, octets);
     if (call.rfind("decode_", 0) == 0) return decoded(it, octets);
     if (call == "command_items" || call == "block_entries") return listed(it, octets);
     if (call == "read_outputs_answer") return number_of(fio2070::read_outputs_answer(octets));

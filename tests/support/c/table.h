@@ -56,41 +56,6 @@ static size_t octets_in(const char *text, uint8_t *octets) {
     return count;
 }
 
-/* Reads the numbers of a list, and returns how many there are. */
-static size_t numbers_in(const char *text, unsigned *numbers) {
-    size_t count = 0;
-    char *end;
-    while (*text) {
-        numbers[count++] = (unsigned)strtoul(text, &end, 10);
-        text = end + strspn(end, ", ");
-    }
-    return count;
-}
-
-/* Reads a list of items, and returns how many there are. */
-static size_t items_in(const char *text, struct fio2070_configuration_item items[256]) {
-    static unsigned list[4 * 256];
-    size_t place, count = numbers_in(text, list) / 4;
-    for (place = 0; place < count; place++) {
-        items[place].input = (uint8_t)list[4 * place];
-        items[place].ignore = (uint8_t)list[4 * place + 1];
-        items[place].leading = (uint8_t)list[4 * place + 2];
-        items[place].trailing = (uint8_t)list[4 * place + 3];
-    }
-    return count;
-}
-
-static size_t entries_in(const char *text, struct fio2070_entry entries[256]) {
-    static unsigned list[3 * 256];
-    size_t place, count = numbers_in(text, list) / 3;
-    for (place = 0; place < count; place++) {
-        entries[place].input = (uint8_t)list[3 * place];
-        entries[place].state = (uint8_t)list[3 * place + 1];
-        entries[place].stamp = (uint16_t)list[3 * place + 2];
-    }
-    return count;
-}
-
 static void say_items(const struct fio2070_configuration_item *items, size_t count) {
     size_t place;
     for (place = 0; place < count; place++)
@@ -116,12 +81,11 @@ static void say_answer(const struct fio2070_answer *it) {
 }
 
 /* Says what a module is, of its numbers those that are not 0. */
-static void say_state(uint64_t filtered, uint64_t raw, uint32_t counter, size_t waiting, uint8_t flags, uint8_t watchdog,
-                      struct fio2070_error_counts errors, struct fio2070_outputs outputs) {
-    say("%sfiltered %016llx raw %016llx", *said ? ", " : "", (unsigned long long)filtered, (unsigned long long)raw);
-    say_field("counter", counter), say_field("waiting", waiting), say_field("flags", flags), say_field("watchdog", watchdog);
-    say_field("receive", errors.receive), say_field("transmit", errors.transmit);
-    say_octets_field("levels", outputs.levels), say_octets_field("controls", outputs.controls);
+static void say_state(struct fio2070_state it) {
+    say("%sfiltered %016llx raw %016llx", *said ? ", " : "", (unsigned long long)it.filtered, (unsigned long long)it.raw);
+    say_field("counter", it.counter), say_field("waiting", it.waiting), say_field("flags", it.flags);
+    say_field("watchdog", it.watchdog_ms), say_field("receive", it.errors.receive), say_field("transmit", it.errors.transmit);
+    say_octets_field("levels", it.outputs.levels), say_octets_field("controls", it.outputs.controls);
 }
 
 /* Says what of a block was heard, and not its text: its number, its stamp, what it adds to the record, and the next number. */

@@ -6,18 +6,31 @@
 static std::vector<std::uint8_t> octets(const fio2070::Frame &frame) { return {frame.begin(), frame.end()}; }
 using List = std::vector<std::uint8_t>;
 
-static const List BLOCK = {0xb6, 5, 1, 0x8c, 3, 0xe7, 0, 0, 0, 3, 0xe8};
+static const List BLOCK = {0xb6, 5, 1, 0x8c, 3, 0xe7, 0, 0, 0, 3, 0xe8}, IDENTIFY = {FIO2070_TYPE_IDENTIFY};
+
+static fio2070::Frame poll(std::uint8_t block) {
+    fio2070::Command command{};
+    command.code = FIO2070_TYPE_POLL;
+    command.block = block;
+    return fio2070::encode_command(command).value();
+}
+
+static fio2070::Command configuration_of(std::uint8_t count) {
+    fio2070::Command command{};
+    command.code = FIO2070_TYPE_CONFIGURE_INPUTS;
+    command.count = count;
+    return command;
+}
 
 static void reads_and_writes() {
-    CHECK(octets(fio2070::encode::poll(5)) == List({0x36, 5}));
-    CHECK(fio2070::encode::identify().size() == 1 && fio2070::encode::set_outputs({}).size() == 17);
+    CHECK(octets(poll(5)) == List({0x36, 5}));
     const fio2070::ConfigurationItem items[] = {{12, 0, 5, 3}, {3, 1, 0, 0}};
     const std::array<fio2070::ConfigurationItem, 1> absent = {{{128, 0, 1, 1}}};
-    auto configuration = fio2070::encode::configure_inputs(items);
+    auto configuration = fio2070::encode_command(configuration_of(2), items);
     CHECK(configuration && octets(*configuration) == List({0x33, 2, 12, 5, 3, 0x83, 0, 0}));
-    CHECK(!fio2070::encode::configure_inputs(absent));
+    CHECK(!fio2070::encode_command(configuration_of(1), absent) && !fio2070::encode_command(configuration_of(1), items));
     CHECK(fio2070::command_items(BLOCK).empty() && fio2070::block_entries(*configuration).empty());
-    auto command = fio2070::decode_command(fio2070::encode::poll(5));
+    auto command = fio2070::decode_command(poll(5));
     CHECK(command && command->block == 5 && command.fault().kind() == FIO2070_FAULT_NONE);
     auto nothing = fio2070::decode_command(List());
     CHECK(!nothing && !nothing.message() && nothing.fault().text() == "empty");
@@ -31,9 +44,9 @@ static void reads_and_writes() {
 }
 
 static void has_values() {
-    CHECK(fio2070::encode::poll(5) == fio2070::encode::poll(5) && fio2070::encode::poll(5) != fio2070::encode::poll(6));
-    CHECK(fio2070::encode::configure_inputs({{12, 0, 5, 3}, {3, 1, 0, 0}})->size() == 8);
-    CHECK(octets(*fio2070::encode::block_answer(5, {{12, 1, 999}}, 0, 1000)) == BLOCK);
+    CHECK(poll(5) == poll(5) && poll(5) != poll(6));
+    CHECK(fio2070::encode_command(configuration_of(2), {{12, 0, 5, 3}, {3, 1, 0, 0}})->size() == 8);
+    CHECK(octets(*fio2070::encode_answer(*fio2070::decode_answer(BLOCK), {{12, 1, 999}})) == BLOCK);
     CHECK(fio2070::decode_command({0x36, 5}).value().block == 5);
     CHECK(fio2070::block_entries(BLOCK) == std::vector<fio2070::Entry>({{12, 1, 999}}));
     CHECK(*fio2070::read_block(BLOCK) == fio2070::BlockHeader({5, 0, 1, 0, 1000}));
@@ -118,20 +131,20 @@ static void hears() {
 static void moves() {
     auto module = fio2070::Module<3>::start(2);
     const fio2070::ConfigurationItem item[] = {{0, 0, 1, 1}};
-    CHECK(!module->watchdog_ms() && octets(*module->receive(*fio2070::encode::configure_inputs(item))) == List({0xb3, 0}));
+    CHECK(!module->state().watchdog_ms && octets(*module->receive(*fio2070::encode_command(configuration_of(1), item))) == List({0xb3, 0}));
     module->scan(~std::uint64_t(1));
     auto moved = module;
     module.reset();
-    CHECK(octets(*moved->receive(fio2070::encode::poll(7))) == List({0xb6, 7, 1, 0, 0, 1, 0, 0, 0, 0, 1}));
-    CHECK(moved->waiting() == 0);
+    CHECK(octets(*moved->receive(poll(7))) == List({0xb6, 7, 1, 0, 0, 1, 0, 0, 0, 0, 1}));
+    CHECK(moved->state().waiting == 0);
 }
 
 /* With the standard limits no template argument is needed. */
 static void constructs_a_module() {
     fio2070::Module module(2);
     fio2070::Module<3> small(7, 1);
-    CHECK(octets(*module.receive(fio2070::encode::identify())) == List({0xbc, 2}));
-    CHECK(octets(*small.receive(fio2070::encode::identify())) == List({0xbc, 7}));
+    CHECK(octets(*module.receive(IDENTIFY)) == List({0xbc, 2}));
+    CHECK(octets(*small.receive(IDENTIFY)) == List({0xbc, 7}));
     bool throws = false;
     try {
         fio2070::Module refused(2, 0);
@@ -180,6 +193,9 @@ static void reads_a_line() {
     auto first = wire.read(rest), second = wire.read(rest);
     CHECK(first->is_message() && octets(first->message()) == List({0x36, 1}) && octets(second->message()) == List({0x36, 2}));
     CHECK(octets(any.read(all)->message()) == List(773, 0x7d) && all.empty());
+    rest = shared;
+    const auto other = fio2070::Wire(0x15, FIO2070_WIRE_CONTROL).read(rest);
+    CHECK(other->kind() == FIO2070_WIRE_OTHER && !other->is_message() && other->address() == 0x14);
     CHECK(*fio2070::wire_frame({0x36, 1}) == List(shared.begin(), shared.begin() + 8) && !fio2070::wire_frame({}));
 }
 

@@ -1,6 +1,6 @@
 """Claims: what the documents promise is what the contracts say, by the names of clauses.
 
-README's section "What is proved": each numbered sentence, and each other one that says *proved*, ends with brackets
+The sections "What is proved" of README and docs/PROVED.md: each numbered sentence, and each other one that says *proved*, ends with brackets
 that name what carries it; if it begins with a crate, functions are only looked for in that crate. Between semicolons
 the brackets have one of the forms
 
@@ -8,10 +8,11 @@ the brackets have one of the forms
     `rising` of `IsSoundRun`                                         fields of a definition
     the clause of `check_trace`                                      the one clause, which has no name
     each export of `fio_c`                                           each has clauses and no `requires`
-    the gate, `rt ci`                                                `test` runs it
+    the gate, `rt ci`                                                `./test` runs it
 
-and so do the columns of clauses in docs/ARCHITECTURE.md and docs/PLANNING.md. In docs/PROMISES.md the columns *Law*
-and *Field*, and the brackets of "Every call, crate by crate", name laws, fields and clauses that exist."""
+and so does the column of clauses in docs/ARCHITECTURE.md. In docs/PROMISES.md the columns *Law*
+and *Field* name laws and fields that exist, and the brackets of *What is proved* in the head of a crate's `src/lib.rt` its
+clauses."""
 
 import re
 
@@ -96,7 +97,7 @@ class Judge:
     def fault_of_claim(self, claim, crate=None):
         """Why a claim between semicolons is not carried, or None."""
         if claim == 'the gate, `rt ci`':
-            return None if re.search(r'^\s*(?:run )?rt ci\b', text_of('test'), re.M) else '`test` does not run `rt ci`'
+            return None if re.search(r"^GATE = \['rt', 'ci'\]$", text_of('tests/support/gate/parts.py'), re.M) else '`./test` does not run `rt ci`'
         exports = re.fullmatch(r'each export of `(\w+)`', claim)
         if exports:
             return self.fault_of_exports(exports[1])
@@ -153,8 +154,10 @@ def check_itself(judge):
 
 
 def check_sentences(judge):
-    """The sentences of README, and of "The ten promises" of docs/PROMISES.md, which has the same form: at least this many."""
-    for name, heading, least in (('README.md', 'What is proved', 4), ('docs/PROMISES.md', 'The ten promises', 11)):
+    """The sentences of README, of docs/PROVED.md, and of "The ten promises" of docs/PROMISES.md, which have the same form: at
+    least this many."""
+    for name, heading, least in (('README.md', 'What is proved', 2), ('docs/PROVED.md', 'What is proved', 4),
+                                 ('docs/PROMISES.md', 'The ten promises', 11)):
         found = list(claiming_sentences(section(name, '## ' + heading)))
         judge.holds(name, heading, None if len(found) >= least else 'has %d sentences' % len(found))
         for sentence in found:
@@ -163,10 +166,9 @@ def check_sentences(judge):
 
 def check_tables(judge):
     """The columns of clauses."""
-    for name, heading in (('docs/ARCHITECTURE.md', 'What each layer promises to the one above'),
-                          ('docs/PLANNING.md', 'The formulas and their clauses')):
-        for claims in cells(section(name, '## ' + heading), 'Clause'):
-            judge.holds(name, claims, judge.fault_of(claims))
+    name = 'docs/ARCHITECTURE.md'
+    for claims in cells(section(name, '## What each layer promises to the one above'), 'Clause'):
+        judge.holds(name, claims, judge.fault_of(claims))
 
 
 def check_promises(judge):
@@ -181,17 +183,16 @@ def check_promises(judge):
 
 
 def check_calls(judge):
-    """The brackets of "Every call, crate by crate" name clauses, or calls, of the crate that the paragraph is about."""
-    crate = None
-    for line in section('docs/PROMISES.md', '## Every call, crate by crate').split('\n'):
-        heading = re.match(r'\*\*`(\w+)`\*\*', line)
-        crate = heading[1] if heading else crate
-        public = [one for one in judge.contracts.get(crate, ()) if one.is_public]
-        known = {name for one in public for name in one.clauses() + [one.label()]}
-        for names in re.findall(r'\((?:clauses? )?(%s(?:: %s)?)[,)]' % (LIST, LIST), line):
-            for name in re.findall(r'`([^`]+)`', names):
-                fault = None if name in known else '`%s` has no clause `%s`' % (crate, name)
-                judge.holds('docs/PROMISES.md', names, fault)
+    """The brackets of *What is proved* in the head of each crate's `lib.rt` name clauses, calls or laws of that crate."""
+    for path in files('crates/*/src/lib.rt'):
+        crate = path.split('/')[1]
+        head = '\n'.join(re.findall(r'^//! ?(.*)$', text_of(path), re.M))
+        found = re.search(r'^# What is proved\n(.*?)(?=^# |\Z)', head, re.M | re.S)
+        public = [one for one in judge.contracts[crate] if one.is_public]
+        names = {name for one in public for name in one.clauses() + [one.label()]}
+        for listed in re.findall(r'\((?:clauses? )?(%s)[,)]' % LIST, ' '.join(found[1].split()) if found else ''):
+            for name in re.findall(r'`([^`]+)`', listed):
+                judge.holds(path, listed, None if name in names else '`%s` has no clause `%s`' % (crate, name))
 
 
 def rows(check):

@@ -17,7 +17,8 @@ def is_whole(check):
     glossary = tool('generate-glossary').page()
     parts = {path: part for path, part in re.findall(r'^### \[\w+\]\(\.\./(.*?)\)\n(.*?)(?=^##|\Z)', glossary, re.M | re.S)}
     sources = [path for path in files('crates/*/specs/*.antt') if os.path.basename(path) != 'Lib.antt']
-    check.equal('files of the glossary', sources, sorted(parts))
+    laws = files('crates/*/src/laws.rt')
+    check.equal('files of the glossary', sorted(sources + laws), sorted(parts))
     for path in sources:
         names = re.findall(r'^(?:abbrev |unfoldable )*pub (?:record |data )?(\S+)', text_of(path), re.M)
         check.equal('definitions of %s in the glossary' % path, list(dict.fromkeys(names)),

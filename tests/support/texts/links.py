@@ -1,9 +1,9 @@
-"""Links: each file that a document names, in a link or in code, exists; docs/TESTS.md names each check."""
+"""Links: each file that a document names, in a link or in code, exists; each check says in its head what it does."""
 
 import os
 import re
 
-from support.pages import documents, files, text_of
+from support.pages import documents, files, text_of, tool
 from support.tables import TOP
 
 # Where a name in code may begin, apart from the top.
@@ -24,9 +24,9 @@ def missing(document):
 
 
 def rows(check):
-    """Looks for the files that each document names, and for each check in docs/TESTS.md."""
+    """Looks for the files that each document names; each check says in its head what it does."""
     for document in documents():
         check.equal('files that %s names and that are missing' % document, [], missing(document))
     checks = [path for path in files('tests/*.*') if os.access(os.path.join(TOP, path), os.X_OK)]
-    named = re.findall(r'`(tests/[\w-]+\.\w+)`', text_of('docs/TESTS.md'))
-    check.equal('checks that docs/TESTS.md names', checks, sorted(named))
+    named = re.findall(r'^- `(tests/[\w-]+\.\w+)`: \w', tool('generate-checks').page().replace('`: `', '`: '), re.M)
+    check.equal('checks that say what they do', checks, sorted(named))

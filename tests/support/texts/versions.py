@@ -11,7 +11,7 @@ from support.tables import TOP
 # The places that name the version, with the text around it.
 PLACES = [
     ('CHANGELOG.md', '## %s\n'),
-    ('README.md', '| Version | %s ('),
+    ('README.md', '\nVersion %s ('),
     ('bindings/python/pyproject.toml', 'name = "fio2070"\nversion = "%s"\n'),
     ('bindings/rust/fio2070/Cargo.lock', 'name = "fio2070"\nversion = "%s"\n'),
     ('bindings/rust/fio2070/Cargo.toml', 'name = "fio2070"\nversion = "%s"\n'),

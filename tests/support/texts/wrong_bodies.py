@@ -1,12 +1,11 @@
 """Wrong bodies: the text that each one changes is in its file exactly once; it has a name of its own, and says what refuses
-it, as the table of docs/PROMISES.md does. Each function of that table has its wrong body in a folder `must-fail`, for `rt
-ci`, and no other has. `wrong-bodies/try` tries whether the prover refuses them."""
+it. Those without texts are the edits of the folders `must-fail`, for `rt ci`. `wrong-bodies/try` tries whether the prover refuses
+them."""
 
 import os
 
-from support.pages import files, text_of
+from support.pages import files
 from support.stanzas import crates_with_stanzas, stanzas_of, texts_of
-from support.texts.claims import cells
 
 
 def fault_of(stanza, names):
@@ -19,29 +18,17 @@ def fault_of(stanza, names):
     return None if count == 1 else 'it has %d lines `refused-by:`' % count
 
 
-def shown():
-    """Returns the rows of the page's table of wrong bodies: name, and what refuses it."""
-    text = text_of('docs/PROMISES.md')
-    return list(zip(cells(text, 'Wrong body'), (cell.strip('`') for cell in cells(text, 'Refused by'))))
-
-
 def rows(check):
-    """Compares the stanzas with the sources, and with the page."""
-    lines, of_gate = {}, []
+    """Compares the stanzas with the sources and with the edits of `rt ci`."""
+    of_gate = []
     for crate in crates_with_stanzas():
         stanzas = list(stanzas_of(crate))
         names = [stanza.name for stanza in stanzas]
         for stanza in stanzas:
             check.fault('%s: %s' % (crate, stanza.name), fault_of, stanza, names)
-            lines.setdefault(stanza.name, []).append(stanza.refused_by)
         of_gate += [stanza for stanza in stanzas if stanza.is_of_gate]
-    table = shown()
-    for name, refused_by in table:
-        check.holds('PROMISES: ' + name, refused_by in lines.get(name, []), 'refused by %s' % lines.get(name))
-    of_page = {name for name, refused_by in table if not refused_by.startswith('law ')}
     of_kit = {os.path.basename(path)[:-len('.edit')].replace('-', ' ') for path in files('crates/*/must-fail/*.edit')}
-    for what, names in (('PROMISES', of_page), ('the stanzas without texts', {stanza.name for stanza in of_gate})):
-        differ = names ^ of_kit
-        check.holds('must-fail: the bodies of ' + what, not differ, 'not in both: %s' % ', '.join(sorted(differ)))
+    differ = {stanza.name for stanza in of_gate} ^ of_kit
+    check.holds('must-fail: the bodies of the stanzas without texts', not differ, 'not in both: %s' % ', '.join(sorted(differ)))
     for stanza in of_gate:
         check.holds('must-fail: %s: one change' % stanza.name, len(stanza.changes) == 1, '%d' % len(stanza.changes))

@@ -7,7 +7,7 @@ import { fieldsOf, wordsIn } from './fields.js';
 import { hexText } from './hex.js';
 import { DIRECTION } from './messagelist.js';
 import { doubtOf } from './notes.js';
-import { entryOf, RESTART_HELP, ruleWords } from './rules.js';
+import { entryOf, RESTART_HELP, ruleWords, sourceWords } from './rules.js';
 
 const WAYS = { [DIRECTION.none]: 'No direction', [DIRECTION.sent]: 'Sent by the CPU', [DIRECTION.heard]: 'Heard by the CPU' };
 const LONGEST = 4096;
@@ -55,7 +55,7 @@ export function detailOf(log, place, textOf) {
   const breach = log.breaches.get(place), doubt = log.reason(place) || doubtOf(log, place);
   const reason = breach ? element('p', { class: 'reason' }, `Breaks ${log.reason(place)}.`)
     : doubt ? element('p', { class: 'doubt' }, sentence(doubt)) : null;
-  const explained = breach ? [element('details', {}, element('summary', {}, 'What this rule says'),
+  const explained = breach ? [element('p', { class: 'soft', id: 'rule-source' }, sourceWords(breach)), element('details', {}, element('summary', {}, 'What this rule says'),
     ...ruleWords(breach).map((words) => element('p', { class: 'soft' }, words)))]
     : log.restarts.has(place) ? [element('p', { class: 'soft' }, RESTART_HELP)] : [];
   const lines = log.written(place), octets = log.octets(place).slice(0, LONGEST);

@@ -1,26 +1,14 @@
 // What a file is in which no message was found, and what opens it.
 
-const TEXT_LIMIT = 4096;
+import { FILES } from './files.js';
+import { asLatin } from './hex.js';
 
-const begins = (...octets) => (file) => octets.every((octet, place) => file[place] === octet);
-const text = (file) => new TextDecoder().decode(file.subarray(0, TEXT_LIMIT));
-
-// What a file is, by how it begins.
-const KINDS = [
-  [(file) => file.length === 0 || text(file).trim() === '' && file.length < TEXT_LIMIT, 'It is empty.'],
-  [(file) => [begins(0xd4, 0xc3, 0xb2, 0xa1), begins(0xa1, 0xb2, 0xc3, 0xd4), begins(0x4d, 0x3c, 0xb2, 0xa1), begins(0x0a, 0x0d, 0x0d, 0x0a)]
-    .some((test) => test(file)), 'It is a capture of packets (pcap). fiolog decode reads it, and Wireshark with the dissector of tools/wireshark.'],
-  [begins(0x1f, 0x8b), 'It is compressed by gzip: unpack it first.'],
-  [begins(0x50, 0x4b, 3, 4), 'It is a zip archive, or a spreadsheet or document that is packed as one: unpack it first, or save it as text.'],
-  [(file) => /^fio2070 script /.test(text(file)), 'It is a script for fio2070 simulate: the view Play runs it.'],
-  [(file) => /^record \d+\n/.test(text(file)), 'It is a record, which fio2070 record wrote of a log: open the log itself.'],
-  [(file) => file.subarray(0, TEXT_LIMIT).some((octet) => octet === 0), 'It is no text. If it is what a line carried, or messages without flags, say so at “How is it written?”.'],
-];
+const FIRST_OCTETS = 4096;
 
 // One sentence on a file, by its octets, and by whether lines of it have octets.
 export function kindOf(file, hasOctets) {
-  const found = KINDS.find(([test]) => test(file));
-  if (found) return found[1];
+  const first = asLatin(file.subarray(0, FIRST_OCTETS)), found = Object.values(FILES).find(({ begins }) => begins.test(first));
+  if (found) return `It is ${found.is}${found.act === '' ? '' : `: ${found.act}`}.`;
   return hasOctets ? 'It is text with octets that are no message. Perhaps it is a log of another link, or the bits of its octets are in reverse order.'
     : 'It is text without octets of a message.';
 }

@@ -8,3 +8,6 @@ export const hexText = (octets) => Array.from(octets, (octet) => PAIRS_OF_DIGITS
 export function fromHex(digits) {
   return Uint8Array.from({ length: digits.length >> 1 }, (_, place) => parseInt(digits.slice(2 * place, 2 * place + 2), 16));
 }
+
+// Octets as text, a character each.
+export const asLatin = (octets) => Array.from(octets, (octet) => String.fromCharCode(octet)).join('');

@@ -14,13 +14,16 @@ export const HEARD = { taken: 0, unreadable: 1, other: 2, stale: 3, noRoom: 4 };
 export const STATUS_BITS = { more: 8, lost: 4, again: 2, outOfSequence: 1 };
 
 // Room for the text of a message.
+// The type of a configuration.
+const CONFIGURE_INPUTS = 51;
+
 const TEXT_ROOM = 32768;
 
 export class Library {
   constructor(machine) {
     this.machine = machine;
     this.calls = machine.exports;
-    this.result = machine.reserve(SIZE.heard);
+    this.result = machine.reserve(Math.max(SIZE.heard, SIZE.state));
     this.message = machine.reserve(Math.max(SIZE.command, SIZE.answer));
     this.frame = machine.reserve(LONGEST_FRAME + 1);
     this.out = machine.reserve(LONGEST_FRAME);
@@ -81,7 +84,12 @@ export class Library {
       const at = this.elements + index * SIZE.configurationItem;
       for (const [name, place] of Object.entries(AT.configurationItem)) all[at + place] = item[name];
     }
-    return this.written(this.calls.fio2070_encode_configure_inputs(BigInt(this.elements), BigInt(items.length), ...this.room));
+    const command = this.message;
+    all.fill(0, command, command + SIZE.command);
+    all[command + AT.command.code] = CONFIGURE_INPUTS;
+    all[command + AT.command.count] = items.length;
+    return this.written(this.calls.fio2070_encode_command(BigInt(command), BigInt(this.elements), BigInt(items.length), 0n, 0n,
+      ...this.room));
   }
 
   // The lines that `show` writes of a message, or the words of its fault.
@@ -179,16 +187,23 @@ export class Module extends Kept {
     return library.written(this.call('receive', ...this.ring, ...frame, ...library.room));
   }
 
+  // What the module is at present: the address of its struct, until the next call.
+  get state() {
+    const at = this.library.result;
+    this.library.calls.fio2070_sized_module_state(BigInt(at), this.at);
+    return at;
+  }
+
   get counter() {
-    return this.call('counter') >>> 0;
+    return this.library.machine.data.getUint32(this.state + AT.state.counter, true);
   }
 
   get waiting() {
-    return Number(this.call('waiting'));
+    return this.library.machine.data.getUint16(this.state + AT.state.waiting, true);
   }
 
   get filtered() {
-    return BigInt.asUintN(64, this.call('filtered'));
+    return this.library.machine.data.getBigUint64(this.state + AT.state.filtered, true);
   }
 }
 

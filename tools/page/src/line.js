@@ -1,9 +1,10 @@
 // What a line carried: a file of its octets or of its bits, or octets with flags in the lines of a log. The library finds the frames;
 // here they become messages, each in a line of its own if the file has none.
 
+import { isCapture } from './captures.js';
 import { LOG_FORMS, LOG_KINDS, LOG_SIDES } from './constants.js';
 import { counted } from './dom.js';
-import { fromHex, hexText } from './hex.js';
+import { asLatin, fromHex, hexText } from './hex.js';
 import { LINE } from './log_words.js';
 import { MessageList } from './messagelist.js';
 import { formOf, Found, linesOf, octetsOf, readLog } from './reader.js';
@@ -30,8 +31,6 @@ export const LINE_WAYS = {
   'bits-high-first': 'What a line carried: its bits, highest first',
 };
 
-const asLatin = (octets) => Array.from(octets, (octet) => String.fromCharCode(octet)).join('');
-
 function isText(octets) {
   try {
     return !CONTROLS.test(new TextDecoder('utf-8', { fatal: true }).decode(octets));
@@ -42,6 +41,7 @@ function isText(octets) {
 
 // What a file is by how it begins: one of LINE_WAYS, or '' for the lines of a log.
 function lineWayOf(library, file) {
+  if (isCapture(file)) return '';
   const begin = file.subarray(0, WINDOW), all = asLatin(begin), wire = wireOf(library, 'line').start(OWN);
   if (TEXT_OF_BITS.test(all)) return /[01\x01]/.test(all) ? 'bits' : '';
   let at = 0, isStrange = false, frames = 0, damaged = 0;
@@ -215,7 +215,7 @@ export function readAny(library, logReader, name, file, form, own = OWN) {
   if (way !== '') return readLine(library, logReader, file, way, own);
   const read = readLog(library, logReader, file, logForm), { messages } = read;
   const isRead = messages.isPossible.subarray(0, messages.count).some((it, place) => it === 0 && messages.lengths[place] > 0);
-  if (isRead || logForm !== LOG_FORMS.auto || !FLAGGED.test(asLatin(file.subarray(0, WINDOW)))) return read;
+  if (isRead || logForm !== LOG_FORMS.auto || !FLAGGED.test(asLatin(octetsOf(file).subarray(0, WINDOW)))) return read;
   const heard = readDigits(library, logReader, file, own);
   return heard.frames > 0 ? heard.result() : read;
 }

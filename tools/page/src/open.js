@@ -83,7 +83,7 @@ export class OpenView {
     this.zone = element('div', { class: 'drop' },
       element('p', { class: 'large' }, 'Drop a log here'),
       element('p', {}, element('button', { class: 'main', onclick: () => file.click() }, 'Choose a file'), file),
-      element('p', { class: 'soft' }, 'Hexadecimal digits, transcripts, hex dumps, tables, or logs with times and directions. Nothing leaves this browser.'),
+      element('p', { class: 'soft' }, 'Hexadecimal digits, transcripts, hex dumps, tables, logs with times and directions, or captured packets (pcap). Nothing leaves this browser.'),
       element('p', { class: 'row' }, labelled('Where was it taken?', ends), labelled('How is it written?', forms), pattern, address));
     this.zone.addEventListener('dragenter', () => this.zone.classList.add('over'));
     this.zone.addEventListener('dragleave', () => this.zone.classList.remove('over'));

@@ -1,6 +1,7 @@
 // Reads a log. The library finds the frames in its lines; here they become messages, with the time and the side that their lines
 // say.
 
+import { isCapture, linesOfCapture } from './captures.js';
 import { clockOf } from './clocks.js';
 import { LOG_FORMS, LOG_KINDS, LOG_REASONS } from './constants.js';
 import { Doubts } from './doubts.js';
@@ -25,8 +26,9 @@ export function formOf(name, asked) {
   return LOG_FORMS[asked === 'auto' && ending ? ending[1] : asked === 'any' ? 'auto' : asked];
 }
 
-// The octets of a file in UTF-8.
+// The octets of a file in UTF-8; those of a capture of packets are its lines.
 export function octetsOf(file) {
+  if (isCapture(file)) return linesOfCapture(file);
   const encoding = file.length > 1 ? BYTE_ORDER_MARKS[file[0] << 8 | file[1]] : undefined;
   return encoding ? new TextEncoder().encode(new TextDecoder(encoding).decode(file)) : file;
 }

@@ -1,6 +1,8 @@
 // Logs of which the reader says how they are written: their lines are written anew, as the library finds frames in any log.
 
+import { LOG_FORMS } from './constants.js';
 import { fromHex, hexText } from './hex.js';
+import { linesOf, octetsOf } from './reader.js';
 
 const FLAGS = 0x7e, HEADER = 2, DUMPED = 16;
 // The octets at the end of a line, as hexadecimal digits of two each.
@@ -32,7 +34,7 @@ function dump(file) {
   return rows.map((at) => `${at.toString(16).padStart(8, '0')}: ${hexText(file.subarray(at, at + DUMPED)).replace(/(....)(?=.)/g, '$1 ')}`);
 }
 
-const inLines = (write) => (file) => new TextDecoder().decode(file).split(/\r\n|\r|\n/).map((line) => line.trim() === '' ? '' : write(line));
+const inLines = (write) => (file) => linesOf(octetsOf(file), LOG_FORMS.auto).map((line) => line.trim() === '' ? '' : write(line));
 // Python names a group by `(?P<`.
 const expressionOf = (text) => new RegExp(text.replaceAll('(?P<', '(?<'));
 

@@ -1,6 +1,6 @@
 // The words of rules: what a breach or a restart means, and what a rule says.
 
-import { ADVANCE_BREACHES, CONTENT_BREACHES, CONTENT_RULES, INPUTS, RIGHT, RULE_BREACHES, RULES } from './constants.js';
+import { ADVANCE_BREACHES, CONTENT_BREACHES, CONTENT_RULES, INPUTS, RIGHT, RULE_BREACHES, RULES, SOURCES } from './constants.js';
 import { FIRST_ANSWER, STATUS_BITS, WATCHDOG_ANSWER } from './library.js';
 import { BREACHES, TERMS } from './log_words.js';
 
@@ -22,6 +22,12 @@ export function ruleWords({ rule, isContent }) {
   if (!isContent) return [`It is broken by a line that ${RULE_BREACHES[rule]}.`];
   const terms = Object.entries(TERMS).filter(([term]) => new RegExp(`\\b${term}\\b`).test(RIGHT[rule]));
   return [`In a right link: ${RIGHT[rule]}`, ...terms.map((pair) => `${pair.join(': ')}.`)];
+}
+
+// The sources of the rule that is broken.
+export function sourceWords(breach) {
+  const [behaviour, layout] = SOURCES[ruleOf(breach)];
+  return `Source: behaviour ${behaviour}, layout ${layout}.`;
 }
 
 // What shows a restart: an answer to a watchdog that was set before, any other by its stamp.

@@ -32,7 +32,7 @@ class Wire {
     this.machine.octets(this.piece, line.length).set(line);
     for (let taken = 0; taken < line.length;) {
       const left = [BigInt(this.piece + taken), BigInt(line.length - taken)];
-      taken += Number(this.calls[`${this.name}_read_many`](BigInt(this.address), ...left, BigInt(this.heard)));
+      taken += Number(this.calls[`${this.name}_read`](BigInt(this.address), ...left, BigInt(this.heard)));
       const kind = this.machine.all[this.heard];
       if (kind !== SAYS.nothing) yield { kind, ...this.frame() };
     }

@@ -1,14 +1,13 @@
 //! Both ends of the link, and the filters.
 
 use crate::constants::LONGEST_TEXT;
-use crate::errors::ConfigurationError;
 use crate::constants::STANDARD_WAITING;
+use crate::errors::ConfigurationError;
 use crate::raw::{
-    self, Breach, ConfigurationItem, ContentBreach, ErrorCounts, Fault, Outputs, RawChecker,
-    RawContentChecker, RawCounter, RawFilters, RawHeard, RawLimits, RawPoller, RawSizedModule,
-    RecordItem,
+    self, Breach, ConfigurationItem, ContentBreach, Fault, RawChecker, RawContentChecker,
+    RawCounter, RawFilters, RawHeard, RawLimits, RawPoller, RawSizedModule, RecordItem, State,
 };
-use crate::written::{text, Unwritten};
+use crate::written::{front, text, Unwritten};
 use crate::LONGEST_FRAME;
 use core::fmt;
 
@@ -78,7 +77,10 @@ impl Poller {
 
     /// Writes a poll with the present number to the front of `out`.
     pub fn poll<'a>(&self, out: &'a mut [u8]) -> Result<&'a [u8], Unwritten> {
-        crate::poll(self.0.number, out)
+        // SAFETY: `room` is the length of the buffer at `out`, which the call alone borrows.
+        front(out, |out, room| unsafe {
+            raw::fio2070_poller_poll(&self.0, out, room)
+        })
     }
 
     /// Takes a block with the present number whole, and writes what it adds to the record to the front
@@ -371,46 +373,8 @@ impl<const WAITING: usize> Module<WAITING> {
         }
     }
 
-    /// What the outputs are set to.
-    pub fn outputs(&self) -> Outputs {
-        unsafe { raw::fio2070_sized_module_outputs(&self.raw) }
-    }
-
-    /// The timeout of the watchdog in milliseconds, `None` before the first command 58.
-    pub fn watchdog_ms(&self) -> Option<u8> {
-        match unsafe { raw::fio2070_sized_module_watchdog_ms(&self.raw) } {
-            0 => None,
-            timeout => Some(timeout),
-        }
-    }
-
-    /// The milliseconds counted, modulo 2^32.
-    pub fn counter(&self) -> u32 {
-        unsafe { raw::fio2070_sized_module_counter(&self.raw) }
-    }
-
-    /// The filtered states, also of ignored inputs.
-    pub fn filtered(&self) -> u64 {
-        unsafe { raw::fio2070_sized_module_filtered(&self.raw) }
-    }
-
-    /// The levels of the last scan, all 1 before any.
-    pub fn raw(&self) -> u64 {
-        unsafe { raw::fio2070_sized_module_raw(&self.raw) }
-    }
-
-    /// The flags that are up.
-    pub fn flags(&self) -> u8 {
-        unsafe { raw::fio2070_sized_module_flags(&self.raw) }
-    }
-
-    /// The error counts that the answer 177 has.
-    pub fn errors(&self) -> ErrorCounts {
-        unsafe { raw::fio2070_sized_module_errors(&self.raw) }
-    }
-
-    /// How many entries wait for a poll.
-    pub fn waiting(&self) -> usize {
-        unsafe { raw::fio2070_sized_module_waiting(&self.raw) }
+    /// What the module is at present.
+    pub fn state(&self) -> State {
+        unsafe { raw::fio2070_sized_module_state(&self.raw) }
     }
 }

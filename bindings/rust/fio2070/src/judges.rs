@@ -49,11 +49,11 @@ impl LinkJudge {
         outcome
     }
 
-    /// What a frame is that the module sent, logged there.
-    pub fn heard(&mut self, at: u8, octets: &[u8]) -> JudgeOutcome {
+    /// What a frame is that the module sent.
+    pub fn heard(&mut self, octets: &[u8]) -> JudgeOutcome {
         let mut outcome = JudgeOutcome::default();
         let (start, count) = (octets.as_ptr(), octets.len());
-        unsafe { raw::fio2070_judge_heard(&mut self.0, at, start, count, &mut outcome) };
+        unsafe { raw::fio2070_judge_heard(&mut self.0, start, count, &mut outcome) };
         outcome
     }
 }

@@ -32,19 +32,14 @@ mod raw;
 mod wire;
 mod written;
 
-pub use encode::{
-    block_answer, configure_inputs, configure_inputs_answer, filtered_inputs,
-    filtered_inputs_answer, identify, load_counter, load_counter_answer, other_answer,
-    other_command, poll, raw_inputs, raw_inputs_answer, set_outputs, status, status_answer,
-    watchdog, watchdog_answer,
-};
+pub use encode::{encode_answer, encode_command};
 pub use ends::{Checker, ContentChecker, Counter, Filters, Heard, Module, Poller};
 pub use errors::ConfigurationError;
 pub use judges::{LinkJudge, LogJudge, LogSigns};
 pub use logs::{Frames, LogBatch, LogReader, Verdict};
 pub use raw::{
     Answer, Breach, Command, ConfigurationItem, ContentBreach, Entry, ErrorCounts, Fault,
-    JudgeOutcome, LogCounts, LogPlace, Outputs, RecordItem,
+    JudgeOutcome, LogCounts, LogPlace, Outputs, RecordItem, State,
 };
 pub use wire::{wire_check, wire_frame, Wire, WireBits, WireHeard};
 pub use written::Unwritten;

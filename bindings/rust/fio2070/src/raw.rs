@@ -117,6 +117,21 @@ pub struct ErrorCounts {
     pub transmit: u8,
 }
 
+/// What a module is at present.
+#[derive(Clone, Copy, Debug, Default, PartialEq, Eq)]
+#[repr(C)]
+pub struct State {
+    pub filtered: u64,
+    pub raw: u64,
+    pub outputs: Outputs,
+    pub counter: u32,
+    pub waiting: u16,
+    pub flags: u8,
+    pub watchdog_ms: u8,
+    pub errors: ErrorCounts,
+    pub reserved: [u8; 6],
+}
+
 #[derive(Clone, Default)]
 #[repr(C)]
 pub(crate) struct RawCounter {
@@ -333,22 +348,9 @@ opaque! {
 #[allow(dead_code)]
 #[rustfmt::skip]
 extern "C" {
-    pub(crate) fn fio2070_encode_status_answer(flags: u8, receive_errors: u8, transmit_errors: u8,
-        stamp: u32, out: *mut u8, out_count: usize) -> usize;
-    pub(crate) fn fio2070_encode_load_counter_answer(status: u8, out: *mut u8,
+    pub(crate) fn fio2070_encode_answer(answer: &Answer, entries: *const Entry,
+        entries_count: usize, body: *const u8, body_count: usize, out: *mut u8,
         out_count: usize) -> usize;
-    pub(crate) fn fio2070_encode_configure_inputs_answer(status: u8, out: *mut u8,
-        out_count: usize) -> usize;
-    pub(crate) fn fio2070_encode_raw_inputs_answer(inputs: u64, stamp: u32, out: *mut u8,
-        out_count: usize) -> usize;
-    pub(crate) fn fio2070_encode_filtered_inputs_answer(inputs: u64, stamp: u32, out: *mut u8,
-        out_count: usize) -> usize;
-    pub(crate) fn fio2070_encode_block_answer(block: u8, entries: *const Entry,
-        entries_count: usize, status: u8, stamp: u32, out: *mut u8, out_count: usize) -> usize;
-    pub(crate) fn fio2070_encode_watchdog_answer(status: u8, out: *mut u8,
-        out_count: usize) -> usize;
-    pub(crate) fn fio2070_encode_other_answer(code: u8, body: *const u8, body_count: usize,
-        out: *mut u8, out_count: usize) -> usize;
     pub(crate) fn fio2070_read_outputs_answer(octets: *const u8, octets_count: usize,
         stamp: &mut u32) -> Fault;
     pub(crate) fn fio2070_read_identification(octets: *const u8, octets_count: usize,
@@ -364,19 +366,9 @@ extern "C" {
         octets_count: usize, breach: &mut Breach) -> u8;
     pub(crate) fn fio2070_checker_heard(checker: &mut RawChecker, octets: *const u8,
         octets_count: usize, breach: &mut Breach) -> u8;
-    pub(crate) fn fio2070_encode_status(clear: u8, out: *mut u8, out_count: usize) -> usize;
-    pub(crate) fn fio2070_encode_load_counter(load: u32, out: *mut u8, out_count: usize) -> usize;
-    pub(crate) fn fio2070_encode_configure_inputs(items: *const ConfigurationItem,
-        items_count: usize, out: *mut u8, out_count: usize) -> usize;
-    pub(crate) fn fio2070_encode_raw_inputs(out: *mut u8, out_count: usize) -> usize;
-    pub(crate) fn fio2070_encode_filtered_inputs(out: *mut u8, out_count: usize) -> usize;
-    pub(crate) fn fio2070_encode_poll(block: u8, out: *mut u8, out_count: usize) -> usize;
-    pub(crate) fn fio2070_encode_set_outputs(levels: &[u8; 8], controls: &[u8; 8], out: *mut u8,
+    pub(crate) fn fio2070_encode_command(command: &Command, items: *const ConfigurationItem,
+        items_count: usize, body: *const u8, body_count: usize, out: *mut u8,
         out_count: usize) -> usize;
-    pub(crate) fn fio2070_encode_watchdog(timeout: u8, out: *mut u8, out_count: usize) -> usize;
-    pub(crate) fn fio2070_encode_identify(out: *mut u8, out_count: usize) -> usize;
-    pub(crate) fn fio2070_encode_other_command(code: u8, body: *const u8, body_count: usize,
-        out: *mut u8, out_count: usize) -> usize;
     pub(crate) fn fio2070_decode_command(octets: *const u8, octets_count: usize,
         command: &mut Command) -> Fault;
     pub(crate) fn fio2070_command_items(octets: *const u8, octets_count: usize,
@@ -404,8 +396,8 @@ extern "C" {
     pub(crate) fn fio2070_judge_lose(judge: &mut RawJudge);
     pub(crate) fn fio2070_judge_sent(judge: &mut RawJudge, at: u8, octets: *const u8,
         octets_count: usize, outcome: &mut JudgeOutcome) -> u8;
-    pub(crate) fn fio2070_judge_heard(judge: &mut RawJudge, at: u8, octets: *const u8,
-        octets_count: usize, outcome: &mut JudgeOutcome) -> u8;
+    pub(crate) fn fio2070_judge_heard(judge: &mut RawJudge, octets: *const u8, octets_count: usize,
+        outcome: &mut JudgeOutcome) -> u8;
     pub(crate) fn fio2070_log_start(reader: &mut RawLogReader, form: u8);
     pub(crate) fn fio2070_log_read(reader: &mut RawLogReader, octets: *const u8,
         octets_count: usize, batch: &mut RawLogBatch) -> usize;
@@ -451,22 +443,14 @@ extern "C" {
     pub(crate) fn fio2070_sized_module_receive(device: &mut RawSizedModule, ring: *mut [u8; 3],
         ring_count: usize, octets: *const u8, octets_count: usize, out: *mut u8,
         out_count: usize) -> usize;
-    pub(crate) fn fio2070_sized_module_flags(device: &RawSizedModule) -> u8;
-    pub(crate) fn fio2070_sized_module_errors(device: &RawSizedModule) -> ErrorCounts;
-    pub(crate) fn fio2070_sized_module_outputs(device: &RawSizedModule) -> Outputs;
-    pub(crate) fn fio2070_sized_module_watchdog_ms(device: &RawSizedModule) -> u8;
-    pub(crate) fn fio2070_sized_module_counter(device: &RawSizedModule) -> u32;
-    pub(crate) fn fio2070_sized_module_filtered(device: &RawSizedModule) -> u64;
-    pub(crate) fn fio2070_sized_module_raw(device: &RawSizedModule) -> u64;
-    pub(crate) fn fio2070_sized_module_waiting(device: &RawSizedModule) -> usize;
+    pub(crate) fn fio2070_sized_module_state(device: &RawSizedModule) -> State;
     pub(crate) fn fio2070_fault_text(fault: &Fault, text: *mut u8, text_count: usize) -> usize;
     pub(crate) fn fio2070_rule_text(rule: u8, text: *mut u8, text_count: usize) -> usize;
     pub(crate) fn fio2070_content_rule_text(rule: u8, text: *mut u8, text_count: usize) -> usize;
     pub(crate) fn fio2070_heard_text(heard: &RawHeard, text: *mut u8, text_count: usize) -> usize;
     pub(crate) fn fio2070_version() -> u32;
     pub(crate) fn fio2070_wire_start(wire: &mut RawWire, address: u16, control: u16);
-    pub(crate) fn fio2070_wire_read(wire: &mut RawWire, octet: u8) -> u8;
-    pub(crate) fn fio2070_wire_read_many(wire: &mut RawWire, octets: *const u8, octets_count: usize,
+    pub(crate) fn fio2070_wire_read(wire: &mut RawWire, octets: *const u8, octets_count: usize,
         heard: &mut u8) -> usize;
     pub(crate) fn fio2070_wire_lose(wire: &mut RawWire);
     pub(crate) fn fio2070_wire_message_length(wire: &RawWire) -> usize;
@@ -474,8 +458,7 @@ extern "C" {
         message_count: usize, out: *mut u8, out_count: usize) -> usize;
     pub(crate) fn fio2070_wire_check(octets: *const u8, octets_count: usize) -> u16;
     pub(crate) fn fio2070_wire_bits_start(bits: &mut RawWireBits, address: u16, control: u16);
-    pub(crate) fn fio2070_wire_bits_read(bits: &mut RawWireBits, bit: u8) -> u8;
-    pub(crate) fn fio2070_wire_bits_read_many(bits: &mut RawWireBits, octets: *const u8,
+    pub(crate) fn fio2070_wire_bits_read(bits: &mut RawWireBits, octets: *const u8,
         octets_count: usize, heard: &mut u8) -> usize;
     pub(crate) fn fio2070_wire_bits_message_length(bits: &RawWireBits) -> usize;
 }

@@ -94,7 +94,7 @@ fn setting(number: Option<u8>) -> u16 {
 /// let line = wire_frame(&[54, 5], 0x14, 0x83, &mut out).unwrap();
 /// let mut wire = Wire::new(Some(0x14), Some(0x83));
 /// let mut piece = line;
-/// while let Some(heard) = wire.read_many(&mut piece) {
+/// while let Some(heard) = wire.read(&mut piece) {
 ///     match heard {
 ///         WireHeard::Message { message, .. } => assert_eq!(message, [54, 5]),
 ///         other => panic!("{other:?}"),
@@ -112,18 +112,12 @@ impl Wire {
         Wire(wire)
     }
 
-    /// Takes an octet, and returns the frame or the damage that ends with it.
-    pub fn read(&mut self, octet: u8) -> Option<WireHeard<'_>> {
-        let kind = unsafe { raw::fio2070_wire_read(&mut self.0, octet) };
-        self.heard(kind)
-    }
-
     /// Takes octets from the front of the slice, up to the next frame or damage, and returns that; `None` if it took them all
     /// and nothing ended.
-    pub fn read_many(&mut self, octets: &mut &[u8]) -> Option<WireHeard<'_>> {
+    pub fn read(&mut self, octets: &mut &[u8]) -> Option<WireHeard<'_>> {
         let mut kind = WIRE_NOTHING;
         let count = unsafe {
-            raw::fio2070_wire_read_many(&mut self.0, octets.as_ptr(), octets.len(), &mut kind)
+            raw::fio2070_wire_read(&mut self.0, octets.as_ptr(), octets.len(), &mut kind)
         };
         *octets = &octets[count..];
         self.heard(kind)
@@ -154,18 +148,12 @@ impl WireBits {
         WireBits(bits)
     }
 
-    /// Takes a bit, and returns the frame or the damage that ends with it.
-    pub fn read(&mut self, bit: u8) -> Option<WireHeard<'_>> {
-        let kind = unsafe { raw::fio2070_wire_bits_read(&mut self.0, bit) };
-        self.heard(kind)
-    }
-
     /// Takes bits from the front of the slice, up to the next frame or damage, and returns that; `None` if it took them all and
     /// nothing ended.
-    pub fn read_many(&mut self, line: &mut &[u8]) -> Option<WireHeard<'_>> {
+    pub fn read(&mut self, line: &mut &[u8]) -> Option<WireHeard<'_>> {
         let mut kind = WIRE_NOTHING;
         let count = unsafe {
-            raw::fio2070_wire_bits_read_many(&mut self.0, line.as_ptr(), line.len(), &mut kind)
+            raw::fio2070_wire_bits_read(&mut self.0, line.as_ptr(), line.len(), &mut kind)
         };
         *line = &line[count..];
         self.heard(kind)

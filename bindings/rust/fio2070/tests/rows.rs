@@ -8,9 +8,26 @@ const BLOCK: [u8; 11] = [0xb6, 5, 1, 0x8c, 3, 0xe7, 0, 0, 0, 3, 0xe8];
 fn what_has_no_room_is_not_written() {
     let mut out = [0; LONGEST_FRAME];
     let items = [ConfigurationItem::default(); 2];
-    assert_eq!(poll(5, &mut out[..1]), Err(Unwritten::NoRoom(2)));
+    let poll = Command {
+        code: constants::TYPE_POLL,
+        block: 5,
+        ..Command::default()
+    };
     assert_eq!(
-        configure_inputs(&items, &mut out[..7]),
+        encode_command(&poll, &[], &[], &mut out[..1]),
+        Err(Unwritten::NoRoom(2))
+    );
+    assert_eq!(
+        encode_command(&poll, &items, &[], &mut out),
+        Err(Unwritten::NoMessage)
+    );
+    let configuration = Command {
+        code: constants::TYPE_CONFIGURE_INPUTS,
+        count: 2,
+        ..Command::default()
+    };
+    assert_eq!(
+        encode_command(&configuration, &items, &[], &mut out[..7]),
         Err(Unwritten::NoRoom(8))
     );
     assert_eq!(
@@ -102,11 +119,11 @@ fn a_module_has_limits() {
 fn a_poller_polls_a_copy() {
     let (mut module, mut out) = (Module::new(2, 255).unwrap(), [0; LONGEST_FRAME]);
     module.receive(&[51, 1, 12, 1, 1], &mut out);
-    assert_eq!(module.watchdog_ms(), None);
+    assert_eq!(module.state().watchdog_ms, 0);
     module.scan(!(1 << 12));
     let (mut copy, mut poller) = (module.clone(), Poller::new(5));
     module.restart();
-    assert_eq!((module.waiting(), copy.waiting()), (0, 1));
+    assert_eq!((module.state().waiting, copy.state().waiting), (0, 1));
     let answer = [0xb6, 5, 1, 12, 0, 1, 0, 0, 0, 0, 1];
     let mut poll = [0; 2];
     assert_eq!(
@@ -191,6 +208,6 @@ fn a_line_is_written() {
         message: &[0x7e; 773],
     };
     let mut line = wire_frame(&[0x7e; 773], 0x7d, 0x7e, &mut out).unwrap();
-    assert_eq!(Wire::new(None, None).read_many(&mut line), Some(longest));
+    assert_eq!(Wire::new(None, None).read(&mut line), Some(longest));
     assert!(line.is_empty());
 }

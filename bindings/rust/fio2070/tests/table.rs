@@ -56,69 +56,6 @@ fn octets_of(text: &str) -> Vec<u8> {
         .collect()
 }
 
-/// The numbers of each item or entry of a text.
-fn lists_of(text: &str) -> Vec<Vec<u16>> {
-    let parts = text.split(", ").filter(|part| !part.is_empty());
-    parts
-        .map(|part| part.split(' ').map(|word| word.parse().unwrap()).collect())
-        .collect()
-}
-
-fn items_of(text: &str) -> Vec<ConfigurationItem> {
-    let item = |one: &Vec<u16>| ConfigurationItem {
-        input: one[0] as u8,
-        ignore: one[1] != 0,
-        leading: one[2] as u8,
-        trailing: one[3] as u8,
-    };
-    lists_of(text).iter().map(item).collect()
-}
-
-fn entries_of(text: &str) -> Vec<Entry> {
-    let entry = |one: &Vec<u16>| Entry {
-        input: one[0] as u8,
-        state: one[1] as u8,
-        stamp: one[2],
-    };
-    lists_of(text).iter().map(entry).collect()
-}
-
-fn encoded(row: &Row, octets: &[u8]) -> String {
-    let mut room = [0; LONGEST_FRAME];
-    let out = &mut room[..];
-    let number = |place: usize| row.numbers[place];
-    let octet = |place: usize| number(place) as u8;
-    let half = |start: usize| octets[start..start + 8].try_into().unwrap();
-    let written = match &row.call[7..] {
-        "status" => status(octet(0), out),
-        "load_counter" => load_counter(number(0) as u32, out),
-        "configure_inputs" => configure_inputs(&items_of(&row.text), out),
-        "raw_inputs" => raw_inputs(out),
-        "filtered_inputs" => filtered_inputs(out),
-        "poll" => poll(octet(0), out),
-        "set_outputs" => set_outputs(&half(0), &half(8), out),
-        "watchdog" => watchdog(octet(0), out),
-        "identify" => identify(out),
-        "other_command" => other_command(octet(0), octets, out),
-        "status_answer" => status_answer(octet(0), octet(1), octet(2), number(3) as u32, out),
-        "load_counter_answer" => load_counter_answer(octet(0), out),
-        "configure_inputs_answer" => configure_inputs_answer(octet(0), out),
-        "raw_inputs_answer" => raw_inputs_answer(number(0), number(1) as u32, out),
-        "filtered_inputs_answer" => filtered_inputs_answer(number(0), number(1) as u32, out),
-        "block_answer" => block_answer(
-            octet(0),
-            &entries_of(&row.text),
-            octet(1),
-            number(2) as u32,
-            out,
-        ),
-        "watchdog_answer" => watchdog_answer(octet(0), out),
-        "other_answer" => other_answer(octet(0), octets, out),
-        _ => return "no such call".to_string(),
-    };
-    words_of(written.map(hex))
-}
-
 /// A result, or that there is no message.
 fn words_of(written: Result<String, Unwritten>) -> String {
     match written {
@@ -147,12 +84,31 @@ fn fields_of(fields: &[(&str, u64)]) -> String {
 fn command_of(octets: &[u8]) -> Result<String, Fault> {
     let it = decode_command(octets)?;
     let words = fields!(it, code, clear, block, timeout, count, body, load);
-    Ok(words + &outputs_of(&it.levels, &it.controls))
+    let mut room = [ConfigurationItem::default(); MOST_ENTRIES];
+    let items = command_items(octets, &mut room).unwrap_or(&[]);
+    let body = &octets[1..=usize::from(it.body)];
+    let mut out = [0; LONGEST_FRAME];
+    let again = again(encode_command(&it, items, body, &mut out), octets);
+    Ok(words + &outputs_of(&it.levels, &it.controls) + again)
+}
+
+/// Whether what was decoded is written as other octets.
+fn again(written: Result<&[u8], Unwritten>, octets: &[u8]) -> &'static str {
+    if written == Ok(octets) {
+        ""
+    } else {
+        ", written as others"
+    }
 }
 
 fn answer_of(octets: &[u8]) -> Result<String, Fault> {
     let it = decode_answer(octets)?;
-    Ok(fields!(
+    let mut room = [Entry::default(); MOST_ENTRIES];
+    let entries = block_entries(octets, &mut room).unwrap_or(&[]);
+    let body = &octets[1..=usize::from(it.body)];
+    let mut out = [0; LONGEST_FRAME];
+    let again = again(encode_answer(&it, entries, body, &mut out), octets);
+    let words = fields!(
         it,
         code,
         flags,
@@ -164,7 +120,8 @@ fn answer_of(octets: &[u8]) -> Result<String, Fault> {
         body,
         stamp,
         inputs
-    ))
+    );
+    Ok(words + again)
 }
 
 fn items_in(octets: &[u8]) -> String {
@@ -286,16 +243,17 @@ fn reply_of<const WAITING: usize>(module: &mut Module<WAITING>, octets: &[u8]) -
 
 /// What a module is, of its numbers and outputs those that are not 0.
 fn state_of<const WAITING: usize>(module: &Module<WAITING>) -> String {
-    let (filtered, raw, errors) = (module.filtered(), module.raw(), module.errors());
+    let state = module.state();
+    let (filtered, raw, errors) = (state.filtered, state.raw, state.errors);
     let numbers = fields_of(&[
-        ("counter", module.counter().into()),
-        ("waiting", module.waiting() as u64),
-        ("flags", module.flags().into()),
-        ("watchdog", module.watchdog_ms().unwrap_or(0).into()),
+        ("counter", state.counter.into()),
+        ("waiting", state.waiting.into()),
+        ("flags", state.flags.into()),
+        ("watchdog", state.watchdog_ms.into()),
         ("receive", errors.receive.into()),
         ("transmit", errors.transmit.into()),
     ]);
-    let outputs = outputs_of(&module.outputs().levels, &module.outputs().controls);
+    let outputs = outputs_of(&state.outputs.levels, &state.outputs.controls);
     let words = format!("filtered {filtered:016x} raw {raw:016x} {numbers}");
     words.trim_end().to_string() + &outputs
 }
@@ -354,7 +312,7 @@ fn by_judge(row: &Row) -> String {
         said.push(outcome_words(if side == ">" {
             judge.sent(at, &octets)
         } else {
-            judge.heard(at, &octets)
+            judge.heard(&octets)
         }));
     }
     said.join(", ")
@@ -513,7 +471,7 @@ fn heard_words(heard: WireHeard<'_>) -> String {
     format!("{kind} {address:02x} {control:02x} {}", hex(message))
 }
 
-/// What a decoder says of a line, by one octet a call and by the call for many.
+/// What a decoder says of a line, by one octet a call and by all.
 macro_rules! heard_line {
     ($row:expr, $decoder:ident, $octets_of:expr, $lose:expr) => {{
         let any = |place: usize| u8::try_from($row.numbers[place]).ok();
@@ -525,12 +483,15 @@ macro_rules! heard_line {
                 $lose(&mut by_one);
                 $lose(&mut by_many);
             }
-            one.extend(
-                line.iter()
-                    .filter_map(|octet| by_one.read(*octet).map(heard_words)),
-            );
+            for octet in line.iter() {
+                one.extend(
+                    by_one
+                        .read(&mut std::slice::from_ref(octet))
+                        .map(heard_words),
+                );
+            }
             let mut rest = &line[..];
-            while let Some(heard) = by_many.read_many(&mut rest) {
+            while let Some(heard) = by_many.read(&mut rest) {
                 many.push(heard_words(heard));
             }
             assert!(rest.is_empty());
@@ -620,7 +581,7 @@ fn run(row: &Row) -> Result<String, Fault> {
             let mut out = [0; constants::WIRE_LONGEST];
             words_of(wire_frame(&octets, number(0) as u8, number(1) as u8, &mut out).map(hex))
         }
-        _ => encoded(row, &octets),
+        _ => "no such call".to_string(),
     })
 }
 

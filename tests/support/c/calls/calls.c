@@ -5,7 +5,7 @@
 #include <string.h>
 
 uint64_t sum;
-int has_garbage;
+int has_garbage, seeks_frames;
 
 void (*const GROUP_CALLS[GROUPS])(struct input *input) = {call_decoders, call_encoders, call_parts, call_module,
                                                           call_poller, call_checkers, call_log_reader, call_wire,
@@ -48,8 +48,9 @@ void take_into(struct input *input, void *to, size_t length) {
 
 uint8_t *take_frame(struct input *input, size_t *length) {
     uint8_t *frame;
+    while (seeks_frames && input->left > 0 && *input->octets != LONG) take8(input);
     *length = take8(input);
-    if (*length >= 250) *length = take16(input) % 900u;
+    if (*length >= LONG) *length = take16(input) % 900u;
     if (*length > input->left) *length = input->left;
     if (*length == 0) return NULL;
     frame = (uint8_t *)untouched(*length);
@@ -62,15 +63,22 @@ uint8_t *take_frame(struct input *input, size_t *length) {
 void *untouched(size_t size) {
     void *memory = malloc(size > 0 ? size : 1);
     require(memory != NULL, "there is memory");
-    memset(memory, UNTOUCHED, size);
+    untouch(memory, size);
     return memory;
 }
+
+#ifdef FRESH
+void untouch(void *memory, size_t size) { (void)memory, (void)size; }
+int is_untouched(const void *memory, size_t size) { return memory != NULL || size == 0; }
+#else
+void untouch(void *memory, size_t size) { memset(memory, UNTOUCHED, size); }
 
 int is_untouched(const void *memory, size_t size) {
     const uint8_t *octet = (const uint8_t *)memory, *end = octet + size;
     while (octet < end && *octet == UNTOUCHED) octet++;
     return octet == end;
 }
+#endif
 
 size_t written(size_t count, size_t room, const void *to, size_t size) {
     mix(count == FIO2070_NO_MESSAGE ? UINT32_MAX : count);
@@ -101,9 +109,11 @@ void mix_octets(const void *octets, size_t length) {
 
 void mix_fault(const struct fio2070_fault *fault) {
     char text[FIO2070_LONGEST_TEXT];
+    size_t length = fio2070_fault_text(fault, text, sizeof text);
     mix(fault->kind);
     mix(fault->code);
     mix(fault->needed);
     mix(fault->got);
-    mix_octets(text, fio2070_fault_text(fault, text, sizeof text));
+    require(length < sizeof text && (length == 0) == (fault->kind == 0), "a fault has a text");
+    mix_octets(text, length);
 }

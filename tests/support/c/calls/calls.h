@@ -6,7 +6,7 @@
 
 #include "fio2070.h"
 
-enum { MOST_TEXT = 20000, UNTOUCHED = 0xa5 };
+enum { MOST_TEXT = 20000, UNTOUCHED = 0xa5, LONG = 250 };
 
 /* The octets that are left. */
 struct input {
@@ -20,11 +20,15 @@ uint32_t take32(struct input *input);
 uint64_t take64(struct input *input);
 void take_into(struct input *input, void *to, size_t length);
 
-/* A frame in memory of its own, to be freed; NULL if it has no octets. */
+/* A frame in memory of its own, to be freed; NULL if it has no octets. A length of two octets is behind the octet LONG; where frames
+ * are sought, that of the next one. */
+extern int seeks_frames;
 uint8_t *take_frame(struct input *input, size_t *length);
 
-/* Memory of this size, to be freed, full of the octet UNTOUCHED. */
+/* Memory of this size, to be freed, and memory that is there, full of the octet UNTOUCHED. With -DFRESH nothing writes it before
+ * the library does, so that valgrind sees what is read of it, or is said to be written and is not. */
 void *untouched(size_t size);
+void untouch(void *memory, size_t size);
 int is_untouched(const void *memory, size_t size);
 
 /* Ends the program, with these words, if something that the header says does not hold. */

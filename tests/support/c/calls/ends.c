@@ -1,4 +1,5 @@
 /* A module, a poller and the checkers. */
+#include "../encode.h"
 #include "calls.h"
 
 #include <stdlib.h>
@@ -51,12 +52,10 @@ static void happen(const struct device *device, struct input *input) {
 }
 
 static void mix_module(const struct fio2070_sized_module *module) {
-    struct fio2070_outputs outputs = fio2070_sized_module_outputs(module);
-    struct fio2070_error_counts errors = fio2070_sized_module_errors(module);
-    mix_octets(outputs.levels, 8), mix_octets(outputs.controls, 8);
-    mix(fio2070_sized_module_watchdog_ms(module)), mix(fio2070_sized_module_counter(module));
-    mix(fio2070_sized_module_filtered(module)), mix(fio2070_sized_module_raw(module));
-    mix(fio2070_sized_module_flags(module)), mix(errors.receive), mix(errors.transmit);
+    struct fio2070_state state = fio2070_sized_module_state(module);
+    mix_octets(state.outputs.levels, 8), mix_octets(state.outputs.controls, 8);
+    mix(state.watchdog_ms), mix(state.counter), mix(state.filtered), mix(state.raw), mix(state.flags);
+    mix(state.errors.receive), mix(state.errors.transmit), mix_octets(state.reserved, sizeof state.reserved);
 }
 
 /* Each input is reported, so that there is something to poll. */
@@ -69,7 +68,7 @@ static void configure(const struct device *device) {
         items[length].ignore = 0;
         items[length].leading = items[length].trailing = (uint8_t)(length % 4);
     }
-    length = fio2070_encode_configure_inputs(items, 64, command, sizeof command);
+    length = encode_items(items, 64, command, sizeof command);
     mix(fio2070_sized_module_receive(device->module, device->ring, command, length, answer, sizeof answer));
 }
 
@@ -94,7 +93,7 @@ void call_module(struct input *input) {
         size_t waiting;
         happen(&device, input);
         mix_module(device.module);
-        waiting = fio2070_sized_module_waiting(device.module);
+        waiting = fio2070_sized_module_state(device.module).waiting;
         mix(waiting);
         require(how & 12 || started != FIO2070_STARTED || waiting <= limits.waiting, "no more entries wait than the limit");
     }
@@ -125,8 +124,10 @@ static void hear(struct fio2070_poller *poller, struct input *input) {
     mix_fault(&heard.fault);
     if (heard.kind == FIO2070_HEARD_TAKEN) {
         require(poller->number == (uint8_t)(number + 1) && heard.items <= room, "a block that is taken fits, and the number goes on");
-        for (place = 0; place < heard.items; place++)
+        for (place = 0; place < heard.items; place++) {
             mix(items[place].gap), mix(items[place].input), mix(items[place].state), mix(items[place].stamp), mix(items[place].wide);
+            mix_octets(items[place].reserved, sizeof items[place].reserved);
+        }
         room -= heard.items;
     } else {
         require(poller->number == number, "what is not taken changes no number");
@@ -164,7 +165,7 @@ static void judge(struct fio2070_judge *judge, struct input *input, const uint8_
     struct fio2070_judge_outcome *found = (struct fio2070_judge_outcome *)untouched(sizeof *found);
     if (how % 8 == 0) fio2070_judge_lose(judge);
     kind = is_sent ? fio2070_judge_sent(judge, (uint8_t)(how >> 3), frame, length, found)
-                   : fio2070_judge_heard(judge, (uint8_t)(how >> 3), frame, length, found);
+                   : fio2070_judge_heard(judge, frame, length, found);
     require(found->why <= FIO2070_WHY_PLACE_LOST, "the judge of a link knows no late answers");
     mix_outcome(found, kind);
     free(found);
@@ -226,6 +227,14 @@ static void check(struct fio2070_checker *checker, struct fio2070_content_checke
     free(frame);
 }
 
+/* A start that is refused leaves what was there, with which any call does something. */
+static void begin(uint8_t started, void *it, size_t size) {
+    mix(started);
+    if (started == FIO2070_STARTED) return;
+    require(is_untouched(it, size), "a start that is refused changes nothing");
+    memset(it, UNTOUCHED, size);
+}
+
 void call_checkers(struct input *input) {
     struct fio2070_checker checker;
     struct fio2070_content_checker *content = (struct fio2070_content_checker *)untouched(sizeof *content);
@@ -234,14 +243,14 @@ void call_checkers(struct input *input) {
     struct fio2070_log_counts *counts = (struct fio2070_log_counts *)untouched(sizeof *counts);
     struct fio2070_limits limits = {0, 0, 0};
     uint8_t how = take8(input), polled = 0;
-    memset(&checker, UNTOUCHED, sizeof checker);
+    untouch(&checker, sizeof checker);
     limits.waiting = how & 1 ? take16(input) : FIO2070_STANDARD_WAITING;
     limits.per_block = how & 1 ? take8(input) : FIO2070_MOST_ENTRIES;
     fio2070_checker_start(&checker);
     mix(how & 16 ? fio2070_checker_start_anywhere(&checker, limits) : fio2070_checker_start_within(&checker, limits));
     if (how & 2) fio2070_content_start(content); else fio2070_content_start_begun(content);
-    mix(how & 2 ? fio2070_judge_start_anywhere(link, limits) : fio2070_judge_start_begun(link, limits));
-    mix(fio2070_log_judge_start(log, limits, (uint8_t)(how >> 6), (uint8_t)(how >> 4)));
+    begin(how & 2 ? fio2070_judge_start_anywhere(link, limits) : fio2070_judge_start_begun(link, limits), link, sizeof *link);
+    begin(fio2070_log_judge_start(log, limits, (uint8_t)(how >> 6), (uint8_t)(how >> 4)), log, sizeof *log);
     if (has_garbage && how & 4) take_into(input, content, sizeof *content);
     if (has_garbage && how & 32) take_into(input, link, sizeof *link);
     if (has_garbage && how & 64) take_into(input, log, sizeof *log);

@@ -49,7 +49,7 @@ static void read_piece(const uint8_t *piece, size_t length, uint64_t *line) {
 
 void call_log_reader(struct input *input) {
     uint64_t line = 0;
-    memset(&reader, UNTOUCHED, sizeof reader);
+    untouch(&reader, sizeof reader);
     fio2070_log_start(&reader, take8(input) % 4);
     while (input->left > 0) {
         size_t length;

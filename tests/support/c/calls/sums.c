@@ -15,10 +15,10 @@ static const char *const WORDS[] = {"36 05", "b6 00 00 00 00 00 00 01", "3605", 
                                     " TX: ", " RX ", "12:00:01.123 ", "2026-11-27 08:00:00 ", "\t", "[", "]", "|", "\n", "\n", "\n", "\r\n",
                                     "7e", "\xef\xbb\xbf", "\033[0m", "#", "FF", "..", "0000: ", "abcdef"};
 
-static uint8_t octets[MOST_INPUT + 2 * LONGEST];
+static uint8_t octets[MOST_INPUT + 2 * LONGEST + 24];
 
 static size_t put_number(size_t length, size_t number) {
-    octets[length++] = 250;
+    octets[length++] = LONG;
     octets[length++] = (uint8_t)number;
     octets[length++] = (uint8_t)(number >> 8);
     return length;
@@ -29,8 +29,8 @@ static size_t make_frames(void) {
     size_t length = 0, most = below(MOST_INPUT);
     while (length < most) {
         uint8_t frame[LONGEST + 1];
-        size_t count = fill(frame);
-        if (below(2)) octets[length++] = (uint8_t)next_random();
+        size_t count = fill(frame), between = below(24);
+        while (between-- > 0) octets[length++] = (uint8_t)below(LONG);
         length = put_number(length, count);
         memcpy(octets + length, frame, count);
         length += count;
@@ -64,7 +64,8 @@ int main(int count, char **words) {
         sum = UINT64_C(14695981039346656037);
         for (number = 0; number < cases; number++) {
             struct input input;
-            input.left = GROUP_CALLS[group] == call_log_reader ? make_log() : make_frames();
+            seeks_frames = GROUP_CALLS[group] != call_log_reader;
+            input.left = seeks_frames ? make_frames() : make_log();
             input.octets = octets;
             GROUP_CALLS[group](&input);
         }

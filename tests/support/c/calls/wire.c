@@ -36,16 +36,16 @@ static void mix_heard(uint8_t heard, size_t length, const uint8_t *octets) {
     mix_octets(octets, length > 0 ? length + 2 : 0);
 }
 
-/* One call for each octet does what the call for many does. */
+/* One call for each octet does what one for many does. */
 static void read_line(struct fio2070_wire *wire, const uint8_t *line, size_t length) {
     struct fio2070_wire other = *wire;
     uint8_t heard, last;
     while (length > 0) {
-        size_t count = fio2070_wire_read_many(wire, line, length, &heard), place;
+        size_t count = fio2070_wire_read(wire, line, length, &heard), place;
         require(count > 0 && count <= length && (heard != FIO2070_WIRE_NOTHING || count == length), "octets are read up to what is heard");
         for (place = 0, last = FIO2070_WIRE_NOTHING; place < count; place++) {
             require(last == FIO2070_WIRE_NOTHING, "no octet is read after what is heard");
-            last = fio2070_wire_read(&other, line[place]);
+            require(fio2070_wire_read(&other, line + place, 1, &last) == 1, "one octet is read");
         }
         require(last == heard && memcmp(wire, &other, sizeof other) == 0, "octets are read one by one as many are");
         mix_heard(heard, fio2070_wire_message_length(wire), wire->octets);
@@ -57,11 +57,11 @@ static void read_bits(struct fio2070_wire_bits *bits, const uint8_t *line, size_
     struct fio2070_wire_bits other = *bits;
     uint8_t heard, last;
     while (length > 0) {
-        size_t count = fio2070_wire_bits_read_many(bits, line, length, &heard), place;
+        size_t count = fio2070_wire_bits_read(bits, line, length, &heard), place;
         require(count > 0 && count <= length && (heard != FIO2070_WIRE_NOTHING || count == length), "bits are read up to what is heard");
         for (place = 0, last = FIO2070_WIRE_NOTHING; place < count; place++) {
             require(last == FIO2070_WIRE_NOTHING, "no bit is read after what is heard");
-            last = fio2070_wire_bits_read(&other, line[place]);
+            require(fio2070_wire_bits_read(&other, line + place, 1, &last) == 1, "one bit is read");
         }
         require(last == heard && memcmp(bits, &other, sizeof other) == 0, "bits are read one by one as many are");
         mix_heard(heard, fio2070_wire_bits_message_length(bits), bits->octets);
@@ -101,8 +101,8 @@ void call_wire(struct input *input) {
     struct fio2070_wire_bits bits;
     uint8_t how = take8(input);
     uint16_t address = how & 1 ? FIO2070_WIRE_ADDRESS : take16(input), control = how & 2 ? FIO2070_WIRE_CONTROL : take16(input);
-    memset(&wire, UNTOUCHED, sizeof wire);
-    memset(&bits, UNTOUCHED, sizeof bits);
+    untouch(&wire, sizeof wire);
+    untouch(&bits, sizeof bits);
     fio2070_wire_start(&wire, address, control);
     fio2070_wire_bits_start(&bits, address, control);
     if (has_garbage && how & 4) take_into(input, &wire, sizeof wire);

@@ -1,6 +1,7 @@
 /* What calls cost on a Cortex-M4 under `qemu-system-arm -icount shift=0`, which makes an instruction take a nanosecond: lines
  * `instructions CASE NUMBER`, with the call, and `stack CALL NUMBER`, in octets, by a stack that is painted before the
  * call. */
+#include "../encode.h"
 #include "fio2070.h"
 
 #include <stdio.h>
@@ -60,7 +61,7 @@ static void begin(void) {
         items[place].ignore = 0;
     }
     start();
-    length = fio2070_encode_configure_inputs(items, 64, frame, sizeof frame);
+    length = encode_items(items, 64, frame, sizeof frame);
     receive();
     levels = ~(uint64_t)0;
 }
@@ -111,7 +112,7 @@ static void count_polls(const char *poll_case, const char *again, const char *he
 static void count_configurations(const char *what, size_t most) {
     int time;
     begin();
-    length = fio2070_encode_configure_inputs(items, most, frame, sizeof frame);
+    length = encode_items(items, most, frame, sizeof frame);
     for (time = 0; time < TIMES; time++) {
         from_here();
         receive();
@@ -126,7 +127,8 @@ static void write_frame(void) {
 
 static void read_frame(void) {
     size_t place;
-    for (place = 0; place < line_length; place++) count += fio2070_wire_read(&wire, line[place]);
+    uint8_t heard;
+    for (place = 0; place < line_length; place++) count += fio2070_wire_read(&wire, line + place, 1, &heard);
 }
 
 /* The longest frame, of which few octets are stuffed. */
@@ -155,11 +157,11 @@ static void decode_command(void) { fault = fio2070_decode_command(frame, length,
 static void command_items(void) { count = fio2070_command_items(frame, length, items, FIO2070_MOST_ENTRIES); }
 static void configure(void) { count = fio2070_filters_configure(&filters, items, FIO2070_MOST_ENTRIES).kind; }
 static void filters_scan(void) { levels = fio2070_filters_scan(&filters, ~levels); }
-static void encode_items(void) { length = fio2070_encode_configure_inputs(items, FIO2070_MOST_ENTRIES, frame, sizeof frame); }
+static void write_items(void) { length = encode_items(items, FIO2070_MOST_ENTRIES, frame, sizeof frame); }
 static void decode_answer(void) { fault = fio2070_decode_answer(block, block_length, &answer); }
 static void read_block(void) { fault = fio2070_read_block(block, block_length, &header); }
 static void block_entries(void) { count = fio2070_block_entries(block, block_length, entries, FIO2070_MOST_ENTRIES); }
-static void encode_block(void) { count = fio2070_encode_block_answer(1, entries, FIO2070_MOST_ENTRIES, 0, 9, out, sizeof out); }
+static void write_block(void) { count = encode_block(1, entries, FIO2070_MOST_ENTRIES, 0, 9, out, sizeof out); }
 static void poller_poll(void) { count = fio2070_poller_poll(&poller, out, sizeof out); }
 static void show(void) { count = fio2070_show(block, block_length, text, sizeof text); }
 static void fault_text(void) { count = fio2070_fault_text(&fault, text, sizeof text); }
@@ -184,7 +186,7 @@ static void say_stack(const char *what, void (*call)(void)) {
 
 static void count_stacks(void) {
     begin();
-    encode_items();
+    write_items();
     say_stack("module_start", start);
     say_stack("module_receive, 255 items", receive);
     say_stack("decode_command, 255 items", decode_command);
@@ -195,7 +197,7 @@ static void count_stacks(void) {
     fio2070_filters_start(&filters);
     say_stack("filters_configure, 255 items", configure);
     say_stack("filters_scan", filters_scan);
-    say_stack("encode_configure_inputs, 255 items", encode_items);
+    say_stack("encode_command, 255 items", write_items);
     change(255);
     levels = ~levels;
     say_stack("module_scan, 64 changes", scan);
@@ -213,7 +215,7 @@ static void count_stacks(void) {
     say_stack("decode_answer, 255 entries", decode_answer);
     say_stack("read_block, 255 entries", read_block);
     say_stack("block_entries, 255 entries", block_entries);
-    say_stack("encode_block_answer, 255 entries", encode_block);
+    say_stack("encode_answer, 255 entries", write_block);
     say_stack("show, 255 entries", show);
     say_stack("fault_text", fault_text);
     say_stack("wire_write, 773 octets", write_frame);

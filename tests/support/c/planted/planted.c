@@ -20,15 +20,6 @@ enum { MOST_NAMES = 8, MOST_TRIED = 1000000 };
 /* The number of events of a run over a wire, and of the shortest one that has the long scripts. */
 enum { EVENTS = 20000, LATE_EVENTS = 200000 };
 
-uint32_t low_bits(uint32_t number, int bits) { return bits >= 32 ? number : number & ((UINT32_C(1) << bits) - 1); }
-
-void set_quirks(int *quirks, size_t size, const struct quirk *right, size_t rights, const struct fault *const *faults,
-                size_t count) {
-    memset(quirks, 0, size * sizeof *quirks);
-    while (rights-- > 0) quirks[right[rights].place] = right[rights].value;
-    while (count-- > 0) quirks[faults[count]->quirk] = faults[count]->value;
-}
-
 static enum rule found_rule(const struct result *result) {
     int rule;
     for (rule = 0; rule < RULES && result->shortest[rule] == 0; rule++) continue;

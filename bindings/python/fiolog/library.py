@@ -1,0 +1,74 @@
+"""The shared library of a checkout that has none yet: `fiolog` makes it from dist/, once, as `./fio2070` makes its program."""
+
+import contextlib
+import importlib
+import os
+import shutil
+import subprocess
+import sys
+import time
+
+from .terminal import say
+
+TOP = os.path.normpath(os.path.join(os.path.dirname(os.path.abspath(__file__)), '..', '..', '..'))
+NAME = {'win32': 'fio2070.dll', 'darwin': 'libfio2070.1.dylib'}.get(sys.platform, 'libfio2070.so.1')
+SOURCES = [os.path.join(TOP, 'dist', name) for name in ('fio2070.c', 'fio2070.h')]
+
+
+def load():
+    """Loads the library; if a checkout has none, makes it first. Raises OSError, which says in one line what to do, if that cannot be
+    done."""
+    try:
+        importlib.import_module('fio2070')
+    except OSError:
+        has_one = os.environ.get('FIO2070_LIBRARY') or os.path.exists(os.path.join(TOP, NAME))
+        path = None if has_one or not os.path.exists(os.path.join(TOP, 'Makefile')) else made()
+        if not path:
+            raise
+        os.environ['FIO2070_LIBRARY'] = path
+        importlib.import_module('fio2070')
+
+
+def versions():
+    """The lines that say which program and which library this is, and the path of the library."""
+    import fio2070
+    from fio2070 import _library
+    from fio2070.constants import VERSION
+
+    def words(number):
+        return '%d.%d.%d' % (number // 10000, number // 100 % 100, number % 100)
+    return 'fiolog ' + words(VERSION), 'libfio2070 %s %s' % (words(fio2070.version()), _path(_library.library._name))
+
+
+def _path(name):
+    """The path of the library that was loaded by this name, if the system says which one it took."""
+    if os.path.dirname(name):
+        return os.path.abspath(name)
+    with contextlib.suppress(OSError), open('/proc/self/maps', encoding='utf-8', errors='replace') as maps:
+        for line in maps:
+            if line.rstrip().endswith('/' + name):
+                return line[line.index('/'):].rstrip()
+    return name
+
+
+def made():
+    """The path of the library that is made from dist/, in the folder `out` of the checkout or of FIO2070_OUT; None if that cannot be
+    done here."""
+    folder = os.path.join(os.path.abspath(os.environ.get('FIO2070_OUT') or TOP), 'out', 'fiolog')
+    path = os.path.join(folder, NAME)
+    if os.path.exists(path) and all(os.path.getmtime(path) >= os.path.getmtime(source) for source in SOURCES):
+        return path
+    compiler = os.environ.get('CC') or 'cc'
+    if not shutil.which('make') or not shutil.which(compiler.split()[0]):
+        return None
+    begun = time.monotonic()
+    say('there is no library yet: making it from dist/fio2070.c, once ..', end='')
+    # Paths of make have no blanks; those from the top on have none of the checkout's own.
+    words = ['OUT=' + os.path.relpath(folder, TOP), 'CC=' + compiler, os.path.relpath(path, TOP)]
+    done = subprocess.run(['make', '-s', '-C', TOP, 'kit=', *words], stdin=subprocess.DEVNULL, stdout=subprocess.DEVNULL,
+                          stderr=subprocess.PIPE, check=False, env={**os.environ, 'MAKEFLAGS': ''})
+    if done.returncode:
+        say('make failed: ' + done.stderr.decode(errors='replace').partition('\n')[0], name='')
+        return None
+    say('%d s' % (time.monotonic() - begun), name='')
+    return path

@@ -1,5 +1,0 @@
-use Rattle.fio_flat.specs.Module.{events_reached, ring_of}
-use Rattle.fio_c.proofs.sized_module.fio2070_sized_module_outputs.Goals as goal
-
-pub returns : goal.returns
-returns c settings slots history after = c.outputs.ensures settings (ring_of c.args.device.now slots) (events_reached history) after.state

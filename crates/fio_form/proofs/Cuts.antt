@@ -1,0 +1,260 @@
+-- A line that is cut is not another one.
+use Rattle.std.proofs.Common.{◌≡◌, ◌≢◌, ℕ, ◌+◌, ◌-◌, ◌*◌, ◌<◌, Some, true, false, Bool, List, [], ◌∷◌, ◌++◌, length, refl, sym, ap, ◌∙◌, append_assoc, subst, inl, inr, arith}
+use Rattle.std.specs.Prelude.{not, ◌⊎◌}
+use Rattle.std.specs.List.{AllByRecursion}
+use Rattle.std.proofs.lemmas.Bool.{cases_Bool, and_parts, false≢true}
+use Rattle.std.proofs.lemmas.Bool.Decides.{nat_tests}
+use Rattle.std.proofs.lemmas.List.{append-nil}
+use Rattle.fio_form.specs.Forms.{are_separate, is_space_or_tab, is_decimal, is_hex, is_numeric, is_part, is_shut, are_shut}
+use Rattle.fio_form.specs.Fronts.{after_front, has_value, past, taken_parts}
+use Rattle.fio_form.specs.Octets.{next_steps, octets_from, run_in}
+use Rattle.fio_form.specs.Reading.{Other, by_rest, ends_in_front, ends_in_octet, ends_in_form, is_empty, octets_after, octets_by, read_line}
+use Rattle.fio_form.specs.Writing.{AreOctetTexts, AreFrontTexts, Has, IsOctetText, IsOther, IsPiece, AreOctetsIn, begins_octet, cycle_of, decimal_value, is_octet_number, joined, makes_longer, more_text}
+use Rattle.fio_form.specs.declared.form.LineForm.{LineForm}
+use Rattle.fio_form.specs.declared.form.Digits.{Digits}
+use Rattle.fio_form.specs.declared.form.Digits.TheVariants as digits
+use Rattle.fio_form.specs.declared.form.Piece.{Piece}
+use Rattle.fio_form.specs.declared.form.Piece.TheVariants.{Character, Decimal, Hexadecimal, Blanks, Value}
+use Rattle.fio_form.specs.declared.form.Step.{Step}
+use Rattle.fio_form.specs.declared.form.Step.TheVariants.{Octet}
+use Rattle.fio_form.proofs.Fronts.{after_written, begins_part, ends, taken_all}
+use Rattle.fio_form.proofs.OctetTexts.{grows, octet_or_not, octet_read}
+use Rattle.fio_form.proofs.Runs.{begun, gaps_apart, more_ends}
+use Rattle.fio_form.proofs.Stepping.{longer}
+use Rattle.fio_form.proofs.Lines.{cycle_parts, first_begins, whole_front}
+use Rattle.fio_form.proofs.Logs.{is_other, no_octets}
+
+-- ---- Two divisions of a text
+
+-- a text that goes on from another one
+record GoesOn (a b c d : List ℕ) : Type 0 where
+  more : List ℕ
+  is : a ≡ c ++ more
+  rest : more ++ b ≡ d
+
+-- a text that ends within another one
+record EndsIn (a c : List ℕ) : Type 0 where
+  next : ℕ
+  more : List ℕ
+  is : c ≡ a ++ (next ∷ more)
+
+same_head : (x y : ℕ) (a b : List ℕ) → x ∷ a ≡ y ∷ b → x ≡ y
+same_head x y a b h = cc
+
+same_rest : (x y : ℕ) (a b : List ℕ) → x ∷ a ≡ y ∷ b → a ≡ b
+same_rest x y a b h = cc
+
+divided : (a b c d : List ℕ) → a ++ b ≡ c ++ d → GoesOn a b c d ⊎ EndsIn a c
+divided [] b [] d h = inl (record { more = []; is = refl; rest = h })
+divided [] b (x ∷ c) d h = inr (record { next = x; more = c; is = refl })
+divided (y ∷ a) b [] d h = inl (record { more = y ∷ a; is = refl; rest = h })
+divided (y ∷ a) b (x ∷ c) d h = elim (divided a b c d (same_rest y x (a ++ b) (c ++ d) h)) [
+  | inl on ↦ inl (record { more = on.more; is = ap (λ z. z ∷ a) (same_head y x (a ++ b) (c ++ d) h) ∙ ap (λ t. x ∷ t) on.is; rest = on.rest })
+  | inr within ↦ inr (record { next = within.next; more = within.more; is = ap (λ z. z ∷ c) (sym (same_head y x (a ++ b) (c ++ d) h)) ∙ ap (λ t. y ∷ t) within.is })
+]
+
+-- ---- The front
+
+ends_empty : (digits : Digits) (values : List ℕ) (front : List Piece) → ends_in_front digits values front [] ≡ true
+ends_empty digits.Pairs values [] = refl
+ends_empty digits.Decimal values [] = refl
+ends_empty digits values (piece ∷ front) = refl
+
+past_none : (piece : Piece) (parts : List ℕ) → AllByRecursion (λ part. is_part piece part ≡ true) parts → past piece parts ≡ []
+past_none piece [] all = refl
+past_none piece (d ∷ parts) all = rw (all.0) (past_none piece parts all.1)
+
+-- a text that ends within a number
+part_cut : (digits : Digits) (values : List ℕ) (piece : Piece) (front : List Piece) (x : ℕ) (parts : List ℕ)
+    → AllByRecursion (λ part. is_part piece part ≡ true) (x ∷ parts) → ends_in_front digits values (piece ∷ front) (x ∷ parts) ≡ true
+part_cut digits values (Character mark) front x parts all = absurd (false≢true all.0)
+part_cut digits values Decimal front x parts all = rw (all.0) (rw (past_none Decimal parts all.1) (ends_empty digits values front))
+part_cut digits values Hexadecimal front x parts all = rw (all.0) (rw (past_none Hexadecimal parts all.1) (ends_empty digits values front))
+part_cut digits values Blanks front x parts all = rw (all.0) (rw (past_none Blanks parts all.1) (ends_empty digits values front))
+part_cut digits values Value front x parts all = elim (cases_Bool (has_value values (x ∷ taken_parts Value parts))) [
+  | inl known ↦ rw (all.0) (rw known (rw (past_none Value parts all.1) (ends_empty digits values front)))
+  | inr not_ ↦ rw (all.0) (rw not_ (rw (past_none Value parts all.1) refl))
+]
+
+all_first : (test : ℕ → Bool) (a : List ℕ) (x : ℕ) (b : List ℕ) → AllByRecursion (λ y. test y ≡ true) (a ++ (x ∷ b)) → AllByRecursion (λ y. test y ≡ true) a
+all_first test [] x b all = tt
+all_first test (y ∷ a) x b all = (all.0, all_first test a x b all.1)
+
+one_not_two : (mark x y : ℕ) (a b : List ℕ) → mark ∷ [] ≡ (x ∷ a) ++ (y ∷ b) → ⊥
+one_not_two mark x y [] b h = cc
+one_not_two mark x y (z ∷ a) b h = cc
+
+piece_cut : (digits : Digits) (values : List ℕ) (piece : Piece) (front : List Piece) (text : List ℕ) (x : ℕ) (line : List ℕ) → IsPiece values piece text → EndsIn (x ∷ line) text
+    → ends_in_front digits values (piece ∷ front) (x ∷ line) ≡ true
+piece_cut digits values (Character mark) front text x line is within = absurd (one_not_two mark x within.next line within.more (sym is ∙ within.is))
+piece_cut digits values Decimal front text x line is within = part_cut digits values Decimal front x line
+    (all_first is_decimal (x ∷ line) within.next within.more (subst (λ (t : List ℕ). AllByRecursion (λ y. is_decimal y ≡ true) t) within.is is.1))
+piece_cut digits values Hexadecimal front text x line is within = part_cut digits values Hexadecimal front x line
+    (all_first is_hex (x ∷ line) within.next within.more (subst (λ (t : List ℕ). AllByRecursion (λ y. is_hex y ≡ true) t) within.is is.1))
+piece_cut digits values Blanks front text x line is within = part_cut digits values Blanks front x line
+    (all_first is_space_or_tab (x ∷ line) within.next within.more (subst (λ (t : List ℕ). AllByRecursion (λ y. is_space_or_tab y ≡ true) t) within.is is.1))
+piece_cut digits values Value front text x line is within = part_cut digits values Value front x line
+    (all_first is_hex (x ∷ line) within.next within.more (subst (λ (t : List ℕ). AllByRecursion (λ y. is_hex y ≡ true) t) within.is is.0.1))
+
+-- the text after the front of a line that is cut, if it has the front
+record Left (digits : Digits) (values : List ℕ) (front : List Piece) (line more body : List ℕ) : Type 0 where
+  left : List ℕ
+  is : after_front values front line ≡ Some left
+  ends : ends_in_front digits values front line ≡ ends_in_octet digits left
+  rest : left ++ more ≡ body
+
+-- what begins a text that goes on with another one
+begins_same : (piece : Piece) (a b d : List ℕ) → a ++ b ≡ d → begins_part piece d ≡ false → begins_part piece a ≡ false
+begins_same piece [] b d is apart = refl
+begins_same piece (x ∷ a) b d is apart = ap (begins_part piece) is ∙ apart
+
+with_piece : (digits : Digits) (values : List ℕ) (piece : Piece) (front : List Piece) (text line more body left : List ℕ) → IsPiece values piece text → line ≡ text ++ left
+    → begins_part piece left ≡ false → Left digits values front left more body → Left digits values (piece ∷ front) line more body
+with_piece digits values piece front [] line more body left is whole apart rest = absurd (no_text values piece is)
+  where
+    no_text : (values : List ℕ) (piece : Piece) → IsPiece values piece [] → ⊥
+    no_text values (Character mark) is = cc
+    no_text values Decimal is = is.0 refl
+    no_text values Hexadecimal is = is.0 refl
+    no_text values Blanks is = is.0 refl
+    no_text values Value is = is.0.0 refl
+with_piece digits values piece front (x ∷ text) line more body left is whole apart rest =
+    let here = after_written values piece (x ∷ text) left is apart in
+    record {
+      left = rest.left;
+      is = ap (after_front values (piece ∷ front)) whole ∙ rw here (rest.is);
+      ends = ap (ends_in_front digits values (piece ∷ front)) whole
+          ∙ (ap (λ found. by_rest (is_empty (past piece (x ∷ (text ++ left)))) found (λ rest. ends_in_front digits values front rest)) here ∙ rest.ends);
+      rest = rest.rest;
+    }
+
+cut_front : (digits : Digits) (values : List ℕ) (front : List Piece) (texts : List (List ℕ)) (line more body : List ℕ) → AreFrontTexts values front texts → are_shut front ≡ true
+    → ((piece : Piece) → not (is_numeric piece) ≡ true → begins_part piece body ≡ false) → line ++ more ≡ joined texts ++ body
+    → (ends_in_front digits values front line ≡ true) ⊎ Left digits values front line more body
+cut_front digits values [] [] line more body are whole octet is = inr (record { left = line; is = refl; ends = refl; rest = is })
+cut_front digits values [] (text ∷ texts) line more body are whole octet is = absurd are
+cut_front digits values (piece ∷ front) [] line more body are whole octet is = absurd are
+cut_front digits values (piece ∷ front) (text ∷ texts) [] more body are whole octet is = inl refl
+cut_front digits values (piece ∷ front) (text ∷ texts) (x ∷ line) more body are whole octet is =
+    let parts = and_parts (is_shut piece front) (are_shut front) whole in
+    elim (divided (x ∷ line) more text (joined texts ++ body) (is ∙ append_assoc text (joined texts) body)) [
+      | inr within ↦ inl (piece_cut digits values piece front text x line are.0 within)
+      | inl on ↦ (
+          let apart = begins_same piece on.more more (joined texts ++ body) on.rest (ends values piece front texts body are.1 parts.0 octet) in
+          elim (cut_front digits values front texts on.more more body are.1 parts.1 octet on.rest) [
+            | inr left ↦ inr (with_piece digits values piece front text (x ∷ line) more body on.more are.0 on.is apart left)
+            | inl cut ↦ inl (cut_after piece front text (x ∷ line) on.more are.0 on.is apart cut)
+          ])
+    ]
+  where
+    cut_after : (piece : Piece) (front : List Piece) (text line left : List ℕ) → IsPiece values piece text → line ≡ text ++ left → begins_part piece left ≡ false
+        → ends_in_front digits values front left ≡ true → ends_in_front digits values (piece ∷ front) line ≡ true
+    cut_after piece front [] line [] is whole apart cut = ap (ends_in_front digits values (piece ∷ front)) whole
+    cut_after piece front [] line (y ∷ left) is whole apart cut = absurd (no_text piece is)
+      where
+        no_text : (piece : Piece) → IsPiece values piece [] → ⊥
+        no_text (Character mark) is = cc
+        no_text Decimal is = is.0 refl
+        no_text Hexadecimal is = is.0 refl
+        no_text Blanks is = is.0 refl
+        no_text Value is = is.0.0 refl
+    cut_after piece front (y ∷ text) line left is whole apart cut =
+        let here = after_written values piece (y ∷ text) left is apart in
+        ap (ends_in_front digits values (piece ∷ front)) whole
+        ∙ (ap (λ found. by_rest (is_empty (past piece (y ∷ (text ++ left)))) found (λ rest. ends_in_front digits values front rest)) here ∙ cut)
+
+-- ---- The first octet
+
+pair_cut : (octet : ℕ) (initial left more body : List ℕ) → IsOctetText digits.Pairs octet initial → left ++ more ≡ initial ++ body
+    → (ends_in_octet digits.Pairs left ≡ true) ⊎ (begins_octet digits.Pairs left ≡ true)
+pair_cut octet [] left more body is whole = absurd is
+pair_cut octet (high ∷ []) left more body is whole = absurd is
+pair_cut octet (high ∷ (low ∷ (x ∷ initial))) left more body is whole = absurd is
+pair_cut octet (high ∷ (low ∷ [])) [] more body is whole = inl refl
+pair_cut octet (high ∷ (low ∷ [])) (x ∷ []) more body is whole = inl (ap is_hex (same_head x high more (low ∷ body) whole) ∙ is.0)
+pair_cut octet (high ∷ (low ∷ [])) (x ∷ (y ∷ left)) more body is whole =
+    let first : is_hex x ≡ true = ap is_hex (same_head x high (y ∷ (left ++ more)) (low ∷ body) whole) ∙ is.0 in
+    let second : is_hex y ≡ true = ap is_hex (same_head y low (left ++ more) body (same_rest x high (y ∷ (left ++ more)) (low ∷ body) whole)) ∙ is.1 in
+    inr (rw first second)
+
+decimal_parts : (value : ℕ) (a b : List ℕ) → decimal_value value (a ++ b) ≡ decimal_value (decimal_value value a) b
+decimal_parts value [] b = refl
+decimal_parts value (d ∷ a) b = decimal_parts (10 * value + (d - 48)) a b
+
+number_begins : (x : ℕ) (text : List ℕ) → decimal_value 0 (x ∷ text) < 256 → is_octet_number (x ∷ text) ≡ true
+number_begins x text small = grind (arith, nat_tests)
+
+makes_same : (a b d : List ℕ) → a ++ b ≡ d → makes_longer digits.Decimal d ≡ false → begins_part Decimal a ≡ false
+makes_same [] b d is apart = refl
+makes_same (x ∷ a) b d is apart = ap (makes_longer digits.Decimal) is ∙ apart
+
+number_cut : (octet : ℕ) (initial left more body : List ℕ) → IsOctetText digits.Decimal octet initial → makes_longer digits.Decimal body ≡ false → left ++ more ≡ initial ++ body
+    → (ends_in_octet digits.Decimal left ≡ true) ⊎ (begins_octet digits.Decimal left ≡ true)
+number_cut octet initial [] more body is apart whole = inl refl
+number_cut octet [] (x ∷ left) more body is apart whole = absurd (is.0.0 refl)
+number_cut octet (d ∷ initial) (x ∷ left) more body is apart whole = elim (divided (x ∷ left) more (d ∷ initial) body whole) [
+  | inl on ↦ (
+      let all = taken_all Decimal (d ∷ initial) on.more is.0.1 (makes_same on.more more body on.rest apart) in
+      let same : taken_parts Decimal (x ∷ left) ≡ d ∷ initial = ap (taken_parts Decimal) on.is ∙ all in
+      let small : decimal_value 0 (d ∷ initial) < 256 = subst (λ (v : ℕ). v < 256) is.1 is.2 in
+      inr (ap is_octet_number same ∙ number_begins d initial small))
+  | inr within ↦ (
+      let parts = all_first is_decimal (x ∷ left) within.next within.more (subst (λ (t : List ℕ). AllByRecursion (λ y. is_decimal y ≡ true) t) within.is is.0.1) in
+      let same : taken_parts Decimal (x ∷ left) ≡ x ∷ left = ap (taken_parts Decimal) (sym (append-nil (x ∷ left))) ∙ taken_all Decimal (x ∷ left) [] parts refl in
+      let more_ = grows (decimal_value 0 (x ∷ left)) (within.next ∷ within.more) in
+      let value : octet ≡ decimal_value (decimal_value 0 (x ∷ left)) (within.next ∷ within.more) = is.1 ∙ (ap (decimal_value 0) within.is ∙ decimal_parts 0 (x ∷ left) (within.next ∷ within.more)) in
+      let small : decimal_value 0 (x ∷ left) < 256 = omega (arith, more_, value, is.2) in
+      inr (ap is_octet_number same ∙ number_begins x left small))
+]
+
+octet_cut : (digits : Digits) (octets initial : List ℕ) (texts : List (List ℕ)) (left more body : List ℕ) → AreOctetTexts digits octets (initial ∷ texts) → makes_longer digits body ≡ false → left ++ more ≡ initial ++ body
+    → (ends_in_octet digits left ≡ true) ⊎ (begins_octet digits left ≡ true)
+octet_cut digits [] initial texts left more body are apart whole = absurd are
+octet_cut digits.Pairs (octet ∷ octets) initial texts left more body are apart whole = pair_cut octet initial left more body are.0 whole
+octet_cut digits.Decimal (octet ∷ octets) initial texts left more body are apart whole = number_cut octet initial left more body are.0 apart whole
+
+-- a text that begins with an octet has one
+has_octet : (digits : Digits) (first : List ℕ) (others : List (List ℕ)) (text : List ℕ) → begins_octet digits text ≡ true → run_in digits (cycle_of (first ∷ others)) text ≢ []
+has_octet digits first others text begins none = elim (octet_or_not digits text) [
+  | inl not_ ↦ absurd (false≢true (sym not_ ∙ begins))
+  | inr one ↦ (
+      let steps = ap (λ (steps : List Step). octets_from digits (cycle_of (first ∷ others)) steps false 0 [] text) (sym (begun first (cycle_of others))) ∙ none in
+      let here = octet_read digits (cycle_of (first ∷ others)) (cycle_of others) one.octet one.written [] one.rest one.is one.apart in
+      let all = sym here ∙ (ap (λ t. octets_from digits (cycle_of (first ∷ others)) (Octet ∷ cycle_of others) false 0 [] t) (sym one.whole) ∙ steps) in
+      let some = longer digits (cycle_of (first ∷ others)) (next_steps (cycle_of (first ∷ others)) (cycle_of others)) false 0 (one.octet ∷ []) one.rest in
+      absurd (omega (arith, some, ap length all)))
+]
+
+-- ---- The line
+
+cut_run : (form : LineForm) (octets line more : List ℕ) → AreOctetsIn form octets (line ++ more)
+    → (ends_in_front form.digits form.values.items form.front.items line ≡ true) ⊎ (octets_by form line ≢ [])
+cut_run form octets line more run =
+    let body = more_text run.first run.others run.others run.texts ++ run.tail in
+    let apart = gaps_apart form.digits (run.first ∷ run.others) (subst (λ (cycle : List Step). are_separate form.digits cycle ≡ true) run.gaps (cycle_parts form).1) in
+    let short = more_ends form.digits run.first run.others run.others run.texts run.tail apart.0 apart.1 run.apart in
+    elim (cut_front form.digits form.values.items form.front.items run.front line more (run.initial ++ body) run.pieces (whole_front form)
+    (first_begins form.digits octets run.initial run.texts body run.spelled) run.whole) [
+      | inl cut ↦ inl cut
+      | inr left ↦ elim (octet_cut form.digits octets run.initial run.texts left.left more body run.spelled short left.rest) [
+        | inl cut ↦ inl (left.ends ∙ cut)
+        | inr begins ↦ inr (λ none. has_octet form.digits run.first run.others left.left begins
+            (ap (λ (cycle : List Step). run_in form.digits cycle left.left) (sym run.gaps) ∙ (ap (octets_after form) (sym left.is) ∙ none)))
+      ]
+    ]
+
+not_empty_line : (line : List ℕ) → line ≢ [] → is_empty line ≡ false
+not_empty_line [] some = absurd (some refl)
+not_empty_line (x ∷ line) some = refl
+
+at_form : (above : List LineForm) (form : LineForm) (below : List LineForm) (line : List ℕ) → IsOther (above ++ form ∷ below) line → (Has form line → ⊥) × (ends_in_form form line ≡ false)
+at_form [] form below line is = is.0
+at_form (other ∷ above) form below line is = at_form above form below line is.1
+
+pub cut_seen : (above : List LineForm) (form : LineForm) (below : List LineForm) (line more : List ℕ) → Has form (line ++ more) → line ≢ [] → read_line (above ++ form ∷ below) line ≢ Other
+cut_seen above form below line more has some said =
+    let here = at_form above form below line (is_other (above ++ form ∷ below) line said) in
+    elim (cut_run form has.octets line more has.run) [
+      | inl cut ↦ absurd (false≢true (sym here.1 ∙ rw (not_empty_line line some) cut))
+      | inr octets ↦ absurd (octets (no_octets form line here.0))
+    ]

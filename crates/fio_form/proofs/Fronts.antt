@@ -1,0 +1,205 @@
+-- The front that is written is the one that is read.
+use Rattle.std.proofs.Common.{◌≡◌, ◌≢◌, ℕ, Some, None, true, false, Bool, List, [], ◌∷◌, ◌++◌, refl, sym, ap, ◌∙◌, append_assoc, eq-eqb, inl, inr, arith}
+use Rattle.std.specs.Prelude.{not, ◌==◌, ◌⊎◌}
+use Rattle.std.specs.List.{AllByRecursion}
+use Rattle.std.proofs.lemmas.Bool.{and_parts, not-true, cases_Bool, false≢true, eqb-true}
+use Rattle.std.proofs.lemmas.Bool.Decides.{nat_tests}
+use Rattle.fio_form.specs.Forms.{is_space_or_tab, is_blanks, is_decimal, is_hex, is_numeric, is_part, is_shut, are_shut}
+use Rattle.fio_form.specs.Fronts.{after_front, after_piece, has_value, past, taken_parts}
+use Rattle.fio_form.specs.Writing.{AreSome, IsPiece, AreFrontTexts, joined}
+use Rattle.fio_form.specs.declared.form.Piece.{Piece}
+use Rattle.fio_form.specs.declared.form.Piece.TheVariants.{Character, Decimal, Hexadecimal, Blanks, Value}
+
+-- ---- Characters
+
+pub decimal_hex : (x : ℕ) → is_decimal x ≡ true → is_hex x ≡ true
+decimal_hex x is = grind (arith, nat_tests)
+
+hex_not_blank : (x : ℕ) → is_hex x ≡ true → is_space_or_tab x ≡ false
+hex_not_blank x is = elim (cases_Bool (is_space_or_tab x)) [
+  | inl blank ↦ absurd (false≢true (blank_not x blank ∙ is))
+  | inr other ↦ other
+]
+  where
+    blank_not : (x : ℕ) → is_space_or_tab x ≡ true → false ≡ is_hex x
+    blank_not x blank = elim (cases_Bool (x == 32)) [
+      | inl space ↦ rw (eqb-true x 32 space) refl
+      | inr other ↦ (let tab : (x == 9) ≡ true = rw other at blank in rw (eqb-true x 9 tab) refl)
+    ]
+
+-- what a piece without digits has none part of
+pub digit_apart : (piece : Piece) (x : ℕ) → not (is_numeric piece) ≡ true → is_hex x ≡ true → is_part piece x ≡ false
+digit_apart (Character mark) x none is = refl
+digit_apart Decimal x none is = absurd (false≢true none)
+digit_apart Hexadecimal x none is = absurd (false≢true none)
+digit_apart Blanks x none is = hex_not_blank x is
+digit_apart Value x none is = absurd (false≢true none)
+
+blank_apart : (piece : Piece) (x : ℕ) → not (is_blanks piece) ≡ true → is_space_or_tab x ≡ true → is_part piece x ≡ false
+blank_apart (Character mark) x none is = refl
+blank_apart Decimal x none is = elim (cases_Bool (is_decimal x)) [
+  | inl digit ↦ absurd (false≢true (sym (hex_not_blank x (decimal_hex x digit)) ∙ is))
+  | inr other ↦ other
+]
+blank_apart Hexadecimal x none is = elim (cases_Bool (is_hex x)) [
+  | inl digit ↦ absurd (false≢true (sym (hex_not_blank x digit) ∙ is))
+  | inr other ↦ other
+]
+blank_apart Blanks x none is = absurd (false≢true none)
+blank_apart Value x none is = elim (cases_Bool (is_hex x)) [
+  | inl digit ↦ absurd (false≢true (sym (hex_not_blank x digit) ∙ is))
+  | inr other ↦ other
+]
+
+-- ---- What is written is read
+
+-- whether a text begins with a character of a piece
+abbrev pub begins_part : Piece → List ℕ → Bool
+begins_part piece [] = false
+begins_part piece (character ∷ text) = is_part piece character
+
+pub past_all : (piece : Piece) (parts rest : List ℕ) → AllByRecursion (λ part. is_part piece part ≡ true) parts → begins_part piece rest ≡ false
+    → past piece (parts ++ rest) ≡ rest
+past_all piece [] [] all ends = refl
+past_all piece [] (x ∷ rest) all ends = rw ends
+past_all piece (d ∷ parts) rest all ends = rw (all.0) (past_all piece parts rest all.1 ends)
+
+pub taken_all : (piece : Piece) (parts rest : List ℕ) → AllByRecursion (λ part. is_part piece part ≡ true) parts → begins_part piece rest ≡ false
+    → taken_parts piece (parts ++ rest) ≡ parts
+taken_all piece [] [] all ends = refl
+taken_all piece [] (x ∷ rest) all ends = rw ends refl
+taken_all piece (d ∷ parts) rest all ends = rw (all.0) (ap (λ t. d ∷ t) (taken_all piece parts rest all.1 ends))
+
+pub after_written : (values : List ℕ) (piece : Piece) (text rest : List ℕ) → IsPiece values piece text → begins_part piece rest ≡ false
+    → after_piece values piece (text ++ rest) ≡ Some rest
+after_written values (Character mark) text rest is ends = rw is (rw (eq-eqb mark mark refl))
+after_written values Decimal [] rest is ends = absurd (is.0 refl)
+after_written values Decimal (d ∷ parts) rest is ends = rw (is.1.0) (ap Some (past_all Decimal parts rest is.1.1 ends))
+after_written values Hexadecimal [] rest is ends = absurd (is.0 refl)
+after_written values Hexadecimal (d ∷ parts) rest is ends = rw (is.1.0) (ap Some (past_all Hexadecimal parts rest is.1.1 ends))
+after_written values Blanks [] rest is ends = absurd (is.0 refl)
+after_written values Blanks (d ∷ parts) rest is ends = rw (is.1.0) (ap Some (past_all Blanks parts rest is.1.1 ends))
+after_written values Value [] rest is ends = absurd (is.0.0 refl)
+after_written values Value (d ∷ parts) rest is ends =
+    let known : has_value values (d ∷ taken_parts Value (parts ++ rest)) ≡ true = ap (λ t. has_value values (d ∷ t)) (taken_all Value parts rest is.0.1.1 ends) ∙ is.1 in
+    rw (is.0.1.0) (rw known (ap Some (past_all Value parts rest is.0.1.1 ends)))
+
+some_apart : (test : ℕ → Bool) (piece : Piece) (text rest : List ℕ) → AreSome test text → ((x : ℕ) → test x ≡ true → is_part piece x ≡ false)
+    → begins_part piece (text ++ rest) ≡ false
+some_apart test piece [] rest some apart = absurd (some.0 refl)
+some_apart test piece (x ∷ text) rest some apart = apart x some.1.0
+
+mark_apart : (piece : Piece) (mark : ℕ) (text rest : List ℕ) → text ≡ mark ∷ [] → not (is_part piece mark) ≡ true → begins_part piece (text ++ rest) ≡ false
+mark_apart piece mark text rest is shut = rw is (not-true (is_part piece mark) shut)
+
+pub ends : (values : List ℕ) (piece : Piece) (front : List Piece) (texts : List (List ℕ)) (rest : List ℕ) → AreFrontTexts values front texts → is_shut piece front ≡ true
+    → ((piece : Piece) → not (is_numeric piece) ≡ true → begins_part piece rest ≡ false) → begins_part piece (joined texts ++ rest) ≡ false
+ends values piece [] [] rest are shut octet = octet piece shut
+ends values piece [] (text ∷ texts) rest are shut octet = absurd are
+ends values piece (next ∷ front) [] rest are shut octet = absurd are
+ends values piece (Character mark ∷ front) (text ∷ texts) rest are shut octet = rw append_assoc (mark_apart piece mark text (joined texts ++ rest) are.0 shut)
+ends values piece (Blanks ∷ front) (text ∷ texts) rest are shut octet = rw append_assoc (some_apart is_space_or_tab piece text (joined texts ++ rest) are.0 (λ x. blank_apart piece x shut))
+ends values piece (Decimal ∷ front) (text ∷ texts) rest are shut octet =
+    rw append_assoc (some_apart is_decimal piece text (joined texts ++ rest) are.0 (λ x is. digit_apart piece x shut (decimal_hex x is)))
+ends values piece (Hexadecimal ∷ front) (text ∷ texts) rest are shut octet = rw append_assoc (some_apart is_hex piece text (joined texts ++ rest) are.0 (λ x. digit_apart piece x shut))
+ends values piece (Value ∷ front) (text ∷ texts) rest are shut octet = rw append_assoc (some_apart is_hex piece text (joined texts ++ rest) are.0.0 (λ x. digit_apart piece x shut))
+
+pub front_read : (values : List ℕ) (front : List Piece) (texts : List (List ℕ)) (rest : List ℕ) → AreFrontTexts values front texts → are_shut front ≡ true
+    → ((piece : Piece) → not (is_numeric piece) ≡ true → begins_part piece rest ≡ false) → after_front values front (joined texts ++ rest) ≡ Some rest
+front_read values [] [] rest are whole octet = refl
+front_read values [] (text ∷ texts) rest are whole octet = absurd are
+front_read values (piece ∷ front) [] rest are whole octet = absurd are
+front_read values (piece ∷ front) (text ∷ texts) rest are whole octet =
+    let parts = and_parts (is_shut piece front) (are_shut front) whole in
+    let here = after_written values piece text (joined texts ++ rest) are.0 (ends values piece front texts rest are.1 parts.0 octet) in
+    rw append_assoc (rw here (front_read values front texts rest are.1 parts.1 octet))
+
+-- ---- What is read is written
+
+pub taken_are : (piece : Piece) (text : List ℕ) → AllByRecursion (λ part. is_part piece part ≡ true) (taken_parts piece text)
+taken_are piece [] = tt
+taken_are piece (x ∷ text) = elim (cases_Bool (is_part piece x)) [
+  | inl h ↦ rw h (h, taken_are piece text)
+  | inr h ↦ rw h tt
+]
+
+pub taken_past : (piece : Piece) (text : List ℕ) → text ≡ taken_parts piece text ++ past piece text
+taken_past piece [] = refl
+taken_past piece (x ∷ text) = elim (cases_Bool (is_part piece x)) [
+  | inl h ↦ rw h (ap (λ t. x ∷ t) (taken_past piece text))
+  | inr h ↦ rw h refl
+]
+
+pub past_ends : (piece : Piece) (text : List ℕ) → begins_part piece (past piece text) ≡ false
+past_ends piece [] = refl
+past_ends piece (x ∷ text) = elim (cases_Bool (is_part piece x)) [
+  | inl h ↦ rw h (past_ends piece text)
+  | inr h ↦ rw h h
+]
+
+-- a piece that a text begins with
+record PieceOf (values : List ℕ) (piece : Piece) (line : List ℕ) : Type 0 where
+  text : List ℕ
+  rest : List ℕ
+  is : IsPiece values piece text
+  read : after_piece values piece line ≡ Some rest
+  whole : line ≡ text ++ rest
+
+pub not_empty : (x : ℕ) (xs : List ℕ) → x ∷ xs ≢ []
+not_empty x xs h = cc
+
+piece_of : (values : List ℕ) (piece : Piece) (line : List ℕ) → (after_piece values piece line ≡ None) ⊎ PieceOf values piece line
+piece_of values (Character mark) [] = inl refl
+piece_of values Decimal [] = inl refl
+piece_of values Hexadecimal [] = inl refl
+piece_of values Blanks [] = inl refl
+piece_of values Value [] = inl refl
+piece_of values (Character mark) (x ∷ line) = elim (cases_Bool (x == mark)) [
+  | inl h ↦ inr (record { text = x ∷ []; rest = line; is = ap (λ y. y ∷ []) (eqb-true x mark h); read = rw h refl; whole = refl })
+  | inr h ↦ inl (rw h refl)
+]
+piece_of values Decimal (x ∷ line) = elim (cases_Bool (is_decimal x)) [
+  | inl h ↦ inr (record { text = x ∷ taken_parts Decimal line; rest = past Decimal line; is = (not_empty x (taken_parts Decimal line), (h, taken_are Decimal line)); read = rw h refl; whole = ap (λ t. x ∷ t) (taken_past Decimal line) })
+  | inr h ↦ inl (rw h refl)
+]
+piece_of values Hexadecimal (x ∷ line) = elim (cases_Bool (is_hex x)) [
+  | inl h ↦ inr (record { text = x ∷ taken_parts Hexadecimal line; rest = past Hexadecimal line; is = (not_empty x (taken_parts Hexadecimal line), (h, taken_are Hexadecimal line)); read = rw h refl; whole = ap (λ t. x ∷ t) (taken_past Hexadecimal line) })
+  | inr h ↦ inl (rw h refl)
+]
+piece_of values Blanks (x ∷ line) = elim (cases_Bool (is_space_or_tab x)) [
+  | inl h ↦ inr (record { text = x ∷ taken_parts Blanks line; rest = past Blanks line; is = (not_empty x (taken_parts Blanks line), (h, taken_are Blanks line)); read = rw h refl; whole = ap (λ t. x ∷ t) (taken_past Blanks line) })
+  | inr h ↦ inl (rw h refl)
+]
+piece_of values Value (x ∷ line) = elim (cases_Bool (is_hex x)) [
+  | inl h ↦ elim (cases_Bool (has_value values (x ∷ taken_parts Value line))) [
+    | inl known ↦ inr (record { text = x ∷ taken_parts Value line; rest = past Value line; is = ((not_empty x (taken_parts Value line), (h, taken_are Value line)), known); read = rw h (rw known refl); whole = ap (λ t. x ∷ t) (taken_past Value line) })
+    | inr not_ ↦ inl (rw h (rw not_ refl))
+  ]
+  | inr h ↦ inl (rw h refl)
+]
+
+none_not_some : {X : Type 0} (x : X) → None ≡ Some x → ⊥
+none_not_some x h = cc
+
+some_same : {X : Type 0} (x y : X) → Some x ≡ Some y → x ≡ y
+some_same x y h = cc
+
+-- a line that begins as those of a form do, with the text after that
+pub record Before (values : List ℕ) (front : List Piece) (line rest : List ℕ) : Type 0 where
+  pub texts : List (List ℕ)
+  pub pieces : AreFrontTexts values front texts
+  pub whole : line ≡ joined texts ++ rest
+
+with_piece : (values : List ℕ) (piece : Piece) (front : List Piece) (line rest : List ℕ) (one : PieceOf values piece line) → Before values front one.rest rest → Before values (piece ∷ front) line rest
+with_piece values piece front line rest one more = record {
+  texts = one.text ∷ more.texts;
+  pieces = (one.is, more.pieces);
+  whole = one.whole ∙ (ap (λ t. one.text ++ t) more.whole ∙ sym (append_assoc one.text (joined more.texts) rest));
+}
+
+pub written_front : (values : List ℕ) (front : List Piece) (line rest : List ℕ) → after_front values front line ≡ Some rest → Before values front line rest
+written_front values [] line rest h = record { texts = []; pieces = tt; whole = some_same line rest h }
+written_front values (piece ∷ front) line rest h = elim (piece_of values piece line) [
+  | inl missing ↦ absurd (none_not_some rest (rw missing at h))
+  | inr one ↦ with_piece values piece front line rest one (written_front values front one.rest rest (rw (one.read) at h))
+]

@@ -1,0 +1,10 @@
+pub mod Stepping
+pub mod Values
+pub mod MessageSize
+pub mod Ends
+pub mod Fronts
+pub mod OctetTexts
+pub mod Runs
+pub mod Lines
+pub mod Logs
+pub mod Cuts

@@ -1,0 +1,94 @@
+-- What is a form, and the digits of its numbers.
+use Rattle.std.specs.Prelude.{ℕ, ◌-◌, ◌&&◌, ◌||◌, ◌==◌, Bool, true, false, not, nat_le, if◌then◌else◌, List, [], ◌∷◌}
+use Rattle.fio_form.specs.declared.form.Piece.{Piece}
+use Rattle.fio_form.specs.declared.form.Piece.TheVariants.{Character, Decimal, Hexadecimal, Blanks, Value}
+use Rattle.fio_form.specs.declared.form.Digits.{Digits}
+use Rattle.fio_form.specs.declared.form.Digits.TheVariants as digits
+use Rattle.fio_form.specs.declared.form.Step.{Step}
+use Rattle.fio_form.specs.declared.form.Step.TheVariants.{Octet, Mark}
+
+-- whether a character is a decimal digit
+abbrev pub is_decimal : ℕ → Bool
+is_decimal character = nat_le 48 character && nat_le character 57
+
+-- the value of a hexadecimal digit; 16 for any other character
+abbrev pub hex_value : ℕ → ℕ
+hex_value character =
+    if nat_le 48 character && nat_le character 57 then character - 48
+    else if nat_le 65 character && nat_le character 70 then character - 55
+    else if nat_le 97 character && nat_le character 102 then character - 87
+    else 16
+
+-- whether a character is a hexadecimal digit
+abbrev pub is_hex : ℕ → Bool
+is_hex character = not (hex_value character == 16)
+
+-- whether a character is a space or a tab
+abbrev pub is_space_or_tab : ℕ → Bool
+is_space_or_tab character = character == 32 || character == 9
+
+-- whether a character can be one of several of a piece
+abbrev pub is_part : Piece → ℕ → Bool
+is_part (Character mark) character = false
+is_part Decimal character = is_decimal character
+is_part Hexadecimal character = is_hex character
+is_part Blanks character = is_space_or_tab character
+is_part Value character = is_hex character
+
+-- ---- The front
+
+-- whether a piece is blanks
+abbrev pub is_blanks : Piece → Bool
+is_blanks Blanks = true
+is_blanks (Character mark) = false
+is_blanks Decimal = false
+is_blanks Hexadecimal = false
+is_blanks Value = false
+
+-- whether a piece is a number
+abbrev pub is_numeric : Piece → Bool
+is_numeric Decimal = true
+is_numeric Hexadecimal = true
+is_numeric Value = true
+is_numeric (Character mark) = false
+is_numeric Blanks = false
+
+-- Whether a piece ends where the next one begins: no character that the next one begins with can be part of it. After the
+-- last piece an octet begins, with a digit.
+abbrev pub is_shut : Piece → List Piece → Bool
+is_shut piece [] = not (is_numeric piece)
+is_shut piece (Character mark ∷ front) = not (is_part piece mark)
+is_shut piece (Blanks ∷ front) = not (is_blanks piece)
+is_shut piece (Decimal ∷ front) = not (is_numeric piece)
+is_shut piece (Hexadecimal ∷ front) = not (is_numeric piece)
+is_shut piece (Value ∷ front) = not (is_numeric piece)
+
+-- whether each piece of a front ends where the next one begins
+abbrev pub are_shut : List Piece → Bool
+are_shut [] = true
+are_shut (piece ∷ front) = is_shut piece front && are_shut front
+
+-- ---- The cycle
+
+-- whether steps end with an octet, if the step above is one or not
+abbrev pub ends_with_octet : Bool → List Step → Bool
+ends_with_octet above [] = above
+ends_with_octet above (Octet ∷ steps) = ends_with_octet true steps
+ends_with_octet above (Mark mark ∷ steps) = ends_with_octet false steps
+
+-- whether there is a mark before each octet, and the first one after an octet is no decimal digit; `inside`: a mark is above
+abbrev pub are_apart : Bool → List Step → Bool
+are_apart inside [] = true
+are_apart inside (Octet ∷ steps) = inside && are_apart false steps
+are_apart inside (Mark mark ∷ steps) = (inside || not (is_decimal mark)) && are_apart true steps
+
+-- whether octets can be told apart: always, if each has two digits
+abbrev pub are_separate : Digits → List Step → Bool
+are_separate digits.Pairs cycle = true
+are_separate digits.Decimal cycle = are_apart false cycle
+
+-- ---- The form
+
+-- whether these are a front and a cycle of a form
+abbrev pub is_form : List Piece → Digits → List Step → Bool
+is_form front digits cycle = are_shut front && (ends_with_octet false cycle && are_separate digits cycle)

@@ -1,0 +1,43 @@
+-- The front of a line, and what is after it.
+use Rattle.std.specs.Prelude.{ℕ, ◌+◌, ◌*◌, ◌%◌, ◌&&◌, ◌==◌, Bool, true, nat_le, if◌then◌else◌, List, [], ◌∷◌, length, Option, Some, None, option_and_then}
+use Rattle.std.specs.List.{list_any}
+use Rattle.fio_form.specs.Forms.{hex_value, is_part}
+use Rattle.fio_form.specs.declared.form.Piece.{Piece}
+use Rattle.fio_form.specs.declared.form.Piece.TheVariants.{Character, Value}
+use Rattle.fio_form.specs.declared.front.TheConstants.{VALUE_DIGITS}
+
+-- the characters of a piece that a text begins with
+abbrev pub taken_parts : Piece → List ℕ → List ℕ
+taken_parts piece [] = []
+taken_parts piece (character ∷ text) = if is_part piece character then character ∷ taken_parts piece text else []
+
+-- the text after them
+abbrev pub past : Piece → List ℕ → List ℕ
+past piece [] = []
+past piece (character ∷ text) = if is_part piece character then past piece text else character ∷ text
+
+-- the number that hexadecimal digits are, after a value
+abbrev pub value_of : ℕ → List ℕ → ℕ
+value_of value [] = value
+value_of value (digit ∷ digits) = value_of (16 * value + hex_value digit % 16) digits
+
+-- whether digits are those of one of the values
+abbrev pub has_value : List ℕ → List ℕ → Bool
+has_value values digits = nat_le (length digits) VALUE_DIGITS && list_any (λ value. value == value_of 0 digits) values
+
+-- whether characters, of which there is at least one, are a piece
+abbrev pub is_piece : List ℕ → Piece → List ℕ → Bool
+is_piece values Value digits = has_value values digits
+is_piece values other digits = true
+
+-- the text after a piece that it begins with
+abbrev pub after_piece : List ℕ → Piece → List ℕ → Option (List ℕ)
+after_piece values piece [] = None
+after_piece values (Character mark) (character ∷ text) = if character == mark then Some text else None
+after_piece values piece (character ∷ text) =
+    if is_part piece character && is_piece values piece (taken_parts piece (character ∷ text)) then Some (past piece (character ∷ text)) else None
+
+-- the text after a front that it begins with
+abbrev pub after_front : List ℕ → List Piece → List ℕ → Option (List ℕ)
+after_front values [] text = Some text
+after_front values (piece ∷ front) text = option_and_then (after_front values front) (after_piece values piece text)

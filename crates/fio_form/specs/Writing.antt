@@ -1,0 +1,178 @@
+-- What a logger of a form writes.
+use Rattle.std.specs.Prelude.{ℕ, ◌+◌, ◌-◌, ◌*◌, ◌<◌, ◌≡◌, ◌≢◌, ◌==◌, ◌&&◌, Bool, true, false, nat_lt, List, [], ◌∷◌, ◌++◌, Option, Some, None, length, map}
+use Rattle.std.specs.List.{AllByRecursion}
+use Rattle.fio_form.specs.Forms.{hex_value, is_space_or_tab, is_decimal, is_hex}
+use Rattle.fio_form.specs.Fronts.{has_value, taken_parts}
+use Rattle.fio_form.specs.Reading.{LineSaid, Frame, Other, ends_in_form, is_message}
+use Rattle.fio_form.specs.declared.form.LineForm.{LineForm}
+use Rattle.fio_form.specs.declared.form.Piece.{Piece}
+use Rattle.fio_form.specs.declared.form.Piece.TheVariants.{Character, Decimal, Hexadecimal, Blanks, Value}
+use Rattle.fio_form.specs.declared.form.Digits.{Digits}
+use Rattle.fio_form.specs.declared.form.Digits.TheVariants as digits
+use Rattle.fio_form.specs.declared.form.Step.{Step}
+use Rattle.fio_form.specs.declared.form.Step.TheVariants.{Octet, Mark}
+
+-- some characters, of which each passes a test
+abbrev pub AreSome : (ℕ → Bool) → List ℕ → Type 0
+AreSome test text = (text ≢ []) × AllByRecursion (λ character. test character ≡ true) text
+
+-- ---- The front
+
+-- a text that a piece may have
+abbrev pub IsPiece : List ℕ → Piece → List ℕ → Type 0
+IsPiece values (Character mark) text = text ≡ mark ∷ []
+IsPiece values Decimal text = AreSome is_decimal text
+IsPiece values Hexadecimal text = AreSome is_hex text
+IsPiece values Blanks text = AreSome is_space_or_tab text
+IsPiece values Value text = AreSome is_hex text × (has_value values text ≡ true)
+
+-- a text for each piece of a front
+abbrev pub AreFrontTexts : List ℕ → List Piece → List (List ℕ) → Type 0
+AreFrontTexts values [] [] = Unit {0}
+AreFrontTexts values [] (text ∷ texts) = ⊥
+AreFrontTexts values (piece ∷ front) [] = ⊥
+AreFrontTexts values (piece ∷ front) (text ∷ texts) = IsPiece values piece text × AreFrontTexts values front texts
+
+-- these texts, one after the other
+abbrev pub joined : List (List ℕ) → List ℕ
+joined [] = []
+joined (text ∷ texts) = text ++ joined texts
+
+-- ---- The octets
+
+-- the number that decimal digits are, after a value
+abbrev pub decimal_value : ℕ → List ℕ → ℕ
+decimal_value value [] = value
+decimal_value value (digit ∷ digits) = decimal_value (10 * value + (digit - 48)) digits
+
+-- a text that an octet may have: two hexadecimal digits, in either case; or a decimal number below 256
+abbrev pub IsOctetText : Digits → ℕ → List ℕ → Type 0
+IsOctetText digits.Pairs octet [] = ⊥
+IsOctetText digits.Pairs octet (high ∷ []) = ⊥
+IsOctetText digits.Pairs octet (high ∷ low ∷ []) = (is_hex high ≡ true) × (is_hex low ≡ true) × (octet ≡ 16 * hex_value high + hex_value low)
+IsOctetText digits.Pairs octet (high ∷ low ∷ more ∷ text) = ⊥
+IsOctetText digits.Decimal octet text = AreSome is_decimal text × (octet ≡ decimal_value 0 text) × (octet < 256)
+
+-- a text for each octet
+abbrev pub AreOctetTexts : Digits → List ℕ → List (List ℕ) → Type 0
+AreOctetTexts digits [] [] = Unit {0}
+AreOctetTexts digits [] (text ∷ texts) = ⊥
+AreOctetTexts digits (octet ∷ octets) [] = ⊥
+AreOctetTexts digits (octet ∷ octets) (text ∷ texts) = IsOctetText digits octet text × AreOctetTexts digits octets texts
+
+-- What is before each octet but the first, in turn: the others, then `first`, and again. As `", 0x"`; or seven times one blank, and two.
+abbrev pub cycle_of : List (List ℕ) → List Step
+cycle_of [] = []
+cycle_of (gap ∷ gaps) = map Mark gap ++ Octet ∷ cycle_of gaps
+
+-- octets after others, by the gaps that are left
+abbrev pub more_text : List ℕ → List (List ℕ) → List (List ℕ) → List (List ℕ) → List ℕ
+more_text first others gaps [] = []
+more_text first others [] (text ∷ texts) = first ++ (text ++ more_text first others others texts)
+more_text first others (gap ∷ gaps) (text ∷ texts) = gap ++ (text ++ more_text first others gaps texts)
+
+-- what would be before one more octet
+abbrev pub next_gap : List ℕ → List (List ℕ) → List (List ℕ) → List (List ℕ) → List ℕ
+next_gap first others [] [] = first
+next_gap first others (gap ∷ gaps) [] = gap
+next_gap first others [] (text ∷ texts) = next_gap first others others texts
+next_gap first others (gap ∷ gaps) (text ∷ texts) = next_gap first others gaps texts
+
+-- whether decimal digits are an octet: there is one, and their number is below 256
+abbrev pub is_octet_number : List ℕ → Bool
+is_octet_number [] = false
+is_octet_number (digit ∷ digits) = nat_lt (decimal_value 0 (digit ∷ digits)) 256
+
+-- whether a text begins with an octet
+abbrev pub begins_octet : Digits → List ℕ → Bool
+begins_octet digits.Pairs [] = false
+begins_octet digits.Pairs (high ∷ []) = false
+begins_octet digits.Pairs (high ∷ low ∷ text) = is_hex high && is_hex low
+begins_octet digits.Decimal text = is_octet_number (taken_parts Decimal text)
+
+-- whether a text begins with a gap and an octet
+abbrev pub has_next_octet : Digits → List ℕ → List ℕ → Bool
+has_next_octet digits [] text = begins_octet digits text
+has_next_octet digits (mark ∷ gap) [] = false
+has_next_octet digits (mark ∷ gap) (character ∷ text) = character == mark && has_next_octet digits gap text
+
+-- whether a text would make the octet before it another one
+abbrev pub makes_longer : Digits → List ℕ → Bool
+makes_longer digits.Pairs text = false
+makes_longer digits.Decimal [] = false
+makes_longer digits.Decimal (character ∷ text) = is_decimal character
+
+-- ---- The line
+
+-- These are the octets that a form has in a line: the line is a text for each piece of the front, a text for each octet with
+-- the gaps between them in turn, and a tail that does not go on with a gap and an octet.
+pub record AreOctetsIn (form : LineForm) (octets line : List ℕ) : Type 0 where
+  pub front : List (List ℕ)
+  pub first : List ℕ
+  pub others : List (List ℕ)
+  pub initial : List ℕ
+  pub texts : List (List ℕ)
+  pub tail : List ℕ
+  pub pieces : AreFrontTexts form.values.items form.front.items front
+  pub gaps : form.cycle.items ≡ cycle_of (first ∷ others)
+  pub spelled : AreOctetTexts form.digits octets (initial ∷ texts)
+  pub ends : has_next_octet form.digits (next_gap first others others texts) tail ≡ false
+  pub apart : makes_longer form.digits tail ≡ false
+  pub whole : line ≡ joined front ++ (initial ++ (more_text first others others texts ++ tail))
+
+-- a form has a line: it has octets there
+pub record Has (form : LineForm) (line : List ℕ) : Type 0 where
+  pub octets : List ℕ
+  pub run : AreOctetsIn form octets line
+
+-- A logger of a form writes a line of a message: its octets are some that are before the message by the form, the message, and
+-- some after it.
+pub record IsWrittenLine (form : LineForm) (message line : List ℕ) : Type 0 where
+  pub header : List ℕ
+  pub check : List ℕ
+  pub run : AreOctetsIn form (header ++ (message ++ check)) line
+  pub before : length header ≡ form.before
+  pub after : length check ≡ form.after
+  pub encodes : is_message message ≡ true
+
+-- the first of some forms that has the line writes it of a message
+pub record IsWrittenBy (forms : List LineForm) (message line : List ℕ) : Type 0 where
+  pub above : List LineForm
+  pub form : LineForm
+  pub below : List LineForm
+  pub all : forms ≡ above ++ form ∷ below
+  pub first : AllByRecursion (λ other. Has other line → ⊥) above
+  pub written : IsWrittenLine form message line
+
+-- no form has the line, and it does not end within the front of one
+abbrev pub IsOther : List LineForm → List ℕ → Type 0
+IsOther forms line = AllByRecursion (λ form. (Has form line → ⊥) × (ends_in_form form line ≡ false)) forms
+
+-- ---- The log
+
+-- a line is written of a message by forms, or of nothing
+abbrev pub IsLine : List LineForm → List ℕ → Option (List ℕ) → Type 0
+IsLine forms line None = IsOther forms line
+IsLine forms line (Some message) = IsWrittenBy forms message line
+
+-- the lines of a log, with the message of each that has one
+abbrev pub AreLines : List LineForm → List (List ℕ) → List (Option (List ℕ)) → Type 0
+AreLines forms [] [] = Unit {0}
+AreLines forms [] (message ∷ messages) = ⊥
+AreLines forms (line ∷ lines) [] = ⊥
+AreLines forms (line ∷ lines) (message ∷ messages) = IsLine forms line message × AreLines forms lines messages
+
+-- what such a line says
+abbrev pub frame_or_other : Option (List ℕ) → LineSaid
+frame_or_other None = Other
+frame_or_other (Some message) = Frame message
+
+-- the octets that a form has in a line are those before its message, the message and those after it
+pub record IsKept (form : LineForm) (octets : List ℕ) (said : LineSaid) : Type 0 where
+  pub header : List ℕ
+  pub message : List ℕ
+  pub check : List ℕ
+  pub whole : octets ≡ header ++ (message ++ check)
+  pub before : length header ≡ form.before
+  pub after : length check ≡ form.after
+  pub frame : said ≡ Frame message

@@ -1,0 +1,127 @@
+//! The front of a line.
+ghost use Rattle.std.specs.Prelude.{◌≡◌, ◌<◌, ◌≤◌, Some, None, [], true, false, IfSome, IfNone, drop, take, length};
+ghost use Rattle.fio_form.specs.Forms.{hex_value, is_space_or_tab, is_decimal, is_part};
+ghost use Rattle.fio_form.specs.Fronts.{after_front, after_piece, has_value, is_piece, past, taken_parts, value_of};
+ghost use Rattle.fio_form.specs.Reading.{is_empty};
+ghost use Rattle.fio_form.specs.declared.front.TheConstants.{VALUE_DIGITS};
+
+use crate::form::Piece;
+
+/// The most digits of a number that has one of a form's values.
+pub(crate) const VALUE_DIGITS: usize = 8;
+
+/// Returns whether a character is a decimal digit.
+pub(crate) fn is_decimal(character: u8) -> bool
+    ensures { result ≡ is_decimal character }
+{
+    matches!(character, b'0'..=b'9')
+}
+
+/// Returns the value of a hexadecimal digit; 16 for any other character.
+pub(crate) fn hex_value(character: u8) -> u8
+    ensures { result ≡ hex_value character }
+{
+    match character {
+        b'0'..=b'9' => character - 48,
+        b'A'..=b'F' => character - 55,
+        b'a'..=b'f' => character - 87,
+        _ => 16,
+    }
+}
+
+/// Returns the number that hexadecimal digits are.
+fn value_of(digits: &[u8]) -> u32
+    requires { length digits.now ≤ VALUE_DIGITS }
+    ensures { result ≡ value_of 0 digits.now }
+{
+    let mut value = 0;
+    let mut place = 0;
+    'digits: while place < digits.len() {
+        value = 16 * value + u32::from(hex_value(digits[place]) % 16);
+        place += 1;
+    }
+    value
+}
+
+/// Returns whether digits are those of one of the values.
+fn has_value(values: &[u32], digits: &[u8]) -> bool
+    ensures { result ≡ has_value values.now digits.now }
+{
+    digits.len() <= VALUE_DIGITS && values.contains(&value_of(digits))
+}
+
+impl Piece {
+    /// Returns whether a character can be one of several of this piece.
+    pub(crate) fn is_part(self, character: u8) -> bool
+        ensures { result ≡ is_part self character }
+    {
+        match self {
+            Piece::Character(_) => false,
+            Piece::Decimal => is_decimal(character),
+            Piece::Hexadecimal | Piece::Value => hex_value(character) != 16,
+            Piece::Blanks => matches!(character, b' ' | b'\t'),
+        }
+    }
+
+    /// Returns how many characters of this piece a text begins with.
+    fn count_in(self, text: &[u8]) -> usize
+        ensures taken_parts { taken_parts self text.now ≡ take result text.now }
+        ensures past { past self text.now ≡ drop result text.now }
+        ensures within { result ≤ length text.now }
+    {
+        let mut count = 0;
+        'characters: while count < text.len() && self.is_part(text[count]) {
+            count += 1;
+        }
+        count
+    }
+
+    /// Returns whether all characters of a text are of this piece.
+    pub(crate) fn is_all(self, text: &[u8]) -> bool
+        ensures { result ≡ is_empty (past self text.now) }
+    {
+        self.count_in(text) == text.len()
+    }
+
+    /// Returns the length of the piece that a text begins with.
+    pub(crate) fn length_in(self, values: &[u32], text: &[u8]) -> Option<usize>
+        ensures some { IfSome result (λ count. after_piece values.now self text.now ≡ Some (drop count text.now)) }
+        ensures within { IfSome result (λ count. count ≤ length text.now) }
+        ensures none { IfNone result (after_piece values.now self text.now ≡ None) }
+    {
+        if text.is_empty() {
+            return None;
+        }
+        match self {
+            Piece::Character(character) => if text[0] == character { Some(1) } else { None },
+            piece => {
+                let count = piece.count_in(text);
+                if piece.is_part(text[0])
+                    && (piece != Piece::Value || has_value(values, &text[..count]))
+                {
+                    Some(count)
+                } else {
+                    None
+                }
+            }
+        }
+    }
+}
+
+/// Returns where the front ends that a line begins with.
+pub(crate) fn front_in(values: &[u32], front: &[Piece], line: &[u8]) -> Option<usize>
+    ensures some { IfSome result (λ place. after_front values.now front.now line.now ≡ Some (drop place line.now)) }
+    ensures within { IfSome result (λ place. place ≤ length line.now) }
+    ensures none { IfNone result (after_front values.now front.now line.now ≡ None) }
+{
+    let mut place = 0;
+    let mut at = 0;
+    'pieces: while at < front.len() {
+        match front[at].length_in(values, &line[place..]) {
+            Some(count) => place += count,
+            None => return None,
+        }
+        at += 1;
+    }
+    Some(place)
+}
