@@ -21,10 +21,10 @@ TOOLS = ('show', 'simulate', 'check', 'record') if can_simulate() else ('show', 
 SECONDS = 10
 
 
-def rules(head, words=''):
-    """The rules in a table of docs/FORMATS.md with this head, whose rows have these words."""
+def rules(head):
+    """The rules in a table of docs/FORMATS.md with this head."""
     table = text_of('docs/FORMATS.md').partition('| RULE | %s |' % head)[2].partition('\n\n')[0]
-    return re.findall(r'^\| `(\w+)` \|.*%s' % words, table, re.M)
+    return re.findall(r'^\| `(\w+)` \|', table, re.M)
 
 
 FAULT = r'(?:empty|too long got \d+|unknown type \d+|wrong length needed \d+ got \d+)'
@@ -46,8 +46,9 @@ ITEM = re.compile(r'gap|input \d+ state [01] stamp \d+ wide \d+')
 ENDS = [re.compile(word + r' \d+') for word in ('counter', 'number', 'waiting', 'record')]
 VERDICT = re.compile(r'good \d+ frames')
 BROKEN = re.compile(r'line \d+ breaks (?:%s)|line \d+: bad line' % '|'.join(rules('Broken by a line that')))
-CONTENT = 'In a right link | A breach, in words'
-OF_INPUTS = rules(CONTENT, 'input I')
+CONTENT = 'In a right link'
+# The rules whose breach names an input.
+OF_INPUTS = re.findall(r"\('(\w+)',\s+'input ", text_of('bindings/python/fiolog/protocol.py'))
 BROKEN_CONTENT = re.compile(r'line \d+ input \d+ breaks (?:%s)|line \d+ breaks (?:%s)' % (
     '|'.join(OF_INPUTS), '|'.join(one for one in rules(CONTENT) if one not in OF_INPUTS)))
 
