@@ -5,7 +5,6 @@ them: these write the files that the list says, and no others. Each file that th
 the new one, and no other file written by hand names all of its kind. Last line: `N passed, M failed`."""
 
 import glob
-import itertools
 import os
 import re
 import shutil
@@ -14,7 +13,7 @@ import tempfile
 from typing import Callable, NamedTuple
 
 from support.check import Check
-from support.pages import text_of
+from support.pages import opened, text_of
 from support.tables import TOP
 
 FOLDERS = ('benches', 'bindings', 'completions', 'crates', 'docs', 'examples', 'include', 'man', 'packaging', 'tests', 'tools', 'wrong-bodies')
@@ -77,11 +76,6 @@ PROCEDURES = {
         'crates/fio_c/src/commands.rt': lambda text: replaced(text, '    pub reserved: u8,', '    pub planted: u8,')},
         ['messages', 'layouts']),
 }
-
-
-def opened(word):
-    """The words of a pattern with braces."""
-    return map(''.join, itertools.product(*(part.split(',') for part in re.split('[{}]', word))))
 
 
 def found(name, above):

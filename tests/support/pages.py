@@ -4,6 +4,7 @@ import functools
 import glob
 import importlib.machinery
 import importlib.util
+import itertools
 import os
 import re
 import sys
@@ -26,6 +27,11 @@ def files(*forms):
 def documents():
     """Returns the documents: those at the top, those of docs/ and tools/, and the manual pages."""
     return files('*.md', 'docs/*.md', 'tools/*.md', 'tools/*/*.md', 'man/*.1')
+
+
+def opened(word):
+    """Returns the words of a pattern with braces."""
+    return map(''.join, itertools.product(*(part.split(',') for part in re.split('[{}]', word))))
 
 
 def section(page, heading):

@@ -3,7 +3,7 @@
 import os
 import re
 
-from support.pages import documents, files, text_of, tool
+from support.pages import documents, files, opened, text_of, tool
 from support.tables import TOP
 
 # Where a name in code may begin, apart from the top.
@@ -17,7 +17,8 @@ def exists(*path):
 def missing(document):
     """Returns the files that a document names and that do not exist."""
     text = text_of(document)
-    names = re.findall(r'`([\w./-]+(?<!\.so)\.(?:rt|antt|edit|md|script|transcript|frames|1))`', text)
+    words = re.findall(r'`([\w./{},-]+(?<!\.so)\.(?:rt|antt|edit|md|script|transcript|frames|1))`', text)
+    names = [name for word in words for name in opened(word)]
     links = re.findall(r'\]\(([^)#:]+)(?:#[^)]*)?\)', text)
     return ([name for name in names if not any(exists(place, name) for place in PLACES)]
             + [link for link in links if not exists(os.path.dirname(document), link)])
