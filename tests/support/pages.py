@@ -25,8 +25,8 @@ def files(*forms):
 
 
 def documents():
-    """Returns the documents: those at the top, those of docs/ and tools/, and the manual pages."""
-    return files('*.md', 'docs/*.md', 'tools/*.md', 'tools/*/*.md', 'man/*.1')
+    """Returns the documents: those at the top, those of docs/, tools/, bindings/ and examples/, and the manual pages."""
+    return files('*.md', 'docs/*.md', 'tools/*.md', 'tools/*/*.md', 'bindings/*/*.md', 'examples/*.md', 'man/*.1')
 
 
 def opened(word):
