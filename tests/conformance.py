@@ -151,10 +151,11 @@ def reports(check, program):
 
 def long_scripts(check, program):
     """Scripts that are too long for simulate are for --replay alone, and say so; shorter runs do without them."""
-    for name, rule in TOO_LONG if check.whole('several long scripts') else TOO_LONG[:1]:
+    for name, rule in TOO_LONG if check.whole('several long scripts') else TOO_LONG[-1:]:
         if not check.wants(name):
             continue
         report = run([program, 'module', name, str(LATE), '--first'])[1]
+        check.holds('shrinking stops at a bound: ' + name, OF_BOUND in report, report[:2000])
         report = report[:report.index('rules that differ: ')]
         check.equal('rule of a long script: ' + name, [rule], rules_of(report))
         check.holds('a long script says what runs it: ' + name, OF_REPLAY in report, report[:2000])
@@ -166,9 +167,6 @@ def long_scripts(check, program):
         if can_simulate():
             check.equal('simulate on a long script: ' + name, (1, 'input too long\n'),
                         run([os.path.join(TOP, 'fio2070'), 'simulate'], script_of(report)))
-    name = 'E is not set after 4,096 polls'
-    report = run([program, 'module', name, str(LATE), '--first'])[1]
-    check.holds('shrinking stops at a bound', OF_BOUND in report, report[:2000])
 
 
 def goes_on(check, program):

@@ -149,6 +149,14 @@ def warns(compiler, options, folder):
                               for path in sources(folder))), None)
 
 
+@functools.cache
+def library_object():
+    """The portable library for this machine, without sanitizers."""
+    made = os.path.join(room, 'library.o')
+    cortex.run('cc', '-std=c99', '-O1', '-DFIO2070_NO_LOG', '-c', os.path.join(LIBRARY, 'fio2070.c'), '-o', made)
+    return made
+
+
 def compile_here(program, *words):
     """Compiles a program of this machine."""
     cortex.run('cc', *STRICT, '-g', '-O1', '-fsanitize=address,undefined', *words, '-o', program)
@@ -160,7 +168,7 @@ def marked_line():
     """A controller loses the octets that a serial device marks: FF 00 and an octet; FF FF is an FF."""
     program, dice = os.path.join(room, 'marked'), random.Random(1)
     compile_here(program, '-I', LIBRARY, '-I', os.path.join(EXAMPLES, 'controller'), '-DFIO2070_NO_LOG',
-                 *(os.path.join(TOP, name) for name in ('examples/controller/line.c', 'tests/support/c/marked_line.c', 'dist/fio2070.c')))
+                 *(os.path.join(TOP, name) for name in ('examples/controller/line.c', 'tests/support/c/marked_line.c')), library_object())
     line = [octet for _ in range(3000) for octet in line_model.line_of(bytes(dice.choices((0, 0x36, 0x7d, 0x7e, 0xff), k=8)))]
     line = [line_model.LOST if dice.random() < 0.02 else octet for octet in line]
     marks = {line_model.LOST: b'\xff\x00\x55', 0xff: b'\xff\xff'}
@@ -472,16 +480,8 @@ def power_loses(*changes):
             change(os.path.join(folder, 'controller', name), old, new)
     compile_here(program, '-I', LIBRARY, '-I', os.path.join(folder, 'controller'), '-DFIO2070_NO_LOG', '-Wl,--wrap=fdatasync',
                  '-Wl,--wrap=pwrite64', *(os.path.join(folder, 'controller', name) for name in ('tables.c', 'controller_link.c')),
-                 os.path.join(TOP, 'tests/support/c/power.c'), power_object())
+                 os.path.join(TOP, 'tests/support/c/power.c'), library_object())
     return next(filter(None, (cut_once(program, seed) for seed in range(1, CUTS + 1))), None)
-
-
-@functools.cache
-def power_object():
-    """The portable library for this machine."""
-    made = os.path.join(room, 'power.o')
-    cortex.run('cc', '-std=c99', '-O1', '-DFIO2070_NO_LOG', '-c', os.path.join(LIBRARY, 'fio2070.c'), '-o', made)
-    return made
 
 
 def second_goes_on():

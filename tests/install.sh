@@ -155,10 +155,10 @@ is_for_all() {
     [ ! -s found ]
 }
 
-# at_once: two makes in one tree both make the library, of which a program is linked.
+# at_once: two makes in one tree both make the library, here without the reader of logs, of which a program is linked.
 at_once() {
     for number in 1 2; do
-        (make_in "$room/a tree" library OUT="$room/others/twice" CFLAGS=-O0 >"$room/at.$number" 2>&1; echo $? >>"$room/at.$number") &
+        (make_in "$room/a tree" library OUT="$room/others/twice" CFLAGS='-O0 -DFIO2070_NO_LOG' >"$room/at.$number" 2>&1; echo $? >>"$room/at.$number") &
     done
     wait
     cat at.1 at.2

@@ -88,7 +88,8 @@ def expected_verdict(base, recorded):
 def check_examples(check, browser, _):
     """Each frames file, transcript and capture says what `show` and `check` say; each script reports as `simulate`."""
     names = sorted(os.listdir(os.path.join(TOP, 'examples')))
-    for base in [one for one in names if one.endswith(('.frames', '.transcript'))]:
+    logs = [one for one in names if one.endswith(('.frames', '.transcript'))]
+    for base in logs if check.whole('all examples') else logs[::3]:
         example(browser, base)
         shown = os.path.splitext(base)[0] + '.shown'
         frames = re.sub(r'^[<>] ', '', text_of(base), flags=re.M)
@@ -127,11 +128,11 @@ def check_fields(check, browser, _):
     check.equal('a key goes to the next view', 'tab-inputs', browser.run('return document.activeElement.id'))
 
 
-def many_messages(path):
+def many_messages(path, count=MANY):
     """A log of many messages: rounds of a poll and a block of up to 20 entries, as a right link has them."""
     chosen, state, stamp = random.Random(2070), [1] * 64, 0
     with open(path, 'w', encoding='ascii') as file:
-        for number in range(MANY // 2):
+        for number in range(count // 2):
             stamp += 10
             entries = b''
             for place in sorted(chosen.sample(range(64), chosen.choice((0, 1, 2, 20)))):
@@ -217,7 +218,9 @@ def check_hostile(check, browser, folder):
 def check_touch(check, browser, folder):
     """Fingers on the waveforms: one moves the times, two widen them and narrow them, a touch reads a transition."""
     browser.size(520, 800)
-    opened(browser, os.path.join(folder, 'many.transcript'))
+    path = os.path.join(folder, 'some.transcript')
+    many_messages(path, MANY // 4)
+    opened(browser, path)
     browser.click('#tab-inputs')
     browser.run('document.querySelector(".wave-box").scrollIntoView({block: "center"})')
     start, end = browser.run(RANGE)

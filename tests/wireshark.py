@@ -46,12 +46,14 @@ SELECTED = {
 class Cases:
     """What is compared with the lines of `show`, which are found once."""
 
-    def __init__(self, seed, count):
+    def __init__(self, seed, count, is_whole):
         self.tables = list(table_frames())
         self.frames = self.tables + random_frames(seed, count)
         self.shows = shown(self.frames)
+        # Each transcript and each example is a run of tshark, which takes a third of a second to begin.
+        self.some = slice(None, None, 1 if is_whole else 4)
         self.transcripts = [(frames, shown(frames)) for frames in
-                            [AFTER_255, *random_transcripts(seed, 10, 240), *example_transcripts()]]
+                            [AFTER_255, *random_transcripts(seed, 10 if is_whole else 4, 240), *list(example_transcripts())[self.some]]]
 
 
 def fault_of_way(tshark, way, frames, shows):
@@ -268,9 +270,9 @@ def comparisons(check, cases):
     yield 'stations', over(fault_of_stations)
     yield 'frame checks', over(fault_of_checks)
     yield 'ends', over(fault_of_ends)
-    for name in sorted(os.listdir(os.path.join(TOP, 'examples'))):
-        if name.endswith('.transcript') or name == 'every-type.frames':
-            yield 'hex2pcap of ' + name, over(fault_of_hex2pcap, name)
+    names = [name for name in sorted(os.listdir(os.path.join(TOP, 'examples'))) if name.endswith('.transcript')]
+    for name in ['every-type.frames', *names[cases.some]]:
+        yield 'hex2pcap of ' + name, over(fault_of_hex2pcap, name)
     yield 'hex2pcap with times', over(fault_of_times)
     yield 'hex2pcap of other texts', over(fault_of_others)
     if can_simulate():
@@ -298,7 +300,7 @@ def main():
         check.skip('the dissector', 'no tshark here (Debian package tshark)')
         check.end()
     seed, count = check.given.seed, check.given.count
-    cases = Cases(seed, count)
+    cases = Cases(seed, count, check.whole('all examples, and more random transcripts'))
     with tempfile.TemporaryDirectory() as room, concurrent.futures.ThreadPoolExecutor(os.cpu_count()) as pool:
         runs = [(name, pool.submit(outcome, os.path.join(room, str(place)), function))
                 for place, (name, function) in enumerate(comparisons(check, cases)) if check.wants(name)]
