@@ -1,0 +1,67 @@
+"""Runs parts of `./test` again and again on two processors, beside loops that keep these busy:
+`python3 -B tests/support/busy.py [--runs 5] [--loops 8] [--all] [PART..]`. A row that fails there is decided by a clock. It prints each row
+that failed with its part, the time and the processor time of each part, and last `N runs, M rows failed`."""
+
+import argparse
+import contextlib
+import os
+import subprocess
+import sys
+import time
+
+sys.path.insert(0, os.path.dirname(os.path.dirname(os.path.realpath(__file__))))
+
+from support.gate.parts import checks
+from support.gate.runs import Part, Runs
+
+# The parts that work with time: with pauses, lines, browsers, processes that are ended.
+TIMED = ('firmware', 'fiolog-live', 'outputs', 'wire', 'page', 'endurance', 'fiolog-many', 'conformance')
+
+
+class Quiet:
+    """The report of such a run: each part has one line, and those of its rows that failed."""
+
+    def __init__(self):
+        self.failed = 0
+
+    def end_of(self, part, _):
+        self.failed += part.failed
+        print('%s: %d passed, %d failed, %d s, %d s of a processor' % (part.name, part.passed, part.failed, part.seconds, part.used), flush=True)
+        for name, said, _ in part.faults:
+            print('FAILED %s\n%s' % (name, said), flush=True)
+
+
+@contextlib.contextmanager
+def loops(number):
+    """So many busy loops, each in a session of its own: some kernels share a processor between sessions."""
+    running = [subprocess.Popen(['sh', '-c', 'while :; do :; done'], start_new_session=True) for _ in range(number)]
+    try:
+        yield
+    finally:
+        for one in running:
+            one.kill()
+            one.wait()
+
+
+def main():
+    parser = argparse.ArgumentParser(description=__doc__)
+    parser.add_argument('part', nargs='*', default=TIMED)
+    parser.add_argument('--runs', type=int, default=5)
+    parser.add_argument('--loops', type=int, default=8)
+    parser.add_argument('--all', action='store_true', help='the whole form of each part')
+    given = parser.parse_args()
+    os.sched_setaffinity(0, sorted(os.sched_getaffinity(0))[:2])
+    report, paths = Quiet(), checks()
+    runs = Runs(report)
+    with loops(given.loops):
+        for number in range(given.runs):
+            begun = time.monotonic()
+            for name in given.part:
+                runs.run(Part(name, [paths[name], *['--all'] * given.all]))
+            print('run %d of %d: %d s' % (number + 1, given.runs, time.monotonic() - begun), flush=True)
+    print('%d runs, %d rows failed' % (given.runs, report.failed))
+    return 1 if report.failed else 0
+
+
+if __name__ == '__main__':
+    sys.exit(main())
