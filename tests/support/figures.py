@@ -23,7 +23,8 @@ LIBRARY = {
     'stack: `module_scan` / `module_receive`': [('stack', 'module_scan, 64 changes'), ('stack', 'module_receive, poll')],
     'stack: `poller_poll` / `poller_hear`': [('stack', 'poller_poll'), ('stack', 'poller_hear, 255 entries')],
     'stack: `show` / other calls, at most': [('stack', 'show, 255 entries'), ('stack', 'others')]}
-# Those of docs/FIRMWARE.md: instructions with one and the other options.
+# Those of docs/FIRMWARE.md: microseconds with one and the other options, of a processor with this clock in MHz.
+RATE = 64
 FIRMWARE = {'`_scan`: nothing changes': 'module_scan, nothing changes', '`_scan`: two inputs change': 'module_scan, inputs 0 and 1 change',
             '`_scan`: 64 inputs change': 'module_scan, 64 inputs change',
             '`_receive`: a poll, 20 entries': 'module_receive, poll, 20 entries',
@@ -35,8 +36,6 @@ FIRMWARE = {'`_scan`: nothing changes': 'module_scan, nothing changes', '`_scan`
 
 
 LIBRARY_PAGE, FIRMWARE_PAGE = 'tools/portable/README.md', 'docs/FIRMWARE.md'
-# The processor's clock in each further column of that table.
-RATES = (25, 64, 168)
 
 
 def text_of(page):
@@ -51,8 +50,7 @@ def rows(ways):
     for first, keys in LIBRARY.items():
         yield LIBRARY_PAGE, first, [[way[kind][name] for kind, name in keys] for way in ways]
     for first, name in FIRMWARE.items():
-        counts = [way['instructions'][name] for way in ways]
-        yield FIRMWARE_PAGE, first, [counts] + [[count / rate for count in counts] for rate in RATES]
+        yield FIRMWARE_PAGE, first, [[way['instructions'][name] / RATE for way in ways]]
 
 
 def form_of(first):
