@@ -1,7 +1,6 @@
 #!/usr/bin/env -S python3 -B
 """Goes through docs/EMBEDDING.md as its reader would, on a copy of the libraries: runs each command of its blocks marked
-`sh`, compares what it prints, and writes each file of Rust, whose name precedes it. So the crates are proved, built and run.
-Last line: `N passed, M failed`."""
+`sh`, and compares what it prints. So its example and the crates are proved, built and run. Last line: `N passed, M failed`."""
 
 import os
 import re
@@ -17,7 +16,7 @@ from support.tables import TOP
 # The document's crates are this one and those that it depends on.
 LAST = 'fio_cpu'
 
-BLOCK = re.compile(r'(?:^\*(?P<file>[\w/.]+)\*:\n\n)?^```(?P<kind>sh|rust)\n(?P<text>.*?)^```$', re.M | re.S)
+BLOCK = re.compile(r'^```sh\n(.*?)^```$', re.M | re.S)
 
 
 def copy_libraries(folder):
@@ -61,15 +60,11 @@ def commands(text):
 def main():
     check = Check()
     with open(os.path.join(TOP, 'docs', 'EMBEDDING.md'), encoding='utf-8') as document:
-        blocks = list(BLOCK.finditer(document.read()))
+        blocks = BLOCK.findall(document.read())
     with tempfile.TemporaryDirectory() as folder:
         copy_libraries(folder)
         for block in blocks:
-            if block['kind'] == 'rust':
-                with open(os.path.join(folder, block['file']), 'w', encoding='utf-8') as source:
-                    source.write(block['text'])
-                continue
-            for command, expected in commands(block['text']):
+            for command, expected in commands(block):
                 # Whichever rows are requested, since later commands need the earlier ones.
                 printed, rest = run(command, folder)
                 failed = check.failed
