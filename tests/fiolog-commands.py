@@ -105,8 +105,7 @@ def check_judged(check):
     check.holds('E and G', 'line 2: sequence: E says that the same block number was asked for again, and G' in done.out, done.out)
     name = os.path.join(EXAMPLES, 'doubled-entry.transcript')
     check.equal('--rules transcript', (1, 0), (fiolog('check', '-q', name).status, fiolog('check', '-q', '--rules', 'transcript', name).status))
-    from fiolog.batch import made_of
-    from fiolog.events import DAMAGED, Line, frame_of
+    from fiolog.batch import DAMAGED, Line, frame_of, made_of
     from fiolog.rules import Rules
     lines = ['3605', 'b60500000000000a', '3606', None, 'b60700000000001e', '3607', 'b60700020000001e', '3608']   # the answer 6 and the poll 7 were lost
     events = [frame_of(number, bytes.fromhex(line)) if line else Line(number, DAMAGED) for number, line in enumerate(lines, 1)]

@@ -123,7 +123,7 @@ def spoiled(line, draw):
 
 def found_in(lines, **settings):
     """What the rules find in a log: pairs of a line's number and a rule or `restarted`; and what is not judged."""
-    from fiolog.events import POSSIBLE
+    from fiolog.batch import POSSIBLE
     from fiolog.reader import Reader
     from fiolog.rules import Rules
     from fiolog.sides import Judgement

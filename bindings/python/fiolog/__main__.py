@@ -9,8 +9,7 @@ import re
 import sys
 
 from . import library, output
-from .shown import shown
-from .terminal import say
+from .terminal import say, shown
 
 COMMANDS = {
     'decode': 'what each frame says',

@@ -1,46 +1,157 @@
 """Lines of a log, batch by batch: what the library says of them (fio2070.LogBatch), which its judge, its counts and its signs take at
 once. An event is made of a line only where it is named or written."""
 
+import functools
+import re
+import time
 from bisect import bisect_right
 from collections import Counter
-from functools import cached_property
 from itertools import accumulate, chain, repeat
+from typing import NamedTuple, Optional
 
 import fio2070
-from fio2070.constants import LOG_BLANK, LOG_DAMAGED, LOG_FROM_CPU, LOG_FROM_MODULE, LOG_NO_SIDE, LOG_PART, LOG_SAYS, TYPE_ANSWER, TYPE_POLL
+from fio2070.constants import LOG_BLANK, LOG_DAMAGED, LOG_FROM_CPU, LOG_FROM_MODULE, LOG_PART, LOG_PASSED_OVER, LOG_POSSIBLE, LOG_SAYS
+from fio2070.constants import TYPE_ANSWER, TYPE_POLL
 
-from .events import BAD, BLANK, FRAME, HEADING, LOSSES, MISSING, PART, PASSED
+from .log_words import CURES, REASONS
+from .message import direction_of, words_of
+from .terminal import shown
 
+FRAME, BAD, OTHER, POSSIBLE, DOUBTFUL, DAMAGED, PIECE, PASSED, PART, BLANK = (
+    'frame', 'bad', 'other', 'possible', 'doubtful', 'damaged', 'piece', 'passed', 'part', 'blank')
+# The kinds of lines at which judges lose their place, and the kinds that judges get.
+LOSSES = DAMAGED, DOUBTFUL, PIECE
+JUDGED = FRAME, BAD, *LOSSES
+# The notes of skipped lines that judges get too: a frame may be missing here, since the line speaks of loss, or may be one itself; or
+# another part of the log begins.
+MISSING, HEADING = (REASONS['loss'], REASONS['short message']), REASONS['heading']
+# The octets that are kept of a line, at most.
+LONGEST_TEXT = 1 << 16
+# Times from here on have a date; an earlier one is a time of day if the line has one, else seconds since some start.
+DATED = 1e8
+# The year 10000, which no time of a log has, in microseconds.
+END_OF_TIME = 253_402_300_800_000_000
+MICRO = 1_000_000
+OF_DAY = re.compile(r'\d{1,2}:\d\d:\d\d(?:[.,]\d{1,18}|:\d{3}(?!\d))?')
+_COLOURS = re.compile('\x1b\\[[^A-Za-z]*[A-Za-z]')
+_MARKS = dict.fromkeys((0, 0xfeff))
+_LETTERS = 'ABCDEFGHIJKLMNOPQRSTUVWXYZabcdefghijklmnopqrstuvwxyz'
 # The most lines of a batch that is made of events, and the most octets of its frames.
 MOST_LINES, MOST_OCTETS = 4096, 1 << 16
 # Who sent a frame, by its type.
 _BY_TYPE = bytes(LOG_FROM_MODULE if code >= TYPE_ANSWER else LOG_FROM_CPU for code in range(256))
-# The kinds of lines as the library names them, of events; any other one is passed over.
-_KINDS = {FRAME: 'frames', BAD: 'frames', BLANK: 'blank', PART: 'part', **dict.fromkeys(LOSSES, 'damaged')}
+# The kinds of lines as the library names them, and those of events as it names them; any other one is passed over.
+_KINDS = {'blank': BLANK, 'part': PART, 'possible': POSSIBLE, 'damaged': DAMAGED, 'passed over': PASSED, 'frames': FRAME}
+_NAMES = {FRAME: 'frames', BAD: 'frames', BLANK: 'blank', PART: 'part', **dict.fromkeys(LOSSES, 'damaged')}
 _REMARKS = {**dict.fromkeys(MISSING, 'loss'), HEADING: 'heading'}
-POLL_LENGTH = 2
+# The lines that give no frame, but for blank ones and parts of the frames above.
+_OTHERS = re.compile(b'[%c%c%c]' % (LOG_POSSIBLE, LOG_DAMAGED, LOG_PASSED_OVER))
+_POLL = bytes([TYPE_POLL])
+
+
+def text_of(line):
+    """A line as text, without colours and marks; octets that are no UTF-8 can be written again as they were."""
+    text = line[:LONGEST_TEXT].rstrip(b'\r\n').decode('utf-8', 'surrogateescape')
+    if text.isprintable():
+        return text
+    # Each colour ends with a letter, so the search ends at the last letter: beyond it, it would take quadratic time.
+    end = max(map(text.rfind, _LETTERS)) + 1
+    return (_COLOURS.sub('', text[:end]) + text[end:]).translate(_MARKS)
+
+
+class Line(NamedTuple):
+    """A line of a log, `raw` as it is in the log. `kind` is FRAME for octets that spell a message; BAD for those that are a frame by
+    order or by their carrier, and spell none; OTHER for a frame with an address that is not judged; POSSIBLE for a message that
+    nothing makes sure, DOUBTFUL for one below frames; DAMAGED for a line that may have held a frame, or frames that were lost on
+    their way here; PIECE for each of the two lines of one message; PART for a further line of the frame above, or of one that
+    ends below; BLANK; PASSED for any other. `time` is in seconds, `direction` is `>` or `<`, `note` is the reason; `said` is
+    what the log says of the direction, if it does; `file` is the name of its file, if it is one of several that are read as one log."""
+    number: int
+    kind: str
+    raw: bytes = b''
+    octets: bytes = b''
+    time: Optional[float] = None
+    direction: str = ''
+    note: str = ''
+    said: str = ''
+    file: str = ''
+
+    @property
+    def head(self):
+        """What is written before the number of the line: the name of its file, if several are read as one log."""
+        return shown(self.file) + ' ' if self.file else ''
+
+    @property
+    def clock(self):
+        """The time as it is shown: a time of the day as the log writes it, one with a date in UTC."""
+        if self.time is None:
+            return ''
+        of_day = OF_DAY.search(self.text) if self.time < DATED else None
+        return of_day[0] if of_day else '%.6f' % self.time if self.time < DATED else dated(round(self.time * 1e6))
+
+    @property
+    def place(self):
+        """How what is written of the line begins: with its number, and its time if it has one."""
+        return '%s%-6s %s' % (self.head, '%d:' % self.number, self.clock + ' ' if self.time is not None else '')
+
+    @property
+    def is_loss(self):
+        """Whether judges may lose their place here: a line that may have held a frame, or says that one is missing, or a heading."""
+        return self.kind in LOSSES or self.kind == PASSED and self.note in _REMARKS
+
+    @property
+    def words(self):
+        """What is said of it with -v: why it gives no frame, what helps, and its text."""
+        return 'line %d: %s%s: %s' % (self.number, self.note, ' (%s)' % CURES[self.note] if self.note in CURES else '', self.text[:100])
+
+    @property
+    def text(self):
+        """The line as text."""
+        return text_of(self.raw)
+
+
+def seconds_of(micro):
+    """The seconds of a time in microseconds; None if there is none."""
+    return None if micro is None or micro >= END_OF_TIME else micro / MICRO
+
+
+@functools.lru_cache(maxsize=64)
+def _date(whole):
+    return time.strftime('%Y-%m-%d %H:%M:%S.', time.gmtime(whole))
+
+
+def dated(micro):
+    """A time with a date, in microseconds, as it is shown."""
+    whole, part = divmod(micro, MICRO)
+    return _date(whole) + ('%06d' % part if part % 1000 else '%03d' % (part // 1000))
+
+
+def frame_of(number, octets, **line):
+    """The event of a frame, with its direction, and its fault if it spells no message."""
+    fault = words_of(octets)
+    return Line(number, BAD if fault else FRAME, octets=octets, direction=direction_of(octets), note=fault, **line)
 
 
 class Batch:
-    """Lines of a log, one below the other. `said` is what the library says of them. `others` are the events of the lines that give no
-    frame, but for blank lines and parts of the frames above, each with the index of its line. If `as_said`, the lines say themselves
-    who sent a frame. Each kind of batch has `event`, the event of a frame, and `numbered`, the events of the lines from this one on, each
-    with the index of its line."""
+    """Lines of a log, one below the other. `said` is what the library says of them, `made` are events that take the place of what it
+    says, each in a list, by the index of their line; `raw_of` gives a line by its number. If `as_said`, the lines say themselves who
+    sent a frame. A message that nothing makes sure is doubtful below the line with the index `first`. `others` are the events of the lines
+    that give no frame, but for blank lines and parts of the frames above, each with the index of its line."""
 
-    def __init__(self, said, others, as_said=False):
-        self.said, self.kinds, self.others, self.as_said = said, said.kinds, others, as_said
-        self.is_plain = self.kinds.count(LOG_SAYS) == len(self.kinds) == said.frame_count   # a frame in each line
+    def __init__(self, said, as_said=False, made=None, raw_of=None, first=-1):
+        self.said, self.kinds, self.as_said, self._made, self._raw_of, self._first = said, said.kinds, as_said, made or {}, raw_of, first
+        # Whether each line gives one frame, as the library says it.
+        self.is_plain = not made and self.kinds.count(LOG_SAYS) == len(self.kinds) == said.frame_count
+        self.others = [(line, event) for line in (found.start() for found in _OTHERS.finditer(self.kinds)) for event in self.of_line(line)]
 
     # ---- Frames, by their index
 
-    bad = frozenset()   # those that spell no message
-
-    @cached_property
+    @functools.cached_property
     def octets(self):
         """The octets of each frame."""
         return self.said.frames()
 
-    @cached_property
+    @functools.cached_property
     def _ends(self):
         """How many frames there are down to each line."""
         return list(accumulate(self.said.frame_counts()))
@@ -53,52 +164,37 @@ class Batch:
         """How many frames there are above a line."""
         return line if self.is_plain else self._ends[line - 1] if line else 0
 
-    def frames_of(self, line):
-        """The octets of the frames of a line."""
-        return self.octets[self.frames_above(line):self.frames_above(line + 1)]
+    def event(self, frame):
+        """The event of a frame."""
+        line = self.line_of(frame)
+        return self.of_line(line)[frame - self.frames_above(line)]
 
-    @cached_property
-    def sides(self):
-        """Who sent each frame, as its line says."""
-        sides = self.said.sides
-        return sides if self.is_plain else bytes(chain.from_iterable(map(repeat, sides, self.said.frame_counts())))
-
-    @cached_property
-    def due(self):
-        """Who sent each frame, by its type."""
-        return self.said.types().translate(_BY_TYPE)
-
-    @cached_property
+    @functools.cached_property
     def senders(self):
-        """Who sent each frame: by its type, or as its line says."""
-        return bytes(side or due for side, due in zip(self.sides, self.due)) if self.as_said else self.due
+        """Who sent each frame: by its type or, in a transcript, as its line says."""
+        due = self.said.types().translate(_BY_TYPE)
+        return bytes(side or sent for side, sent in zip(self._sides(), due)) if self.as_said else due
+
+    def _sides(self):
+        """Who sent each frame, as its line says."""
+        return chain.from_iterable(map(repeat, self.said.sides, self.said.frame_counts()))
 
     @property
     def balance(self):
         """Of how many more frames the line says another sender than of how many that of their type."""
-        sides, due = self.sides, self.due
-        if sides == due or not sides.strip(b'\0'):
-            return -len(sides.strip(b'\0'))
-        return sum(1 if side != sent else -1 for side, sent in zip(sides, due) if side != LOG_NO_SIDE)
+        due = self.said.types().translate(_BY_TYPE)
+        return sum(1 if side != sent else -1 for side, sent in zip(self._sides(), due) if side)
 
-    @cached_property
-    def polls(self):
-        """Of each frame whether it is a poll that was sent."""
-        return bytes(octets[:1] == b'%c' % TYPE_POLL and len(octets) == POLL_LENGTH and sender == LOG_FROM_CPU
-                     for octets, sender in zip(self.octets, self.senders))
+    def has_poll(self, first, last):
+        """Whether one of these frames is a poll that was sent."""
+        return any(octets[:1] == _POLL and len(octets) == 2 and sender == LOG_FROM_CPU
+                   for octets, sender in zip(self.octets[first:last], self.senders[first:last]))
 
-    @cached_property
+    @functools.cached_property
     def count(self):
         """How many frames are judged: those of lines that nothing makes sure are none."""
         return self.said.frame_count if self.is_plain else sum(
             frames for kind, frames in zip(self.kinds, self.said.frame_counts()) if kind == LOG_SAYS)
-
-    def timed(self):
-        """The first line and the last that give frames and have a time; empty if there is none."""
-        timed, kinds = self.said.timed, self.kinds
-        lines = range(len(kinds)) if 1 in timed else ()
-        ends = [next((line for line in part if timed[line] and kinds[line] == LOG_SAYS), None) for part in (lines, reversed(lines))]
-        return () if None in ends else ends
 
     def steps(self):
         """Each frame as its index and None, and each other event with None in place of the index, in order."""
@@ -109,27 +205,43 @@ class Batch:
             frame = self.frames_above(line + 1)
         yield from zip(range(frame, self.said.frame_count), repeat(None))
 
+    # ---- Lines, by their index
+
+    def of_line(self, line):
+        """The events of a line: one, or one for each frame."""
+        if line in self._made:
+            return self._made[line]
+        verdict = self.said.told(line)
+        kind, raw, time_of_line = _KINDS[verdict.kind], self._raw_of(verdict.line), seconds_of(verdict.time)
+        frames = self.octets[self.frames_above(line):self.frames_above(line + 1)] if kind in (FRAME, POSSIBLE) else ()
+        kind = DOUBTFUL if kind == POSSIBLE and line > self._first else kind
+        if not frames:
+            return [Line(verdict.line, kind, raw, b'', time_of_line, '', REASONS.get(verdict.reason, verdict.reason), verdict.said)]
+        return [Line(verdict.line, kind, raw, octets, time_of_line, self.as_said and verdict.said or direction_of(octets), '', verdict.said)
+                for octets in frames]
+
+    def numbered(self, first=0):
+        """The events of the lines from this one on, each with the index of its line."""
+        return ((line, event) for line in range(first, len(self.kinds)) for event in self.of_line(line))
+
     def events(self):
         """The events of all lines."""
         return [event for _, event in self.numbered()]
 
-    def last_line(self):
-        """The number of the last line that is no part of frames above it; None if each is."""
-        last = len(self.kinds.rstrip(bytes([LOG_PART])))
-        return self.said.line(last - 1) if last else None
-
     def kinds_of_events(self):
         """How many events of each kind there are."""
-        kinds = Counter({FRAME: self.count, BLANK: self.kinds.count(LOG_BLANK), PART: self.kinds.count(LOG_PART)})
+        bad = sum(event.kind == BAD for events in self._made.values() for event in events)
+        kinds = Counter({FRAME: self.count - bad, BAD: bad, BLANK: self.kinds.count(LOG_BLANK), PART: self.kinds.count(LOG_PART)})
         kinds.update(event.kind for _, event in self.others)
         return kinds
 
-    # ---- Lines in two parts
+    # ---- Messages in two lines
 
     def mark(self, place, event):
         """Puts an event in place of one of the others: its line may have held a part of a frame."""
         line, _ = self.others[place]
         self.others[place] = line, event
+        self._made[line] = [event]
         self.said.set_kind(line, LOG_DAMAGED)
 
     def cut(self, line):
@@ -141,40 +253,9 @@ class Batch:
         return events
 
 
-class Made(Batch):
-    """Lines of which there are events."""
-
-    def __init__(self, events, as_said=False):
-        self._events = events
-        super().__init__(fio2070.LogBatch([_verdict_of(event) for event in events]),
-                         [(line, event) for line, event in enumerate(events) if _KINDS.get(event.kind) not in ('frames', 'blank', 'part')], as_said)
-
-    def event(self, frame):
-        return self._events[self.line_of(frame)]
-
-    @cached_property
-    def bad(self):
-        return frozenset(self.frames_above(line) for line, event in enumerate(self._events) if event.kind == BAD)
-
-    def numbered(self, first=0):
-        return enumerate(self._events[first:], first)
-
-    def kinds_of_events(self):
-        return Counter(event.kind for event in self._events)
-
-    def mark(self, place, event):
-        self._events[self.others[place][0]] = event
-        super().mark(place, event)
-
-    def cut(self, line):
-        events = super().cut(line)
-        del self._events[line:]
-        return events
-
-
 def _verdict_of(event):
     """What the library would say of an event."""
-    kind = _KINDS.get(event.kind, 'passed over')
+    kind = _NAMES.get(event.kind, 'passed over')
     return fio2070.Verdict(event.number, kind, _REMARKS.get(event.note, '') if event.kind == PASSED else '',
                            (event.octets,) if kind == 'frames' else (), (), None if event.time is None else round(1e6 * event.time),
                            event.said)
@@ -186,8 +267,13 @@ def made_of(events, as_said=False):
     for event in events:
         octets += len(event.octets)
         if len(part) == MOST_LINES or octets > MOST_OCTETS:
-            yield Made(part, as_said)
+            yield batch_of(part, as_said)
             part, octets = [], len(event.octets)
         part.append(event)
     if part:
-        yield Made(part, as_said)
+        yield batch_of(part, as_said)
+
+
+def batch_of(events, as_said=False):
+    """A batch of events."""
+    return Batch(fio2070.LogBatch([_verdict_of(event) for event in events]), as_said, {line: [event] for line, event in enumerate(events)})

@@ -9,12 +9,10 @@ import fio2070
 from fio2070.constants import LONGEST_FRAME
 
 from . import line as wire
-from .batch import made_of
-from .events import BLANK, DAMAGED, LONGEST_TEXT, PART, PASSED, Line, frame_of, seconds_of, text_of
+from .batch import BLANK, DAMAGED, LONGEST_TEXT, PART, PASSED, Line, frame_of, made_of, seconds_of, text_of
 from .log_words import REASONS
-from .reader import CHECKED
+from .reader import CHECKED, Texts
 from .rules import WRONG_CHECK
-from .texts import Texts
 
 FLAG, HEADER, CHECK = b'\x7e', 2, 2
 ANY = None, None
@@ -86,12 +84,12 @@ class ByOrder:
     def feed(self, octets):
         """The lines that are whole now."""
         self.texts.add(octets)
-        return self._of_lines(self.texts.take())
+        return self._of_lines(self.texts.drop(self.texts.count))
 
     def end(self):
         """The line that has no end, and the damage of each side whose last frame has none."""
         self.texts.end()
-        yield from self._of_lines(self.texts.take())
+        yield from self._of_lines(self.texts.drop(self.texts.count))
         ends = [side.last for side in self.sides.values() if side.is_open and side.decoder]
         yield from made_of(Line(kind=DAMAGED, note=WRONG_CHECK, **line) for line in sorted(ends, key=itemgetter('number')))
 

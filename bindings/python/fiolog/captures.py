@@ -6,6 +6,8 @@ import struct
 
 MAGICS = {0xa1b2c3d4: 10 ** 6, 0xa1b23c4d: 10 ** 9}      # how many steps a second has
 SECTION, ORDER, INTERFACE, SIMPLE, PACKET = 0x0a0d0d0a, 0x1a2b3c4d, 1, 3, 6
+# How such a file begins.
+BEGINNINGS = (SECTION.to_bytes(4, 'big'), *(magic.to_bytes(4, order) for magic in MAGICS for order in ('big', 'little')))
 RESOLUTION, OFFSET, FLAGS = 9, 14, 2                     # options of interfaces and packets
 UPPER_PDU, DISSECTOR_NAME = 252, 12
 IPV4, IPV6, VLANS = 0x0800, 0x86dd, (0x8100, 0x88a8, 0x9100)

@@ -1,89 +1,27 @@
 """`fiolog check`: every breach of the rules on the order of messages and on what entries and answers say; with what should have
 come and what came, or with what the breach means."""
 
-import argparse
 import sys
 from collections import Counter
 from copy import deepcopy
 
-from . import log, many, sides, terminal, unjudged
-from .batch import Made
-from .counts import Counts, in_words
-from .events import BAD, FRAME, JUDGED, LOSSES, OTHER, PART, PASSED, POSSIBLE
+from . import log, options, sides, terminal
+from .batch import BAD, FRAME, JUDGED, LOSSES, OTHER, PART, PASSED, POSSIBLE, batch_of
+from .counts import Counts, in_words, unjudged_numbers, unjudged_words
 from .message import BLOCK, POLL, TYPE_ANSWER
-from .options import number_in
-from .protocol import BLOCK_ENTRIES, CONTENT_RULES, MOST_WAITING, RULES, SOURCES, STANDARD_WAITING
 from .rules import Rules
-from .shown import shown
-
-NAMES = [name for rules in (RULES, CONTENT_RULES) for name, _ in rules.values()]
-# The rules of which no behaviour is of TEES 2009.
-OWN = [name for name, (behaviour, _) in SOURCES.items() if behaviour == 'own profile']
-
-
-def add_place(parser):
-    """The options of where and when a log was taken."""
-    parser.add_argument('--at', choices=('auto', 'cpu', 'module', 'bus'), default='auto',
-                        help='where the log was taken; auto: at the CPU where directions say so, else on the bus')
-    start = parser.add_mutually_exclusive_group()
-    start.add_argument('--start-at-poll', action='store_true', help='leave out what comes before the first poll')
-    add_module(parser, start)
-
-
-def add_module(parser, start):
-    """The options of what is above a log, and of the module's limits."""
-    start.add_argument('--whole', action='store_true', help='the log begins at the start of both ends: then more faults can be found')
-    parser.add_argument('--limits', nargs=2, action=Limits, default=(BLOCK_ENTRIES, STANDARD_WAITING), metavar=('ENTRIES', 'WAITING'),
-                        help='of the module: the most entries of a block, and the most that wait (%d %d)' % (BLOCK_ENTRIES, STANDARD_WAITING))
-
-
-def add_except(parser):
-    """The option of rules that are left out."""
-    parser.add_argument('--except', action='append', choices=NAMES, default=[], dest='excepted', metavar='RULE',
-                        help='leave out breaches of this rule, and count them; may be given again')
-
-
-def add_late_answers(parser):
-    """The option of a log with late answers."""
-    parser.add_argument('--late-answers', action='store_true', help='leave out answers that came late or twice, and count them')
-
-
-class Tees(argparse.Action):
-    """Leaves out the rules of the own profile."""
-
-    def __call__(self, parser, namespace, values, option_string=None):
-        namespace.excepted = [*namespace.excepted, *OWN]
-
-
-class Explain(argparse.Action):
-    """Says what a rule says, and ends."""
-
-    def __call__(self, parser, namespace, values, option_string=None):
-        from .explain import explanation
-        print('\n'.join(explanation(values)))
-        parser.exit()
-
-
-class Limits(argparse.Action):
-    """Both limits of a module, in their ranges."""
-
-    def __call__(self, parser, namespace, values, option_string=None):
-        try:
-            limits = [number_in(1, most)(value) for value, most in zip(values, (BLOCK_ENTRIES, MOST_WAITING))]
-        except ValueError:
-            raise argparse.ArgumentError(self, 'a block has 1 to %d entries, and 1 to %d wait' % (BLOCK_ENTRIES, MOST_WAITING)) from None
-        setattr(namespace, self.dest, limits)
+from .terminal import shown
 
 
 def add_arguments(parser):
-    log.add_arguments(parser)
-    add_place(parser)
+    options.add_reading(parser)
+    options.add_place(parser)
     parser.add_argument('--rules', choices=('all', 'transcript'), default='all', help='transcript: only the rules on the order of messages, not those on what entries and answers say')
-    add_except(parser)
-    parser.add_argument('--tees', action=Tees, nargs=0, help='leave out the rules that are not of TEES 2009: %s' % ', '.join(OWN))
-    parser.add_argument('--explain', action=Explain, choices=NAMES, metavar='RULE', help='say what this rule says, and read no log')
-    add_late_answers(parser)
-    many.add_arguments(parser)
+    options.add_except(parser)
+    parser.add_argument('--tees', action='store_true', help='leave out the rules that are not of TEES 2009: %s' % ', '.join(options.OWN))
+    parser.add_argument('--explain', choices=options.NAMES, metavar='RULE', help='say what this rule says, and read no log')
+    options.add_late_answers(parser)
+    options.add_jobs(parser)
     parser.add_argument('--json', action='store_true',
                         help='an object for each breach, with several logs for each log; and one for the summary')
 
@@ -99,12 +37,13 @@ def judged(read, option):
     the end of a file None with the others. With --start-at-poll from the first poll on."""
     judgement, reader = None, None
     for batch in read.batches():
-        if not (batch.count or any(event.kind in LOSSES or event.is_remark for _, event in batch.others)):
+        if not (batch.count or any(event.is_loss for _, event in batch.others)):
             continue
         if reader is not read.reader or judgement is None:
             yield from _ended(read, judgement, reader)
             judgement, reader, is_open = sides.Judgement(rules_for(option), read.name if read.has_several else ''), read.reader, not option.start_at_poll
-        read.balance += batch.balance
+        if option.at in ('cpu', 'bus'):
+            read.balance += batch.balance
         if not is_open:
             batch, is_open = _opened(batch, judgement)
             read.above = judgement.left_out
@@ -121,19 +60,19 @@ def _opened(batch, judgement):
             events.append(event)
         else:
             judgement.leave_out(event)
-    return Made(events, batch.as_said), is_open
+    return batch_of(events, batch.as_said), is_open
 
 
 def rules_for(option):
     """The rules that judge a log, by the options of the command line."""
-    return Rules(option.at, option.whole, option.limits, getattr(option, 'excepted', ()), getattr(option, 'late_answers', False),
-                 getattr(option, 'rules', 'all') == 'all')
+    excepted = [*getattr(option, 'excepted', ()), *options.OWN * getattr(option, 'tees', False)]
+    return Rules(option.at, option.whole, option.limits, excepted, getattr(option, 'late_answers', False), getattr(option, 'rules', 'all') == 'all')
 
 
 def _ended(read, judgement, reader):
     """The breaches and restarts that were held, at the end of what this reader read, of which is noted what is missing."""
     if judgement:
-        of_log = read if read.is_merged else reader
+        of_log = read if read.option.merge else reader
         broken = [(0, *one) for one in judgement.end(of_log.reasons, of_log.kinds[POSSIBLE])]
         read.judgements.append(judgement)
         read.unjudged += judgement.unjudged
@@ -193,7 +132,12 @@ def is_answered(sent, octets):
 
 def run(option):
     """Checks a log, or several side by side; status 1 if a rule is broken, the module restarted, or there is no frame."""
-    if len(option.files) > 1 and not option.merge:
+    if option.explain:
+        from .explain import explanation
+        print('\n'.join(explanation(option.explain)))
+        return 0
+    if log.has_several(option):
+        from . import many
         return many.run(option)
     read, counts = log.Log(option, sys.stdout.flush, writes=option.json), Counts()
     findings, judgement = Findings(option, read), None
@@ -212,35 +156,35 @@ def run(option):
     return end(option, read, counts, judgement, findings)
 
 
-def say_excused(excused):
-    """Says how many polls are not judged."""
-    if excused:
-        terminal.say('not judged, since this log was not taken at the CPU: %d; a poll that repeats a block that was answered is right if the '
-                     'CPU did not hear it' % excused)
-
-
 def end(option, read, counts, judgement, findings):
     """The summary, and the hints."""
-    left_out = counts.unjudged() + read.unjudged + Counter(lines_passed_over=read.kinds[PASSED], frames_of_others=read.kinds[OTHER],
-                                                              frames_above_a_poll=read.above)
+    kinds = read.kinds
+    left_out = counts.unjudged() + read.unjudged + Counter(lines_passed_over=kinds[PASSED], frames_of_others=kinds[OTHER], frames_above_a_poll=read.above)
     late = {'late_answers': left_out['late_answers']} if option.late_answers else {}
     restarted = {'restarted': findings.restarts} if findings.restarts or option.json else {}
-    parts = {'parts_of_frames': read.kinds[PART]} if option.sdlc and (read.kinds[PART] or option.json) else {}
+    parts = {'parts_of_frames': kinds[PART]} if option.sdlc and (kinds[PART] or option.json) else {}
     numbers = {**counts.in_short(), **late, 'breaches': findings.count, **restarted, **parts}
     sides.say_signs(read.judgements)
     if option.json:
         remarks = [words for one in read.judgements for words in (sides.IN_SHORT.get(one.verdict), one.sign) if words]
-        terminal.print_object({'summary': {**numbers, **({'remarks': remarks} if remarks else {}), 'not_judged': unjudged.numbers(left_out)}})
+        terminal.print_object({'summary': {**numbers, **({'remarks': remarks} if remarks else {}), 'not_judged': unjudged_numbers(left_out)}})
     else:
         print(', '.join('%s %d' % (in_words(name), number) for name, number in numbers.items()))
         if left_out:
-            print('not judged: ' + unjudged.words(left_out, read.reasons))
+            print('not judged: ' + unjudged_words(left_out, read.reasons))
     say_excused(left_out['frames_not_at_the_cpu'])
     is_fault = sides.say(read.judgements)
-    if read.balance > 0 and option.at in ('cpu', 'bus'):
+    if read.balance > 0:
         terminal.say('most lines say the other direction than their messages: if this is the log of the module, try --at module')
     if judgement and judgement.rules.is_above_polls and counts.polls and not option.start_at_poll:
         terminal.say('the log begins in the middle of traffic: try --start-at-poll')
     if findings.has_late_answers and not option.late_answers:
         terminal.say('answers came late or twice: try --late-answers' + ' --except advance' * (option.at == 'bus'))
     return 1 if findings.count or findings.restarts or is_fault else 0
+
+
+def say_excused(excused):
+    """Says how many polls are not judged."""
+    if excused:
+        terminal.say('not judged, since this log was not taken at the CPU: %d; a poll that repeats a block that was answered is right if the '
+                     'CPU did not hear it' % excused)

@@ -4,8 +4,8 @@ Wireshark, or the blocks as a VCD file for viewers of waveforms."""
 import contextlib
 import sys
 
-from . import log
-from .events import FRAME
+from . import log, options
+from .batch import FRAME
 from .message import BLOCK, LOST, message_of
 from .output import Refused, made
 from .pcapng import Writer
@@ -13,7 +13,7 @@ from .waveform import Block, draw
 
 
 def add_arguments(parser):
-    log.add_arguments(parser)
+    options.add_reading(parser)
     parser.add_argument('--to', choices=('transcript', 'frames', 'pcapng', 'vcd'), required=True)
     parser.add_argument('-o', '--output', metavar='FILE', help='where to (standard output)')
     parser.add_argument('--times', action='store_true', help='begin lines with their time in seconds')

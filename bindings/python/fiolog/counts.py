@@ -1,11 +1,13 @@
-"""What is counted of a log: by libfio2070, and beside that how long it is, what is damaged, and a sample of the response times."""
+"""What is counted of a log: by libfio2070, and beside that how long it is, what is damaged, and a sample of the response times. And
+what of a log is not judged or not counted, and why."""
 
 from array import array
 from collections import Counter
 
 import fio2070
+from fio2070.constants import LOG_SAYS
 
-from .events import BAD, DAMAGED, DOUBTFUL, seconds_of
+from .batch import BAD, DAMAGED, DOUBTFUL, seconds_of
 
 # How many response times are kept for the median and the 99th percentile: beyond, every second one, and so on.
 MOST_TIMES = 1 << 16
@@ -68,6 +70,13 @@ def _sum(name):
     return property(lambda self: self._above[name] + getattr(self.now, name))
 
 
+def _timed(said):
+    """The first line of a batch and the last that give frames and have a time; None if there is none."""
+    timed, kinds = said.timed, said.kinds
+    lines = range(len(kinds)) if 1 in timed else ()
+    return [next((line for line in part if timed[line] and kinds[line] == LOG_SAYS), None) for part in (lines, reversed(lines))]
+
+
 class Counts:
     """Counts the frames of a log. `a + b` is what two logs, or two parts of a log, count."""
 
@@ -99,9 +108,9 @@ class Counts:
         kinds = batch.kinds_of_events()
         self.damaged += kinds[BAD] + kinds[DAMAGED] + kinds[DOUBTFUL]
         self.responses.add(self.now.batch(batch.said))
-        times = [seconds_of(batch.said.told(line).time) for line in batch.timed()]
-        if times:
-            self.first, self.last = times[0] if self.first is None else self.first, times[-1]
+        first, last = _timed(batch.said)
+        if first is not None:
+            self.first, self.last = seconds_of(batch.said.told(first).time) if self.first is None else self.first, seconds_of(batch.said.told(last).time)
 
     @property
     def first_reset(self):
@@ -126,3 +135,51 @@ class Counts:
     def seconds(self):
         """How long the log is; None without times."""
         return None if self.first is None or self.last <= self.first else self.last - self.first
+
+
+# ---- What is not judged
+
+# By reason: the words of one, and of several.
+UNJUDGED = {
+    'damaged_lines': ('damaged line', 'damaged lines'),
+    'pieces': ('line with part of a message', 'lines with parts of messages'),
+    'lines_passed_over': ('skipped line', 'skipped lines'),
+    'frames_of_others': ('frame of another address', 'frames of other addresses'),
+    'lost_places': ('loss of sync', 'losses of sync'),
+    'frames_at_lost_places': ('frame from a loss of sync to the next poll', 'frames from a loss of sync to the next poll'),
+    'frames_above_a_command': ('frame above the first command', 'frames above the first command'),
+    'frames_above_a_poll': ('frame above the first poll', 'frames above the first poll'),
+    'frames_below_loads': ('frame whose stamp a load of the counter may explain', 'frames whose stamps a load of the counter may explain'),
+    'frames_below_late_answers': ('frame that a late answer above may explain', 'frames that late answers above may explain'),
+    'frames_not_at_the_cpu': ('frame that the CPU may not have heard so', 'frames that the CPU may not have heard so'),
+    'frames_of_one_direction': ('frame of a log of one direction', 'frames of a log of one direction'),
+    'excepted_breaches': ('breach of a rule that is left out', 'breaches of rules that are left out'),
+    'late_answers': ('late answer', 'late answers'),
+    'gaps': ('gap mark, above which transitions are lost', 'gap marks, above which transitions are lost'),
+    'restarts': ('restart of the module', 'restarts of the module'),
+}
+# What is of lines, and so is not counted either.
+OF_LINES = ('damaged_lines', 'pieces', 'lines_passed_over', 'frames_of_others', 'gaps', 'restarts')
+# How many reasons of lines that are skipped are named.
+MOST_REASONS = 3
+
+
+def unjudged_numbers(missing, names=tuple(UNJUDGED)):
+    """Returns each number by its name, those that are 0 too."""
+    return {name: missing[name] for name in names}
+
+
+def reasons_in_words(reasons):
+    """Returns the most frequent reasons why lines are skipped; how often, if there are several."""
+    return ', '.join('%s %d' % one for one in reasons.most_common(MOST_REASONS)) if len(reasons) > 1 else ''.join(reasons)
+
+
+def unjudged_words(missing, reasons=Counter(), names=tuple(UNJUDGED)):
+    """Returns what is not judged, in words; empty if all is."""
+    parts = []
+    for name in names:
+        count = missing[name]
+        if count:
+            why = ' (%s)' % reasons_in_words(reasons) if name == 'lines_passed_over' and reasons else ''
+            parts.append('%d %s%s' % (count, UNJUDGED[name][count > 1], why))
+    return ', '.join(parts)

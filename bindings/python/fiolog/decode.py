@@ -7,12 +7,11 @@ import sys
 from fio2070.constants import LOG_FROM_CPU
 
 from . import log, terminal
-from .batch import Made
-from .events import BAD, DAMAGED, DATED, DOUBTFUL, END_OF_TIME, FRAME, LOSSES, MICRO, OTHER, PIECE, POSSIBLE, dated
+from .batch import BAD, DAMAGED, DATED, DOUBTFUL, END_OF_TIME, FRAME, LOSSES, MICRO, OTHER, PIECE, POSSIBLE, dated
 from .log_words import POSSIBLE as UNSURE
 from .message import BLOCK, LETTERS, POLL, SENT_AGAIN, SHORT, TYPE_ANSWER, message_of, spells
-from .options import line_range, message_type, number_in, status_letters
-from .shown import shown
+from .options import add_reading, line_range, message_type, number_in, status_letters
+from .terminal import shown
 
 # The kinds of messages that nothing makes sure.
 UNSURE_KINDS = POSSIBLE, DOUBTFUL
@@ -26,7 +25,7 @@ COLUMNS = ['file', 'line', 'time', 'direction', 'octets', 'type', 'says', 'input
 
 
 def add_arguments(parser):
-    log.add_arguments(parser)
+    add_reading(parser)
     form = parser.add_mutually_exclusive_group()
     form.add_argument('--json', action='store_true',
                       help='one object a line: file, line, time (seconds or null), direction (> or <) and octets; then fault, or '
@@ -126,14 +125,14 @@ class Text:
     def takes(self, batch):
         """Whether the lines have a frame each, and a date or no time."""
         times = set(batch.said.timed)
-        return batch.is_plain and not isinstance(batch, Made) and (times == {0} or times == {1} and all(
+        return batch.is_plain and (times == {0} or times == {1} and all(
             DATED * MICRO <= time < END_OF_TIME for time in batch.said.times()))
 
     def write_all(self, batch):
         """Writes lines that it takes."""
         rows = []
         for number, time, octets, side in zip(batch.said.numbers(), batch.said.times(), batch.octets, batch.senders):
-            when = dated(*divmod(time, MICRO)) + ' ' if time else ''
+            when = dated(time) + ' ' if time else ''
             direction = '>' if side == LOG_FROM_CPU else '<'
             if len(octets) < SHORT:
                 says = self.short(octets, direction)

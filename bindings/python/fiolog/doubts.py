@@ -4,7 +4,7 @@ import re
 
 import fio2070
 
-from .events import text_of
+from .batch import text_of
 from .log_words import DOUBTS
 from .message import spells
 
@@ -43,7 +43,7 @@ class Doubts:
         said = batch.said
         self._counts.batch(said)
         lines = range(said.line(0), said.line(len(said) - 1) + 1) if batch.count else ()
-        if said.place_count != said.frame_count or lines and texts.may_have_numbers(lines):
+        if said.place_count != said.frame_count or lines and may_have_numbers(texts.between(lines[0], lines[-1])):
             for verdict in said.verdicts():
                 if verdict.kind == 'frames':
                     self._take(text_of(texts.of(verdict.line)), verdict)

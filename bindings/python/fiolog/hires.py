@@ -10,8 +10,7 @@ import argparse
 from . import log
 from .output import Refused, made
 from .protocol import INPUTS
-from .shown import shown
-from .terminal import say
+from .terminal import say, shown
 from .waveform import Clock, each_once
 
 OFF, ON = 81, 82

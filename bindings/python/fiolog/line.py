@@ -7,13 +7,12 @@ import re
 import fio2070
 from fio2070.constants import WIRE_ADDRESS, WIRE_CONTROL
 
-from .batch import made_of
-from .events import DAMAGED, OTHER, Line, frame_of
+from .batch import DAMAGED, OTHER, Line, frame_of, made_of
 from .log_words import LINE
 from .message import direction_of
+from .options import BITS, HIGH_FIRST, OCTETS
 from .rules import WRONG_CHECK
 
-OCTETS, BITS, HIGH_FIRST = LINES = 'octets', 'bits', 'bits-high-first'
 # The address and control octet of frames that are judged, if the caller names none.
 OWN = WIRE_ADDRESS, WIRE_CONTROL
 # The first octets of a file, which show what it is, and the first bits, which show how long one is.

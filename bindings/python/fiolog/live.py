@@ -13,16 +13,14 @@ import subprocess
 import sys
 import time
 
-from . import check, log, output, sides, terminal, unjudged
-from .batch import made_of
-from .counts import Counts, in_words
+from . import check, log, options, output, sides, terminal
 from .decode import Text, spoken
-from .events import BAD, DAMAGED, FRAME, LOSSES, OTHER, PASSED, PIECE, POSSIBLE, Line, frame_of
-from .line import OCTETS
-from .options import number_in
+from .batch import BAD, DAMAGED, FRAME, LOSSES, OTHER, PASSED, PIECE, POSSIBLE, Line, frame_of, made_of
+from .counts import UNJUDGED, Counts, in_words
+from .options import OCTETS, number_in
 from .pcapng import Writer
 from .reader import Reader
-from .shown import fault_words
+from .terminal import fault_words
 from .waiting import Waiting
 
 CHUNK = 1 << 16
@@ -53,16 +51,16 @@ def add_arguments(parser):
     source.add_argument('--serial', metavar='DEVICE', help='octet-stuffed HDLC with frame check')
     source.add_argument('--udp', type=number_in(0, 65535), metavar='PORT', help='a frame a datagram')
     source.add_argument('--fifo', metavar='FILE', help='a pipe or file with lines of a log')
-    log.add_address(parser)
+    options.add_address(parser)
     parser.add_argument('--rate', type=int, default=153600, metavar='BAUD', help='of the serial port (153600)')
     parser.add_argument('--host', default='127.0.0.1', help='the address to hear datagrams at (127.0.0.1)')
     parser.add_argument('--transcript', metavar='FILE', help='write what comes as a transcript')
     parser.add_argument('--pcapng', metavar='FILE', help='write it as pcapng; - for `| wireshark -k -i -`')
     parser.add_argument('--force', action='store_true', help='overwrite files that are there already')
     parser.add_argument('--at', choices=('auto', 'cpu', 'module', 'bus'), default='auto', help='where it is heard')
-    check.add_module(parser, parser)
-    check.add_except(parser)
-    check.add_late_answers(parser)
+    options.add_module(parser, parser)
+    options.add_except(parser)
+    options.add_late_answers(parser)
     parser.add_argument('--seconds', type=float, metavar='N', help='end after so long')
     parser.add_argument('-v', '--verbose', action='store_true', help='name each line that is skipped, and why')
     parser.add_argument('-q', '--quiet', action='store_true', help='do not write the messages')
@@ -171,7 +169,7 @@ class Station:
         """What is done with a line, and with what is broken there."""
         if event.kind not in (FRAME, BAD, OTHER):
             if event.kind in (PASSED, POSSIBLE, *LOSSES) and self.option.verbose:
-                self._say('line %d: %s: %s' % (event.number, event.why, event.text[:100]))
+                self._say(event.words)
             return
         message = spoken(event)
         if not self.option.quiet and not self.waiting.was_shown(event):
@@ -225,7 +223,7 @@ class Station:
                  'wrong frame checks' if self.option.serial else 'damaged lines': sum(self.source.reader.kinds[kind] for kind in LOSSES if kind != PIECE),
                  'lines with parts of messages': self.source.reader.kinds[PIECE],
                  'frames of other addresses': self.source.reader.kinds[OTHER],
-                 **{unjudged.REASONS[name][1]: self.judgement.unjudged[name] for name in SHOWN}}
+                 **{UNJUDGED[name][1]: self.judgement.unjudged[name] for name in SHOWN}}
         return {**numbers, **{words: count for words, count in kinds.items() if count},
                 **{words: count for words, count in self.source.losses().items() if count}}
 
@@ -240,8 +238,8 @@ class Station:
         sides.say_signs([self.judgement])
         check.say_excused(self.judgement.rules.unjudged['frames_not_at_the_cpu'])
         is_fault = sides.say([self.judgement])
-        log.say_others(self.source.reader.others, self.counts.frames)
         if not self.counts.frames:
+            log.say_others(self.source.reader.others)
             terminal.say('no frame came')
         return 1 if self.breaches or self.content_breaches or self.restarts or is_fault or not self.counts.frames else 0
 

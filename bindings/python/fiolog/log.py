@@ -1,56 +1,90 @@
 """The files of a command line, read by the reader, with what is said of it on standard error."""
 
+import codecs
+import errno
+import itertools
 import os
 import sys
+import zlib
 from collections import Counter
 
-from . import files, source
-from .batch import made_of
-from .events import BAD, FRAME, LOSSES, PASSED, PIECE, POSSIBLE
+from . import captures
+from .batch import BAD, FRAME, LOSSES, PASSED, PIECE, POSSIBLE, made_of
+from .counts import reasons_in_words
 from .log_words import CURES, REASONS
-from .line import LINES
-from .options import line_address
-from .reader import CHECKED, FORMS, UNCHECKED, Reader
-from .shown import shown
-from .terminal import Progress, say
-from .unjudged import reasons_in_words
+from .reader import CHECKED, UNCHECKED, Reader
+from .terminal import Progress, say, shown
+
+CHUNK = 1 << 16
+GZIP = b'\x1f\x8b\x08'
+_MARKS = ((codecs.BOM_UTF8, 'utf-8'), (codecs.BOM_UTF16_LE, 'utf-16-le'), (codecs.BOM_UTF16_BE, 'utf-16-be'))
 
 
-def add_arguments(parser):
-    """The options of all that read logs."""
-    parser.add_argument('files', nargs='*', default=['-'], metavar='FILE', help='logs; - is standard input, the default')
-    parser.add_argument('--format', choices=FORMS, default='auto', metavar='NAME',
-                        help='auto (the default); frames or transcript: as `fio2070 show` and `check` read lines')
-    parser.add_argument('--pattern', metavar='REGEX', help='a regular expression with the group octets (hexadecimal digits), and if you like time and dir')
-    parser.add_argument('--sdlc', action='store_true', help='each line ends with frames that have address, control and frame check; with '
-                                                            'flags, a frame may go on in the next line, or row of a dump')
-    parser.add_argument('--no-check', action='store_true', help='with --sdlc: each line ends with one frame, without the frame check')
-    parser.add_argument('--line', choices=LINES, default='', metavar='FORM',
-                        help='the file is what a line carried: octets, or bits (bits-high-first), one a clock, as a text of 0 and 1 or '
-                             'eight to an octet')
-    add_address(parser)
-    parser.add_argument('--merge', action='store_true', help='read the files as one log, in the order of their times: such as one file '
-                                                             'of each channel')
-    parser.add_argument('-v', '--verbose', action='store_true', help='name each line that is skipped, and why')
-    parser.add_argument('-q', '--quiet', action='store_true', help='write only errors to standard error')
+def decoded(chunks, is_text=True, begins=lambda first: None):
+    """The octets as UTF-8, without a byte order mark if they are a text, and without what gzip does to them; of captured packets
+    the lines. `begins` is called with the first octets."""
+    first = next(chunks, b'')
+    if first.startswith(GZIP):
+        chunks = _unpacked(first, chunks)
+        first = next(chunks, b'')
+    begins(first)
+    mark, name = next((one for one in _MARKS if is_text and first.startswith(one[0])), (b'', ''))
+    chunks = itertools.chain([first[len(mark):]], chunks)
+    if is_text and first.startswith(captures.BEGINNINGS):
+        return captures.lines_of(chunks)
+    decode = name and codecs.getincrementaldecoder(name)('replace').decode
+    return (decode(chunk).encode('utf-8', 'surrogatepass') for chunk in chunks) if name else chunks
 
 
-def add_address(parser):
-    """The option of whose frames are judged."""
-    parser.add_argument('--address', type=line_address, metavar='HEX',
-                        help='the address of the frames of a line that are judged (14), with or without the control octet (1483), or any')
+def _unpacked(first, chunks):
+    """The octets that gzip packed, piece by piece; if the stream ends early or is damaged, what can be read of it."""
+    stream, packed = zlib.decompressobj(zlib.MAX_WBITS | 16), first
+    try:
+        while packed or (packed := next(chunks, b'')):
+            if stream.eof:
+                stream = zlib.decompressobj(zlib.MAX_WBITS | 16)
+            piece = stream.decompress(packed, CHUNK)
+            packed = stream.unused_data if stream.eof else stream.unconsumed_tail
+            if piece:
+                yield piece
+        if not stream.eof:
+            say('the file packed by gzip ends early: what is there is read')
+    except zlib.error as fault:
+        say('the file packed by gzip is damaged: what comes before is read (%s)' % fault)
+
+
+def _chunks_of(descriptor, name, seen, idle):
+    """The octets of a file descriptor, piece by piece, each as soon as it comes. `seen` is called with the number of octets
+    that were read, `idle` before each read. A fault has the name."""
+    while True:
+        idle()
+        try:
+            chunk = os.read(descriptor, CHUNK)
+        except OSError as fault:
+            fault.filename = 'standard input' if name == '-' else name
+            raise
+        if not chunk:
+            return
+        seen(len(chunk))
+        yield chunk
+
+
+def _opened(name):
+    """The file descriptor of a file, or of standard input for `-`. A folder is an OSError."""
+    if name != '-' and os.path.isdir(name):
+        raise IsADirectoryError(errno.EISDIR, os.strerror(errno.EISDIR), name)
+    return sys.stdin.fileno() if name == '-' else os.open(name, os.O_RDONLY)
 
 
 def settings_of(option):
     """The reader's settings, by the options of the command line."""
     framing = '' if not option.sdlc else UNCHECKED if option.no_check else CHECKED
-    return {'form': option.format, 'pattern': option.pattern, 'framing': framing, 'line': getattr(option, 'line', ''),
-            'address': getattr(option, 'address', None)}
+    return {'form': option.format, 'pattern': option.pattern, 'framing': framing, 'line': option.line, 'address': option.address}
 
 
 def has_several(option):
     """Whether the files of the command line are several logs."""
-    return len(option.files) > 1 and not getattr(option, 'merge', False)
+    return len(option.files) > 1 and not option.merge
 
 
 class Log:
@@ -59,23 +93,37 @@ class Log:
 
     def __init__(self, option, idle=lambda: None, writes=True):
         self.option, self.idle, self.writes = option, idle, writes
-        self.name, self.reader, self.lines = '-', None, 0
-        self.is_merged, self.has_several = getattr(option, 'merge', False), has_several(option)
-        self.kinds, self.reasons, self.damages, self.others = Counter(), Counter(), Counter(), Counter()
+        self.readers, self.name, self.reader = [Reader(**settings_of(option)) for _ in option.files], '-', None
+        self.has_several = has_several(option)
         self.balance = 0    # of how many more frames the log says another sender than that of their type: above 0 it is of the module's end
         self.above = 0      # the frames above the first poll, where the log is to begin there
-        self.judgements = []    # of each file that is judged
-        self.kind = ''          # what the first file is, or None for a text that may be a log
-        self.why = ''           # why a file of what a line carried has no frame
-        self.flagged = 0        # lines with the beginning of a frame of SDLC that give no frame
-        self.unjudged = Counter()   # what of the files is not judged, by its reason
+        self.judgements, self.unjudged = [], Counter()  # of each file that is judged, and what of them is not, by its reason
+        self._first = None      # the octets with which the first file begins
         self._unnamed = []      # lines of the present batch that are to be named, each with its index
+
+    def total(self, name):
+        """The sum of what the readers counted: `kinds`, `reasons`, `damages` or `others`."""
+        return sum((getattr(reader, name) for reader in self.readers), Counter())
+
+    @property
+    def kinds(self):
+        """How many lines of each kind there are."""
+        return self.total('kinds')
+
+    @property
+    def reasons(self):
+        """How many lines are passed over for each reason."""
+        return self.total('reasons')
+
+    @property
+    def damaged(self):
+        """How many lines are damaged."""
+        return sum(self.kinds[kind] for kind in LOSSES if kind != PIECE)
 
     def batches(self):
         """All lines, file after file, or of all files in the order of time. With -v lines that are skipped are named before the next
         batch, or as far as the command asks for it by `name_passed`."""
-        readers = [Reader(**settings_of(self.option)) for _ in self.option.files]
-        for batch in self._merged(readers) if self.is_merged else self._in_turn(readers):
+        for batch in self._merged() if self.option.merge else self._in_turn():
             self._unnamed = [one for one in batch.others if one[1].kind in (PASSED, *LOSSES)] if self.option.verbose else []
             yield batch
             self.name_passed(len(batch.kinds))
@@ -84,7 +132,7 @@ class Log:
         """Names the lines that are passed over above this one of the batch."""
         while self._unnamed and self._unnamed[0][0] < line:
             event = self._unnamed.pop(0)[1]
-            say('%sline %d: %s: %s' % (shown(self.name) + ' ' if self.has_several else event.head, event.number, event.why, event.text[:100]))
+            say((shown(self.name) + ' ' if self.has_several else event.head) + event.words)
 
     def events(self):
         """The events of all lines."""
@@ -98,73 +146,71 @@ class Log:
                 self.name_passed(line + 1)
             yield event
 
-    def _in_turn(self, readers):
-        for self.name, self.reader in zip(self.option.files, readers):
-            above = self.lines
-            for batch in self._of_file(self.name, self.reader):
-                self.lines = max(self.lines, above + (batch.last_line() or 0))
-                yield batch
-            self._note(self.reader)
+    def _in_turn(self):
+        for self.name, self.reader in zip(self.option.files, self.readers):
+            yield from self._of_file(self.name, self.reader)
 
-    def _merged(self, readers):
+    def _merged(self):
         """The lines of all files as of one log, with the first reader in place of all readers."""
         from . import merge
-        self.name, self.reader = self.option.files[0], readers[0]
-        files = [merge.File(name, (event for batch in self._of_file(name, reader) for event in batch.events()))
-                 for name, reader in zip(self.option.files, readers)]
-        both = merge.Merge(files)
+        self.name, self.reader = self.option.files[0], self.readers[0]
+        both = merge.Merge([merge.File(name, (event for batch in self._of_file(name, reader) for event in batch.events()))
+                            for name, reader in zip(self.option.files, self.readers)])
         yield from made_of(both, self.reader.as_said)
-        for reader in readers:
-            self.lines += reader.count
-            self._note(reader)
         if both.is_apart:
             say('one file ends before another begins: are they of the same link and the same time?')
 
-    def _note(self, reader):
-        """Notes what a reader found, at the end of its file."""
-        for name in ('kinds', 'reasons', 'damages', 'others', 'flagged'):
-            setattr(self, name, getattr(self, name) + getattr(reader, name))
-        self.why = self.why or reader.words()
-        for words in () if self.option.quiet else reader.doubts():
-            say(words)
-
     def _of_file(self, name, reader):
-        descriptor = source.opened(name)
+        descriptor = _opened(name)
         if not self.option.quiet and os.isatty(descriptor):
             say('reading from the terminal: to read a log, name its file after the command')
 
         def begins(first):
-            self.kind = files.kind_of(first) if self.kind == '' else self.kind
+            self._first = first if self._first is None else self._first
         with Progress(descriptor, self.option.quiet, self.writes) as progress:
-            yield from reader.read(source.chunks_of(descriptor, progress.add, self.idle, name, not getattr(self.option, 'line', ''), begins))
+            yield from reader.read(decoded(_chunks_of(descriptor, name, progress.add, self.idle), not self.option.line, begins))
         if descriptor != sys.stdin.fileno():
             os.close(descriptor)
+        for words in () if self.option.quiet else reader.doubts():
+            say(words)
 
     def summary(self, takes_possible=False):
         """Says how many lines were passed over and why; false without a frame or, if the command `takes_possible` ones, one that
         is possible."""
-        found = self.kinds[FRAME] + self.kinds[BAD]
-        for words in () if self.option.quiet else self._remarks(takes_possible):
+        kinds = self.kinds
+        found = kinds[FRAME] + kinds[BAD]
+        for words in () if self.option.quiet else self._remarks(kinds, takes_possible):
             say(words)
-        say_others(self.others, self.option.quiet and found)
-        if not found and not (takes_possible and self.kinds[POSSIBLE]):
-            say(self.why or (files.words(self.kind) if self.kind
-                             else 'no frame in %d line%s: docs/CAPTURES.md says what is read' % (self.lines, 's' * (self.lines != 1))))
+        if not (self.option.quiet and found):
+            say_others(self.total('others'))
+        if not found and not (takes_possible and kinds[POSSIBLE]):
+            say(self._why())
             return False
         return True
 
-    def _remarks(self, takes_possible):
+    def _why(self):
+        """Why there is no frame."""
+        from . import files
+        kind, lines = files.kind_of(self._first or b''), self._lines()
+        of_line = next(filter(None, (reader.words() for reader in self.readers)), '')
+        return of_line or (files.words(kind) if kind else 'no frame in %d line%s: docs/CAPTURES.md says what is read' % (lines, 's' * (lines != 1)))
+
+    def _lines(self):
+        return sum(reader.count for reader in self.readers)
+
+    def _remarks(self, kinds, takes_possible):
         """What is said of the lines that give no frame."""
-        passed, pieces, possible, damaged = (*(self.kinds[kind] for kind in (PASSED, PIECE, POSSIBLE)), self.damaged)
-        less, names = self.damages[REASONS['one less']], '' if self.option.verbose else ' (-v names each)'
+        passed, pieces, possible, damaged, lines = kinds[PASSED], kinds[PIECE], kinds[POSSIBLE], self.damaged, self._lines()
+        reasons, damages, names = self.reasons, self.total('damages'), '' if self.option.verbose else ' (-v names each)'
+        less, flagged = damages[REASONS['one less']], sum(reader.flagged for reader in self.readers)
         if passed:
-            yield '%d of %d line%s skipped: %s%s' % (passed, self.lines, 's' * (self.lines != 1), reasons_in_words(self.reasons), names)
-        yield from ('%s: %s' % one for one in CURES.items() if self.reasons[one[0]] or self.damages[one[0]])
+            yield '%d of %d line%s skipped: %s%s' % (passed, lines, 's' * (lines != 1), reasons_in_words(reasons), names)
+        yield from ('%s: %s' % one for one in CURES.items() if reasons[one[0]] or damages[one[0]])
         if less and less == damaged:
             yield '%d message%s last octet: does the logger cut lines off?' % (less, ' lacks its' if less == 1 else 's lack their')
-        if self.flagged and not self.option.sdlc:
+        if flagged and not self.option.sdlc:
             yield '%d line%s a flag, address and control octet of SDLC, and no frame that is read: try --sdlc' % (
-                self.flagged, ' has' if self.flagged == 1 else 's have')
+                flagged, ' has' if flagged == 1 else 's have')
         if pieces:
             yield 'messages split over two lines, which are not read: %d (%d lines)' % (pieces // 2, pieces)
         if damaged:
@@ -173,13 +219,8 @@ class Log:
             yield 'possible messages, which nothing in the log confirms: %d%s' % (
                 possible, '' if takes_possible else '; `fiolog decode` shows them')
 
-    @property
-    def damaged(self):
-        """How many lines are damaged."""
-        return sum(self.kinds[kind] for kind in LOSSES if kind != PIECE)
 
-
-def say_others(others, is_quiet):
+def say_others(others):
     """Says of which addresses frames are not judged."""
-    for words, count in () if is_quiet else others.most_common():
+    for words, count in others.most_common():
         say('%d frame%s %s (--address)' % (count, 's' * (count > 1), words))

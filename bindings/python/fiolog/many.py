@@ -4,22 +4,14 @@ import sys
 from functools import partial, reduce
 from operator import add
 
-from . import log, sides, terminal, unjudged
-from .counts import in_words
-from .options import number_in
+from . import log, sides, terminal
+from .counts import UNJUDGED, OF_LINES, in_words, unjudged_numbers, unjudged_words
 from .output import Refused
-from .shown import shown
 from .summary import Summary, summary_of
+from .terminal import shown
 
-# More jobs than that are a mistake.
-MOST_ASKED = 1_000_000
 # What a row has; the first columns say which log is the worst.
 COLUMNS = ('breaches', 'restarted', 'damaged', 'marks', 'answers_lost', 'repeats', 'polls', 'frames')
-
-
-def add_arguments(parser):
-    """The option of commands that take many logs."""
-    parser.add_argument('--jobs', type=number_in(1, MOST_ASKED), metavar='N', help='with several logs: read this many at a time (all processors)')
 
 
 def settings_of(option):
@@ -57,9 +49,9 @@ def first_words(summary):
 
 def left_out(summary, counts_alone):
     """What is not judged or, where it is counted alone, not counted: its key, its words and its numbers."""
-    found, names = summary.left_out, unjudged.OF_LINES if counts_alone else tuple(unjudged.REASONS)
-    return ('not counted' if counts_alone else 'not judged', unjudged.words(found, summary.reasons, names),
-            unjudged.numbers(found, names))
+    found, names = summary.left_out, OF_LINES if counts_alone else tuple(UNJUDGED)
+    return ('not counted' if counts_alone else 'not judged', unjudged_words(found, summary.reasons, names),
+            unjudged_numbers(found, names))
 
 
 def write_json(rows, faults, total, counts_alone):

@@ -1,10 +1,10 @@
 """The files of one line, such as one of each channel of an analyser, as one log in the order of time (docs/CAPTURES.md, Two
 files of one line)."""
 
-from .events import DATED, FRAME, LOSSES, OF_DAY
+from .batch import DATED, FRAME, LOSSES, OF_DAY
 from .message import AGAIN, BLOCK, POLL, TYPE_ANSWER
 from .output import Refused
-from .shown import shown
+from .terminal import shown
 
 DAY = 86_400
 DATE, CLOCK, SECONDS = 'a date', 'a time of day', 'seconds'

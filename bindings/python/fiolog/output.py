@@ -9,8 +9,7 @@ import signal
 import stat
 import sys
 
-from .shown import fault_words
-from .terminal import say
+from .terminal import fault_words, say
 
 STANDARD = 'standard output'
 STREAMS = {1: STANDARD, 2: 'standard error'}

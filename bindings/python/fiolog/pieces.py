@@ -5,8 +5,7 @@ import re
 
 from fio2070.constants import LOG_BLANK
 
-from .batch import made_of
-from .events import DAMAGED, PASSED, PIECE
+from .batch import DAMAGED, PASSED, PIECE, made_of
 from .message import spells
 
 # Hexadecimal octets at the end of a line, after no digit, letter or mark of a time. The line is read backwards, so a long line

@@ -4,7 +4,7 @@ break a rule on content. Times go on as those of a VCD file do. Of several logs 
 from array import array
 
 from .output import made
-from .shown import shown
+from .terminal import shown
 from .waveform import Clock
 
 # A lane for each input, in inches, and the most that are drawn as high as that.

@@ -1,20 +1,117 @@
-"""The lines of a log: what it is, a text or what a line carried, and what is counted of its lines."""
+"""The lines of a log: its texts, the frames that libfio2070 finds in them (docs/CAPTURES.md), or those of what a line carried, and
+what is counted of its lines."""
 
 import re
 from collections import Counter
 
-from .events import DAMAGED, OTHER, PASSED
-from .found import Found
+import fio2070
+from fio2070.constants import LOG_SAYS
+
+from .batch import DAMAGED, LONGEST_TEXT, OTHER, PASSED, Batch, frame_of, made_of
+from .doubts import Doubts
 from .line import OWN, Beginning, Raw
-from .options import address_words
+from .log_words import REASONS
+from .options import FORMS, address_words
 from .output import Refused
 from .pieces import Pieces
 
-FORMS = 'auto', 'frames', 'transcript'
 # Frames of SDLC with their checks, or without.
 CHECKED, UNCHECKED = 'checked', 'unchecked'
 # How a frame of SDLC begins, with its flag.
 _FLAGGED = re.compile(rb'7[eE](?:[ ,:;|-]|0[xX]|\\x)*14(?:[ ,:;|-]|0[xX]|\\x)*83')
+
+
+class Texts:
+    """The texts of the lines that have no verdict yet, cut from the octets of a log."""
+
+    def __init__(self):
+        self.lines, self.above, self.left = [], 0, b''      # the lines that are kept, how many are above, and what came of the next one
+
+    @property
+    def count(self):
+        """How many lines came."""
+        return self.above + len(self.lines)
+
+    def add(self, octets):
+        """Takes octets. A line ends at a line feed, at a carriage return, or at both."""
+        lines = (self.left + octets).splitlines(keepends=True)
+        # A line feed may follow a carriage return.
+        self.left = lines.pop() if lines and not lines[-1].endswith(b'\n') else b''
+        self.lines += lines
+        if len(self.left) > LONGEST_TEXT:
+            self.left = self.left[:LONGEST_TEXT] + b'\r' * self.left.endswith(b'\r')
+
+    def end(self):
+        """Takes the line that has no end, if there is one."""
+        self.lines += [self.left] * bool(self.left)
+        self.left = b''
+
+    def of(self, number):
+        """Returns a line; what came of it if its end was not seen yet: a line feed may follow its carriage return."""
+        return self.lines[number - self.above - 1] if number <= self.count else self.left
+
+    def between(self, first, last):
+        """Returns the text of the lines from one to another."""
+        return b''.join(self.lines[first - self.above - 1:last - self.above]) + self.left * (last > self.count)
+
+    def drop(self, number):
+        """Forgets the lines down to this one, and returns them."""
+        number = min(number, self.count) - self.above
+        dropped, self.lines, self.above = self.lines[:number], self.lines[number:], self.above + number
+        return dropped
+
+
+class Found:
+    """Makes batches of the octets of a log in which the library finds frames; `form` is one of FORMS."""
+
+    def __init__(self, form):
+        self.library, self.texts, self.doubts = fio2070.LogReader(form), Texts(), Doubts()
+        self.form, self.has_frames = form, False
+        self.told = 0   # the last line with a verdict
+
+    @property
+    def count(self):
+        """How many lines were read."""
+        return self.texts.count
+
+    def feed(self, octets):
+        """The lines that are certain once these octets are read."""
+        self.texts.add(octets)
+        return self._batches(self.library.batches(octets))
+
+    def end(self):
+        """The lines that waited."""
+        self.texts.end()
+        return self._batches(self.library.last_batches())
+
+    def waiting(self):
+        """The lines that have no verdict yet, each with its number."""
+        return list(enumerate(self.texts.lines, self.texts.above + 1))[max(self.told - self.texts.above, 0):]
+
+    def _batches(self, batches):
+        for said in batches:
+            first = -1 if self.has_frames else said.kinds.find(LOG_SAYS) if LOG_SAYS in said.kinds else len(said)
+            self.has_frames, self.told = first < len(said), said.line(len(said) - 1)
+            batch = Batch(said, self.form == 'transcript', raw_of=self.texts.of, first=first)
+            if self.form == 'auto':
+                self.doubts.take(batch, self.texts)
+                yield batch
+            else:
+                yield from self._by_form(batch)
+            self.texts.drop(self.told)
+
+    def _by_form(self, batch):
+        """Lines of the project's own texts: octets that spell no message are those of a frame."""
+        wrong = REASONS['no message']
+        if all(event.note != wrong for _, event in batch.others):
+            return [batch]
+        return made_of([self._bad(event) if event.note == wrong else event for event in batch.events()], batch.as_said)
+
+    def _bad(self, event):
+        """The event of a line with octets that spell no message."""
+        is_transcript = self.form == 'transcript'
+        frame = frame_of(event.number, bytes.fromhex(event.text[2 * is_transcript:]), raw=event.raw, time=event.time, said=event.said)
+        return frame._replace(direction=event.said) if is_transcript else frame
 
 
 class Reader:
@@ -26,15 +123,14 @@ class Reader:
         self.kinds, self.reasons, self.damages = Counter(), Counter(), Counter()    # the reasons of lines passed over, and of damaged ones
         self.others = Counter()     # of frames that are not judged, by what is said of their address
         self.flagged = 0            # lines with the beginning of a frame of SDLC that give no frame
-        self.pieces, self.address = Pieces(), address
-        self.as_said = form == 'transcript'     # whether the lines say themselves who sent a frame
+        self.pieces, self.address, self.has_addresses = Pieces(), address, framing == CHECKED
+        self.as_said = form == FORMS[-1]    # whether the lines say themselves who sent a frame
         if pattern or framing:
             from .by_order import ByOrder
             self.text = ByOrder(pattern, framing, address)
         else:
             self.text = Found(form)
         may_be_line = form == 'auto' and not pattern and framing in ('', CHECKED)
-        self.has_addresses = framing == CHECKED
         self.way = Raw(line, address or OWN) if line else None if may_be_line else self._way_of_text()
         self.beginning = Beginning(address or OWN)
 

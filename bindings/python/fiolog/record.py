@@ -8,14 +8,15 @@ from typing import NamedTuple, Optional, Sequence
 
 import fio2070
 
-from . import hires, log, sides, terminal, unjudged
-from .check import add_place, judged
+from . import hires, log, options, sides, terminal
+from .batch import Line
+from .check import judged
 from .convert import block_of
-from .events import LOSSES, Line
-from .message import BLOCK, LOST, POLL
+from .counts import unjudged_words
+from .message import BLOCK, LOST, POLL, spells
 from .output import Refused
 from .rules import Breach
-from .shown import shown
+from .terminal import shown
 from .waveform import draw
 
 _POLL, _BLOCK = bytes([POLL]), bytes([BLOCK])
@@ -26,8 +27,8 @@ COLUMNS = ['line', 'time', 'input', 'state', 'stamp', 'wide']
 
 
 def add_arguments(parser):
-    log.add_arguments(parser)
-    add_place(parser)
+    options.add_reading(parser)
+    options.add_place(parser)
     form = parser.add_mutually_exclusive_group()
     form.add_argument('--text', action='store_true', help='as `fio2070 record` writes it, to the first breach or restart')
     form.add_argument('--json', action='store_true', help='one object a line: an item, with `breaks` a breach, or with `outcome` a restart')
@@ -96,7 +97,7 @@ def taken(read, option, is_drawn):
         frames, due = batch.octets, b''
         for frame, event in batch.steps():
             if event:
-                hearing.is_lost |= event.kind in LOSSES or event.is_remark
+                hearing.is_lost |= event.is_loss
                 due = b''
                 continue
             octets = frames[frame]
@@ -111,13 +112,13 @@ def taken(read, option, is_drawn):
                     read.name_passed(batch.line_of(frame))
                     yield Taken(judgement, judgement.named(where), (), found)
                     found = None
-            if octets[:1] == _POLL and frame not in batch.bad:
+            if octets[:1] == _POLL and spells(octets):
                 due = hearing.note(octets[1])
                 if due is not None and frame not in judgement.found and frame >= judgement.answers_from:
                     where = judgement.named(batch.event(frame))
                     read.name_passed(batch.line_of(frame))
                     terminal.say('%sline %d: block %d was due by what was heard, the CPU asked for %d' % (where.head, where.number, due, octets[1]))
-            elif octets[:1] == _BLOCK and frame >= first and frame not in batch.bad:
+            elif octets[:1] == _BLOCK and frame >= first and spells(octets):
                 items = hearing.hear(octets)
             due = hearing.due(octets)
             if items or found or is_drawn and items is not None:
@@ -246,5 +247,5 @@ def run(option):
         (write_text if option.text else write_json if option.json else write_csv if option.csv else write)(record)
     is_read = read.summary()
     if read.unjudged and not option.quiet:
-        terminal.say('not judged: ' + unjudged.words(read.unjudged))
+        terminal.say('not judged: ' + unjudged_words(read.unjudged))
     return 1 if sides.say(read.judgements) or record.faults or not is_read else 0

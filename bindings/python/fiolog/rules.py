@@ -11,7 +11,7 @@ from fio2070.constants import OUTCOME_BROKEN, OUTCOME_BROKEN_CONTENT, OUTCOME_NO
 from fio2070.constants import TYPE_ANSWER, TYPE_WATCHDOG, WHY_ABOVE_COMMAND, WHY_LATE, WHY_LATE_ABOVE, WHY_LOAD
 from fio2070.constants import WHY_PLACE_LOST, WHY_UNHEARD
 
-from .events import LOSSES, MISSING, PIECE
+from .batch import LOSSES, MISSING, PIECE
 from .log_words import BREACHES, LINE
 from .message import AGAIN, BLOCK, LOST, MORE, message_of, words_of
 from .protocol import ADVANCE, CONTENT_RULES, INPUTS, RULES, SOURCES
@@ -21,7 +21,7 @@ WRONG_CHECK = LINE['damaged']
 # What was due and what came, by rule, if the library says both.
 DUE = {'pair': 'an answer %d was due, %d came', 'number': 'block %d was asked for, %d came',
        'advance': 'block %d was due, %d came'}
-# Why a frame is not judged, as the library says it and as it is counted (unjudged.py).
+# Why a frame is not judged, as the library says it and as it is counted (counts.py).
 NOT_JUDGED = {WHY_LOAD: 'frames_below_loads', WHY_UNHEARD: 'frames_not_at_the_cpu', WHY_LATE: 'late_answers',
               WHY_LATE_ABOVE: 'frames_below_late_answers', WHY_ABOVE_COMMAND: 'frames_above_a_command',
               WHY_PLACE_LOST: 'frames_at_lost_places'}
@@ -99,7 +99,7 @@ class Rules:
         """What the judge says of frames that are not kept, and the events at which it may lose its place, each with how many frames
         are above."""
         outcomes = [(frame, None, outcome) for frame, outcome in self._judged(batch) if outcome.kind != OUTCOME_NOT_JUDGED or outcome.why]
-        lines = [(batch.frames_above(line), event, None) for line, event in batch.others if event.kind in LOSSES or event.is_remark]
+        lines = [(batch.frames_above(line), event, None) for line, event in batch.others if event.is_loss]
         return sorted(lines + outcomes, key=itemgetter(0)) if lines else outcomes
 
     def _judged(self, batch):
@@ -116,7 +116,7 @@ class Rules:
     def _pass(self, batch, first, last):
         """Goes on below these frames: the place is known from a poll on."""
         self._has_frames |= first < last
-        if (self._is_lost or not self._has_polls) and 1 in batch.polls[first:last]:
+        if (self._is_lost or not self._has_polls) and batch.has_poll(first, last):
             self._is_lost, self._has_polls = False, True
 
     def _note(self, event):

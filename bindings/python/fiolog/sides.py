@@ -5,7 +5,7 @@ from collections import Counter
 
 import fio2070
 
-from .events import FRAME, LOSSES, PIECE
+from .batch import FRAME, LOSSES, PIECE
 from .log_words import CURES, REASONS, SIDES, SIGNS
 from .message import POLL
 from .terminal import say as _say

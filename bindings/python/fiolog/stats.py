@@ -2,16 +2,16 @@
 
 from collections import Counter
 
-from . import log, many, terminal, unjudged
-from .counts import Counts, in_words, placed
-from .events import OTHER, PASSED, PIECE
+from . import log, options, terminal
+from .batch import OTHER, PASSED, PIECE
+from .counts import OF_LINES, Counts, in_words, unjudged_numbers, unjudged_words, placed
 
 MILLI = 1000    # microseconds
 
 
 def add_arguments(parser):
-    log.add_arguments(parser)
-    many.add_arguments(parser)
+    options.add_reading(parser)
+    options.add_jobs(parser)
     parser.add_argument('--json', action='store_true', help='one object; with several logs one for each, and one for all')
 
 
@@ -42,7 +42,8 @@ def flat(one, above=''):
 
 def run(option):
     """Counts a log, or several side by side; status 1 if there is no frame."""
-    if len(option.files) > 1 and not option.merge:
+    if log.has_several(option):
+        from . import many
         return many.run(option, counts_alone=True)
     read, counts = log.Log(option, writes=False), Counts()
     for batch in read.batches():
@@ -52,10 +53,10 @@ def run(option):
     missing = counts.unjudged() + Counter(
         damaged_lines=read.damaged, pieces=read.kinds[PIECE], lines_passed_over=read.kinds[PASSED], frames_of_others=read.kinds[OTHER])
     if option.json:
-        terminal.print_object({**numbers(counts), 'not_counted': unjudged.numbers(missing, unjudged.OF_LINES)}, indent=1)
+        terminal.print_object({**numbers(counts), 'not_counted': unjudged_numbers(missing, OF_LINES)}, indent=1)
     else:
         terminal.table('Frames of %s' % ', '.join(option.files), ['what', 'number'], list(flat(numbers(counts))))
-        words = unjudged.words(missing, read.reasons, unjudged.OF_LINES)
+        words = unjudged_words(missing, read.reasons, OF_LINES)
         if words:
             print('not counted: ' + words)
     return 0

@@ -9,11 +9,11 @@ import os
 from collections import Counter
 
 from .counts import Counts
-from .events import OTHER, POSSIBLE
+from .log import CHUNK, decoded
+from .batch import OTHER, POSSIBLE
 from .reader import Reader
 from .rules import Rules
 from .sides import Judgement
-from .source import CHUNK, decoded
 
 
 class Summary:

@@ -4,7 +4,7 @@ now."""
 import time
 from itertools import chain
 
-from .events import FRAME, POSSIBLE
+from .batch import FRAME, POSSIBLE
 from .reader import Reader
 
 # Seconds that a line waits before it is shown; and how many lines are read for it.
