@@ -285,7 +285,7 @@ def without(folder, name):
 
 
 def check_terminal(check, folder):
-    """Colours, drawn tables and the progress bar on a terminal, with `rich` and without."""
+    """Colours, tables and how much of a long file is read, on a terminal."""
     if not check.has_terminal('colours on a terminal'):
         return
     text = on_terminal(sys.executable, ['decode', '-q'], text=LOG)
@@ -298,24 +298,17 @@ def check_terminal(check, folder):
     kept = os.path.join(folder, 'kept')
     # Long by its octets, not by its messages.
     path = written(folder, 'long.log', (LOG + 'link down, %s\n' % ('\0' * 2 ** 18)) * 17)
-    text = on_terminal(sys.executable, ['stats', path], **without(folder, 'rich'))
-    check.holds('without rich a word and a plain table', 'rich is not installed: no progress bar' in text
-                and 'rich is not installed: plain tables' in text and re.search(r'\n  polls +\d+', text), text)
-    python = with_library('rich')
-    if not python:
-        check.skip('the progress bar', 'no rich here (Debian package python3-rich)')
-        return
-    text = on_terminal(python, ['stats', path])
-    bars = re.findall(r'reading [^\n]*?(\d+)%', re.sub(r'\x1b\[[0-9;]*m', '', text))
-    check.holds('a progress bar on a terminal', bars and sorted(map(int, bars)) == list(map(int, bars)), bars)
-    check.holds('it goes, and a table is drawn', text.rindex('\x1b[2K') < text.index('Frames of') and '\u2503' in text, text[-400:])
+    text = on_terminal(sys.executable, ['stats', path])
+    parts = [int(part) for part in re.findall(r'\x1b\[Kreading (\d+) %\r', text)]
+    check.holds('how much of a long file is read', len(parts) > 9 and parts == sorted(set(parts)) and parts[-1] == 100, parts)
+    check.holds('that goes, and a table follows', text.rindex('\x1b[K') < text.index('Frames of') and re.search(r'\n  polls +\d+', text), text[-400:])
     for words in (['record'], ['check'], ['decode']):
         with open(kept, 'wb') as out:
-            text = on_terminal(python, [*words, path], out=out)
-        check.holds('a bar beside %s into a file' % words[0], 'reading' in text, text[:300])
+            text = on_terminal(sys.executable, [*words, path], out=out)
+        check.holds('so it is beside %s into a file' % words[0], re.search(r'reading 9\d %', text), text[:300])
         check.equal('what %s writes stays in the file' % words[0], fiolog(*words, path).out, Path(kept).read_text(encoding='utf-8'))
-    check.holds('no bar between messages', 'reading' not in on_terminal(python, ['decode', '--type', '60', path]))
-    check.holds('no bar for a short file', 'reading' not in on_terminal(python, ['stats'], text=LOG))
+    check.holds('but not between messages', 'reading' not in on_terminal(sys.executable, ['decode', '--type', '60', path]))
+    check.holds('nor of a short file', 'reading' not in on_terminal(sys.executable, ['stats'], text=LOG))
 
 
 def check_plot(check, folder):

@@ -4,6 +4,7 @@ the line, or at Ctrl-C, and then writes what it counted.
 The field line itself is synchronous (SDLC): a serial port reads it by an adapter that gives out octet-stuffed HDLC with
 frame check. What a port loses, or hears with a wrong parity or stop bit, is not said by pyserial: the frame check finds it."""
 
+import io
 import os
 import selectors
 import shlex
@@ -14,13 +15,12 @@ import sys
 import time
 
 from . import check, log, options, output, sides, terminal
-from .decode import Text, spoken
 from .batch import BAD, DAMAGED, FRAME, LOSSES, OTHER, PASSED, PIECE, POSSIBLE, Line, frame_of, made_of
 from .counts import UNJUDGED, Counts, in_words
+from .decode import Text, spoken
 from .options import OCTETS, number_in
 from .pcapng import Writer
 from .reader import Reader
-from .terminal import fault_words
 from .waiting import Waiting
 
 CHUNK = 1 << 16
@@ -35,8 +35,6 @@ SO_RCVBUFFORCE = 33
 QUIET = 2.0
 # Seconds that a process has to end.
 PATIENCE = 0.2
-# What is said of datagrams that the system dropped before they were read.
-DROPPED = 'dropped by the system'
 # The reasons that are shown for frames that are not judged.
 SHOWN = 'frames_above_a_command', 'frames_below_loads', 'late_answers', 'frames_below_late_answers', 'frames_of_one_direction'
 # The lines without a frame after which a process does not count as writing a transcript.
@@ -67,16 +65,22 @@ def add_arguments(parser):
 
 
 class Lines:
-    """Lines of a log, or what a line carried, as they come, by one of these readers: the first that finds a frame in a line, or the
-    last. In a transcript no line waits for those below."""
+    """What a file says as it comes: lines of a log, or what a line carried, by one of these readers: the first that finds a frame in a
+    line, or the last. In a transcript no line waits for those below."""
 
-    def __init__(self, *readers):
-        self.readers, self.events = list(readers), [[] for _ in readers]
+    dropped = 0
+
+    def __init__(self, file, *readers):
+        self.file, self.readers, self.events = file, list(readers), [[] for _ in readers]
 
     @property
     def reader(self):
         """The reader that is followed."""
         return self.readers[-1]
+
+    def read(self):
+        """The octets that came."""
+        return os.read(self.file.fileno(), CHUNK)
 
     def feed(self, chunk):
         """The events of the lines that are decided now."""
@@ -84,34 +88,62 @@ class Lines:
 
     def end(self):
         """The events of what is left."""
-        yield from self._decided(Reader.end)
-        yield from self.events[-1]
+        return [*self._decided(Reader.end), *self.events[-1]]
 
     def _decided(self, read):
         now = time.time()
         for reader, events in zip(self.readers, self.events):
             events += (event if event.time is not None else event._replace(time=now) for batch in read(reader) for event in batch.events())
-        found = [index for index, events in enumerate(self.events) if any(event.kind in (FRAME, BAD) for event in events)]
-        if not found and len(self.readers) > 1 and len(self.events[-1]) < MOST_UNDECIDED:
-            return ()
-        index = found[0] if found else -1
+        found = next((index for index, events in enumerate(self.events) if any(event.kind in (FRAME, BAD) for event in events)), None)
+        if found is None and len(self.readers) > 1 and len(self.events[-1]) < MOST_UNDECIDED:
+            return []
+        index = -1 if found is None else found
         events, self.readers, self.events = self.events[index], [self.readers[index]], [[]]
         return events
 
-    def losses(self):
-        """What did not come whole, by its words: a line says it itself."""
-        return {}
+    def close(self):
+        """Ends it; returns whether that is a fault."""
+        self.file.close()
+
+
+class Process(Lines):
+    """What a process says."""
+
+    def __init__(self, command, *readers):
+        self.process = subprocess.Popen(shlex.split(command), stdout=subprocess.PIPE)
+        super().__init__(self.process.stdout, *readers)
+
+    def close(self):
+        """Ends a process that goes on. If it failed, its status is said."""
+        for end in (self.process.terminate, self.process.kill, lambda: None):
+            try:
+                status = self.process.wait(PATIENCE)
+            except subprocess.TimeoutExpired:
+                end()
+                continue
+            if status > 0:
+                terminal.say('the process ended with status %d' % status)
+            return status > 0
+        self.process.wait()
+        return False
 
 
 class Datagrams:
     """A frame a datagram. One without octets is none. What the system dropped is a damaged one, since the CPU may have heard it."""
 
-    def __init__(self):
+    def __init__(self, host, port):
+        self.file = socket.socket(socket.AF_INET, socket.SOCK_DGRAM)
         self.reader, self.number, self.dropped, self.unsaid = Reader(), 0, 0, 0
+        for name, value in ((SO_RCVBUFFORCE, DATAGRAM_BUFFER), (socket.SO_RCVBUF, DATAGRAM_BUFFER), (SO_RXQ_OVFL, 1)):
+            try:
+                self.file.setsockopt(socket.SOL_SOCKET, name, value)
+            except OSError:
+                pass        # not Linux, or no leave for the first: what can be set is set
+        self.file.bind((host, port))
 
-    def receive(self, heard):
+    def read(self):
         """Returns the octets of a datagram; the count of those that the system dropped comes with it."""
-        octets, notes, _, _ = heard.recvmsg(LONGEST_DATAGRAM, socket.CMSG_SPACE(4))
+        octets, notes, _, _ = self.file.recvmsg(LONGEST_DATAGRAM, socket.CMSG_SPACE(4))
         for level, kind, data in notes:
             if (level, kind) == (socket.SOL_SOCKET, SO_RXQ_OVFL):
                 count, = struct.unpack('=I', data[:4])
@@ -123,7 +155,7 @@ class Datagrams:
         """The event of a datagram, with one before it if others were dropped."""
         self.number += 1
         if self.unsaid:
-            yield Line(self.number, DAMAGED, note='%s: %d datagrams' % (DROPPED, self.unsaid))
+            yield Line(self.number, DAMAGED, note='dropped by the system: %d datagrams' % self.unsaid)
             self.unsaid = 0
         if octets:
             yield frame_of(self.number, octets, time=time.time())
@@ -132,9 +164,9 @@ class Datagrams:
         """Nothing is held."""
         return ()
 
-    def losses(self):
-        """What did not come whole, by its words."""
-        return {'datagrams dropped': self.dropped}
+    def close(self):
+        """Ends it."""
+        self.file.close()
 
 
 class Station:
@@ -143,9 +175,8 @@ class Station:
     def __init__(self, option, source):
         self.option, self.source, self.counts = option, source, Counts()
         self.breaches = self.content_breaches = self.restarts = 0
-        self.name = '-'
         self.out = sys.stderr if option.pcapng == '-' else sys.stdout
-        self.paint, self.status = terminal.painter('auto'), terminal.Status()
+        self.paint = terminal.painter('auto')
         self.line = Text(self._write, self.paint)
         self.judgement = sides.Judgement(check.rules_for(option))
         self.transcript = output.recorded(option.transcript, option.force) if option.transcript else None
@@ -171,9 +202,8 @@ class Station:
             if event.kind in (PASSED, POSSIBLE, *LOSSES) and self.option.verbose:
                 self._say(event.words)
             return
-        message = spoken(event)
         if not self.option.quiet and not self.waiting.was_shown(event):
-            self.line(self.name, event, message)
+            self.line('-', event, spoken(event))
         if event.kind == OTHER:
             return
         self.last = time.monotonic()
@@ -184,12 +214,11 @@ class Station:
             self.capture.add(event.time, event.direction, event.octets)
 
     def _say(self, words):
-        self.status.clear()
         self.out.flush()
         terminal.say(words)
 
     def _write(self, text):
-        self.status.clear()
+        terminal.status.clear()
         self.out.write(text)
 
     def _name(self, broken):
@@ -203,12 +232,12 @@ class Station:
     def flush(self):
         """Writes out what is held, and the status line on a terminal; and what lines would be that wait, if the log ended now."""
         for event in () if self.option.quiet else self.waiting.due(self.source.reader.waiting()):
-            self.line(self.name, event, spoken(event))
+            self.line('-', event, spoken(event))
         self._flush()
         silence = time.monotonic() - self.last
         numbers = self.numbers(silence > QUIET).items()
-        self.status.show(', '.join('%s %d' % pair for pair in numbers if pair[1] or pair[0] in ALWAYS)
-                         + (', silent for %d s' % silence if silence > QUIET else ''))
+        terminal.status.show(', '.join('%s %d' % pair for pair in numbers if pair[1] or pair[0] in ALWAYS)
+                             + (', silent for %d s' % silence if silence > QUIET else ''))
 
     def _flush(self):
         for one in (self.out, self.transcript, self.capture and self.file):
@@ -217,15 +246,14 @@ class Station:
 
     def numbers(self, is_over=True):
         """What was counted."""
+        kinds = self.source.reader.kinds
         numbers = {in_words(name): number for name, number in self.counts.in_short(is_over).items()}
-        numbers.update({'breaches': self.breaches, 'breaches in content': self.content_breaches})
-        kinds = {'restarted': self.restarts, 'skipped lines': self.source.reader.kinds[PASSED],
-                 'wrong frame checks' if self.option.serial else 'damaged lines': sum(self.source.reader.kinds[kind] for kind in LOSSES if kind != PIECE),
-                 'lines with parts of messages': self.source.reader.kinds[PIECE],
-                 'frames of other addresses': self.source.reader.kinds[OTHER],
-                 **{UNJUDGED[name][1]: self.judgement.unjudged[name] for name in SHOWN}}
-        return {**numbers, **{words: count for words, count in kinds.items() if count},
-                **{words: count for words, count in self.source.losses().items() if count}}
+        others = {'restarted': self.restarts, 'skipped lines': kinds[PASSED],
+                  'wrong frame checks' if self.option.serial else 'damaged lines': sum(kinds[kind] for kind in LOSSES if kind != PIECE),
+                  'lines with parts of messages': kinds[PIECE], 'frames of other addresses': kinds[OTHER],
+                  **{UNJUDGED[name][1]: self.judgement.unjudged[name] for name in SHOWN}, 'datagrams dropped': self.source.dropped}
+        return {**numbers, 'breaches': self.breaches, 'breaches in content': self.content_breaches,
+                **{words: count for words, count in others.items() if count}}
 
     def end(self):
         """The summary; status 1 if a rule is broken, the module restarted, or nothing came."""
@@ -245,82 +273,43 @@ class Station:
 
 
 def opened(option):
-    """What is read: a file descriptor or socket, the function that reads it, what makes events of it, and what ends it."""
-    if option.exec:
-        process = subprocess.Popen(shlex.split(option.exec), stdout=subprocess.PIPE)
-        lines = Lines(Reader('transcript'), Reader(address=option.address))
-        return process.stdout, lambda: os.read(process.stdout.fileno(), CHUNK), lines, lambda: end_of(process)
+    """What is heard."""
+    if option.exec is not None:
+        return Process(option.exec, Reader('transcript'), Reader(address=option.address))
     if option.udp is not None:
-        heard, source = datagram_socket(option), Datagrams()
-        return heard, lambda: source.receive(heard), source, heard.close
-    if option.fifo:
+        return Datagrams(option.host, option.udp)
+    if option.fifo is not None:
         # Without a writer an open would wait, and not look at the time.
-        descriptor = os.open(option.fifo, os.O_RDONLY | os.O_NONBLOCK)
-        return descriptor, lambda: os.read(descriptor, CHUNK), Lines(Reader(address=option.address)), lambda: os.close(descriptor)
-    port, line = serial_port(option), Lines(Reader(line=OCTETS, address=option.address))
-    if isinstance(port, int):
-        return port, lambda: os.read(port, CHUNK), line, lambda: os.close(port)
-    return port, lambda: os.read(port.fileno(), CHUNK), line, port.close
-
-
-def datagram_socket(option):
-    """A socket with a large buffer, that says how many datagrams were dropped if the system can."""
-    heard = socket.socket(socket.AF_INET, socket.SOCK_DGRAM)
-    for name, value in ((SO_RCVBUFFORCE, DATAGRAM_BUFFER), (socket.SO_RCVBUF, DATAGRAM_BUFFER), (SO_RXQ_OVFL, 1)):
-        try:
-            heard.setsockopt(socket.SOL_SOCKET, name, value)
-        except OSError:
-            pass        # not Linux, or no leave for the first: what can be set is set
-    heard.bind((option.host, option.udp))
-    return heard
-
-
-def end_of(process):
-    """Ends a process that goes on. If it failed, its status is said; returns whether it did."""
-    for end in (process.terminate, process.kill):
-        try:
-            status = process.wait(PATIENCE)
-        except subprocess.TimeoutExpired:
-            end()
-            continue
-        if status > 0:
-            terminal.say('the process ended with status %d' % status)
-        return status > 0
-    process.wait()
-    return False
+        return Lines(io.FileIO(os.open(option.fifo, os.O_RDONLY | os.O_NONBLOCK)), Reader(address=option.address))
+    return Lines(serial_port(option), Reader(line=OCTETS, address=option.address))
 
 
 def serial_port(option):
     """The serial port: by pyserial with its rate, without it as the device is set."""
     try:
         import serial
+        return serial.Serial(option.serial, option.rate, timeout=0)
     except ImportError:
-        return raw_port(option.serial)
-    return serial.Serial(option.serial, option.rate, timeout=0)
-
-
-def raw_port(name):
-    """A serial port as it is set."""
-    import termios
-    import tty
+        import termios
+        import tty
     terminal.say('pyserial is not installed (Debian package python3-serial): the rate stays as the device is set')
-    descriptor = os.open(name, os.O_RDONLY | os.O_NOCTTY)
+    port = io.FileIO(os.open(option.serial, os.O_RDONLY | os.O_NOCTTY))
     try:
-        tty.setraw(descriptor)
+        tty.setraw(port.fileno())
     except termios.error as fault:
-        raise OSError('%s: %s' % (name, fault.args[1])) from None
-    return descriptor
+        raise OSError('%s: %s' % (option.serial, fault.args[1])) from None
+    return port
 
 
 class LineEnded(Exception):
     """The line ends with a fault, for example because its port is unplugged."""
 
 
-def chunks(file, read, is_ended):
+def chunks(source, is_ended):
     """What is read, piece by piece, and None if nothing came for a while; until the line ends, or `is_ended`."""
     with selectors.DefaultSelector() as ready:
         try:
-            ready.register(file, selectors.EVENT_READ)
+            ready.register(source.file, selectors.EVENT_READ)
             is_file = False
         except PermissionError:
             is_file = True      # a plain file is always ready
@@ -329,12 +318,12 @@ def chunks(file, read, is_ended):
                 yield None
                 continue
             try:
-                chunk = read()
+                chunk = source.read()
             except BlockingIOError:
                 continue
             except OSError as fault:
-                raise LineEnded(fault_words(fault)) from None
-            if not chunk and not isinstance(file, socket.socket):
+                raise LineEnded(terminal.fault_words(fault)) from None
+            if not chunk and not isinstance(source, Datagrams):
                 return
             yield chunk
 
@@ -350,14 +339,14 @@ def run(option):
         raise output.Refused('--address is of frames of SDLC, and a datagram is a message without one')
     output.refuse_old((option.transcript, option.pcapng), option.force)
     try:
-        file, read, source, end = opened(option)
+        source = opened(option)
     except ValueError as fault:
         raise OSError(str(fault)) from None
     is_failed = False
     try:
         station, begun = Station(option, source), time.monotonic()
         try:
-            for chunk in chunks(file, read, lambda: option.seconds and time.monotonic() - begun >= option.seconds):
+            for chunk in chunks(source, lambda: option.seconds and time.monotonic() - begun >= option.seconds):
                 station.add(source.feed(chunk) if chunk is not None else ())
                 station.flush()
         except KeyboardInterrupt:
@@ -367,5 +356,5 @@ def run(option):
             terminal.say('the line has ended: %s' % fault)
         status = station.end()
     finally:
-        is_failed = end() or is_failed
+        is_failed = source.close() or is_failed
     return 1 if is_failed else status

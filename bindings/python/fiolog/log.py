@@ -13,9 +13,11 @@ from .batch import BAD, FRAME, LOSSES, PASSED, PIECE, POSSIBLE, made_of
 from .counts import reasons_in_words
 from .log_words import CURES, REASONS
 from .reader import CHECKED, UNCHECKED, Reader
-from .terminal import Progress, say, shown
+from .terminal import say, shown, status
 
 CHUNK = 1 << 16
+# A file of fewer octets is read at once.
+SHORT = 1 << 22
 GZIP = b'\x1f\x8b\x08'
 _MARKS = ((codecs.BOM_UTF8, 'utf-8'), (codecs.BOM_UTF16_LE, 'utf-16-le'), (codecs.BOM_UTF16_BE, 'utf-16-be'))
 
@@ -167,12 +169,26 @@ class Log:
 
         def begins(first):
             self._first = first if self._first is None else self._first
-        with Progress(descriptor, self.option.quiet, self.writes) as progress:
-            yield from reader.read(decoded(_chunks_of(descriptor, name, progress.add, self.idle), not self.option.line, begins))
+        yield from reader.read(decoded(_chunks_of(descriptor, name, self._progress(descriptor), self.idle), not self.option.line, begins))
+        status.clear()
         if descriptor != sys.stdin.fileno():
             os.close(descriptor)
         for words in () if self.option.quiet else reader.doubts():
             say(words)
+
+    def _progress(self, descriptor):
+        """A function that takes how many octets more of a file were read. On a terminal it shows how much of a long file that is, unless
+        standard output is the terminal too and the command writes as it reads."""
+        size, count = os.fstat(descriptor).st_size, 0
+        if self.option.quiet or size < SHORT or self.writes and sys.stdout.isatty():
+            return lambda octets: None
+
+        def add(octets):
+            nonlocal count
+            shown_above, count = 100 * count // size, count + octets
+            if 100 * count // size != shown_above:
+                status.show('reading %d %%' % (100 * count // size))
+        return add
 
     def summary(self, takes_possible=False):
         """Says how many lines were passed over and why; false without a frame or, if the command `takes_possible` ones, one that

@@ -1,14 +1,11 @@
-"""What is said on standard error, colours, tables and the progress bar, of which `rich` draws the last two if it is installed. Text of
-a log, and names of files, are shown so that nothing acts on a terminal or breaks a line: it is written as digits."""
+"""What is said on standard error, colours, tables and the status line. Text of a log, and names of files, are shown so that nothing acts
+on a terminal or breaks a line: it is written as digits."""
 
 import contextlib
-import functools
 import os
 import re
 import sys
 
-# Files of fewer octets need no bar.
-SHORT = 1 << 22
 # C0, DEL and C1; what ends a line elsewhere; what turns the direction of text; and surrogates, of which those from U+DC80 on are
 # octets that are no UTF-8, as the error handler `surrogateescape` has them.
 _ACTS = re.compile('[\0-\x1f\x7f-\x9f\u061c\u200e\u200f\u2028-\u202e\u2066-\u2069\ud800-\udfff]')
@@ -40,12 +37,9 @@ def say(words, name='fiolog', end='\n'):
         if sys.stdout is not None:
             sys.stdout.flush()
     with contextlib.suppress(OSError):
+        status.clear()
         sys.stderr.write('%s %s%s' % (name and name + ':', shown(words), end))
         sys.stderr.flush()
-
-
-# The same, but a line that was written already.
-say_once = functools.lru_cache(maxsize=None)(say)
 
 
 def painter(wish):
@@ -56,16 +50,6 @@ def painter(wish):
     return lambda colour, text: text
 
 
-def has_rich(otherwise):
-    """Whether `rich` is installed; if not, says what is done without it."""
-    try:
-        import rich
-    except ImportError:
-        say_once('rich is not installed: %s (Debian package python3-rich)' % otherwise)
-        return False
-    return True
-
-
 def print_object(one, **form):
     """Writes an object as JSON."""
     import json
@@ -73,16 +57,7 @@ def print_object(one, **form):
 
 
 def table(title, names, rows):
-    """Writes a table: drawn on a terminal with `rich`, else in columns."""
-    if sys.stdout.isatty() and has_rich('plain tables'):
-        from rich.console import Console
-        from rich.table import Table
-        from rich.text import Text
-        drawn = Table(*names, title=Text(shown(title)), title_justify='left')
-        for row in rows:
-            drawn.add_row(*(Text(shown(str(cell))) for cell in row))
-        Console().print(drawn)
-        return
+    """Writes a table in columns."""
     cells = [list(map(str, names))] + [[shown(str(cell)) for cell in row] for row in rows]
     widths = [max(map(len, column)) for column in zip(*cells)]
     print(shown(title))
@@ -91,21 +66,21 @@ def table(title, names, rows):
 
 
 class Status:
-    """A line below all that is written on a terminal. It is removed before something is written, and cut if it has no room."""
+    """A line of standard error below all that is written on a terminal. It is removed before something is written, and cut if it has no
+    room."""
 
-    def __init__(self):
-        self.is_terminal, self.is_shown = sys.stderr.isatty(), False
+    is_shown = False
 
     def show(self, words):
         """Writes the line again."""
-        if not self.is_terminal:
+        if not sys.stderr.isatty():
             return
         try:
             room = os.get_terminal_size(sys.stderr.fileno()).columns - 1
         except OSError:
-            room = -1
+            room = 0
         self.is_shown = True
-        sys.stderr.write('\r\x1b[K%s\r' % words[:room if room > 0 else None])
+        sys.stderr.write('\r\x1b[K%s\r' % (words[:room] if room > 0 else words))
         sys.stderr.flush()
 
     def clear(self):
@@ -116,35 +91,4 @@ class Status:
             sys.stderr.flush()
 
 
-class Progress:
-    """A bar for a long file on a terminal. If standard output is the terminal too, a command that `writes` as it
-    reads has none."""
-
-    def __init__(self, descriptor, is_quiet=False, writes=True):
-        self.bar = self.task = None
-        try:
-            size = os.fstat(descriptor).st_size
-        except OSError:
-            size = 0
-        is_wanted = not is_quiet and size >= SHORT and sys.stderr.isatty() and not (writes and sys.stdout.isatty())
-        if not is_wanted or not has_rich('no progress bar'):
-            return
-        from rich.console import Console
-        from rich.progress import Progress as Bar
-        # What goes to a file or a pipe is left alone; what goes to the terminal is written above the bar.
-        self.bar = Bar(console=Console(stderr=True), transient=True, redirect_stdout=sys.stdout.isatty())
-        self.task = self.bar.add_task('reading', total=size)
-
-    def __enter__(self):
-        if self.bar:
-            self.bar.start()
-        return self
-
-    def __exit__(self, *reason):
-        if self.bar:
-            self.bar.stop()
-
-    def add(self, count):
-        """Notes that `count` octets more were read."""
-        if self.bar:
-            self.bar.advance(self.task, count)
+status = Status()
