@@ -57,66 +57,50 @@ def spoken(event):
     return message_of(event.octets) if event.kind in SPOKEN or event.kind == OTHER and spells(event.octets) else None
 
 
-class Filter:
-    """Which messages are asked for."""
+def conditions_of(option):
+    """What is asked for: conditions on a line and its message, which is None of a damaged one."""
+    bits, way = sum(LETTERS[letter] for letter in set(option.status or '')), {'sent': '>', 'heard': '<'}.get(option.direction)
+    conditions = [
+        (option.lines is not None, lambda event, message: event.number in option.lines),
+        (way, lambda event, message: event.direction == way),
+        (option.type, lambda event, message: message and message.code in option.type),
+        (bits, lambda event, message: message and message.code == BLOCK and message.fields['status'] & bits),
+        (option.block is not None, lambda event, message: message and message.fields.get('block') == option.block),
+        (option.input is not None, lambda event, message: message and parts_of(message, option.input))]
+    return [condition for is_given, condition in conditions if is_given]
 
-    def __init__(self, option):
-        self.option = option
-        self.types = set(option.type or ())
-        self.bits = sum(LETTERS[letter] for letter in set(option.status or ''))
-        self.is_open = not any((self.types, self.bits, option.lines, option.direction, option.block is not None,
-                                option.input is not None))
 
-    def takes(self, event, message):
-        """Whether this message is asked for; a damaged one has None."""
-        if self.is_open:
-            return True
-        if self.option.lines is not None and event.number not in self.option.lines:
-            return False
-        if self.option.direction and event.direction != {'sent': '>', 'heard': '<'}[self.option.direction]:
-            return False
-        if message is None:
-            return not (self.types or self.bits or self.option.block is not None or self.option.input is not None)
-        return (not self.types or message.code in self.types) and self._by_fields(message)
-
-    def _by_fields(self, message):
-        if self.bits and not (message.code == BLOCK and message.fields['status'] & self.bits):
-            return False
-        if self.option.block is not None and message.fields.get('block') != self.option.block:
-            return False
-        return self.option.input is None or any(self.takes_part(part) for part in message.parts)
-
-    def takes_part(self, part):
-        """Whether this entry or item is asked for."""
-        return self.option.input is None or part['input'] == self.option.input
+def parts_of(message, number):
+    """The entries or items of a message; only those of an input, if that is not None."""
+    return [part for part in message.parts if number in (None, part['input'])]
 
 
 class Text:
-    """Writes messages in the words of `show`, and what the bits of a status say; one that is not sure is marked."""
+    """Writes messages in the words of `show`, and what the bits of a status say; one that is not sure is marked. Of messages with entries
+    or items only those of the input, if that is not None."""
 
-    def __init__(self, write, paint, takes_part=lambda part: True):
-        self.write, self.paint, self.takes_part = write, paint, takes_part
+    def __init__(self, write, paint, number=None):
+        self.write, self.paint, self.number = write, paint, number
         self.short, self.empty = (functools.lru_cache(maxsize=1024)(says) for says in (self._says, self._empty))
 
     def __call__(self, name, event, message):
-        head = '%s%s ' % (event.place, event.direction or '?')
         if message is None:
-            self.write('%s%s\n' % (head, self.paint('fault', fault_in(event))))
-            return
-        note = self.paint('fault', '  ' + UNSURE) if event.kind in UNSURE_KINDS else self.paint('dim', '  ' + event.note) if event.kind == OTHER else ''
-        self.write(head + self._says(event.octets, event.direction, note))
+            says = self.paint('fault', fault_in(event)) + '\n'
+        else:
+            note = self.paint('fault', '  ' + UNSURE) if event.kind in UNSURE_KINDS else self.paint('dim', '  ' + event.note) if event.kind == OTHER else ''
+            says = self._says(event.octets, event.direction, note)
+        self.write('%s%s %s' % (event.place, event.direction or '?', says))
 
     def _says(self, octets, direction, note=''):
         """What a message says, to the end of its lines."""
         message, paint = message_of(octets), self.paint
-        colour = 'heard' if direction == '<' else 'sent'
-        if message.code == BLOCK and message.fields['status']:
-            colour = 'mark'
-        says, *lines = message.lines()
+        is_marked = message.code == BLOCK and message.fields['status']
+        says, *lines = message.lines
+        says = paint('mark' if is_marked else 'heard' if direction == '<' else 'sent', says)
         again = paint('dim', '  ' + SENT_AGAIN) if message.is_repeat else ''
-        bits = ''.join(paint('dim', '  %s: %s' % bit) + '\n' for bit in message.bits().items())
-        return '%s%s%s\n%s' % (paint(colour, says), again, note, bits) + ''.join(
-            words + '\n' for part, words in zip(message.parts, lines) if self.takes_part(part))
+        lines = [paint('dim', '  %s: %s' % bit) for bit in message.bits.items()] + [
+            words for part, words in zip(message.parts, lines) if self.number in (None, part['input'])]
+        return ''.join(line + '\n' for line in [says + again + note, *lines])
 
     def _empty(self, octets, direction):
         """What a block without entries says, of which these are the first octets: what is above and below its stamp."""
@@ -125,14 +109,12 @@ class Text:
     def takes(self, batch):
         """Whether the lines have a frame each, and a date or no time."""
         times = set(batch.said.timed)
-        return batch.is_plain and (times == {0} or times == {1} and all(
-            DATED * MICRO <= time < END_OF_TIME for time in batch.said.times()))
+        return batch.is_plain and (times == {0} or times == {1} and all(DATED * MICRO <= time < END_OF_TIME for time in batch.said.times()))
 
     def write_all(self, batch):
         """Writes lines that it takes."""
         rows = []
         for number, time, octets, side in zip(batch.said.numbers(), batch.said.times(), batch.octets, batch.senders):
-            when = dated(time) + ' ' if time else ''
             direction = '>' if side == LOG_FROM_CPU else '<'
             if len(octets) < SHORT:
                 says = self.short(octets, direction)
@@ -140,14 +122,12 @@ class Text:
                 says = str(int.from_bytes(octets[4:], 'big')).join(self.empty(octets[:4], direction))
             else:
                 says = self._says(octets, direction)
-            rows.append('%-6s %s%s %s' % ('%d:' % number, when, direction, says))
+            rows.append('%-6s %s%s %s' % ('%d:' % number, dated(time) + ' ' if time else '', direction, says))
         self.write(''.join(rows))
 
 
-def as_json(takes_part):
-    """Writes an object a line."""
-    from json import dumps
-
+def as_json(wanted):
+    """Writes an object a line; of entries and items those of an input, if that is not None."""
     def line(name, event, message):
         one = {'file': shown(name), 'line': event.number, 'time': event.time, 'direction': event.direction,
                'octets': event.octets.hex()}
@@ -158,27 +138,27 @@ def as_json(takes_part):
         if message is None:
             one['fault'] = fault_in(event)
         else:
-            one.update(type=message.code, says=message.lines()[0], **message.fields)
-            if message.bits():
-                one['bits'] = message.bits()
+            one.update(type=message.code, says=message.lines[0], **message.fields)
+            if message.bits:
+                one['bits'] = message.bits
             if message.is_repeat:
                 one['repeat'] = SENT_AGAIN
             if message.parts:
-                one['entries' if message.code == BLOCK else 'items'] = list(filter(takes_part, message.parts))
-        sys.stdout.write(dumps(one) + '\n')
+                one['entries' if message.code == BLOCK else 'items'] = parts_of(message, wanted)
+        terminal.print_object(one)
     return line
 
 
-def as_csv(takes_part):
-    """Writes a row for each message without entries, and for each entry."""
+def as_csv(wanted):
+    """Writes a row for each message without entries, and for each entry; those of an input alone, if that is not None."""
     import csv
     rows = csv.writer(sys.stdout, lineterminator='\n')
     rows.writerow(COLUMNS)
 
     def line(name, event, message):
         head = [shown(name), event.number, '' if event.time is None else event.time, event.direction, event.octets.hex(),
-                '' if message is None else message.code, fault_in(event) if message is None else message.lines()[0]]
-        for part in message and list(filter(takes_part, message.parts)) or [{}]:
+                '' if message is None else message.code, fault_in(event) if message is None else message.lines[0]]
+        for part in message and parts_of(message, wanted) or [{}]:
             rows.writerow(head + [part.get(column, '') for column in COLUMNS[len(head):]])
     return line
 
@@ -187,14 +167,12 @@ def unanswered(events):
     """Yields each poll that has no block answer above the next command. Of one above a damaged line that is not known."""
     poll = None
     for event in events:
-        if event.kind in LOSSES:
-            poll = None
-        elif event.kind == FRAME and event.octets[0] == BLOCK:
-            poll = None
-        elif event.kind == FRAME and event.octets[0] < TYPE_ANSWER:
+        if event.kind == FRAME and event.octets[0] < TYPE_ANSWER:
             if poll:
                 yield poll
             poll = event if event.octets[0] == POLL else None
+        elif event.kind in LOSSES or event.kind == FRAME and event.octets[0] == BLOCK:
+            poll = None
     if poll:
         yield poll
 
@@ -210,17 +188,13 @@ def others(read, text):
 
 def run(option):
     """Decodes the logs; status 1 if a frame is damaged or there is none."""
-    taken = Filter(option)
-    if option.json or option.csv:
-        line = (as_json if option.json else as_csv)(taken.takes_part)
-    else:
-        line = Text(sys.stdout.write, terminal.painter(option.color), taken.takes_part)
+    conditions = conditions_of(option)
+    is_text = not (option.json or option.csv)
+    line = Text(sys.stdout.write, terminal.painter(option.color), option.input) if is_text else (as_json if option.json else as_csv)(option.input)
     read = log.Log(option, sys.stdout.flush)
-    is_whole = isinstance(line, Text) and taken.is_open
-    for event in unanswered(read.events()) if option.unanswered else others(read, line) if is_whole else read.events():
-        if event.kind not in SHOWN:
-            continue
-        message = spoken(event)
-        if taken.takes(event, message):
-            line(event.file or read.name, event, message)
-    return 0 if read.summary(takes_possible=True) and not read.kinds[BAD] + read.kinds[DAMAGED] + read.kinds[PIECE] else 1
+    for event in unanswered(read.events()) if option.unanswered else read.events() if conditions or not is_text else others(read, line):
+        if event.kind in SHOWN:
+            message = spoken(event)
+            if all(condition(event, message) for condition in conditions):
+                line(event.file or read.name, event, message)
+    return 0 if read.summary(takes_possible=True) and not any(read.kinds[kind] for kind in (BAD, DAMAGED, PIECE)) else 1

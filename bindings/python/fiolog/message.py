@@ -2,7 +2,6 @@
 writes of it. A link has few short messages, which come again and again: these are read once."""
 
 import functools
-from typing import NamedTuple
 
 import fio2070
 from fio2070 import _library as c
@@ -21,7 +20,6 @@ IN_DIGITS = {'body', 'inputs', 'levels', 'controls'}
 # Messages of fewer octets are kept.
 SHORT = 8
 
-_BITS_OF = {code: [(name, BITS[code, name]) for name in names if (code, name) in BITS] for code, names in FIELDS.items()}
 _items, _entries = (c.CItem * c.MOST_ENTRIES)(), (c.CEntry * c.MOST_ENTRIES)()
 _command, _answer = c.CCommand(), c.CAnswer()
 _decode_command, _decode_answer, _widen = c.library.fio2070_decode_command, c.library.fio2070_decode_answer, c.library.fio2070_widen
@@ -49,30 +47,32 @@ def words_of(octets):
     return fio2070.show(octets).rstrip('\n') if fault_of(octets).kind else ''
 
 
-class Message(NamedTuple):
-    """A message. `fields` are its numbers by name; `parts` the entries of a block or the items of a configuration, each by
-    name too."""
-    octets: bytes
-    code: int
-    fields: dict
-    parts: list
+class Message:
+    """The message that octets spell. `fields` are its numbers by name; `parts` the entries of a block or the items of a configuration, each
+    by name too. Raises ValueError with the words of the fault if octets spell none."""
 
+    def __init__(self, octets):
+        if fault_of(octets).kind:
+            raise ValueError(words_of(octets))
+        read = _answer if octets[0] >= TYPE_ANSWER else _command
+        self.octets, self.code = octets, read.code
+        self.fields = {name: _digits(octets, read, name) if name in IN_DIGITS else getattr(read, name) for name in FIELDS[read.code]}
+        self.parts = _parts(octets, read.code, read.count, self.fields.get('stamp', 0)) if read.count else []
+
+    @functools.cached_property
     def lines(self):
-        """Returns the lines that `show` writes: one of the message, and one of each part."""
-        return (_short_lines if len(self.octets) < SHORT else _lines)(self.octets)
+        """The lines that `show` writes: one of the message, and one of each part."""
+        return fio2070.show(self.octets).splitlines()
 
+    @functools.cached_property
     def bits(self):
-        """Returns what the bits of its flags or its status that are 1 say, by their letters."""
-        return {letter: says for name, bits in _BITS_OF.get(self.code, ()) for letter, bit, says in bits if self.fields[name] & bit}
+        """What the bits of its flags or its status that are 1 say, by their letters."""
+        return {letter: says for name in self.fields for letter, bit, says in BITS.get((self.code, name), ()) if self.fields[name] & bit}
 
     @property
     def is_repeat(self):
-        """Returns whether it is a block that is sent again, by its own word."""
+        """Whether it is a block that is sent again, by its own word."""
         return self.code == BLOCK and bool(self.fields['status'] & AGAIN)
-
-
-def _lines(octets):
-    return fio2070.show(octets).splitlines()
 
 
 def _digits(octets, read, name):
@@ -85,30 +85,18 @@ def _digits(octets, read, name):
 
 def _parts(octets, code, count, stamp):
     """The entries or the items, as the library copies them, `count` in all."""
-    if not count:
-        return []
     if code == BLOCK:
-        count = c.library.fio2070_block_entries(octets, len(octets), _entries, len(_entries))
-        return [{'input': one.input, 'state': one.state, 'stamp': one.stamp, 'wide': _widen(stamp, one.stamp)}
-                for one in _entries[:count]]
+        c.library.fio2070_block_entries(octets, len(octets), _entries, count)
+        return [{'input': one.input, 'state': one.state, 'stamp': one.stamp, 'wide': _widen(stamp, one.stamp)} for one in _entries[:count]]
     if code == CONFIGURATION:
-        count = c.library.fio2070_command_items(octets, len(octets), _items, len(_items))
-        return [{'input': one.input, 'ignore': one.ignore, 'leading': one.leading, 'trailing': one.trailing}
-                for one in _items[:count]]
+        c.library.fio2070_command_items(octets, len(octets), _items, count)
+        return [{'input': one.input, 'ignore': one.ignore, 'leading': one.leading, 'trailing': one.trailing} for one in _items[:count]]
     return []
 
 
+_short = functools.lru_cache(maxsize=1024)(Message)
+
+
 def message_of(octets):
-    """The message that octets spell. Raises ValueError with the words of the fault if they spell none."""
-    return (_short_message if len(octets) < SHORT else _message)(octets)
-
-
-def _message(octets):
-    if fault_of(octets).kind:
-        raise ValueError(words_of(octets))
-    read = _answer if octets[0] >= TYPE_ANSWER else _command
-    fields = {name: _digits(octets, read, name) if name in IN_DIGITS else getattr(read, name) for name in FIELDS[read.code]}
-    return Message(octets, read.code, fields, _parts(octets, read.code, read.count, fields.get('stamp', 0)))
-
-
-_short_lines, _short_message = (functools.lru_cache(maxsize=1024)(read) for read in (_lines, _message))
+    """The message that octets spell; one is kept if it is short. Raises as Message."""
+    return _short(octets) if len(octets) < SHORT else Message(octets)

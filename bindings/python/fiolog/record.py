@@ -3,26 +3,22 @@ rule, and where the module restarted."""
 
 import sys
 from itertools import chain, groupby
-from operator import attrgetter
-from typing import NamedTuple, Optional, Sequence
+from operator import itemgetter
 
 import fio2070
 
 from . import hires, log, options, sides, terminal
-from .batch import Line
 from .check import judged
 from .convert import block_of
 from .counts import unjudged_words
 from .message import BLOCK, LOST, POLL, spells
 from .output import Refused
-from .rules import Breach
 from .terminal import shown
 from .waveform import draw
 
 _POLL, _BLOCK = bytes([POLL]), bytes([BLOCK])
-# What follows on a right link below a poll, if there is no news: a block without items; and below that, the next poll.
-_EMPTY = [bytes([BLOCK, number, 0, 0]) for number in range(256)]
-_BELOW = {**{bytes([POLL, block[1]]): block for block in _EMPTY}, **{block: bytes([POLL, (block[1] + 1) % 256]) for block in _EMPTY}}
+# The count and the status of a block that says nothing, and its length.
+_EMPTY, EMPTY = bytes(2), 8
 COLUMNS = ['line', 'time', 'input', 'state', 'stamp', 'wide']
 
 
@@ -36,16 +32,6 @@ def add_arguments(parser):
     form.add_argument('--vcd', action='store_true', help='a VCD file; breaches and restarts on standard error')
     form.add_argument('--plot', metavar='FILE', help='a picture of the inputs over time, as .png, .svg or .pdf (by matplotlib)')
     hires.add_arguments(parser)
-
-
-class Taken(NamedTuple):
-    """What a frame added to the record, and its breach or restart; `is_block` is true where the CPU takes it. `log` is what judges the
-    log that has the frame."""
-    log: sides.Judgement
-    event: Line
-    items: Sequence
-    found: Optional[Breach] = None
-    is_block: bool = False
 
 
 class Hearing:
@@ -62,12 +48,6 @@ class Hearing:
             self.number = asked
         return None if was_lost or self.number == due else due
 
-    def due(self, octets):
-        """The poll, or the beginning of the block without items, that a right link has below a frame; empty if that is not known."""
-        if self.number is None or self.is_lost:
-            return b''
-        return bytes([POLL, self.number]) if octets[:1] == _BLOCK else _BELOW[bytes([POLL, self.number])]
-
     def hear(self, octets):
         """What a block adds to the record, by the proved CPU's end; None if it is not taken."""
         number = octets[1]
@@ -83,82 +63,80 @@ class Hearing:
         return poller.record
 
 
-def taken(read, option, is_drawn):
-    """What each frame adds to the record or breaks, where it does either, and each block that is taken if it `is_drawn`. The record
-    begins anew with each log, as text at its first command."""
-    hearing, heard_by, is_text = Hearing(), None, getattr(option, 'text', False)
-    for batch, broken, judgement in judged(read, option):
-        if not batch:
-            yield from (Taken(judgement, judgement.named(where), (), one) for _, where, one in broken)
-            continue
-        if judgement is not heard_by:
-            hearing, heard_by = Hearing(), judgement
-        first = judgement.commands_from if is_text else 0
-        frames, due = batch.octets, b''
-        for frame, event in batch.steps():
-            if event:
-                hearing.is_lost |= event.is_loss
-                due = b''
-                continue
-            octets = frames[frame]
-            if octets[:4] == due and not (broken or first or is_drawn):
-                due = _BELOW[due]
-                hearing.number = due[1]
-                continue
-            found, items = None, None
-            while broken and broken[0][0] == frame:
-                _, where, found = broken.pop(0)
-                if found is not judgement.found.get(frame):
-                    read.name_passed(batch.line_of(frame))
-                    yield Taken(judgement, judgement.named(where), (), found)
-                    found = None
-            if octets[:1] == _POLL and spells(octets):
-                due = hearing.note(octets[1])
-                if due is not None and frame not in judgement.found and frame >= judgement.answers_from:
-                    where = judgement.named(batch.event(frame))
-                    read.name_passed(batch.line_of(frame))
-                    terminal.say('%sline %d: block %d was due by what was heard, the CPU asked for %d' % (where.head, where.number, due, octets[1]))
-            elif octets[:1] == _BLOCK and frame >= first and spells(octets):
-                items = hearing.hear(octets)
-            due = hearing.due(octets)
-            if items or found or is_drawn and items is not None:
-                read.name_passed(batch.line_of(frame))
-                yield Taken(judgement, judgement.named(batch.event(frame)), items or (), found, items is not None)
-
-
 class Record:
-    """The record of a log as it is read: breaches and restarts are counted."""
+    """The record of a log as it is read: breaches and restarts are counted. It begins anew with each log, as text at its first command."""
 
     def __init__(self, read, option):
         self.faults, self.read, self.option = 0, read, option
 
     def _taken(self, is_drawn=False):
-        for one in taken(self.read, self.option, is_drawn):
-            self.faults += one.found is not None
-            yield one
+        """What each frame adds to the record or breaks, where it does either, and each block that is taken if it `is_drawn`: what judges
+        its log, its event, the items or None, and the breach or restart or None."""
+        hearing, heard_by = Hearing(), None
+        for batch, broken, judgement in judged(self.read, self.option):
+            self.faults += len(broken)
+            if not batch:
+                yield from ((judgement, judgement.named(where), None, found) for _, where, found in broken)
+                continue
+            if judgement is not heard_by:
+                hearing, heard_by = Hearing(), judgement
+            for frame, where, items, found in self._of_batch(batch, broken, judgement, hearing):
+                if items or found or is_drawn:
+                    self.read.name_passed(batch.line_of(frame))
+                    yield judgement, judgement.named(where or batch.event(frame)), items, found
+
+    def _of_batch(self, batch, broken, judgement, hearing):
+        """What each frame adds or breaks: its index, the event of a breach that was held, the items of a block that is taken, and the breach."""
+        first, frames, told = judgement.commands_from if self.option.text else 0, batch.octets, {}
+        for frame, where, found in broken:
+            told.setdefault(frame, []).append((where, found))
+        for frame, event in batch.steps():
+            if event:
+                hearing.is_lost |= event.is_loss
+                continue
+            octets, items, found = frames[frame], None, None
+            for where, one in told.get(frame, ()) if told else ():
+                if one is judgement.found.get(frame):
+                    found = one
+                else:
+                    yield frame, where, None, one
+            if octets[:1] == _BLOCK:
+                items = hearing.hear(octets) if frame >= first and (octets[2:4] == _EMPTY and len(octets) == EMPTY or spells(octets)) else None
+            elif octets[:1] == _POLL and len(octets) == 2:
+                due = hearing.note(octets[1])
+                if due is not None and frame >= judgement.answers_from and frame not in judgement.found:
+                    self._say_jump(batch.line_of(frame), judgement.named(batch.event(frame)), due, octets[1])
+            if items is not None or found:
+                yield frame, None, items, found
+
+    def _say_jump(self, line, where, due, asked):
+        """Says that a poll is for another block than the one that was due."""
+        self.read.name_passed(line)
+        terminal.say('%sline %d: block %d was due by what was heard, the CPU asked for %d' % (where.head, where.number, due, asked))
 
     def logs(self):
         """The blocks of each log that were taken, as they are drawn, with the name of its file if there are several; breaches and
         restarts are said."""
-        for log_of_one, part in groupby(self._taken(True), attrgetter('log')):
-            yield log_of_one.name, self._blocks(part)
+        for judgement, part in groupby(self._taken(True), itemgetter(0)):
+            yield judgement.name, self._blocks(part)
 
     def _blocks(self, part):
-        for one in part:
-            if one.found:
-                terminal.say(one.event.head + one.found.words(one.event.number))
-            if one.is_block:
-                yield block_of(one.event.octets, one.found.entry if one.found else -1)
+        for _, event, items, found in part:
+            if found:
+                terminal.say(event.head + found.words(event.number))
+            if items is not None:
+                yield block_of(event.octets, found.entry if found else -1)
 
     def parts(self):
         """The items, the breaches and the restarts with their lines: a breach of a rule on content below the items that are above
         it, a restart above the items of its block."""
-        for one in self._taken():
-            place = one.found.items if one.found and one.found.items >= 0 else len(one.items)
-            yield from ((one.event, item, None) for item in one.items[:place])
-            if one.found:
-                yield one.event, None, one.found
-            yield from ((one.event, item, None) for item in one.items[place:])
+        for _, event, items, found in self._taken():
+            items = items or ()
+            place = found.items if found and found.items >= 0 else len(items)
+            yield from ((event, item, None) for item in items[:place])
+            if found:
+                yield event, None, found
+            yield from ((event, item, None) for item in items[place:])
 
 
 def item_words(item):
