@@ -1,7 +1,7 @@
 #!/bin/sh
-# Builds the library for C, and by a compiler, with --all by each that is installed, the worked examples, the programs of
-# examples/c, and compares what they write. With --all also under sanitizers, with random octets under valgrind, and the layouts
-# of other processors. The last line is `N passed, M failed`.
+# Builds the library for C, runs the rows of tests/rows.json over it, and builds by a compiler, with --all by each that is installed,
+# what the header defines and the programs of examples/c, and compares what they write; the tests of the wrappers. With --all also
+# under sanitizers, with random octets under valgrind, and the layouts of other processors. The last line is `N passed, M failed`.
 
 . "$(dirname -- "$(readlink -f -- "$0")")/support/check.sh"
 archive=$room/libfio2070.a
@@ -17,7 +17,7 @@ builds() {
         *) language="-x c -D_DEFAULT_SOURCE $*" ;;
     esac
     mkdir -p "$folder"
-    for source in support/c/rows support/c/table support/c/started support/c/sized ../examples/c/decode ../examples/c/poller; do
+    for source in support/c/module ../examples/c/decode ../examples/c/poller; do
         # shellcheck disable=SC2086
         "$compiler" $language $strict -I "$top/include" -I "$room" "$top/tests/$source.c" -x none "$archive" \
             -o "$folder/$(basename "$source")" || return 1
@@ -239,7 +239,10 @@ if has_command doxygen && has_command python3; then
 else
     skip 'make doc' 'no doxygen here (Debian package doxygen)'
 fi
-first 'make library' run_make library OUT="$room"
+# The quick form lets the compiler do less.
+level=-O1
+[ -z "$all" ] || level=${CFLAGS:--O2}
+first 'make library' run_make library OUT="$room" CFLAGS="$level"
 holds 'the library needs no other' alone "$archive"
 if ! has_command rt; then
     skip 'the stack of each call' 'no rt here (the Rattle kit), whose archive it is of'
@@ -251,7 +254,6 @@ fi
 holds 'the header declares what there is' exports "$archive"
 holds 'the names of the shared library' prefixed "$room/libfio2070.so"
 
-"$top/tests/support/rows.py" >rows.h
 # Each frame cut after each of its octets, and with an octet too many.
 grep -v '^#' "$top/examples/every-type.frames" | awk '{
     for (place = 2; place <= length($1); place += 2) print substr($1, 1, place)
@@ -272,10 +274,7 @@ for build in 'gcc -std=c99' 'g++ -std=c++11' 'clang -std=c99 -g -O1 -fsanitize=a
     fi
     [ -z "$last" ] || whole "build by $1" || continue
     first "build by $1" builds "$room/$1" "$@"
-    counts "rows by $1" "$room/$1/rows"
-    counts "the table of rows by $1" "$room/$1/table"
-    counts "started structs by $1" "$room/$1/started"
-    counts "modules in slots of the caller by $1" "$room/$1/sized"
+    counts "a module with slots of its own by $1" "$room/$1/module"
     holds "decode by $1" decodes "$room/$1"
     holds "poller by $1" polls "$room/$1"
     holds "poller on a babbling line by $1" gives_up "$room/$1"
@@ -299,7 +298,9 @@ for processor in aarch64-linux-gnu m68k-linux-gnu arm-linux-gnueabihf powerpc-li
     case $processor in aarch64*) ;; *) holds "no archive for $processor" fits_not "$processor-gcc" ;; esac
 done
 for compiler in gcc clang; do
-    [ -z "$(command -v "$compiler")" ] || holds "misuses by $compiler" misused "$compiler"
+    [ -n "$(command -v "$compiler")" ] || continue
+    [ "$compiler" = gcc ] || whole "misuses by $compiler" || continue
+    holds "misuses by $compiler" misused "$compiler"
 done
 holds 'this processor fits' tells fitting
 if ! whole 'processors that fit'; then
@@ -318,14 +319,12 @@ for compiler in g++ clang++; do
     [ "$compiler" = g++ ] || set -- -fsanitize=address,undefined -fno-sanitize-recover=all
     [ "$compiler" != g++ ] || set --
     # shellcheck disable=SC2086
-    for program in wrapper table; do
-        # shellcheck disable=SC2086
-        first "$program by $compiler" "$compiler" -std=c++17 $strict "$@" -I "$top/include" -I "$room" \
-            "$top/tests/support/c/$program.cpp" "$archive" -o "$room/$program"
-        counts "rows of the $program by $compiler" "$room/$program"
-    done
+    first "wrapper by $compiler" "$compiler" -std=c++17 $strict "$@" -I "$top/include" "$top/tests/support/c/wrapper.cpp" "$archive" \
+        -o "$room/wrapper"
+    counts "rows of the wrapper by $compiler" "$room/wrapper"
 done
 if [ -n "$(command -v python3)" ]; then
+    counts 'rows of tests/rows.json' "$top/tests/support/rows.py" "$room/libfio2070.so"
     holds 'Python' env -C "$top/bindings/python" PYTHONDONTWRITEBYTECODE=1 FIO2070_LIBRARY="$room/libfio2070.so" \
         python3 test.py
     holds 'Python, of a word that no test has' fails env -C "$top/bindings/python" PYTHONDONTWRITEBYTECODE=1 \
@@ -345,7 +344,9 @@ if [ -n "$(command -v python3)" ]; then
     else
         skip "by $oldest" 'it is not installed'
     fi
-    if python3 -m venv "$room/python" >"$room/log" 2>&1; then
+    if ! whole 'pip install'; then
+        :
+    elif python3 -m venv "$room/python" >"$room/log" 2>&1; then
         holds 'pip install' "$room/python/bin/pip" install --quiet --no-index "$top/bindings/python"
         holds 'the installed package' env -C "$room" FIO2070_LIBRARY="$room/libfio2070.so" "$room/python/bin/python" -c \
             'import fio2070; assert fio2070.encode.poll(5) == b"\x36\5" and "site-packages" in fio2070.__file__'

@@ -87,7 +87,7 @@ def is_taken(compiler, standard):
 @functools.cache
 def object_fault(compiler):
     """Compiles the library alone, to COMPILER.o. Returns what failed, or what the compiler warns about."""
-    return fault_of(compiler, '-std=c99', '-Os', *STRICT, '-c', os.path.join(PORTABLE, 'fio2070.c'),
+    return fault_of(compiler, '-std=c99', '-Os', '-fPIC', *STRICT, '-c', os.path.join(PORTABLE, 'fio2070.c'),
                     '-o', path(compiler + '.o'))
 
 
@@ -182,6 +182,12 @@ def polls():
     return None if ours.returncode == 0 and ours.stdout == due.stdout != '' else ours.stdout + ours.stderr
 
 
+def has_rows():
+    """The rows of tests/rows.json hold of it."""
+    return object_fault('gcc') or fault_of('gcc', '-shared', path('gcc.o'), '-o', path('gcc.so')) or fault_of(
+        os.path.join(TOP, 'tests/support/rows.py'), path('gcc.so'))
+
+
 def wraps():
     """The C++ header beside the library passes its rows over it."""
     return object_fault('gcc') or fault_of(
@@ -245,6 +251,7 @@ check.fault('no line is too long for C99', long_lines)
 for compiler, standard in (('gcc', 'c89'), ('g++', 'c++98')):
     if shutil.which(compiler):
         check.fault('refused: ' + standard, is_taken, compiler, standard)
+check.fault('the rows of its calls', has_rows)
 check.fault('the decoder of the examples', shows)
 check.fault('the poller of the examples', polls)
 if shutil.which('g++'):

@@ -1,10 +1,17 @@
-// What fio2070.hpp alone has, and worked examples that tests/rows.json does not have. The last line is `N passed, M failed`.
+// What fio2070.hpp alone has, and each of its calls with a right result and an error; the calls below it have their rows in
+// tests/rows.json. The last line is `N passed, M failed`.
 #include "fio2070.hpp"
 
 #include "checks.h"
 
 static std::vector<std::uint8_t> octets(const fio2070::Frame &frame) { return {frame.begin(), frame.end()}; }
 using List = std::vector<std::uint8_t>;
+
+static std::string hex(const fio2070::Frame &frame) {
+    std::string text;
+    for (const std::uint8_t octet : frame) text += {"0123456789abcdef"[octet >> 4], "0123456789abcdef"[octet & 15]};
+    return text;
+}
 
 static const List BLOCK = {0xb6, 5, 1, 0x8c, 3, 0xe7, 0, 0, 0, 3, 0xe8}, IDENTIFY = {FIO2070_TYPE_IDENTIFY};
 
@@ -40,6 +47,9 @@ static void reads_and_writes() {
     CHECK(!cut && cut.fault().text() == "wrong length needed 8 got 1" && cut.fault().needed() == 8);
     CHECK(cut.fault().got() == 1 && cut.fault().code() == 0);
     CHECK(fio2070::read_outputs_answer({0xb7, 0, 1, 2, 3, 4}).value() == 0x01020304);
+    CHECK(fio2070::read_outputs_answer({0xb7, 0}).fault().text() == "wrong length needed 6 got 2");
+    CHECK(*fio2070::read_identification({0xbc, 254}) == 254 && fio2070::read_identification(BLOCK).fault().code() == 0xb6);
+    CHECK(!fio2070::encode_answer(fio2070::Answer{}) && !fio2070::decode_answer({0x36, 5}) && !fio2070::read_block({0xb1}));
     CHECK(fio2070::body(BLOCK).size() == 10 && fio2070::body({}).empty());
 }
 
@@ -168,6 +178,25 @@ static void has_parts() {
     CHECK(filters.filtered() == ~(std::uint64_t(1) << 12));
 }
 
+static void has_texts() {
+    CHECK(fio2070::rule_text(FIO2070_RULE_PAIR) == "pair" && fio2070::rule_text(255).empty());
+    CHECK(fio2070::content_rule_text(FIO2070_CONTENT_FRESH) == "fresh" && fio2070::content_rule_text(0).empty());
+    CHECK(fio2070::show({0x36, 5}) == "poll block 5\n" && fio2070::show({7}) == "unknown type 7\n");
+    CHECK(fio2070::widen(0x10002, 65534) == 65534 && fio2070::widen(0x10002, 2) == 0x10002);
+    CHECK(fio2070::wire_check({'1', '2', '3', '4', '5', '6', '7', '8', '9'}) == 0x906e);
+}
+
+// Each call of a module, and what it says then.
+static void is_a_module() {
+    fio2070::Module<3> module(2);
+    CHECK(hex(*module.receive({0x32, 0, 0, 0, 9})) == "b200" && !module.receive({6}) && !module.receive({0x38}));
+    module.line_sync(), module.raise(3), module.set_errors(3, 4), module.count_receive_error(), module.count_transmit_error();
+    CHECK(module.state().counter == 9 && module.state().flags == 0x83 && module.state().errors == fio2070::ErrorCounts({4, 5}));
+    CHECK(hex(*module.receive({0x31, 0x80})) == "b103040500000009");
+    module.restart();
+    CHECK(module.state().counter == 0 && module.state().flags == FIO2070_BIT_WAS_RESET && module.state().errors == fio2070::ErrorCounts());
+}
+
 // Checkers that are not started with numbers.
 static void has_checkers() {
     const std::uint8_t empty[] = {182, 255, 0, 0, 0, 0, 0, 5};
@@ -182,7 +211,48 @@ static void has_checkers() {
     fio2070::LogCounts counts;
     CHECK(!counts.frame(empty, 0) && counts->frames == 1 && counts->polls == 0);
     CHECK(fio2070::LogJudge::start(FIO2070_LOG_TAKEN_AT_CPU, FIO2070_LOG_LEAVES_OUT_LATE)->frame(empty, false).why == FIO2070_WHY_LATE);
-    CHECK(fio2070::LogSigns().sign() == FIO2070_LOG_SIGN_NONE);
+}
+
+// What breaks a rule where a poll was sent, and the answer is another.
+static void judges() {
+    const List poll = {0x36, 5}, other = {0xb3, 0}, absent = {0xb6, 6, 0, 0, 0, 0, 0, 5};
+    auto checker = fio2070::Checker::within(255, 64);
+    CHECK(checker && !fio2070::Checker::within(255, 0) && !fio2070::Checker::anywhere(0));
+    CHECK(checker->sent(poll) == fio2070_breach() && checker->heard(other) == fio2070_breach({FIO2070_RULE_PAIR, 1, 182, 179}));
+    fio2070::ContentChecker content;
+    content.sent({0x32, 0, 0, 0, 0});
+    CHECK(content.heard({0xb2, 1}) == fio2070_content_breach({FIO2070_CONTENT_DONE, FIO2070_NO_INPUT, 0}));
+    auto judge = fio2070::LinkJudge::anywhere();
+    CHECK(judge->sent(poll).kind == FIO2070_OUTCOME_KEPT);
+    CHECK(judge->heard(absent) == fio2070_judge_outcome({FIO2070_OUTCOME_BROKEN, 0, FIO2070_RULE_NUMBER, 1, 5, 6, FIO2070_NO_INPUT, 0, 0}));
+    judge->lose();
+    CHECK(judge->sent({0x34}, FIO2070_AT_MODULE).why == FIO2070_WHY_PLACE_LOST);
+}
+
+// A log of a poll, a line that may have held a frame, and the answer to another poll, by batches and frame by frame.
+static void judges_a_log() {
+    static fio2070_log_batch batch;
+    static fio2070::LogReader reader(FIO2070_LOG_FRAMES);
+    const std::string text = "3605\n36051\n3606\n";
+    auto judge = fio2070::LogJudge::start(), other = judge;
+    fio2070::LogCounts counts, single;
+    fio2070::LogSigns signs;
+    CHECK(reader.read({reinterpret_cast<const std::uint8_t *>(text.data()), text.size()}, batch) == text.size());
+    CHECK(batch.verdict_count == 3 && batch.verdicts[1].kind == FIO2070_LOG_DAMAGED && batch.frame_count == 2);
+    const auto found = judge->batch(batch);
+    CHECK(found.size() == 2 && found[1].kind == FIO2070_OUTCOME_KEPT && counts.batch(batch).empty() && counts->polls == 2);
+    signs.batch(batch);
+    reader.end();
+    CHECK(reader.read({}, batch) == 0 && batch.verdict_count == 0);
+    CHECK(other->frame({0x36, 5}, true) == found[0]);
+    other->possible(), other->lose();
+    CHECK(other->frame({0x36, 6}, true) == found[1] && other->frame({0xb6, 9, 0, 0, 0, 0, 0, 5}, false).rule == FIO2070_RULE_NUMBER);
+    other->miss();
+    CHECK(!fio2070::LogJudge::start(FIO2070_LOG_TAKEN_AUTO, FIO2070_LOG_BEGINS_ANYWHERE, 0));
+    single.frame({0x36, 5}, 10), single.lose(), single.frame({0x36, 6}, 20);
+    CHECK(single.frame({0xb6, 6, 0, 0, 0, 0, 0, 5}, 50) == 30 && single->unanswered == 0 && (*single).frames == 3);
+    for (std::uint8_t block = 0; block < 8; block++) signs.frame({0xb6, std::uint8_t(block / 2), 0, 0, 0, 0, 0, 1}, false);
+    CHECK(signs.sign() == FIO2070_LOG_SIGN_TWICE && fio2070::LogSigns().sign() == FIO2070_LOG_SIGN_NONE);
 }
 
 static void reads_a_line() {
@@ -196,6 +266,13 @@ static void reads_a_line() {
     rest = shared;
     const auto other = fio2070::Wire(0x15, FIO2070_WIRE_CONTROL).read(rest);
     CHECK(other->kind() == FIO2070_WIRE_OTHER && !other->is_message() && other->address() == 0x14);
+    const std::string bits = "011111100010100011000001011011001010000000100011110110000" "1111110";
+    const fio2070::Octets line(reinterpret_cast<const std::uint8_t *>(bits.data()), bits.size());
+    fio2070::WireBits decoder(FIO2070_WIRE_ADDRESS, FIO2070_WIRE_ANY);
+    rest = line;
+    CHECK(octets(decoder.read(rest)->message()) == List({0x36, 5}) && rest.empty());
+    rest = fio2070::Octets(shared.data(), 4), any.read(rest), any.lose(), rest = fio2070::Octets(shared.data() + 4, 4);
+    CHECK(any.read(rest)->kind() == FIO2070_WIRE_DAMAGED);
     CHECK(*fio2070::wire_frame({0x36, 1}) == List(shared.begin(), shared.begin() + 8) && !fio2070::wire_frame({}));
 }
 
@@ -208,7 +285,11 @@ int main() {
     moves();
     constructs_a_module();
     has_parts();
+    has_texts();
+    is_a_module();
     has_checkers();
+    judges();
+    judges_a_log();
     reads_a_line();
     return end_of_checks();
 }
