@@ -20,8 +20,8 @@ _fiolog() {
         *:-*)
             case $command in
             decode) words='-h --help --format --pattern --sdlc --no-check --line --address --merge -v --verbose -q --quiet --json --csv --input --type --block --status --unanswered --direction --lines --color' ;;
-            check) words='-h --help --format --pattern --sdlc --no-check --line --address --merge -v --verbose -q --quiet --at --start-at-poll --whole --limits --rules --except --tees --explain --late-answers --jobs --json' ;;
-            stats) words='-h --help --format --pattern --sdlc --no-check --line --address --merge -v --verbose -q --quiet --jobs --json' ;;
+            check) words='-h --help --format --pattern --sdlc --no-check --line --address --merge -v --verbose -q --quiet --at --start-at-poll --whole --limits --rules --except --tees --explain --late-answers -r --recursive --jobs --json --csv' ;;
+            stats) words='-h --help --format --pattern --sdlc --no-check --line --address --merge -v --verbose -q --quiet -r --recursive --jobs --json' ;;
             plan) words='-h --help --inputs --filter --group --limits --block --waiting --outage --lost --every -v --verbose --json' ;;
             convert) words='-h --help --format --pattern --sdlc --no-check --line --address --merge -v --verbose -q --quiet --to -o --output --times' ;;
             record) words='-h --help --format --pattern --sdlc --no-check --line --address --merge -v --verbose -q --quiet --at --start-at-poll --whole --limits --text --json --csv --vcd --plot --hires --start --signal --on --channels' ;;

@@ -62,13 +62,15 @@ _fiolog() {
             '--rules[transcript, only the rules on the order of messages, not those on what entries and answers say]:rules:(all transcript)'
             '--tees[leave out the rules that are not of TEES 2009, advance, refusal, done, accepted, cleared]'
             '--explain[say what this rule says, and read no log]:rule:(readable pair number advance same sequence limits rest refusal order fresh alternate apart ignored state clock done accepted cleared watchdog)'
-            '--json[an object for each breach, with several logs for each log; and one for the summary]') ;|
+            '--json[an object for each breach, with several logs for each log; and one for the summary]'
+            '--csv[a table, a row for each log, with its numbers]') ;|
     check|live)
         specs+=(
             '--except[leave out breaches of this rule, and count them; may be given again]:rule:(readable pair number advance same sequence limits rest refusal order fresh alternate apart ignored state clock done accepted cleared watchdog)'
             '--late-answers[leave out answers that came late or twice, and count them]') ;|
     check|stats)
         specs+=(
+            {-r,--recursive}'[read all files below the folders that are named]'
             '--jobs[with several logs, read this many at a time (all processors)]:n:') ;|
     stats)
         specs+=(

@@ -90,7 +90,7 @@ def found_in(pieces):
     """What is found in a log whose octets come in these pieces."""
     from fiolog.summary import summary_of
     summary = summary_of(pieces)
-    left_out = {name: count for name, count in summary.left_out.items() if name != 'lines_passed_over'}
+    left_out = {name: count for name, count in summary.left_out.items() if name != 'skipped_lines'}
     return dict(summary.broken), summary.first_breach, left_out
 
 

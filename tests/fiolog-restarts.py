@@ -118,13 +118,13 @@ def check_record(check):
 
 # A log, which breaches or restarts are reported in it and where, and what is not judged.
 LOADS = {
-    'a load that was sent': ([*ABOVE, *LOAD, *BACK], [], {'frames_below_loads': 1, 'lost_places': 1}),
-    'it explains one stamp': ([*ABOVE, *LOAD, *BACK, *AGAIN], ['12: restarted'], {'frames_below_loads': 1, 'lost_places': 2}),
-    'one that a damaged line may have been': ([*ABOVE, CUT_LOAD, *BACK], [], {'damaged_lines': 1, 'frames_below_loads': 1, 'lost_places': 2}),
+    'a load that was sent': ([*ABOVE, *LOAD, *BACK], [], {'frames_below_loads': 1, 'losses_of_sync': 1}),
+    'it explains one stamp': ([*ABOVE, *LOAD, *BACK, *AGAIN], ['12: restarted'], {'frames_below_loads': 1, 'losses_of_sync': 2}),
+    'one that a damaged line may have been': ([*ABOVE, CUT_LOAD, *BACK], [], {'damaged_lines': 1, 'frames_below_loads': 1, 'losses_of_sync': 2}),
     # The rules on content know no stamp above the first of them: so the load is used up by the second.
     'that explains two stamps at most': ([*ABOVE, CUT_LOAD, *BACK, *AGAIN, '> 3605', '< b605000000000002'], ['13: restarted'],
-                                         {'damaged_lines': 1, 'frames_below_loads': 2, 'lost_places': 4}),
-    'none in the log': ([*ABOVE, *BACK], ['6: restarted'], {'lost_places': 1}),
+                                         {'damaged_lines': 1, 'frames_below_loads': 2, 'losses_of_sync': 4}),
+    'none in the log': ([*ABOVE, *BACK], ['6: restarted'], {'losses_of_sync': 1}),
 }
 
 
@@ -160,10 +160,10 @@ def check_losses(check):
     """The place is lost once at each loss of sync, up to the next poll."""
     for name, (lines, count) in LOSSES.items():
         for words in ((), ('--rules', 'transcript')):
-            check.equal('losses of sync, %s: %s' % (' '.join(words) or 'all rules', name), count, not_judged(lines, *words).get('lost_places', 0))
+            check.equal('losses of sync, %s: %s' % (' '.join(words) or 'all rules', name), count, not_judged(lines, *words).get('losses_of_sync', 0))
     hidden = [*ABOVE, DAMAGED, '< b609000000000400', '> 35', '> 3605', '< b605000000000400', '> 3607']
     check.equal('what is directly below damage is not judged, what is below the next poll is',
-                (['10: advance'], {'damaged_lines': 1, 'lost_places': 2, 'frames_at_lost_places': 2}), (checked(hidden).found(TOLD), not_judged(hidden)))
+                (['10: advance'], {'damaged_lines': 1, 'losses_of_sync': 2, 'frames_at_losses_of_sync': 2}), (checked(hidden).found(TOLD), not_judged(hidden)))
 
 
 POLL, ANSWER, LATER = (('frames', '', (bytes.fromhex(digits),)) for digits in ('3605', 'b60500000000000a', '3607'))
@@ -200,9 +200,9 @@ def check_remarks(check, folder):
             check_run, live, record = (copied(words, b'')[:2] for words in (
                 ('check', '-q', path), ('live', '-q', '--fifo', path), ('record', '-q', path)))
         skipped = sum(kind == 'passed over' for kind, _, _ in lines)
-        check.equal('a summary, ' + name, (broken, skipped, 0), (dict(found.broken), found.left_out['lines_passed_over'], found.left_out['damaged_lines']))
+        check.equal('a summary, ' + name, (broken, skipped, 0), (dict(found.broken), found.left_out['skipped_lines'], found.left_out['damaged_lines']))
         if lost is not None:
-            check.equal('losses of sync, ' + name, lost, found.left_out['lost_places'])
+            check.equal('losses of sync, ' + name, lost, found.left_out['losses_of_sync'])
         for command, (status, out) in (('check', check_run), ('live', live)):
             check.equal('%s, %s' % (command, name), (int(bool(broken)), list(broken)),
                         (status, re.findall(r'^line \d+: (\w+)', out.decode(), re.M)))

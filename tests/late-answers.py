@@ -20,7 +20,7 @@ def found_in(log, place='cpu', excepted=()):
     there."""
     from fiolog.batch import frame_of, made_of
     from fiolog.rules import Rules
-    rules = Rules(place, late=True, excepted=excepted)
+    rules = Rules(place, late_answers=True, excepted=excepted)
     frames = [frame_of(number, octets, said=direction) for number, (direction, octets) in enumerate(log, 1)]
     return [found.rule for batch in made_of(frames) for _, found in rules.take(batch)], rules.unjudged['late_answers']
 

@@ -26,8 +26,8 @@ COUNTS = {
     'frames_above_a_command': r'([\d,]+) messages? above the first command',
     'frames_not_at_the_cpu': r'([\d,]+) messages? (?:is|are) not judged, since this log was not taken at the CPU',
     'frames_below_loads': r'([\d,]+) messages? (?:is|are) not judged, since a load of the counter',
-    'lost_places': r'([\d,]+) loss(?:es)? of sync',
-    'frames_at_lost_places': r'([\d,]+) messages? from there to the next poll',
+    'losses_of_sync': r'([\d,]+) loss(?:es)? of sync',
+    'frames_at_losses_of_sync': r'([\d,]+) messages? from there to the next poll',
 }
 
 STATUS = '> 34\n< b4000000000000000000000001\n'
@@ -39,40 +39,40 @@ LOAD, CUT, DONE = '> 3200000000\n', '> 320\n', '< b200\n'
 AGAIN = '%s 3605\n%s b605000000000001\n%s 3605\n%s b605000200000001\n'
 # A log, the kind of its verdict, what that says, and what is not judged, by its name: by hand, from the rules of the judge.
 LOGS = [
-    ('a restart', BACK, 'restarted', ['Line 4: ' + RESTARTED, 'No rule is broken in the 4 messages that could be judged', 'look at its supply'], {'lost_places': 1}),
+    ('a restart', BACK, 'restarted', ['Line 4: ' + RESTARTED, 'No rule is broken in the 4 messages that could be judged', 'look at its supply'], {'losses_of_sync': 1}),
     ('what is below a restart, up to the next poll', BACK + STATUS + '> 3602\n< b60200000000000c\n', 'restarted', ['in the 6 messages that'],
-     {'lost_places': 1, 'frames_at_lost_places': 2}),
-    ('two restarts', BACK + '> 3602\n< b602000000000015\n> 3603\n< b60300000000000b\n', 'restarted', ['2 restarts. The first: line 4'], {'lost_places': 2}),
+     {'losses_of_sync': 1, 'frames_at_losses_of_sync': 2}),
+    ('two restarts', BACK + '> 3602\n< b602000000000015\n> 3603\n< b60300000000000b\n', 'restarted', ['2 restarts. The first: line 4'], {'losses_of_sync': 2}),
     ('an answer that comes late', '> 34\n> 3605\n< b6050000000003e8\n< b40000000000000000000003e7\n', 'restarted', ['Line 4: ' + RESTARTED, 'Answers may have come late or twice'],
-     {'lost_places': 1}),
+     {'losses_of_sync': 1}),
     ('a breach below the poll below a restart', BACK + '> 3602\n< b60300000000000c\n', 'broken',
-     ['Line 6 breaks the rule number', 'Line 4: ' + RESTARTED], {'lost_places': 2}),
-    ('a watchdog that is forgotten', '> 3a32\n< ba00\n> 3a32\n< ba00\n', 'restarted', ['Line 4: the module restarted, or forgot its watchdog'], {'lost_places': 1}),
-    ('a load that was sent', LATER + LOAD + DONE + EARLIER, 'partly', ['in the 5 messages that'], {'frames_below_loads': 1, 'lost_places': 1}),
+     ['Line 6 breaks the rule number', 'Line 4: ' + RESTARTED], {'losses_of_sync': 2}),
+    ('a watchdog that is forgotten', '> 3a32\n< ba00\n> 3a32\n< ba00\n', 'restarted', ['Line 4: the module restarted, or forgot its watchdog'], {'losses_of_sync': 1}),
+    ('a load that was sent', LATER + LOAD + DONE + EARLIER, 'partly', ['in the 5 messages that'], {'frames_below_loads': 1, 'losses_of_sync': 1}),
     ('a load that a lost line may have been', LATER + CUT + DONE + EARLIER + STATUS + '> 3602\n< b60200000000000c\n', 'partly', ['in the 5 messages that'],
-     {'frames_below_loads': 1, 'lost_places': 2, 'frames_at_lost_places': 3}),
+     {'frames_below_loads': 1, 'losses_of_sync': 2, 'frames_at_losses_of_sync': 3}),
     ('two steps back below one lost line', LATER + CUT + DONE + '> 3601\n< b601000000000016\n> 3602\n< b60200000000000b\n> 3603\n< b60300000000000a\n',
      'restarted', ['Line 10: ' + RESTARTED],
-     {'frames_below_loads': 1, 'lost_places': 3, 'frames_at_lost_places': 1}),
-    ('a block that is asked for again', AGAIN % tuple('><' * 2), 'broken', ['Line 3 breaks the rule advance'], {'lost_places': 1, 'frames_at_lost_places': 1}),
+     {'frames_below_loads': 1, 'losses_of_sync': 3, 'frames_at_losses_of_sync': 1}),
+    ('a block that is asked for again', AGAIN % tuple('><' * 2), 'broken', ['Line 3 breaks the rule advance'], {'losses_of_sync': 1, 'frames_at_losses_of_sync': 1}),
     ('the same at the module', AGAIN % tuple('<>' * 2), 'partly', ['in the 3 messages that'], {'frames_not_at_the_cpu': 1}),
     ('two damaged lines, one below the other', '> 3605\n< b6050\n< b6050\n' + STATUS + '> 3606\n< b606000000000002\n> 3607\n< b607000000000003\n', 'partly', ['in the 5 messages that'],
-     {'lost_places': 1, 'frames_at_lost_places': 2}),
+     {'losses_of_sync': 1, 'frames_at_losses_of_sync': 2}),
     ('a log without directions', '36ff\nb6ff010000010200000001\n', 'good', ['does not say who sent'], {}),
     ('a log with a bad line', '> 36ff\n> 36f\n< b6ff010000010200000001\n> 3600\n< b600000000000002\n', 'partly',
-     ['1 line could not be read as a message and is not judged'], {'lost_places': 1, 'frames_at_lost_places': 1}),
+     ['1 line could not be read as a message and is not judged'], {'losses_of_sync': 1, 'frames_at_losses_of_sync': 1}),
     ('a log of the bus', '3605\nb605000000000001\n3605\n', 'partly', ['1 message is not judged, since this log was not taken at the CPU'], {'frames_not_at_the_cpu': 1}),
     ('answers below a breach', '> 36ff\n< b605000000000001\n< b605000000000001\n', 'broken',
-     ['1 loss of sync, at a breach: 1 message from there to the next poll is not judged'], {'lost_places': 1, 'frames_at_lost_places': 1}),
+     ['1 loss of sync, at a breach: 1 message from there to the next poll is not judged'], {'losses_of_sync': 1, 'frames_at_losses_of_sync': 1}),
     ('an answer alone', 'b605018c4121000000416a\n', 'unjudged', ['1 message above the first command is not judged'], {'frames_above_a_command': 1}),
     ('a log that begins with an answer', '< b605000000000001\n> 3606\n< b606000000000002\n', 'partly', ['1 message above the first command is not judged'],
      {'frames_above_a_command': 1}),
-    ('a breach above the first poll', '> 34\n< b605000000000001\n> 3606\n< b606000000000002\n', 'broken', ['in the middle of traffic'], {'lost_places': 1}),
+    ('a breach above the first poll', '> 34\n< b605000000000001\n> 3606\n< b606000000000002\n', 'broken', ['in the middle of traffic'], {'losses_of_sync': 1}),
     ('one poll, over and over', '> 3605\n' * 4, 'partly', ['No answer came: the module is silent, or its direction was not logged'], {}),
     ('an answer in two lines', 'TX 36 05\nRX B6 05 00 00\nRX 00 00 00 01\nTX 36 05\nRX B6 05 00 02 00 00 00 01\nTX 36 06\n', 'partly',
-     ['1 message split over two lines is not read'], {'lost_places': 1}),
+     ['1 message split over two lines is not read'], {'losses_of_sync': 1}),
     ('a log of which less than half is judged', '> 3605\n' + '> 36f\n' * 3 + '< b605000000000001\n', 'unjudged', ['3 lines could not be read'],
-     {'lost_places': 1, 'frames_at_lost_places': 1}),
+     {'losses_of_sync': 1, 'frames_at_losses_of_sync': 1}),
     ('a log of the other end', '07:15:02.100 RX 36 05\n07:15:02.106 TX B6 05 00 00 00 00 00 01\n', 'good', [], {}),
     ('commands alone', ''.join('> 36%02x\n' % number for number in range(5)), 'unjudged', ['This log has the commands alone'], {}),
     ('answers alone', ''.join('< b6%02x000000000001\n' % number for number in range(5)), 'unjudged', ['This log has the answers alone'], {}),
@@ -158,7 +158,7 @@ def check_marks(check, browser, folder):
         browser.run(MARKED, JUDGED, text, marks)
         found = browser.wait('return window.found')
         check.equal(title, [broken, losses, count], found[:3])
-        check.equal('%s is said' % title, {key: number for key, number in (('lost_places', losses), ('frames_at_lost_places', count)) if number and losses},
+        check.equal('%s is said' % title, {key: number for key, number in (('losses_of_sync', losses), ('frames_at_losses_of_sync', count)) if number and losses},
                     counts_in(found[3]))
         if not marks:
             continue

@@ -114,6 +114,8 @@ def main(words=None):
         library.load()
         parser, option = arguments(sys.argv[1:] if words is None else words)
         check_forms(parser, option)
+        if getattr(option, 'recursive', False):
+            option.files = list(module_of('many').files_of(option.files)) or parser.error('there is no file below the folders')
         refuse_inputs(option)
         return module_of(option.command).run(option)
     return output.guarded('fiolog', run)

@@ -6,9 +6,10 @@ from collections import Counter
 from copy import deepcopy
 
 from . import log, options, sides, terminal
-from .batch import BAD, FRAME, JUDGED, LOSSES, OTHER, PART, PASSED, POSSIBLE, batch_of
+from .batch import LOSSES, OTHER, PART, PASSED, POSSIBLE
 from .counts import Counts, in_words, unjudged_numbers, unjudged_words
-from .message import BLOCK, POLL, TYPE_ANSWER
+from .message import BLOCK, TYPE_ANSWER
+from .output import Refused
 from .rules import Rules
 from .terminal import shown
 
@@ -21,9 +22,10 @@ def add_arguments(parser):
     parser.add_argument('--tees', action='store_true', help='leave out the rules that are not of TEES 2009: %s' % ', '.join(options.OWN))
     parser.add_argument('--explain', choices=options.NAMES, metavar='RULE', help='say what this rule says, and read no log')
     options.add_late_answers(parser)
-    options.add_jobs(parser)
-    parser.add_argument('--json', action='store_true',
-                        help='an object for each breach, with several logs for each log; and one for the summary')
+    options.add_many(parser)
+    form = parser.add_mutually_exclusive_group()
+    form.add_argument('--json', action='store_true', help='an object for each breach, with several logs for each log; and one for the summary')
+    form.add_argument('--csv', action='store_true', help='a table: a row for each log, with its numbers')
 
 
 def _place(event):
@@ -41,32 +43,17 @@ def judged(read, option):
             continue
         if reader is not read.reader or judgement is None:
             yield from _ended(read, judgement, reader)
-            judgement, reader, is_open = sides.Judgement(rules_for(option), read.name if read.has_several else ''), read.reader, not option.start_at_poll
+            judgement, reader = sides.Judgement(rules_for(option), read.name if read.has_several else '', not option.start_at_poll), read.reader
         if option.at in ('cpu', 'bus'):
             read.balance += batch.balance
-        if not is_open:
-            batch, is_open = _opened(batch, judgement)
-            read.above = judgement.left_out
+        batch = judgement.opened(batch)
         yield batch, judgement.take(batch), judgement
     yield from _ended(read, judgement, reader)
 
 
-def _opened(batch, judgement):
-    """The lines without the frames above the first poll, and whether it is among them."""
-    events, is_open = [], False
-    for event in batch.events():
-        is_open |= event.kind in JUDGED and event.octets[:1] == bytes([POLL])
-        if is_open or event.kind not in (FRAME, BAD):
-            events.append(event)
-        else:
-            judgement.leave_out(event)
-    return batch_of(events, batch.as_said), is_open
-
-
 def rules_for(option):
     """The rules that judge a log, by the options of the command line."""
-    excepted = [*getattr(option, 'excepted', ()), *options.OWN * getattr(option, 'tees', False)]
-    return Rules(option.at, option.whole, option.limits, excepted, getattr(option, 'late_answers', False), getattr(option, 'rules', 'all') == 'all')
+    return Rules(**options.rules_of(option))
 
 
 def _ended(read, judgement, reader):
@@ -136,7 +123,9 @@ def run(option):
         from .explain import explanation
         print('\n'.join(explanation(option.explain)))
         return 0
-    if log.has_several(option):
+    if option.csv and option.merge:
+        raise Refused('--csv has a row for each log: leave out --merge')
+    if log.has_several(option) or option.csv:
         from . import many
         return many.run(option)
     read, counts = log.Log(option, sys.stdout.flush, writes=option.json), Counts()
@@ -159,7 +148,7 @@ def run(option):
 def end(option, read, counts, judgement, findings):
     """The summary, and the hints."""
     kinds = read.kinds
-    left_out = counts.unjudged() + read.unjudged + Counter(lines_passed_over=kinds[PASSED], frames_of_others=kinds[OTHER], frames_above_a_poll=read.above)
+    left_out = counts.unjudged() + read.unjudged + Counter(skipped_lines=kinds[PASSED], frames_of_others=kinds[OTHER])
     late = {'late_answers': left_out['late_answers']} if option.late_answers else {}
     restarted = {'restarted': findings.restarts} if findings.restarts or option.json else {}
     parts = {'parts_of_frames': kinds[PART]} if option.sdlc and (kinds[PART] or option.json) else {}

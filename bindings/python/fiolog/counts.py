@@ -62,7 +62,7 @@ def placed(counts, part):
 
 def in_words(name):
     """Returns the name of a number as a text has it."""
-    return 'gap marks' if name == 'marks' else name.replace('_', ' ')
+    return name.replace('_', ' ')
 
 
 def _sum(name):
@@ -124,12 +124,12 @@ class Counts:
 
     def unjudged(self):
         """What is missing by what the module says, by its reason."""
-        return Counter(gaps=self.marks, restarts=self.restarts)
+        return Counter(gap_marks=self.marks, restarts=self.restarts)
 
     def in_short(self, is_over=True):
         """The numbers of a summary; while more may come, the last poll still waits for its answer."""
         lost = self.unanswered + (is_over and self.now.waits)
-        return {'frames': self.frames, 'polls': self.polls, 'repeats': self.repeats, 'answers_lost': lost, 'marks': self.marks}
+        return {'frames': self.frames, 'polls': self.polls, 'repeats': self.repeats, 'answers_lost': lost, 'gap_marks': self.marks}
 
     @property
     def seconds(self):
@@ -142,11 +142,11 @@ class Counts:
 # By reason: the words of one, and of several.
 UNJUDGED = {
     'damaged_lines': ('damaged line', 'damaged lines'),
-    'pieces': ('line with part of a message', 'lines with parts of messages'),
-    'lines_passed_over': ('skipped line', 'skipped lines'),
+    'lines_with_parts': ('line with part of a message', 'lines with parts of messages'),
+    'skipped_lines': ('skipped line', 'skipped lines'),
     'frames_of_others': ('frame of another address', 'frames of other addresses'),
-    'lost_places': ('loss of sync', 'losses of sync'),
-    'frames_at_lost_places': ('frame from a loss of sync to the next poll', 'frames from a loss of sync to the next poll'),
+    'losses_of_sync': ('loss of sync', 'losses of sync'),
+    'frames_at_losses_of_sync': ('frame from a loss of sync to the next poll', 'frames from a loss of sync to the next poll'),
     'frames_above_a_command': ('frame above the first command', 'frames above the first command'),
     'frames_above_a_poll': ('frame above the first poll', 'frames above the first poll'),
     'frames_below_loads': ('frame whose stamp a load of the counter may explain', 'frames whose stamps a load of the counter may explain'),
@@ -155,11 +155,11 @@ UNJUDGED = {
     'frames_of_one_direction': ('frame of a log of one direction', 'frames of a log of one direction'),
     'excepted_breaches': ('breach of a rule that is left out', 'breaches of rules that are left out'),
     'late_answers': ('late answer', 'late answers'),
-    'gaps': ('gap mark, above which transitions are lost', 'gap marks, above which transitions are lost'),
+    'gap_marks': ('gap mark, above which transitions are lost', 'gap marks, above which transitions are lost'),
     'restarts': ('restart of the module', 'restarts of the module'),
 }
 # What is of lines, and so is not counted either.
-OF_LINES = ('damaged_lines', 'pieces', 'lines_passed_over', 'frames_of_others', 'gaps', 'restarts')
+OF_LINES = ('damaged_lines', 'lines_with_parts', 'skipped_lines', 'frames_of_others', 'gap_marks', 'restarts')
 # How many reasons of lines that are skipped are named.
 MOST_REASONS = 3
 
@@ -180,6 +180,6 @@ def unjudged_words(missing, reasons=Counter(), names=tuple(UNJUDGED)):
     for name in names:
         count = missing[name]
         if count:
-            why = ' (%s)' % reasons_in_words(reasons) if name == 'lines_passed_over' and reasons else ''
+            why = ' (%s)' % reasons_in_words(reasons) if name == 'skipped_lines' and reasons else ''
             parts.append('%d %s%s' % (count, UNJUDGED[name][count > 1], why))
     return ', '.join(parts)

@@ -98,7 +98,6 @@ class Log:
         self.readers, self.name, self.reader = [Reader(**settings_of(option)) for _ in option.files], '-', None
         self.has_several = has_several(option)
         self.balance = 0    # of how many more frames the log says another sender than that of their type: above 0 it is of the module's end
-        self.above = 0      # the frames above the first poll, where the log is to begin there
         self.judgements, self.unjudged = [], Counter()  # of each file that is judged, and what of them is not, by its reason
         self._first = None      # the octets with which the first file begins
         self._unnamed = []      # lines of the present batch that are to be named, each with its index

@@ -46,8 +46,9 @@ def add_address(parser):
                         help='the address of the frames of a line that are judged (14), with or without the control octet (1483), or any')
 
 
-def add_jobs(parser):
-    """The option of commands that take many logs."""
+def add_many(parser):
+    """The options of commands that take many logs."""
+    parser.add_argument('-r', '--recursive', action='store_true', help='read all files below the folders that are named')
     parser.add_argument('--jobs', type=number_in(1, MOST_ASKED), metavar='N', help='with several logs: read this many at a time (all processors)')
 
 
@@ -76,6 +77,13 @@ def add_except(parser):
 def add_late_answers(parser):
     """The option of a log with late answers."""
     parser.add_argument('--late-answers', action='store_true', help='leave out answers that came late or twice, and count them')
+
+
+def rules_of(option):
+    """What the rules that judge a log are given, by the options of the command line."""
+    given = {name: getattr(option, name) for name in ('at', 'whole', 'limits', 'late_answers') if hasattr(option, name)}
+    return {**given, 'excepted': [*getattr(option, 'excepted', ()), *OWN * getattr(option, 'tees', False)],
+            'with_content': getattr(option, 'rules', 'all') == 'all'}
 
 
 class Limits(argparse.Action):

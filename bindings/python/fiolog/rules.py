@@ -24,7 +24,7 @@ DUE = {'pair': 'an answer %d was due, %d came', 'number': 'block %d was asked fo
 # Why a frame is not judged, as the library says it and as it is counted (counts.py).
 NOT_JUDGED = {WHY_LOAD: 'frames_below_loads', WHY_UNHEARD: 'frames_not_at_the_cpu', WHY_LATE: 'late_answers',
               WHY_LATE_ABOVE: 'frames_below_late_answers', WHY_ABOVE_COMMAND: 'frames_above_a_command',
-              WHY_PLACE_LOST: 'frames_at_lost_places'}
+              WHY_PLACE_LOST: 'frames_at_losses_of_sync'}
 RESTARTED = 'restarted'
 # What is said of a frame that shows a restart: by its stamp, or of an answer to a watchdog that was set before.
 WENT_BACK = 'the module restarted, or the stamp is wrong: its counter went back'
@@ -72,11 +72,11 @@ class Breach(NamedTuple):
 class Rules:
     """The library's judge of a log that was taken `at` one of its places, of a module with the standard limits or with these: the
     most entries of a block, and the most that wait. The log may begin anywhere; a `whole` one begins with the start of both ends.
-    If `late` answers are left out, it begins anywhere. Breaches of `excepted` rules are left out; so are all of rules on content, if
+    If `late_answers` are left out, it begins anywhere. Breaches of `excepted` rules are left out; so are all of rules on content, if
     it judges by those of transcripts alone."""
 
-    def __init__(self, at='auto', whole=False, limits=(), excepted=(), late=False, with_content=True):
-        self.judge = fio2070.LogJudge(*limits, place=at, begun=whole and not late, late_answers=late)
+    def __init__(self, at='auto', whole=False, limits=(), excepted=(), late_answers=False, with_content=True):
+        self.judge = fio2070.LogJudge(*limits, place=at, begun=whole and not late_answers, late_answers=late_answers)
         self.at, self.excepted, self.with_content = at, frozenset(excepted), with_content
         self.unjudged = Counter()   # what is not judged, by its reason
         self.is_above_polls = False     # whether a breach is above the first poll
@@ -122,7 +122,7 @@ class Rules:
     def _note(self, event):
         """Takes a line that may have held a frame, or says that frames may be missing or that another part of the log begins."""
         if event.kind in LOSSES:
-            self.unjudged['pieces' if event.kind == PIECE else 'damaged_lines'] += 1
+            self.unjudged['lines_with_parts' if event.kind == PIECE else 'damaged_lines'] += 1
             if not (self.at == 'cpu' and event.note == WRONG_CHECK):
                 self._lose_place()
         elif event.note not in MISSING and self._has_frames:
@@ -130,7 +130,7 @@ class Rules:
 
     def _lose_place(self):
         """Counts where the place is lost, if it was known."""
-        self.unjudged['lost_places'] += not self._is_lost
+        self.unjudged['losses_of_sync'] += not self._is_lost
         self._is_lost = True
 
     def _of_outcome(self, octets, outcome):

@@ -26,16 +26,17 @@ def jobs_of(wanted, count):
     return max(1, min(jobs, MOST_JOBS))
 
 
-def results(work, names, jobs):
-    """Returns what the work made of each name, by its index. Work that died is words. Of work that Ctrl-C ended there is
-    none."""
+def results(work, names, jobs, seen):
+    """Returns what the work made of each name, by its index, which `seen` is called with as it comes. Work that died is words. Of work that
+    Ctrl-C ended there is none."""
     output.end_at_signals()
     done = {}
     try:
-        _together(work, names, jobs, done)
+        _together(work, names, jobs, done, seen)
         for index, name in enumerate(names):
             if index not in done:
                 done[index] = work(name) if name == '-' else _alone(work, name)
+                seen(done[index])
     except KeyboardInterrupt:
         _end_all()
     return done
@@ -90,7 +91,7 @@ def _pool(jobs):
             raise
 
 
-def _together(work, names, jobs, done):
+def _together(work, names, jobs, done, seen):
     """Does the work in several processes, as far as none of them dies."""
     try:
         with _pool(jobs) as pool:
@@ -98,6 +99,7 @@ def _together(work, names, jobs, done):
                 futures = {pool.submit(work, name): index for index, name in enumerate(names) if name != '-'}
             for future in as_completed(futures):
                 done[futures[future]] = future.result()
+                seen(done[futures[future]])
     except (BrokenExecutor, *_NO_PROCESS):
         pass
 

@@ -5,7 +5,7 @@ from collections import Counter
 
 import fio2070
 
-from .batch import FRAME, LOSSES, PIECE
+from .batch import BAD, FRAME, JUDGED, LOSSES, PIECE, batch_of
 from .log_words import CURES, REASONS, SIDES, SIGNS
 from .message import POLL
 from .terminal import say as _say
@@ -105,8 +105,9 @@ class Held:
 class Judgement:
     """What rules find in a log: nothing, if it has one direction alone."""
 
-    def __init__(self, rules, name=''):
+    def __init__(self, rules, name='', is_open=True):
         self.rules, self.name = rules, name     # the name of the log's file, if there are several logs
+        self.is_open = is_open      # whether frames are judged from here on
         self.sides, self.held, self._signs = Sides(), Held(), fio2070.LogSigns()
         self.frames = self.left_out = self.losses = self.pieces = 0
         self.verdict, self.words = '', ''
@@ -150,10 +151,19 @@ class Judgement:
         """An event of the log with the name of its file, if there are several logs."""
         return event._replace(file=self.name) if self.name else event
 
-    def leave_out(self, event):
-        """Takes a frame that is not to be judged."""
-        self.sides.add(event)
-        self.left_out += 1
+    def opened(self, batch):
+        """The lines, without the frames above the first poll where the log is to begin there."""
+        if self.is_open:
+            return batch
+        events = []
+        for event in batch.events():
+            self.is_open |= event.kind in JUDGED and event.octets[:1] == bytes([POLL])
+            if self.is_open or event.kind not in (FRAME, BAD):
+                events.append(event)
+            else:
+                self.sides.add(event)
+                self.left_out += 1
+        return batch_of(events, batch.as_said)
 
     def end(self, reasons, possible=0):
         """Returns the other breaches and restarts, at the end of the log. `reasons` are those why lines are passed over, `possible` counts the
@@ -174,6 +184,6 @@ class Judgement:
     def unjudged(self):
         """What is not judged, by its reason."""
         if self.verdict not in ONE_SIDED:
-            return self.rules.unjudged
-        return Counter({name: self.rules.unjudged[name] for name in ('damaged_lines', 'pieces')},
+            return self.rules.unjudged + Counter(frames_above_a_poll=self.left_out)
+        return Counter({name: self.rules.unjudged[name] for name in ('damaged_lines', 'lines_with_parts')},
                        frames_of_one_direction=self.frames + self.left_out)

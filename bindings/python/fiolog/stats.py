@@ -11,7 +11,7 @@ MILLI = 1000    # microseconds
 
 def add_arguments(parser):
     options.add_reading(parser)
-    options.add_jobs(parser)
+    options.add_many(parser)
     parser.add_argument('--json', action='store_true', help='one object; with several logs one for each, and one for all')
 
 
@@ -28,7 +28,7 @@ def numbers(counts):
         'entries': counts.entries, 'entries_a_second': round(counts.entries / length, 3) if length else None,
         'entries_by_input': {str(number): count for number, count in sorted(counts.inputs.items())},
         'block_fill': {'blocks': sum(counts.fills.values()), 'median': placed(counts.fills, 0.5), 'most': max(counts.fills, default=None)},
-        'marks': counts.marks}
+        'gap_marks': counts.marks}
 
 
 def flat(one, above=''):
@@ -51,7 +51,7 @@ def run(option):
     if not read.summary():
         return 1
     missing = counts.unjudged() + Counter(
-        damaged_lines=read.damaged, pieces=read.kinds[PIECE], lines_passed_over=read.kinds[PASSED], frames_of_others=read.kinds[OTHER])
+        damaged_lines=read.damaged, lines_with_parts=read.kinds[PIECE], skipped_lines=read.kinds[PASSED], frames_of_others=read.kinds[OTHER])
     if option.json:
         terminal.print_object({**numbers(counts), 'not_counted': unjudged_numbers(missing, OF_LINES)}, indent=1)
     else:

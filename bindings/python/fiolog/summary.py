@@ -69,18 +69,17 @@ def chunks_of(source):
         yield from source
 
 
-def summary_of(source, at='auto', whole=False, limits=(), excepted=(), **settings):
-    """The summary of a log: a path, a file open for reading octets, or an iterator of octets. `at` says where it was taken, `whole`
-    that it begins with the start of both ends, `limits` those of the module, `excepted` the rules that are left out; further
-    settings are the reader's."""
-    summary, judgement = Summary(), Judgement(Rules(at, whole, limits, excepted))
-    reader = Reader(**settings)
-    for batch in reader.read(decoded(iter(chunks_of(source)), not settings.get('line'))):
+def summary_of(source, start_at_poll=False, form='auto', pattern=None, framing='', line='', address=None, **rules):
+    """The summary of a log: a path, a file open for reading octets, or an iterator of octets. With `start_at_poll` it begins with the first
+    poll; `rules` are what rules.Rules takes, and all else what the reader does."""
+    summary, judgement, reader = Summary(), Judgement(Rules(**rules), is_open=not start_at_poll), Reader(form, pattern, framing, line, address)
+    for batch in reader.read(decoded(iter(chunks_of(source)), not line)):
+        batch = judgement.opened(batch)
         summary.add_breaches(judgement.take(batch))
         summary.counts.take(batch)
     summary.add_breaches(judgement.end(reader.reasons, reader.kinds[POSSIBLE]))
     summary.lines, summary.reasons = reader.count, reader.reasons
     if judgement.verdict:
         summary.verdicts[judgement.verdict] += 1
-    summary.unjudged = judgement.unjudged + Counter(lines_passed_over=sum(summary.reasons.values()), frames_of_others=reader.kinds[OTHER])
+    summary.unjudged = judgement.unjudged + Counter(skipped_lines=sum(summary.reasons.values()), frames_of_others=reader.kinds[OTHER])
     return summary
