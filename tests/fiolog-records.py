@@ -201,7 +201,7 @@ import os, sys
 from types import SimpleNamespace as Names
 from fiolog import log, plot, record
 given = Names(files=sys.argv[1:] or ['-'], quiet=True, format='auto', pattern=None, sdlc=False, no_check=False, line='', address=None,
-              merge=False, verbose=False, at='auto', start_at_poll=False, whole=False, limits=(255, 1024))
+              merge=False, text=False, verbose=False, at='auto', start_at_poll=False, whole=False, limits=(255, 1024))
 for lanes in plot.lanes_of(record.Record(log.Log(given), given).logs()):
     print(*[os.path.basename(lanes.name)] * bool(lanes.name),
           {number: (list(lanes.times[number]), [str(state) for state in lanes.states[number]]) for number in sorted(lanes.times)})

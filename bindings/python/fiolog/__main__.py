@@ -52,8 +52,7 @@ class Parser(argparse.ArgumentParser):
 def arguments(words):
     """The command line. Where no command is named, a log, or an option of its own, is of `check`; without a word help is printed, and
     it ends with status 2."""
-    first = words[0] if words else OWN_OPTIONS[0]
-    if first not in COMMANDS and first not in OWN_OPTIONS and (first.startswith('-') or os.path.exists(first)):
+    if words and words[0] not in (*COMMANDS, *OWN_OPTIONS) and (words[0].startswith('-') or os.path.exists(words[0])):
         words = ['check', *words]
     # Only help is as wide as the terminal: to look how wide that is takes a part of the start, for each option.
     has_help = not words or any(word.startswith('-') and 'h' in word for word in words)
@@ -61,18 +60,34 @@ def arguments(words):
     parser = Parser(prog='fiolog', description='Reads logs of the field I/O transition link.', epilog=BEGINNING, formatter_class=form)
     parser.add_argument(*OWN_OPTIONS[2:], action=Version, nargs=0, help='print the versions of the program and of the library, and its path')
     choices = parser.add_subparsers(dest='command', metavar='COMMAND', required=True)
-    wanted = [word for word in words[:1] if word in COMMANDS] or COMMANDS
     for name in COMMANDS:
-        module = module_of(name) if name in wanted else None
+        module = module_of(name) if words[:1] in ([name], []) or words[0] not in COMMANDS else None
         one = choices.add_parser(name, help=COMMANDS[name], description=module.__doc__ if module else '', formatter_class=form)
         if module:
             module.add_arguments(one)
     if not words:
         parser.print_help()
         parser.exit(2)
-    if words[0] not in COMMANDS and words[0] not in OWN_OPTIONS:
+    if words[0] not in (*COMMANDS, *OWN_OPTIONS):
         parser.error('%s is no command and no file' % words[0])
-    return parser, parser.parse_args(words)
+    option = parser.parse_args(words)
+    check_forms(parser, option)
+    return option
+
+
+def check_forms(parser, option):
+    """Ends with a word if the caller's expression is none, if what a line carried is to be read as lines of a log, or if folders have no
+    file."""
+    if getattr(option, 'line', '') and (option.pattern or option.sdlc or option.format != 'auto'):
+        parser.error('--line is of a file without lines: leave out --format, --pattern and --sdlc')
+    if getattr(option, 'pattern', None):
+        try:
+            if 'octets' not in re.compile(option.pattern).groupindex:
+                parser.error('--pattern needs the group octets')
+        except (re.error, OverflowError, RecursionError) as fault:
+            parser.error('--pattern: %s' % fault)
+    if getattr(option, 'recursive', False):
+        option.files = list(module_of('many').files_of(option.files)) or parser.error('there is no file below the folders')
 
 
 def open_streams():
@@ -83,18 +98,6 @@ def open_streams():
     if sys.stdout is None:
         say('standard output is closed')
         sys.exit(3)
-
-
-def check_forms(parser, option):
-    """Ends with a word if the caller's expression is none, or if what a line carried is to be read as lines of a log."""
-    if getattr(option, 'line', '') and (option.pattern or option.sdlc or option.format != 'auto'):
-        parser.error('--line is of a file without lines: leave out --format, --pattern and --sdlc')
-    if getattr(option, 'pattern', None):
-        try:
-            if 'octets' not in re.compile(option.pattern).groupindex:
-                parser.error('--pattern needs the group octets')
-        except (re.error, OverflowError, RecursionError) as fault:
-            parser.error('--pattern: %s' % fault)
 
 
 def refuse_inputs(option):
@@ -111,11 +114,11 @@ def main(words=None):
     open_streams()
 
     def run():
-        library.load()
-        parser, option = arguments(sys.argv[1:] if words is None else words)
-        check_forms(parser, option)
-        if getattr(option, 'recursive', False):
-            option.files = list(module_of('many').files_of(option.files)) or parser.error('there is no file below the folders')
+        try:
+            importlib.import_module('fio2070')
+        except OSError as fault:
+            library.make(fault)
+        option = arguments(sys.argv[1:] if words is None else words)
         refuse_inputs(option)
         return module_of(option.command).run(option)
     return output.guarded('fiolog', run)

@@ -8,13 +8,13 @@ from typing import NamedTuple, Optional, Sequence
 import fio2070
 from fio2070.constants import LONGEST_FRAME
 
-from . import line as wire
 from .batch import BLANK, DAMAGED, LONGEST_TEXT, PART, PASSED, Line, frame_of, made_of, seconds_of, text_of
+from .line import FLAG, OWN, event_of
 from .log_words import REASONS
 from .reader import CHECKED, Texts
 from .rules import WRONG_CHECK
 
-FLAG, HEADER, CHECK = b'\x7e', 2, 2
+HEADER, CHECK = 2, 2
 ANY = None, None
 # The time and the side of a text that says none.
 NOTHING = None, ''
@@ -166,7 +166,7 @@ class ByOrder:
         heard = side.read(octets, is_row)
         if heard is None and not is_row:
             return [Line(kind=DAMAGED, note=WRONG_CHECK, **line)]
-        return [wire.event_of(one, **line) for one in heard or ()] or [Line(kind=PART, **line)]
+        return [event_of(one, **line) for one in heard or ()] or [Line(kind=PART, **line)]
 
 
 class Side:
@@ -191,7 +191,7 @@ class Side:
     def _read(self, octets):
         """What octets say that go on a line."""
         if FLAG in octets and not self.decoder:
-            self.decoder = fio2070.Wire(*self.address or wire.OWN)
+            self.decoder = fio2070.Wire(*self.address or OWN)
         self.is_open = bool(octets) and not octets.endswith(FLAG)
         return self.decoder.read(octets) if self.decoder else []
 
@@ -199,12 +199,12 @@ class Side:
 def alone(octets, address):
     """What octets say between two flags, or with them: with octet stuffing if all of them are in frames, or one frame as it is. The
     address is that of ByOrder."""
-    heard = fio2070.Wire(*address or (wire.OWN if FLAG in octets else ANY)).read(FLAG + octets.strip(FLAG) + FLAG)
+    heard = fio2070.Wire(*address or (OWN if FLAG in octets else ANY)).read(FLAG + octets.strip(FLAG) + FLAG)
     if all(one.kind != 'damaged' for one in heard):
         return heard
     for one in (octets, octets[1:-1], octets.strip(FLAG)):
         message, check = one[HEADER:-CHECK], one[-CHECK:]
         if 0 < len(message) <= LONGEST_FRAME and fio2070.wire_check(one[:-CHECK]) == int.from_bytes(check, 'little'):
             is_bare = one == octets and not octets.startswith(FLAG)
-            return fio2070.Wire(*address or (ANY if is_bare else wire.OWN)).read(fio2070.wire_frame(message, *one[:HEADER]))
+            return fio2070.Wire(*address or (ANY if is_bare else OWN)).read(fio2070.wire_frame(message, *one[:HEADER]))
     return ()

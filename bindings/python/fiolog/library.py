@@ -15,18 +15,31 @@ NAME = {'win32': 'fio2070.dll', 'darwin': 'libfio2070.1.dylib'}.get(sys.platform
 SOURCES = [os.path.join(TOP, 'dist', name) for name in ('fio2070.c', 'fio2070.h')]
 
 
-def load():
-    """Loads the library; if a checkout has none, makes it first. Raises OSError, which says in one line what to do, if that cannot be
-    done."""
-    try:
-        importlib.import_module('fio2070')
-    except OSError:
-        has_one = os.environ.get('FIO2070_LIBRARY') or os.path.exists(os.path.join(TOP, NAME))
-        path = None if has_one or not os.path.exists(os.path.join(TOP, 'Makefile')) else made()
-        if not path:
-            raise
-        os.environ['FIO2070_LIBRARY'] = path
-        importlib.import_module('fio2070')
+def make(fault):
+    """Makes and loads the library of a checkout that has none, in the folder `out` of the checkout or of FIO2070_OUT. If that cannot be
+    done here, the fault is raised: it says in one line what to do."""
+    folder = os.path.join(os.path.abspath(os.environ.get('FIO2070_OUT') or TOP), 'out', 'fiolog')
+    path, compiler = os.path.join(folder, NAME), os.environ.get('CC') or 'cc'
+    if os.environ.get('FIO2070_LIBRARY') or os.path.exists(os.path.join(TOP, NAME)) or not os.path.exists(os.path.join(TOP, 'Makefile')):
+        raise fault
+    is_new = os.path.exists(path) and all(os.path.getmtime(path) >= os.path.getmtime(source) for source in SOURCES)
+    if not is_new and not (shutil.which('make') and shutil.which(compiler.split()[0]) and _is_made(folder, path, compiler)):
+        raise fault
+    os.environ['FIO2070_LIBRARY'] = path
+    importlib.import_module('fio2070')
+
+
+def _is_made(folder, path, compiler):
+    """Makes the library from dist/, and says so; returns whether that could be done."""
+    begun = time.monotonic()
+    say('there is no library yet: making it from dist/fio2070.c, once ..', end='')
+    # Paths of make have no blanks; those from the top on have none of the checkout's own.
+    words = ['OUT=' + os.path.relpath(folder, TOP), 'CC=' + compiler, os.path.relpath(path, TOP)]
+    done = subprocess.run(['make', '-s', '-C', TOP, 'kit=', *words], stdin=subprocess.DEVNULL, stdout=subprocess.DEVNULL,
+                          stderr=subprocess.PIPE, check=False, env={**os.environ, 'MAKEFLAGS': ''})
+    failed = done.stderr.decode(errors='replace').partition('\n')[0]
+    say('make failed: ' + failed if done.returncode else '%d s' % (time.monotonic() - begun), name='')
+    return not done.returncode
 
 
 def versions():
@@ -49,26 +62,3 @@ def _path(name):
             if line.rstrip().endswith('/' + name):
                 return line[line.index('/'):].rstrip()
     return name
-
-
-def made():
-    """The path of the library that is made from dist/, in the folder `out` of the checkout or of FIO2070_OUT; None if that cannot be
-    done here."""
-    folder = os.path.join(os.path.abspath(os.environ.get('FIO2070_OUT') or TOP), 'out', 'fiolog')
-    path = os.path.join(folder, NAME)
-    if os.path.exists(path) and all(os.path.getmtime(path) >= os.path.getmtime(source) for source in SOURCES):
-        return path
-    compiler = os.environ.get('CC') or 'cc'
-    if not shutil.which('make') or not shutil.which(compiler.split()[0]):
-        return None
-    begun = time.monotonic()
-    say('there is no library yet: making it from dist/fio2070.c, once ..', end='')
-    # Paths of make have no blanks; those from the top on have none of the checkout's own.
-    words = ['OUT=' + os.path.relpath(folder, TOP), 'CC=' + compiler, os.path.relpath(path, TOP)]
-    done = subprocess.run(['make', '-s', '-C', TOP, 'kit=', *words], stdin=subprocess.DEVNULL, stdout=subprocess.DEVNULL,
-                          stderr=subprocess.PIPE, check=False, env={**os.environ, 'MAKEFLAGS': ''})
-    if done.returncode:
-        say('make failed: ' + done.stderr.decode(errors='replace').partition('\n')[0], name='')
-        return None
-    say('%d s' % (time.monotonic() - begun), name='')
-    return path

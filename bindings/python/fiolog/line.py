@@ -15,6 +15,7 @@ from .rules import WRONG_CHECK
 
 # The address and control octet of frames that are judged, if the caller names none.
 OWN = WIRE_ADDRESS, WIRE_CONTROL
+FLAG = b'\x7e'
 # The first octets of a file, which show what it is, and the first bits, which show how long one is.
 WINDOW = 1 << 14
 # The octets that show whether bits are a text.
@@ -62,7 +63,7 @@ class Beginning:
     frame with a right check; or a text of bits. However the octets come, the answer is the same."""
 
     def __init__(self, address):
-        self.held, self.probe = b'', fio2070.Wire(*address)
+        self.held, self.address, self.probe = b'', address, None    # the decoder of what comes from the first flag on
         self.seen, self.line, self.is_strange, self.frames, self.damaged = 0, b'', False, 0, 0
 
     def form(self, octets, is_all=False):
@@ -81,7 +82,9 @@ class Beginning:
 
     def _form_by(self, piece):
         """What this piece of a line shows."""
-        kinds = [heard.kind for heard in self.probe.read(piece)]
+        if FLAG in piece and not self.probe:
+            self.probe = fio2070.Wire(*self.address)
+        kinds = [heard.kind for heard in self.probe.read(piece)] if self.probe else []
         self.damaged += kinds.count('damaged')
         self.frames += len(kinds) - kinds.count('damaged')
         if 'message' in kinds:
