@@ -18,7 +18,7 @@ from support.sessions import random_session, timed
 POLL, BLOCK = bytes.fromhex('3605'), bytes.fromhex('b605018c03e700000003e8')
 NEXT = bytes.fromhex('3606')
 IDLE, FLAG = '1' * 15, bytes([model.FLAG])
-KINDS = {'frame': model.MESSAGE, 'bad': model.MESSAGE, 'other': model.OTHER, 'damaged': model.DAMAGED}
+KINDS = {'frames': model.MESSAGE, 'bad': model.MESSAGE, 'other': model.OTHER, 'damaged': model.DAMAGED}
 
 
 def said_of(events):
@@ -231,7 +231,7 @@ def check_others(check, folder):
         check.equal('--address %r' % word, 2, fiolog('decode', '--address', word, path).status)
     check_refused(check, folder)
     text = ' '.join(pairs(model.line_of(message, address)) for message, address in ((POLL, 0x14), (POLL, 0x15))) + '\n'
-    check.equal('frames of others in a log', ['frame', 'other'], [event.kind for event in events_of(text.encode(), framing='checked')])
+    check.equal('frames of others in a log', ['frames', 'other'], [event.kind for event in events_of(text.encode(), framing='checked')])
 
 
 def check_refused(check, folder):

@@ -17,8 +17,9 @@ from .log_words import CURES, REASONS
 from .message import direction_of, words_of
 from .terminal import shown
 
-FRAME, BAD, OTHER, POSSIBLE, DOUBTFUL, DAMAGED, PIECE, PASSED, PART, BLANK = (
-    'frame', 'bad', 'other', 'possible', 'doubtful', 'damaged', 'piece', 'passed', 'part', 'blank')
+# Kinds of lines as the library names them, and others.
+FRAME, POSSIBLE, DAMAGED, PASSED, PART, BLANK = 'frames', 'possible', 'damaged', 'passed over', 'part', 'blank'
+BAD, OTHER, DOUBTFUL, PIECE = 'bad', 'other', 'doubtful', 'piece'
 # The kinds of lines at which judges lose their place, and the kinds that judges get.
 LOSSES = DAMAGED, DOUBTFUL, PIECE
 JUDGED = FRAME, BAD, *LOSSES
@@ -40,9 +41,8 @@ _LETTERS = 'ABCDEFGHIJKLMNOPQRSTUVWXYZabcdefghijklmnopqrstuvwxyz'
 MOST_LINES, MOST_OCTETS = 4096, 1 << 16
 # Who sent a frame, by its type.
 _BY_TYPE = bytes(LOG_FROM_MODULE if code >= TYPE_ANSWER else LOG_FROM_CPU for code in range(256))
-# The kinds of lines as the library names them, and those of events as it names them; any other one is passed over.
-_KINDS = {'blank': BLANK, 'part': PART, 'possible': POSSIBLE, 'damaged': DAMAGED, 'passed over': PASSED, 'frames': FRAME}
-_NAMES = {FRAME: 'frames', BAD: 'frames', BLANK: 'blank', PART: 'part', **dict.fromkeys(LOSSES, 'damaged')}
+# The kinds of events as the library names them; any other one is passed over.
+_KINDS = {**{kind: kind for kind in (FRAME, BLANK, PART)}, BAD: FRAME, **dict.fromkeys(LOSSES, DAMAGED)}
 _REMARKS = {**dict.fromkeys(MISSING, 'loss'), HEADING: 'heading'}
 # The lines that give no frame, but for blank ones and parts of the frames above.
 _OTHERS = re.compile(b'[%c%c%c]' % (LOG_POSSIBLE, LOG_DAMAGED, LOG_PASSED_OVER))
@@ -212,12 +212,12 @@ class Batch:
         if line in self._made:
             return self._made[line]
         verdict = self.said.told(line)
-        kind, raw, time_of_line = _KINDS[verdict.kind], self._raw_of(verdict.line), seconds_of(verdict.time)
+        kind, raw, seconds = verdict.kind, self._raw_of(verdict.line), seconds_of(verdict.time)
         frames = self.octets[self.frames_above(line):self.frames_above(line + 1)] if kind in (FRAME, POSSIBLE) else ()
         kind = DOUBTFUL if kind == POSSIBLE and line > self._first else kind
         if not frames:
-            return [Line(verdict.line, kind, raw, b'', time_of_line, '', REASONS.get(verdict.reason, verdict.reason), verdict.said)]
-        return [Line(verdict.line, kind, raw, octets, time_of_line, self.as_said and verdict.said or direction_of(octets), '', verdict.said)
+            return [Line(verdict.line, kind, raw, b'', seconds, '', REASONS.get(verdict.reason, verdict.reason), verdict.said)]
+        return [Line(verdict.line, kind, raw, octets, seconds, self.as_said and verdict.said or direction_of(octets), '', verdict.said)
                 for octets in frames]
 
     def numbered(self, first=0):
@@ -255,9 +255,9 @@ class Batch:
 
 def _verdict_of(event):
     """What the library would say of an event."""
-    kind = _NAMES.get(event.kind, 'passed over')
+    kind = _KINDS.get(event.kind, PASSED)
     return fio2070.Verdict(event.number, kind, _REMARKS.get(event.note, '') if event.kind == PASSED else '',
-                           (event.octets,) if kind == 'frames' else (), (), None if event.time is None else round(1e6 * event.time),
+                           (event.octets,) if kind == FRAME else (), (), None if event.time is None else round(1e6 * event.time),
                            event.said)
 
 

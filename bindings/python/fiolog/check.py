@@ -3,12 +3,11 @@ come and what came, or with what the breach means."""
 
 import sys
 from collections import Counter
-from copy import deepcopy
 
 from . import log, options, sides, terminal
-from .batch import LOSSES, OTHER, PART, PASSED, POSSIBLE
+from .batch import OTHER, PART, PASSED, POSSIBLE
 from .counts import Counts, in_words, unjudged_numbers, unjudged_words
-from .message import BLOCK, TYPE_ANSWER
+from .message import BLOCK, POLL, TYPE_ANSWER
 from .output import Refused
 from .rules import Rules
 from .terminal import shown
@@ -93,28 +92,22 @@ class Findings:
                               '%d times, first %s, last %s' % (count, _place(first), _place(last)))
 
     def look_for_late(self, batch, broken, counts):
-        """Notes whether an answer that was not due is to a command above, or a block of the latest number or the one before; `counts`
-        are those above the lines."""
-        if self.has_late_answers or all(found.rule != 'pair' and not found.is_restart for _, _, found in broken):
-            return
-        sent, above = deepcopy(counts.now), 0
-        losses = {batch.frames_above(line) for line, event in batch.others if event.kind in LOSSES}
-        for frame, event, found in broken:
-            for index in range(above, frame + 1):
-                if index in losses:
-                    sent.lose()
-                if index < frame:
-                    sent.frame(batch.octets[index])
-            above = frame
-            is_undue = found.rule == 'pair' or found.is_restart and event.octets[0] - TYPE_ANSWER != sent.command
-            self.has_late_answers |= is_undue and is_answered(sent, event.octets)
+        """Notes whether an answer that was not due came late or twice; `counts` are those above the lines."""
+        for frame, event, found in () if self.has_late_answers else broken:
+            if found.rule == 'pair' or found.is_restart:
+                self.has_late_answers |= is_late(event.octets, batch.octets[:frame], counts.now, found.is_restart)
 
 
-def is_answered(sent, octets):
-    """Whether octets are an answer to a command of those that were counted, or a block of the latest number or the one before."""
+def is_late(octets, above, counts, may_be_due):
+    """Whether an answer is to a command above, or a block of the latest number or the one before, and not directly below its command if that
+    `may_be`. `above` are the frames of its batch above it, `counts` those above the batch."""
+    types, command = [one[:1] for one in above], octets[0] - TYPE_ANSWER
+    if may_be_due and (types[-1] == bytes([command]) if above else counts.command == command):
+        return False
     if octets[0] == BLOCK:
-        return sent.polled is not None and (sent.polled - octets[1]) % 256 < 2
-    return octets[0] - TYPE_ANSWER in sent.types
+        polled = next((one[1] for one in reversed(above) if len(one) == 2 and one[0] == POLL), counts.polled)
+        return polled is not None and (polled - octets[1]) % 256 < 2
+    return command in counts.types or bytes([command]) in types
 
 
 def run(option):

@@ -48,7 +48,8 @@ class Texts:
 
     def of(self, number):
         """Returns a line; what came of it if its end was not seen yet: a line feed may follow its carriage return."""
-        return self.lines[number - self.above - 1] if number <= self.count else self.left
+        index = number - self.above - 1
+        return self.lines[index] if index < len(self.lines) else self.left
 
     def between(self, first, last):
         """Returns the text of the lines from one to another."""
