@@ -12,7 +12,7 @@ import subprocess
 import tempfile
 import time
 
-from support import page_judged, page_lines, page_logs, page_packets, page_views
+from support import page_judged, page_lines, page_logs, page_packets, page_reading, page_views
 from support.fiolog import may_use_library
 from support.browsers import KEYS, Chromium, browsers, running
 from support.check import Check
@@ -318,7 +318,7 @@ def check_access(check, browser, _):
 
 
 CHECKS = (check_examples, *page_logs.CHECKS, check_fields, check_many, check_touch, check_hostile, check_print, check_plan, check_play, check_access,
-          *page_views.CHECKS, *page_judged.CHECKS, *page_lines.CHECKS, *page_packets.CHECKS)
+          *page_views.CHECKS, *page_judged.CHECKS, *page_lines.CHECKS, *page_packets.CHECKS, *page_reading.CHECKS)
 
 
 def check_browser(check, kind, folder):

@@ -30,7 +30,7 @@ DROP = '''const [text, name] = arguments, dropped = new DataTransfer();
 if (name) dropped.items.add(new File([text], name)); else dropped.setData("text/plain", text);
 document.querySelector(".drop").dispatchEvent(new DragEvent("drop", { bubbles: true, cancelable: true, dataTransfer: dropped }));'''
 # Directions as rows show them.
-ARROWS = {'>': '→ module', '<': '← CPU'}
+ARROWS = {'>': 'CPU → module', '<': 'module → CPU'}
 # The first and the last millisecond that are seen.
 RANGE = 'return document.getElementById("range").textContent.match(/-?\\d+/g).slice(0, 2).map(Number)'
 

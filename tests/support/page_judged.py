@@ -120,9 +120,9 @@ def check_restart(check, browser, _):
 
 # Judges a text with these marks above its messages, by the calls: the lines of breaches, and the counts of messages without a judgement.
 JUDGED = '''window.judged = async (text, marks) => {
-    const library = new Library(await startMachine(BUILDS)), read = readLog(library, new LogReader(library), new TextEncoder().encode(text), LOG_FORMS.auto);
-    for (const [place, mark] of marks) read.messages.marks[place] |= MARKS[mark];
-    const { breaches, lines, judging, verdict } = new Log(library, new Arena(library), "marked", read, ENDS.auto);
+    const library = new Library(await startMachine(BUILDS)), found = finished(readLog(library, new LogReader(library), new TextEncoder().encode(text), LOG_FORMS.auto));
+    for (const [place, mark] of marks) found.messages.marks[place] |= MARKS[mark];
+    const { breaches, lines, judging, verdict } = finished(new Log(library, new Arena(library), "marked", found, ENDS.auto).work());
     return [[...breaches.keys()].map((place) => lines[place]), judging.losses, judging.unjudged[WHY.placeLost], verdict.notJudged.join(" ")]; }'''
 MARKED = '''const [added, ...given] = arguments, script = document.createElement("script"); script.textContent = added;
 document.head.append(script); window.found = null; window.judged(...given).then((found) => { window.found = found; }, (fault) => { window.found = String(fault); });'''

@@ -165,6 +165,49 @@ def check_inputs(check, browser, folder):
     check.holds('an input with few transitions has its line', few.count(1) + few.count(2) > len(few) // 3, few[:40])
 
 
+# Keeps what is written on the axis.
+WRITTEN = '''window.axis = []; const write = CanvasRenderingContext2D.prototype.fillText;
+CanvasRenderingContext2D.prototype.fillText = function (text, ...at) { if (this.canvas.className === "axis") window.axis.push(text); return write.call(this, text, ...at); };'''
+# A block with the stamp 1,000, and one with 9,000, by lines with other clocks; and the seconds that these show at the stamp 0.
+AXES = [('%s TX 3605\n%s RX b605018003e700000003e8\n%s TX 3606\n%s RX b6060180232700000002328\n'.replace('000002328', '00002328'), clocks, zero) for clocks, zero in (
+    (('07:15:02.100', '07:15:02.108', '07:15:10.100', '07:15:10.108'), 7 * 3600 + 15 * 60 + 1.108),
+    (('11:59:58 PM', '11:59:58 PM', '12:00:06 AM', '12:00:06 AM'), 86397), (('0.100', '0.108', '8.100', '8.108'), -0.892))]
+# The waveforms as they are saved, and as they are seen: the size of both, and whether the pixels of the lanes are the same.
+SAVED_PICTURE = '''window.picture = null; const made = URL.createObjectURL, lanes = document.getElementById("waves"), head = document.querySelector(".axis");
+HTMLAnchorElement.prototype.click = () => {};
+URL.createObjectURL = (blob) => { URL.createObjectURL = made; createImageBitmap(blob).then((it) => {
+    const canvas = document.createElement("canvas"); Object.assign(canvas, { width: it.width, height: it.height });
+    const paint = canvas.getContext("2d"); paint.drawImage(it, 0, 0);
+    const seen = lanes.getContext("2d").getImageData(0, 0, lanes.width, 22).data, whole = paint.getImageData(0, head.height, lanes.width, 22).data;
+    window.picture = [blob.type, it.width - lanes.width, it.height - lanes.height - head.height, seen.every((value, place) => value === whole[place])]; });
+    return "data:,"; };
+document.getElementById("save-waves").click();'''
+
+
+def check_axis(check, browser, _):
+    """Where the log has times the axis has its clock; the waveforms are saved as a picture."""
+    started(browser)
+    browser.run(WRITTEN)
+    for text, clocks, zero in AXES:
+        pasted(browser, text % clocks)
+        browser.run('window.axis = []')
+        browser.click('#tab-inputs')
+        browser.wait('return window.axis.length > 4')
+        seen = browser.run('return window.axis')
+        pairs = [(float(one.replace(',', '')), other) for one, other in zip(seen, seen[1:]) if re.fullmatch('[\\d,]+', one) and '.' in other]
+        shown = [sum(float(part) * 60 ** place for place, part in enumerate(reversed(other.split(':')))) for _, other in pairs]
+        wrong = [pair for pair, seconds in zip(pairs, shown) if abs((seconds - pair[0] / 1000 - zero) % 86400) not in (0, 86400) and abs(seconds - pair[0] / 1000 - zero) % 86400 > 0.002]
+        check.holds('the clock of %s on the axis' % clocks[0], len(pairs) > 2 and not wrong, (seen, wrong))
+        check.holds('and where the range begins and ends', len(re.findall(r'\d\.\d{3}', words_in(browser, '#range'))) == 2, words_in(browser, '#range'))
+    browser.run(SAVED_PICTURE)
+    check.equal('the picture that is saved', ['image/png', 0, 0, True], browser.wait('return window.picture'))
+    pasted(browser, '> 3605\n< b605018003e700000003e8\n')
+    browser.run('window.axis = []')
+    browser.click('#tab-inputs')
+    browser.wait('return window.axis.length > 4')
+    check.holds('a log without times has no clock', 'clock' not in browser.run('return window.axis'))
+
+
 TIMES = [('an epoch', '{"ts": 1795331702.108, "data": "3605"}\n{"ts": 1795331702.120, "data": "b605000000000001"}\n', ['07:15:02.108', '07:15:02.120']),
          ('a time after the year 9999', '{"ts": 3e11, "data": "3605"}\n{"ts": 1, "data": "b605000000000001"}\n', ['', '']),
          ('midnight', '23:59:59.999 TX 36 05\n00:00:00.001 RX B6 05 00 00 00 00 00 01\n', ['23:59:59.999', '00:00:00.001']),
@@ -209,4 +252,4 @@ def check_ladder(check, browser, _):
     check.equal('what is lost is marked', 1, browser.run('return document.querySelectorAll("#ladder line.lad-lost").length'))
 
 
-CHECKS = (check_verdict, check_order, check_no_log, check_ways, check_stories, check_labels, check_inputs, check_times, check_ladder)
+CHECKS = (check_verdict, check_order, check_no_log, check_ways, check_stories, check_labels, check_inputs, check_axis, check_times, check_ladder)

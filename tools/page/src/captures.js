@@ -16,6 +16,7 @@ const UDP = 17, PART = 44, FURTHER_HEADERS = [0, 43, 44, 60];
 const LOOPBACK_FAMILIES = [2, 10, 24, 28, 30];
 // Pairs of ends that have a word of their own; after so many the words begin anew. No letter is a hexadecimal digit.
 const LETTERS = 'ghijklmnopqrstuvwxyz', MOST_PAIRS = LETTERS.length ** 2;
+const RECORDS_AT_ONCE = 256;
 // With more octets the file is broken.
 const MOST_OF_PACKET = 1 << 24;
 const NOT_UDP = 'not UDP', CUT = 'octets lost: cut off', FRAGMENTED = 'octets lost: part of a packet', WRONG = 'octets lost: wrong length';
@@ -85,15 +86,14 @@ class PacketLines {
       lines: [], isBroken: false });
   }
 
-  read() {
+  *read() {
     let place = 0;
-    while (!this.isBroken) {
-      const length = this.isLow === null ? this.begin() : this.steps > 0n ? this.record(place) : this.block(place);
-      if (length === 0) break;
-      place += length;
+    for (let length = 1, count = 0; length > 0; place += length, count++) {
+      if (count % RECORDS_AT_ONCE === 0) yield place / this.file.length;
+      length = this.isLow === null ? this.begin() : this.steps > 0n ? this.record(place) : this.block(place);
     }
     if (!this.isBroken && place < this.file.length) this.lines.push(ENDS_EARLY);
-    return this.lines;
+    return new TextEncoder().encode(this.lines.map((line) => `${line}\n`).join(''));
   }
 
   word(place) {
@@ -230,4 +230,4 @@ class PacketLines {
 export const isCapture = (file) => FILES.capture.begins.test(asLatin(file.subarray(0, 4)));
 
 // The lines of a capture file, in UTF-8.
-export const linesOfCapture = (file) => new TextEncoder().encode(new PacketLines(file).read().map((line) => `${line}\n`).join(''));
+export const linesOfCapture = (file) => new PacketLines(file).read();

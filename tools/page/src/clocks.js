@@ -1,5 +1,5 @@
 // How times are shown, which are in seconds since 1970 if the log has dates, else since midnight or as the log counts them: those of
-// rows, their dates, and how long one is after another.
+// rows, their dates, those of the record, and how long one is after another.
 
 // Times from here on have a date.
 const DATED = 1e8;
@@ -20,6 +20,15 @@ export function clockOf(lines, time) {
 
 // The date of a time; empty if it has none.
 export const dateOf = (time) => time >= DATED ? new Date(time * 1000).toISOString().replace(/T.*/, '') : '';
+
+// The clock so many seconds after one that a row shows, which has the time of the day or seconds.
+export function clockAfter(clock, seconds) {
+  const [, hour, minute, second, fraction = 0, half] = /^(\d+):(\d+):(\d+)(?:[.,:](\d+))? ?([ap])?/i.exec(clock) || [];
+  if (hour === undefined) return (Number(clock) + seconds).toFixed(3);
+  const hours = half ? hour % 12 + (half.toLowerCase() === 'p' ? 12 : 0) : Number(hour);
+  const sum = hours * 3600 + minute * 60 + Number(`${second}.${fraction}`) + seconds;
+  return new Date(Math.round(1000 * (sum % DAY + DAY))).toISOString().slice(11, 23);
+}
 
 // How long after one time another is, in words. A log without dates may go on at midnight.
 export function laterWords(from, to) {

@@ -2,14 +2,14 @@
 
 import { BITS } from './bits.js';
 import { dateOf, laterWords } from './clocks.js';
-import { element, sentence } from './dom.js';
+import { capital, element, sentence } from './dom.js';
 import { fieldsOf, wordsIn } from './fields.js';
 import { hexText } from './hex.js';
-import { DIRECTION } from './messagelist.js';
-import { doubtOf } from './notes.js';
+import { LOG_SIDES } from './constants.js';
+import { bitsOf, doubtOf } from './notes.js';
 import { entryOf, RESTART_HELP, ruleWords, sourceWords } from './rules.js';
 
-const WAYS = { [DIRECTION.none]: 'No direction', [DIRECTION.sent]: 'Sent by the CPU', [DIRECTION.heard]: 'Heard by the CPU' };
+const SIDES_IN_WORDS = { [LOG_SIDES.noSide]: 'No direction', [LOG_SIDES.fromCpu]: 'Sent by the CPU', [LOG_SIDES.fromModule]: 'Heard by the CPU' };
 const LONGEST = 4096;
 
 // Marks the words and the octets of the same field.
@@ -50,40 +50,37 @@ function octetSpan(octet, index, names) {
 
 // The element of a message of a log.
 export function detailOf(log, place, textOf) {
-  const head = element('h2', {}, `Line ${log.lines[place]}`);
-  const way = element('p', { class: 'soft' }, WAYS[log.directions[place]] + timesOf(log, place));
-  const breach = log.breaches.get(place), doubt = log.reason(place) || doubtOf(log, place);
-  const reason = breach ? element('p', { class: 'reason' }, `Breaks ${log.reason(place)}.`)
-    : doubt ? element('p', { class: 'doubt' }, sentence(doubt)) : null;
-  const explained = breach ? [element('p', { class: 'soft', id: 'rule-source' }, sourceWords(breach)), element('details', {}, element('summary', {}, 'What this rule says'),
-    ...ruleWords(breach).map((words) => element('p', { class: 'soft' }, words)))]
-    : log.restarts.has(place) ? [element('p', { class: 'soft' }, RESTART_HELP)] : [];
-  const lines = log.written(place), octets = log.octets(place).slice(0, LONGEST);
-  const all = wordsIn(lines);
-  const isMessage = !log.isFaulty[place];
+  const lines = log.written(place), octets = log.octets(place).slice(0, LONGEST), all = wordsIn(lines), isMessage = !log.isFaulty[place];
   const fields = isMessage ? fieldsOf(octets, lines, textOf) : Array.from(octets, () => []);
   const wordSpans = all.map((it) => element('span', {}, it.word));
   const octetSpans = Array.from(octets, (octet, index) => octetSpan(octet, index, fields[index].map((field) => nameOf(all, field))));
   if (isMessage) markTogether(octetSpans, wordSpans, fields);
-  const grid = element('div', { class: 'grid', role: 'group', 'aria-label': 'Octets', onkeydown: (event) => step(event, octetSpans) },
+  const grid = element('div', { class: 'grid', role: 'group', 'aria-label': 'Octets', onkeydown: (event) => toOctet(event, octetSpans) },
     ...octetSpans.flatMap((it) => [it, '\u200b']));
-  const content = log.content(place);
-  const entry = content ? entryOf(log, place, content) : -1, broken = entry >= 0 ? entry + 1 : -1;
-  return element('div', {}, head, way, reason, ...explained, ...(isMessage ? bitsOf(octets[0], lines[0]) : []), linesWith(lines, wordSpans, broken),
+  const content = log.content(place), entry = content ? entryOf(log, place, content) : -1;
+  return element('div', {}, element('h2', {}, capital(log.where(place))), soft(SIDES_IN_WORDS[log.directions[place]] + timesOf(log, place)), ...reasonOf(log, place),
+    ...isMessage ? bitWords(octets[0], lines[0]).map((words) => soft(words)) : [], linesWith(lines, wordSpans, entry >= 0 ? entry + 1 : -1),
     ...octets.length > 0 ? [element('h3', {}, 'Octets'), grid] : []);
 }
 
-// What the bits that are 1 say, of the flags or the status that the first line has.
-function bitsOf(code, line) {
-  const found = BITS[code];
-  if (!found) return [];
-  const words = line.split(' ');
-  const value = parseInt(words[words.indexOf(found.word) + 1], 16);
-  return found.bits.filter(([, bit]) => (value & bit) !== 0).map(([letter, , says]) => element('p', { class: 'soft' }, `${letter}: ${says}`));
+const soft = (words, id = false) => element('p', { class: 'soft', id }, words);
+
+// What is wrong with a message or its line, and what its rule says.
+function reasonOf(log, place) {
+  const breach = log.breaches.get(place), reason = log.reason(place) || doubtOf(log, place);
+  if (!breach) return reason ? [element('p', { class: 'doubt' }, sentence(reason)), ...log.restarts.has(place) ? [soft(RESTART_HELP)] : []] : [];
+  return [element('p', { class: 'reason' }, `Breaks ${reason}.`), soft(sourceWords(breach), 'rule-source'),
+    element('details', {}, element('summary', {}, 'What this rule says'), ...ruleWords(breach).map((words) => soft(words)))];
+}
+
+// What the bits that are 1 say, of the flags or the status that the first line of a message has.
+function bitWords(code, line) {
+  const words = line.split(' '), value = parseInt(words[words.indexOf(BITS[code]?.word) + 1], 16);
+  return bitsOf(code, value).map(([letter, says]) => `${letter}: ${says}`);
 }
 
 // The keys left and right go from octet to octet.
-function step(event, spans) {
+function toOctet(event, spans) {
   const by = { ArrowRight: 1, ArrowLeft: -1 }[event.key];
   const next = spans[spans.indexOf(event.target) + (by || 0)];
   if (!by || !next) return;
@@ -97,6 +94,6 @@ function step(event, spans) {
 function timesOf(log, place) {
   if (!log.hasTimes || Number.isNaN(log.times[place])) return '';
   const date = dateOf(log.times[place]), text = `, at ${log.clocks[place]}${date && ' on ' + date}`;
-  const isAnswer = place > 0 && log.directions[place] === DIRECTION.heard && log.directions[place - 1] === DIRECTION.sent;
+  const isAnswer = place > 0 && log.directions[place] === LOG_SIDES.fromModule && log.directions[place - 1] === LOG_SIDES.fromCpu;
   return isAnswer && !Number.isNaN(log.times[place - 1]) ? `${text}, ${laterWords(log.times[place - 1], log.times[place])}` : text;
 }

@@ -34,17 +34,21 @@ export function say(text) {
   place.textContent = text;
 }
 
-// Saves a text as a file.
-export function saveText(name, text) {
-  const link = element('a', { href: URL.createObjectURL(new Blob([text], { type: 'text/plain' })), download: name });
+export const saveText = (name, text) => save(name, new Blob([text], { type: 'text/plain' }));
+
+// Saves what a blob has as a file.
+export function save(name, blob) {
+  const link = element('a', { href: URL.createObjectURL(blob), download: name });
   link.click();
   setTimeout(() => URL.revokeObjectURL(link.href), 1000);
 }
 
 export const withCommas = (number) => String(number).replace(/\B(?=(\d{3})+$)/g, ',');
 
+export const capital = (words) => `${words[0].toUpperCase()}${words.slice(1)}`;
+
 // Words as a sentence.
-export const sentence = (words) => words === '' ? '' : `${words[0].toUpperCase()}${words.slice(1)}.`;
+export const sentence = (words) => words && `${capital(words)}.`;
 
 // A number with its noun, as `1 gap mark`.
 export const counted = (number, noun, several = `${noun}s`) => `${withCommas(number)} ${number === 1 ? noun : several}`;

@@ -1,18 +1,15 @@
 // The view Inputs: the record of the log that is open as waveforms, moved by wheel, keys and touch.
 
-import { counted, element, saveText, say } from './dom.js';
-import { contentLine, recordLines } from './record.js';
+import { capital, counted, element, save, saveText, say } from './dom.js';
+import { contentLine } from './record.js';
 import { Waves } from './waves.js';
 
 const HELP = 'The wheel or + and − zoom; dragging or ← → move; ↑ ↓ choose an input; . and , go to its next and last transition; Enter goes to its message; 0 shows all.';
 const TOUCH_HELP = 'A finger moves the times, two zoom, and a tap reads a transition.';
 const MOST_SHOWN = 2000;
-// The signs, each with the test of a record that has it.
-const LEGEND = [['×', 'warn', 'a poll without an answer', (record) => record.lostPolls.length > 0],
-  ['↷', 'bad', 'a block that the CPU left out', (record) => record.skips.length > 0],
-  ['↻', 'warn', 'a restart of the module', (record) => record.restarts.length > 0],
-  ['▨', 'bad', 'a gap mark: entries are missing', (record) => record.gaps.length > 0],
-  ['◆', 'bad', 'an entry that breaks a rule', (record) => record.broken.length > 0]];
+// The signs, each with its colour, its words, and the list of a record that has some.
+const LEGEND = [['×', 'warn', 'a poll without an answer', 'lostPolls'], ['↷', 'bad', 'a block that the CPU left out', 'skips'],
+  ['↻', 'warn', 'a restart of the module', 'restarts'], ['▨', 'bad', 'a gap mark: entries are missing', 'gaps'], ['◆', 'bad', 'an entry that breaks a rule', 'broken']];
 
 export class InputsView {
   // `goTo(place)` shows a message, `back()` the view Open.
@@ -25,55 +22,57 @@ export class InputsView {
     this.reading = element('p', { class: 'mono', id: 'reading', role: 'status' });
     this.canvas = element('canvas', { class: 'waves', id: 'waves', tabindex: '0', role: 'application', 'aria-label': 'Waveforms',
       'aria-describedby': 'waves-help' });
-    this.head = element('canvas', { class: 'axis', role: 'presentation' });
-    this.waves = new Waves(this.head, this.canvas);
-    this.buttons = element('div', { class: 'row controls' },
-      this.button('Zoom in', () => this.waves.zoom(0.5)), this.button('Zoom out', () => this.waves.zoom(2)),
-      this.button('◀ Earlier', () => this.waves.pan(-0.4)), this.button('Later ▶', () => this.waves.pan(0.4)),
-      this.button('Show all', () => this.waves.fit()), this.range = element('span', { class: 'soft mono', id: 'range' }));
+    const head = element('canvas', { class: 'axis', role: 'presentation' }), waves = this.waves = new Waves(head, this.canvas);
+    this.range = element('span', { class: 'soft mono', id: 'range' });
+    const buttons = element('div', { class: 'row controls' }, this.button('Zoom in', () => waves.zoom(0.5)), this.button('Zoom out', () => waves.zoom(2)),
+      this.button('◀ Earlier', () => waves.pan(-0.4)), this.button('Later ▶', () => waves.pan(0.4)), this.button('Show all', () => waves.fit()),
+      element('button', { id: 'save-waves', onclick: () => waves.picture().toBlob((picture) => save(this.log.name + '.png', picture)) }, 'Save the picture'), this.range);
     this.text = element('pre', { class: 'report', id: 'record-text', tabindex: '0', role: 'group', 'aria-label': 'The record as text' });
     this.shown = element('details', { class: 'record', ontoggle: () => this.drawText() },
-      element('summary', { id: 'show-record' }, 'The record as text'), this.text,
-      element('button', { id: 'save-record', onclick: () => saveText(this.log.name + '.record', this.recordText()) }, 'Save the record'));
+      element('summary', { id: 'show-record' }, 'The record as text'), this.text, element('button', { id: 'save-record',
+        onclick: () => saveText(this.log.name + '.record', this.log.record.lines.map((line) => line + '\n').join('')) }, 'Save the record'));
     this.legend = element('p', { class: 'soft', id: 'legend' });
-    this.help = element('p', { class: 'soft', id: 'waves-help' }, matchMedia('(pointer: coarse)').matches ? TOUCH_HELP : HELP);
-    root.append(this.none, this.note, this.buttons, this.reading, element('div', { class: 'wave-box' }, this.head, this.canvas),
-      this.legend, this.help, this.shown);
+    const help = element('p', { class: 'soft', id: 'waves-help' }, matchMedia('(pointer: coarse)').matches ? TOUCH_HELP : HELP);
+    this.parts = [buttons, this.reading, element('div', { class: 'wave-box' }, head, this.canvas), this.legend, help];
+    root.append(this.none, this.note, ...this.parts, this.shown);
     this.listen();
-    this.setHidden(true);
-    this.shown.hidden = true;
+    this.close();
   }
 
   button(words, act) {
     return element('button', { onclick: () => { act(); this.draw(); } }, words);
   }
 
-  // What `fio2070 record` writes of the log.
-  recordText() {
-    return recordLines(this.log).map((line) => line + '\n').join('');
-  }
-
   drawText() {
     if (!this.shown.open) return;
-    const lines = recordLines(this.log), more = lines.length - MOST_SHOWN;
+    const { lines } = this.log.record, more = lines.length - MOST_SHOWN;
     this.text.textContent = lines.slice(0, MOST_SHOWN).join('\n') + (more > 0 ? `\n… and ${counted(more, 'line')} more` : '') + '\n';
   }
 
   setHidden(isHidden) {
-    for (const part of [this.buttons, this.reading, this.canvas.parentElement, this.legend, this.help]) part.hidden = isHidden;
+    for (const part of this.parts) part.hidden = isHidden;
+  }
+
+  // Shows that no log is open.
+  close() {
+    this.log = null;
+    this.note.textContent = '';
+    this.setHidden(true);
+    this.shown.hidden = true;
+    this.none.hidden = false;
   }
 
   open(log) {
     const { record } = this.log = log;
     this.waves.open(record);
     this.none.hidden = true;
-    this.setHidden(record.times.length === 0);
-    this.note.textContent = record.times.length === 0 ? 'No input changed in this log: it has no block with entries that a CPU would take.'
-      : `A CPU that heard this log has recorded ${counted(record.times.length, 'transition')} of ${counted(this.waves.lanes.length, 'input')}`
+    this.setHidden(record.count === 0);
+    this.note.textContent = record.count === 0 ? 'No input changed in this log: it has no block with entries that a CPU would take.'
+      : `A CPU that heard this log has recorded ${counted(record.count, 'transition')} of ${counted(record.lanes.size, 'input')}`
         + `${record.gaps.length > 0 ? ` and ${counted(record.gaps.length, 'gap mark')}` : ''}. `
         + `${record.lostPolls.length > 0 ? `${counted(record.lostPolls.length, 'poll')} had no answer. ` : ''}`
-        + `Times are milliseconds of the module’s counter.${this.foundWords()}`;
-    this.legend.replaceChildren(...LEGEND.filter(([, , , test]) => test(record)).flatMap(([sign, kind, words]) =>
+        + `Times are milliseconds of the module’s counter${this.waves.hasClock ? ', below them the log’s clock' : ''}.${this.foundWords()}`;
+    this.legend.replaceChildren(...LEGEND.filter(([, , , list]) => record[list].length > 0 || record[list].size > 0).flatMap(([sign, kind, words]) =>
       [element('span', { class: kind }, sign), ` ${words}   `]));
     this.canvas.setAttribute('aria-label', 'Waveforms of ' + this.note.textContent);
     this.reading.textContent = 'Click or tap a transition to read it, and to go to its message.';
@@ -85,19 +84,20 @@ export class InputsView {
 
   // The first entry or answer that breaks a rule on content, and the first restart of the module.
   foundWords() {
-    const { breaches, restarts, lines } = this.log, first = [...breaches].find(([, breach]) => breach.isContent), [restart] = restarts;
-    return (first ? ` The first breach: ${contentLine(this.log, first[0])}.` : '') + (restart >= 0 ? ` The first restart: line ${lines[restart]}.` : '');
+    const { breaches, restarts } = this.log, first = [...breaches].find(([, breach]) => breach.isContent), [restart] = restarts;
+    return (first ? ` The first breach: ${contentLine(this.log, first[0])}.` : '') + (restart >= 0 ? ` The first restart: ${this.log.where(restart)}.` : '');
   }
 
   draw() {
     if (!this.log || this.canvas.clientWidth === 0) return;
     this.waves.draw();
-    const { from, to, densest, bucket } = this.waves, dense = densest ? ` Dense lines: a full bar is ${counted(densest, 'change')} in ${bucket}.` : '';
-    this.range.textContent = `${Math.round(from)} to ${Math.round(to)} ms.${dense}`;
+    const { from, to, densest, bucket, hasClock } = this.waves, dense = densest ? ` Dense lines: a full bar is ${counted(densest, 'change')} in ${bucket}.` : '';
+    const clock = hasClock ? `, ${this.log.record.clockAt(from)} to ${this.log.record.clockAt(to)}` : '';
+    this.range.textContent = `${Math.round(from)} to ${Math.round(to)} ms${clock}.${dense}`;
   }
 
   listen() {
-    const { canvas, waves } = this;
+    const { canvas } = this;
     new ResizeObserver(() => this.draw()).observe(canvas);
     new MutationObserver(() => this.draw()).observe(document.documentElement, { attributeFilter: ['data-theme'] });
     canvas.addEventListener('wheel', (event) => this.wheel(event), { passive: false });
@@ -110,7 +110,7 @@ export class InputsView {
       this.moved = 0;
       canvas.setPointerCapture(event.pointerId);
     });
-    canvas.addEventListener('pointermove', (event) => this.drag(event, waves));
+    canvas.addEventListener('pointermove', (event) => this.drag(event));
     for (const name of ['pointerup', 'pointercancel']) canvas.addEventListener(name, (event) => this.pointers.delete(event.pointerId));
   }
 
@@ -122,18 +122,15 @@ export class InputsView {
   }
 
   // One pointer moves the times, two widen them.
-  drag(event, waves) {
-    if (!this.pointers.has(event.pointerId)) return;
-    const before = [...this.pointers.values()];
-    this.moved += Math.abs(event.offsetX - this.pointers.get(event.pointerId));
-    this.pointers.set(event.pointerId, event.offsetX);
-    const after = [...this.pointers.values()];
-    if (after.length === 1) {
-      waves.pan((before[0] - after[0]) / (waves.width || 1));
-    } else {
-      const apart = Math.abs(after[0] - after[1]) || 1;
-      waves.zoom(Math.abs(before[0] - before[1]) / apart || 1, waves.timeAt((after[0] + after[1]) / 2));
-    }
+  drag({ pointerId, offsetX }) {
+    const { pointers, waves } = this;
+    if (!pointers.has(pointerId)) return;
+    const [one, other] = pointers.values();
+    this.moved += Math.abs(offsetX - pointers.get(pointerId));
+    pointers.set(pointerId, offsetX);
+    const [near, far] = pointers.values();
+    if (far === undefined) waves.pan((one - near) / (waves.width || 1));
+    else waves.zoom(Math.abs(one - other) / (Math.abs(near - far) || 1) || 1, waves.timeAt((near + far) / 2));
     this.draw();
   }
 
@@ -143,27 +140,25 @@ export class InputsView {
   }
 
   select(found) {
-    const { waves, log } = this, { input, times, states, indexes } = waves.lanes[found.lane];
+    const { waves, log } = this;
     waves.selected = found;
-    const time = times[found.index], state = states[found.index], place = log.record.places[indexes[found.index]];
+    const item = waves.selectedItem, { input, state, time, place } = item;
     if (time < waves.from || time > waves.to) waves.pan((time - (waves.from + waves.to) / 2) / (waves.to - waves.from));
-    const broken = log.record.broken.includes(indexes[found.index]) ? `breaks ${log.reason(place).split(':')[0]} ` : '';
+    const broken = log.record.broken.has(item) ? `breaks ${log.reason(place).split(':')[0]} ` : '';
     this.reading.replaceChildren(`input ${input} state ${state} at ${time} ms ${broken}`,
-      element('button', { id: 'to-message', onclick: () => this.goTo(place) }, `Line ${log.lines[place]}`));
+      element('button', { id: 'to-message', onclick: () => this.goTo(place) }, capital(log.where(place))));
     say(`input ${input} becomes ${state} at ${time} milliseconds ${broken}`);
     this.draw();
   }
 
   selectedMessage() {
-    const { lane, index } = this.waves.selected;
-    if (index >= 0) this.goTo(this.log.record.places[this.waves.lanes[lane].indexes[index]]);
+    const item = this.waves.selectedItem;
+    if (item) this.goTo(item.place);
   }
 
   key(event) {
-    const { waves } = this;
-    const { lane, index } = waves.selected;
-    const last = (row) => waves.lanes[row].times.length - 1;
-    const step = (row, to) => row in waves.lanes && this.select({ lane: row, index: Math.max(0, Math.min(to, last(row))) });
+    const { waves } = this, { lane, index } = waves.selected;
+    const step = (row, to) => row in waves.lanes && this.select({ lane: row, index: Math.max(0, Math.min(to, waves.lanes[row].items.length - 1)) });
     const acts = {
       '+': () => waves.zoom(0.5), '=': () => waves.zoom(0.5), '-': () => waves.zoom(2), ArrowLeft: () => waves.pan(-0.1),
       ArrowRight: () => waves.pan(0.1), 0: () => waves.fit(), '.': () => step(lane, index + 1), ',': () => step(lane, index - 1),

@@ -48,7 +48,7 @@ class Ladder {
     if (name === 'to-module') this.note('to-cpu', outcome, row);
     if (name === 'to-cpu') {
       const before = index > 0 ? run.recorded[index - 1] : 0;
-      rows[row].note = heardWords(outcome, run.recorded[index] - before, run.record.slice(before, run.recorded[index]).some((item) => item.isGap));
+      rows[row].note = heardWords(outcome, run.recorded[index] - before, run.record.slice(before, run.recorded[index]).some((item) => item.gap));
     }
     return undefined;
   }
@@ -94,7 +94,7 @@ function shape(name, attributes, text = '') {
 // The words of a message and what the bits of its status say, in at most `most` letters if that can be.
 function labelOf(library, octets, most) {
   const [words] = library.showOctets(octets), message = library.decode(library.place(octets), octets.length);
-  const notes = statusNotes(message.code, message.isAnswer ? message.status : 0), [short] = /^\D*\d*/.exec(words);
+  const notes = statusNotes(message.code, message.status), [short] = /^\D*\d*/.exec(words);
   const ways = [[words, ...notes], [short, ...notes], [short, ...notes.map((note) => note.split(':')[0])]].map((way) => way.join(', '));
   return ways.find((way) => way.length <= most) || ways[2];
 }

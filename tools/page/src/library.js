@@ -4,33 +4,42 @@
 // A message is given by its address and length in the machine's memory: `place` puts octets there.
 
 import { BLOCK_ENTRIES, LOG_BEGINS, LONGEST_FRAME, LONGEST_TEXT, MOST_RECORD_ITEMS, OUTCOMES, STANDARD_WAITING } from './constants.js';
-import { AT, SIZE } from './layouts.js';
+import { STRUCTS } from './layouts.js';
 
 const FAULTS = { none: 0, unknownType: 3 };
 export const POLL = 54, BLOCK = POLL + 128, WATCHDOG_ANSWER = 186;
 // Octets from here on begin an answer.
 export const FIRST_ANSWER = 128;
-export const HEARD = { taken: 0, unreadable: 1, other: 2, stale: 3, noRoom: 4 };
-export const STATUS_BITS = { more: 8, lost: 4, again: 2, outOfSequence: 1 };
+export const HEARD = { taken: 0, stale: 3, other: 2 };
+export const STATUS_BITS = { more: 8, lost: 4, again: 2 };
 
-// Room for the text of a message.
 // The type of a configuration.
 const CONFIGURE_INPUTS = 51;
-
+// Room for the text of a message.
 const TEXT_ROOM = 32768;
 
 export class Library {
   constructor(machine) {
-    this.machine = machine;
-    this.calls = machine.exports;
-    this.result = machine.reserve(Math.max(SIZE.heard, SIZE.state));
-    this.message = machine.reserve(Math.max(SIZE.command, SIZE.answer));
+    Object.assign(this, { machine, calls: machine.exports, decoder: new TextDecoder('latin1') });
+    this.result = machine.reserve(STRUCTS.state.size);
+    this.message = machine.reserve(STRUCTS.command.size);
     this.frame = machine.reserve(LONGEST_FRAME + 1);
     this.out = machine.reserve(LONGEST_FRAME);
     this.room = [BigInt(this.out), BigInt(LONGEST_FRAME)];
-    this.elements = machine.reserve(MOST_RECORD_ITEMS * SIZE.recordItem);
+    this.elements = machine.reserve(MOST_RECORD_ITEMS * STRUCTS.recordItem.size);
     this.text = machine.reserve(TEXT_ROOM);
-    this.decoder = new TextDecoder('latin1');
+  }
+
+  // The struct of this name at an address.
+  read(name, at) {
+    return STRUCTS[name].get(this.machine.data, at);
+  }
+
+  // Writes fields of a struct, and zeros to the others.
+  write(name, at, values) {
+    this.machine.octets(at, STRUCTS[name].size).fill(0);
+    STRUCTS[name].set(this.machine.data, at, values);
+    return BigInt(at);
   }
 
   // Puts octets where a call can read them, and returns their address. No call looks behind the 774th octet.
@@ -39,20 +48,17 @@ export class Library {
     return this.frame;
   }
 
-  // Reads a message as a command or, where no command has its type, as an answer: its fields; null where it is neither.
+  // Reads a message as a command or, where no command has its type, as an answer: its struct; null where it is neither.
   decode(address, length) {
-    const fault = this.faultOf('fio2070_decode_command', address, length), { data, all } = this.machine, at = this.message;
-    if (fault === FAULTS.none) return { isAnswer: false, code: all[at + AT.command.code], block: all[at + AT.command.block] };
-    if (fault !== FAULTS.unknownType || this.faultOf('fio2070_decode_answer', address, length) !== FAULTS.none) return null;
-    const place = AT.answer;
-    return { isAnswer: true, code: all[at + place.code], status: all[at + place.status], block: all[at + place.block],
-      count: all[at + place.count], stamp: data.getUint32(at + place.stamp, true) };
+    const fault = this.faultOf('command', address, length);
+    if (fault === FAULTS.none) return this.read('command', this.message);
+    return fault === FAULTS.unknownType && this.faultOf('answer', address, length) === FAULTS.none ? this.read('answer', this.message) : null;
   }
 
-  // The kind of the fault that a call finds in octets.
-  faultOf(call, address, length) {
-    this.calls[call](BigInt(this.result), BigInt(address), BigInt(length), BigInt(this.message));
-    return this.machine.all[this.result + AT.fault.kind];
+  // The kind of the fault of octets that are read as a command or an answer.
+  faultOf(kind, address, length) {
+    this.calls[`fio2070_decode_${kind}`](BigInt(this.result), BigInt(address), BigInt(length), BigInt(this.message));
+    return this.read('fault', this.result).kind;
   }
 
   // Whether octets are a message.
@@ -62,7 +68,7 @@ export class Library {
 
   // The words of the fault of octets that spell no command, or null.
   commandFault(octets) {
-    if (this.faultOf('fio2070_decode_command', this.place(octets), octets.length) === FAULTS.none) return null;
+    if (this.faultOf('command', this.place(octets), octets.length) === FAULTS.none) return null;
     return this.textOf(this.calls.fio2070_fault_text(BigInt(this.result), BigInt(this.text), BigInt(LONGEST_TEXT)));
   }
 
@@ -77,19 +83,11 @@ export class Library {
     return this.machine.octets(this.out, Math.max(Number(count), 0)).slice();
   }
 
-  // The octets of a configuration with these items; none where there is none.
+  // The octets of a configuration with these items.
   encodeConfiguration(items) {
-    const { all } = this.machine;
-    for (const [index, item] of items.entries()) {
-      const at = this.elements + index * SIZE.configurationItem;
-      for (const [name, place] of Object.entries(AT.configurationItem)) all[at + place] = item[name];
-    }
-    const command = this.message;
-    all.fill(0, command, command + SIZE.command);
-    all[command + AT.command.code] = CONFIGURE_INPUTS;
-    all[command + AT.command.count] = items.length;
-    return this.written(this.calls.fio2070_encode_command(BigInt(command), BigInt(this.elements), BigInt(items.length), 0n, 0n,
-      ...this.room));
+    items.forEach((item, index) => this.write('configurationItem', this.elements + index * STRUCTS.configurationItem.size, item));
+    const command = this.write('command', this.message, { code: CONFIGURE_INPUTS, count: items.length });
+    return this.written(this.calls.fio2070_encode_command(command, BigInt(this.elements), BigInt(items.length), 0n, 0n, ...this.room));
   }
 
   // The lines that `show` writes of a message, or the words of its fault.
@@ -105,34 +103,32 @@ export class Library {
 
   // The address of the limits of a module in which the standard number of entries may wait, until the next call.
   limits(perBlock) {
-    const { all, data } = this.machine, at = this.result;
-    data.setUint16(at + AT.limits.waiting, STANDARD_WAITING, true);
-    all[at + AT.limits.per_block] = perBlock;
-    return BigInt(at);
+    return this.write('limits', this.result, { waiting: STANDARD_WAITING, per_block: perBlock });
   }
 }
 
-// What the library keeps in the machine's memory, with the calls that have its name: the last word of each is enough. Those for each
-// message of a log are called directly, which is faster.
-class Kept {
-  constructor(library, name, size) {
-    Object.assign(this, { library, name, at: BigInt(library.machine.reserve(size)) });
+// What the library keeps in the machine's memory, as a struct, with the calls that have its name: the last word of each is enough. Those
+// for each message of a log are called directly, which is faster.
+export class Kept {
+  constructor(library, name, struct) {
+    const place = library.machine.reserve(STRUCTS[struct].size);
+    Object.assign(this, { library, machine: library.machine, calls: library.calls, name, struct, place, at: BigInt(place) });
   }
 
   call(word, ...given) {
-    return this.library.calls[`fio2070_${this.name}_${word}`](this.at, ...given);
+    return this.calls[`fio2070_${this.name}_${word}`](this.at, ...given);
   }
 }
 
 // A CPU's end that polls next for the block with this number.
 export class Poller extends Kept {
-  constructor(library, number) {
-    super(library, 'poller', SIZE.poller);
-    this.number = number;
+  constructor(library) {
+    super(library, 'poller', 'poller');
+    this.number = 0;
   }
 
   get number() {
-    return this.library.machine.all[Number(this.at) + AT.poller.number];
+    return this.library.read('poller', this.place).number;
   }
 
   set number(number) {
@@ -146,31 +142,22 @@ export class Poller extends Kept {
 
   // What a frame was, and how many items it added to the record: `recordItem` has them until the next call.
   hear(address, length) {
-    const { library } = this, { all, data } = library.machine, at = library.result;
-    library.calls.fio2070_poller_hear(BigInt(at), this.at, BigInt(address), BigInt(length),
-      BigInt(library.elements), BigInt(MOST_RECORD_ITEMS));
-    const place = AT.heard, kind = all[at + place.kind];
-    return {
-      kind, code: all[at + place.code], number: all[at + place.number], status: all[at + place.status],
-      entries: all[at + place.entries], items: kind === HEARD.taken ? data.getUint16(at + place.items, true) : 0,
-    };
+    const { result, elements } = this.library;
+    this.calls.fio2070_poller_hear(BigInt(result), this.at, BigInt(address), BigInt(length), BigInt(elements), BigInt(MOST_RECORD_ITEMS));
+    return this.library.read('heard', result);
   }
 
   recordItem(index) {
-    const { all, data } = this.library.machine, at = this.library.elements + index * SIZE.recordItem, place = AT.recordItem;
-    return {
-      isGap: all[at + place.gap] !== 0, input: all[at + place.input], state: all[at + place.state],
-      stamp: data.getUint16(at + place.stamp, true), wide: data.getUint32(at + place.wide, true),
-    };
+    return this.library.read('recordItem', this.library.elements + index * STRUCTS.recordItem.size);
   }
 }
 
 // A module, which has to be started.
 export class Module extends Kept {
   constructor(library) {
-    super(library, 'sized_module', SIZE.sizedModule);
+    super(library, 'sized_module', 'sizedModule');
     // Three octets for each entry that may wait.
-    this.ring = [BigInt(library.machine.reserve(3 * STANDARD_WAITING)), BigInt(STANDARD_WAITING)];
+    this.ring = [BigInt(this.machine.reserve(3 * STANDARD_WAITING)), BigInt(STANDARD_WAITING)];
   }
 
   start(id, perBlock) {
@@ -187,23 +174,10 @@ export class Module extends Kept {
     return library.written(this.call('receive', ...this.ring, ...frame, ...library.room));
   }
 
-  // What the module is at present: the address of its struct, until the next call.
+  // What the module is at present.
   get state() {
-    const at = this.library.result;
-    this.library.calls.fio2070_sized_module_state(BigInt(at), this.at);
-    return at;
-  }
-
-  get counter() {
-    return this.library.machine.data.getUint32(this.state + AT.state.counter, true);
-  }
-
-  get waiting() {
-    return this.library.machine.data.getUint16(this.state + AT.state.waiting, true);
-  }
-
-  get filtered() {
-    return this.library.machine.data.getBigUint64(this.state + AT.state.filtered, true);
+    this.calls.fio2070_sized_module_state(BigInt(this.library.result), this.at);
+    return this.library.read('state', this.library.result);
   }
 }
 
@@ -211,8 +185,8 @@ export class Module extends Kept {
 // by `possible`; that speaks of loss, by `miss`.
 export class LogJudge extends Kept {
   constructor(library) {
-    super(library, 'log_judge', SIZE.logJudge);
-    this.outcome = library.machine.reserve(SIZE.judgeOutcome);
+    super(library, 'log_judge', 'logJudge');
+    this.outcome = this.machine.reserve(STRUCTS.judgeOutcome.size);
   }
 
   // Starts above the first line of a log that begins anywhere, taken where one of LOG_TAKEN says. The module has the standard limits.
@@ -222,24 +196,36 @@ export class LogJudge extends Kept {
 
   // Takes a message that the CPU sent or heard; `said` is one of LOG_SIDES. What it is, if it is not kept; else null.
   frame(isSent, said, address, length) {
-    const { calls, machine: { all } } = this.library, at = this.outcome, place = AT.judgeOutcome;
-    const kind = calls.fio2070_log_judge_frame(this.at, isSent ? 1 : 0, said, BigInt(address), BigInt(length), BigInt(at));
-    if (kind === OUTCOMES.kept) return null;
-    return {
-      kind, why: all[at + place.why], rule: all[at + place.rule], hasDue: all[at + place.has_due] !== 0, due: all[at + place.due],
-      got: all[at + place.got], input: all[at + place.input], items: all[at + place.items] | all[at + place.items + 1] << 8,
-    };
+    const kind = this.calls.fio2070_log_judge_frame(this.at, isSent ? 1 : 0, said, BigInt(address), BigInt(length), BigInt(this.outcome));
+    return kind === OUTCOMES.kept ? null : this.library.read('judgeOutcome', this.outcome);
   }
 }
 
 // What counts the frames of a log, to tell what kind of log it looks like.
 export class LogSigns extends Kept {
   constructor(library) {
-    super(library, 'log_signs', SIZE.logSigns);
+    super(library, 'log_signs', 'logSigns');
   }
 
   // Takes a message that the CPU sent or heard; `said` is one of LOG_SIDES.
   frame(isSent, said, address, length) {
-    this.library.calls.fio2070_log_signs_frame(this.at, isSent ? 1 : 0, said, BigInt(address), BigInt(length));
+    this.calls.fio2070_log_signs_frame(this.at, isSent ? 1 : 0, said, BigInt(address), BigInt(length));
+  }
+}
+
+// What the log that is open needs in the machine's memory: its octets, a poller, what judges it, and what counts its messages.
+export class Arena {
+  constructor(library) {
+    Object.assign(this, { machine: library.machine, address: 0, size: 0 });
+    Object.assign(this, { poller: new Poller(library), judge: new LogJudge(library), signs: new LogSigns(library) });
+  }
+
+  hold(octets) {
+    if (octets.length > this.size) {
+      this.address = this.machine.reserve(octets.length);
+      this.size = octets.length;
+    }
+    this.machine.octets(this.address, octets.length).set(octets);
+    return this.address;
   }
 }

@@ -6,13 +6,15 @@ import { LOG_FORMS, LOG_KINDS, LOG_SIDES } from './constants.js';
 import { counted } from './dom.js';
 import { asLatin, fromHex, hexText } from './hex.js';
 import { LINE } from './log_words.js';
-import { MessageList } from './messagelist.js';
 import { formOf, Found, linesOf, octetsOf, readLog } from './reader.js';
-import { AT_END, digitsOf } from './rewriting.js';
+import { AT_END, digitsOf, REWRITINGS, rewritten } from './rewriting.js';
+import { each, part } from './slices.js';
 import { ANY, OWN, SAYS, wireOf } from './wire.js';
 
 // The first octets of a file, which show what it is, and the first bits, which show how long one is.
 const WINDOW = 1 << 14;
+// The octets of a file that are read at a time.
+const OCTETS_AT_ONCE = 4096;
 // The octets of a line that shows a text; below one that is no text it has more.
 const SHORT_TEXT = 4, LONG_TEXT = 16;
 // The runs between those at the ends that show how long a bit is; one in so many may be noise.
@@ -60,14 +62,10 @@ function lineWayOf(library, file) {
   return frames > 0 && frames >= damaged ? 'line' : '';
 }
 
-// The bits of a file, an octet each: those of a text of 0 and 1 or of octets 0 and 1, or eight of each octet.
-function bitsOfFile(file, isHighFirst) {
-  if (TEXT_OF_BITS.test(asLatin(file.subarray(0, 64)))) return file.filter((octet) => octet < 2 || octet >> 1 === 0x18);
-  const bits = new Uint8Array(8 * file.length);
-  file.forEach((octet, index) => {
-    for (let bit = 0; bit < 8; bit++) bits[8 * index + bit] = octet >> (isHighFirst ? 7 - bit : bit) & 1;
-  });
-  return bits;
+// What makes bits, an octet each, of octets of a file: those of a text of 0 and 1 or of octets 0 and 1, or eight of each octet.
+function bitsBy(file, isHighFirst) {
+  if (TEXT_OF_BITS.test(asLatin(file.subarray(0, 64)))) return (octets) => octets.filter((octet) => octet < 2 || octet >> 1 === 0x18);
+  return (octets) => Uint8Array.from({ length: 8 * octets.length }, (_, index) => octets[index >> 3] >> (isHighFirst ? 7 - (index & 7) : index & 7) & 1);
 }
 
 // How many samples nearly all bits have; 1 if too few are there to say so.
@@ -77,11 +75,9 @@ function samplesOf(bits) {
   return runs.length < LEAST_RUNS ? 1 : runs.sort((one, other) => one - other)[Math.floor(runs.length / MOST_SHORT)];
 }
 
-// What is said of the frames with another address.
+// What is said of the frames with another address. A right check is no doubt.
 class Others {
-  constructor() {
-    Object.assign(this, { counts: new Map(), words: () => [...this.counts].map(([why, count]) => `${counted(count, 'frame')} ${why}`) });
-  }
+  counts = new Map();
 
   note({ address, control }) {
     const why = LINE.other.replace('{address}', hexText([address])).replace('{control}', hexText([control]));
@@ -89,47 +85,62 @@ class Others {
     return why;
   }
 
-  // A right check is no doubt.
+  words() {
+    return [...this.counts].map(([why, count]) => `${counted(count, 'frame')} ${why}`);
+  }
+
   add() {}
 }
 
-// Makes messages of what a line says; `lines` are those of the log, if it has some.
-class Heard {
-  constructor(file, lines) {
-    this.others = new Others();
-    this.found = new Found(lines, LOG_FORMS.auto, new MessageList(lines.length, file.length), this.others);
-    this.frames = 0;
+// Makes messages of what a line says; `lines` are those of the log, if it has some. `silence` is said if it has no frame.
+class Heard extends Found {
+  constructor(lines, octets) {
+    super(lines, LOG_FORMS.auto, octets, new Others());
+    this.silence = '';
   }
 
-  add(one, line, said = LOG_SIDES.noSide, time = null) {
-    const { messages } = this.found;
-    if (one.kind === SAYS.other) messages.addOther(line, { why: this.others.note(one), text: hexText(one.message) });
-    else if (one.kind === SAYS.damaged) this.addDamaged(line);
-    else {
-      this.frames += 1;
-      this.found.addFrames({ line, kind: LOG_KINDS.says, said, time, frames: [one.message], places: [] });
-    }
+  get remarks() {
+    return [...this.sure === 0 && this.silence !== '' ? [this.silence] : [], ...super.remarks];
   }
 
-  addDamaged(line) {
-    this.found.addDamaged(line, `damaged: ${LINE.damaged}`, true);
+  // Adds what a line says; it begins at this octet.
+  hear(one, line, at, said = LOG_SIDES.noSide, time = null) {
+    if (one.kind === SAYS.other) this.messages.addOther(line, { why: this.doubts.note(one), text: hexText(one.message) });
+    else if (one.kind === SAYS.damaged) this.addUnchecked(line);
+    else this.addFrames({ line, kind: LOG_KINDS.says, said, time, frames: [one.message], places: [], at });
   }
 
-  // As readLog returns it, with why no frame was found.
-  result(words = '') {
-    const read = this.found.result();
-    return { ...read, doubts: [...this.frames === 0 && words !== '' ? [words] : [], ...read.doubts] };
+  addUnchecked(line) {
+    this.addDamaged(line, `damaged: ${LINE.damaged}`, true);
   }
 }
 
-// Reads a file in a way of LINE_WAYS.
-function readLine(library, logReader, file, way, own) {
-  if (way === 'digits') return readDigits(library, logReader, file, own).result();
-  const heard = new Heard(file, []), line = way === 'line' ? file : bitsOfFile(file, way === 'bits-high-first');
+// Where the frame begins that ends below this octet, counted from 1; 0 if its first flag is above these octets.
+function beginOf(octets, end) {
+  const flag = octets.subarray(0, end - 1).lastIndexOf(FLAG);
+  return flag < 0 ? 0 : flag + 2;
+}
+
+// Reads a file of the octets or the bits of a line.
+function* readLine(library, file, way, own) {
+  const isOctets = way === 'line', wire = wireOf(library, isOctets ? 'line' : 'bits').start(own), heard = new Heard([], file.length);
+  const toLine = isOctets ? (octets) => octets : bitsBy(file, way === 'bits-high-first');
   let number = 0;
-  for (const one of wireOf(library, way === 'line' ? 'line' : 'bits').start(own).read(line)) heard.add(one, ++number);
-  const samples = way === 'line' || line.length === 0 ? 1 : samplesOf(line);
-  return heard.result(samples > 1 ? LINE.faster.replace('{count}', samples) : way === 'line' ? LINE.octets : LINE.bits);
+  for (let start = 0; start < file.length; start += OCTETS_AT_ONCE) {
+    yield start / file.length;
+    for (const one of wire.read(toLine(file.subarray(start, start + OCTETS_AT_ONCE)))) {
+      heard.hear(one, ++number, isOctets ? beginOf(file, one.end) : 0);
+    }
+  }
+  heard.isWithoutLines = true;
+  heard.silence = isOctets ? LINE.octets : silenceOf(toLine(file.subarray(0, 64 * WINDOW)));
+  return heard;
+}
+
+// What is said of bits without a frame.
+function silenceOf(bits) {
+  const samples = bits.length === 0 ? 1 : samplesOf(bits);
+  return samples > 1 ? LINE.faster.replace('{count}', samples) : LINE.bits;
 }
 
 // What one side sent, line by line of a log.
@@ -138,16 +149,22 @@ class Side {
     Object.assign(this, { wire, alone, own, isBegun: false, isOpen: false });
   }
 
-  // What the octets of a line say, alone or with those above; null if they say nothing, and no flag came down to here. A row of a dump
-  // is never alone.
-  read(octets, isRow) {
+  // Hears the octets of a line, alone or with those above. They are damaged if they say nothing, and no flag came down to here. A row of a
+  // dump is never alone.
+  hear(heard, octets, line, { said, time }, isRow) {
     const hasFlags = octets.includes(FLAG), alone = hasFlags || isRow || this.isOpen ? [] : this.readAlone(octets);
-    if (alone.length > 0) return alone;
-    if (!hasFlags && !this.isBegun) return null;
+    for (const one of alone) heard.hear(one, line, 1, said, time);
+    if (alone.length > 0) return;
+    if (hasFlags || this.isBegun) this.goOn(heard, octets, line, said, time);
+    else if (!isRow) heard.addUnchecked(line);
+  }
+
+  goOn(heard, octets, line, said, time) {
     if (!this.isBegun) this.wire.start(this.own);
+    const { count } = this.wire;
+    for (const one of this.wire.read(octets)) heard.hear(one, line, beginOf(octets, one.end - count), said, time);
     this.isBegun = true;
     this.isOpen = octets.at(-1) !== FLAG;
-    return [...this.wire.read(octets)];
   }
 
   // What octets without flags say, if all of them are in frames.
@@ -189,33 +206,33 @@ function digitsOfRow(text) {
 const endOfRow = (text) => Number.parseInt((ROW_OF_DUMP.exec(text) || [])[1], 16) + (digitsOfRow(text) || '').length / 2;
 
 // Reads the lines of a log as the octets of a line.
-function readDigits(library, logReader, file, own) {
-  const lines = linesOf(octetsOf(file), LOG_FORMS.auto), heard = new Heard(file, lines), alone = wireOf(library, 'alone');
-  const parts = lines.map((text, index) => partOfLine(text, lines[index - 1] || ''));
-  const sides = Object.values(LOG_SIDES).map((side) => new Side(wireOf(library, side), alone, own));
+function* readDigits(library, logReader, octets, own) {
+  const lines = yield* part(0, 0.1, linesOf(octets, LOG_FORMS.auto)), heard = new Heard(lines, octets.length), parts = [];
+  yield* part(0.1, 0.4, each(lines.length, (index) => { parts.push(partOfLine(lines[index], lines[index - 1] || '')); }));
+  const sides = Object.values(LOG_SIDES).map((side) => new Side(wireOf(library, side), wireOf(library, 'alone'), own));
   // What the library says of a frame with the same before it.
   const heads = new TextEncoder().encode(parts.map(({ head }) => `${head === null ? '' : head} b600000000000001\n`).join(''));
   let heading = {};
-  for (const { line, said, time } of logReader.read(heads, LOG_FORMS.auto)) {
-    const { digits, head } = parts[line - 1], before = head === null ? heading : { said, time };
-    if (digits === '' || digits.length % 2 === 1) {
-      if (head.trim() !== '') heading = { said, time };
-      continue;
+  for (const [verdicts, share] of logReader.read(heads, LOG_FORMS.auto)) {
+    yield 0.4 + 0.6 * share;
+    for (const { line, said, time } of verdicts) {
+      const { digits, head } = parts[line - 1], before = head === null ? heading : { said, time };
+      if (digits !== '' && digits.length % 2 === 0) sides[before.said || 0].hear(heard, fromHex(digits), line, before, head === null);
+      else if (head.trim() !== '') heading = { said, time };
     }
-    const says = sides[before.said || 0].read(fromHex(digits), head === null);
-    if (says === null && head !== null) heard.addDamaged(line);
-    for (const one of says || []) heard.add(one, line, before.said, before.time);
   }
   return heard;
 }
 
 // Reads a file: in a way that is chosen or, if the form is `auto`, as what it shows itself to be.
-export function readAny(library, logReader, name, file, form, own = OWN) {
-  const logForm = formOf(name, form), way = form in LINE_WAYS ? form : logForm === LOG_FORMS.auto ? lineWayOf(library, file) : '';
-  if (way !== '') return readLine(library, logReader, file, way, own);
-  const read = readLog(library, logReader, file, logForm), { messages } = read;
-  const isRead = messages.isPossible.subarray(0, messages.count).some((it, place) => it === 0 && messages.lengths[place] > 0);
-  if (isRead || logForm !== LOG_FORMS.auto || !FLAGGED.test(asLatin(octetsOf(file).subarray(0, WINDOW)))) return read;
-  const heard = readDigits(library, logReader, file, own);
-  return heard.frames > 0 ? heard.result() : read;
+export function* readAny(library, logReader, name, file, { form, own = OWN, pattern }) {
+  const isRewritten = form in REWRITINGS, logForm = formOf(name, isRewritten ? 'any' : form);
+  const way = form in LINE_WAYS ? form : logForm === LOG_FORMS.auto && !isRewritten ? lineWayOf(library, file) : '';
+  if (way in LINE_WAYS && way !== 'digits') return yield* readLine(library, file, way, own);
+  const octets = yield* part(0, 0.1, isRewritten ? rewritten(file, form, pattern) : octetsOf(file));
+  if (way === 'digits') return yield* part(0.1, 1, readDigits(library, logReader, octets, own));
+  const read = yield* part(0.1, 0.9, readLog(library, logReader, octets, logForm));
+  if (read.sure > 0 || logForm !== LOG_FORMS.auto || !FLAGGED.test(asLatin(octets.subarray(0, WINDOW)))) return read;
+  const heard = yield* part(0.9, 1, readDigits(library, logReader, octets, own));
+  return heard.sure > 0 ? heard : read;
 }

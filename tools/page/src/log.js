@@ -1,44 +1,57 @@
 // A log that is open: its messages in the machine's memory, each decoded and judged once by the proved library, and
 // counts of what was found.
 
-import { LOG_FORMS } from './constants.js';
-import { ENDS, isOfOneSide, Judging, sidesOf } from './judging.js';
+import { LOG_FORMS, LOG_SIDES } from './constants.js';
+import { ENDS, isOfOneSide, Judging, Sides } from './judging.js';
 import { BLOCK, FIRST_ANSWER, POLL, STATUS_BITS } from './library.js';
-import { DIRECTION } from './messagelist.js';
-import { recordOf } from './record.js';
+import { Record } from './record.js';
 import { breachWords, restartWords, ruleOf } from './rules.js';
+import { each, part } from './slices.js';
 import { verdictOf } from './verdict.js';
 
+const { noSide, fromCpu, fromModule } = LOG_SIDES;
+
 export class Log {
-  // `read` is what readLog gives. `end` says where the log was taken: what was sent there is what the CPU sent or heard. If it is
+  // `found` is what was read. `end` says where the log was taken: what was sent there is what the CPU sent or heard. If it is
   // `auto`, most directions say which end it was.
-  constructor(library, arena, name, read, end) {
-    const { messages, form, passed, doubts, inTwoLines, isReversed } = read;
+  constructor(library, arena, name, found, end) {
+    const { messages, form, passed, remarks, inTwoLines, isReversed, isWithoutLines = false } = found;
     const { octets, end: after, ...columns } = messages;
-    Object.assign(this, { library, name, form, passed, doubts, inTwoLines, isReversed, ...columns });
+    Object.assign(this, { library, name, form, passed, remarks, inTwoLines, isReversed, isWithoutLines, ...columns });
     this.hasTimes = this.clocks.some((clock) => clock !== '');
-    this.hasDirections = this.sides.some((it) => it !== DIRECTION.none);
-    this.arena = arena.hold(octets.subarray(0, after));
-    this.poller = arena.poller;
-    for (const name of ['codes', 'blocks', 'status', 'entries', 'isFaulty']) this[name] = new Uint8Array(this.count);
-    this.stamps = new Uint32Array(this.count);
-    this.decodeAll();
+    this.hasDirections = this.sides.some((it) => it !== noSide);
     this.end = !this.hasDirections ? ENDS.bus : end !== ENDS.auto ? end : isReversed && form !== LOG_FORMS.transcript ? ENDS.module : ENDS.cpu;
-    this.directions = this.directionsOf();
-    this.logged = sidesOf(this);
-    this.sign = signOf(this, arena.signs);
-    this.judging = new Judging();
-    // By the places of their messages.
-    this.breaches = this.judging.breaches;
-    this.restarts = this.judging.restarts;
-    if (!isOfOneSide(this.logged)) this.judging.judgeAll(this, arena.judge, end);
-    this.record = recordOf(this);
-    this.summary = summaryOf(this);
+    Object.assign(this, { arena, taken: end, memory: arena.hold(octets.subarray(0, after)), poller: arena.poller });
+    for (const column of ['codes', 'blocks', 'status', 'entries', 'isFaulty', 'directions']) this[column] = new Uint8Array(this.count);
+    this.stamps = new Uint32Array(this.count);
+  }
+
+  // Decodes, counts and judges all messages.
+  *work() {
+    yield* part(0, 0.3, each(this.count, (place) => this.decode(place)));
+    const sides = new Sides(this);
+    this.arena.signs.call('start');
+    yield* part(0.3, 0.45, each(this.count, (place) => this.countHead(place, sides)));
+    Object.assign(this, { logged: sides.kind, sign: this.arena.signs.call('sign'), judging: new Judging(this, this.arena.judge) });
+    if (!isOfOneSide(this.logged)) yield* part(0.45, 0.65, this.judging.work());
+    this.record = new Record(this);
+    yield* part(0.65, 0.85, each(this.count, (place) => this.record.take(place)));
+    yield* part(0.85, 1, this.sum());
     this.verdict = verdictOf(this);
+    return this;
+  }
+
+  // The breaches and the restarts, by the places of their messages.
+  get breaches() {
+    return this.judging.breaches;
+  }
+
+  get restarts() {
+    return this.judging.restarts;
   }
 
   address(place) {
-    return this.arena + this.starts[place];
+    return this.memory + this.starts[place];
   }
 
   octets(place) {
@@ -49,10 +62,14 @@ export class Log {
     return this.lengths[place] === 0;
   }
 
+  // Whether a place has a message that is sure, or octets that are read as one.
+  isSure(place) {
+    return !this.isPossible[place] && !this.isBadLine(place);
+  }
+
   // The lines that `show` writes of a message.
   words(place) {
-    if (this.isBadLine(place)) return ['bad line'];
-    return this.library.show(this.address(place), this.lengths[place]);
+    return this.isBadLine(place) ? ['bad line'] : this.library.show(this.address(place), this.lengths[place]);
   }
 
   // What is written of a message: its lines, or the text of a damaged line or of a frame with another address.
@@ -61,35 +78,51 @@ export class Log {
     return said ? [said.text] : this.words(place);
   }
 
+  // Where a message is: its line or, if that has several messages, which one it is, and where it begins.
+  where(place) {
+    const line = this.lines[place], octet = this.at[place] > 0 ? `, octet ${this.at[place]}` : '';
+    if (this.isWithoutLines) return `message ${line}${octet}`;
+    return line === this.lines[place - 1] || place + 1 < this.count && line === this.lines[place + 1] ? `message ${place + 1}${octet} of line ${line}` : `line ${line}`;
+  }
+
   // What a message that is only possible says stays out of counts, of what is judged, and of the record.
-  decodeAll() {
-    for (let place = 0; place < this.count; place++) {
-      if (this.isPossible[place] || this.others.has(place)) continue;
-      const message = this.isBadLine(place) ? null : this.library.decode(this.address(place), this.lengths[place]);
-      if (message === null) {
-        this.isFaulty[place] = 1;
-        continue;
-      }
-      this.codes[place] = message.code;
-      if (message.code === POLL || message.code === BLOCK) this.blocks[place] = message.block;
-      if (message.isAnswer) [this.status[place], this.stamps[place]] = [message.status, message.stamp];
-      if (message.code === BLOCK) this.entries[place] = message.count;
-    }
+  decode(place) {
+    const isOther = this.others.has(place), isRead = !this.isPossible[place] && !isOther;
+    const message = isRead && !this.isBadLine(place) ? this.library.decode(this.address(place), this.lengths[place]) : null;
+    this.isFaulty[place] = isRead && message === null ? 1 : 0;
+    // A transcript by order says itself who sent a frame.
+    this.directions[place] = this.form === LOG_FORMS.transcript ? this.sides[place] : isOther || this.isFaulty[place] ? noSide : this.wayByType(place);
+    if (message === null) return;
+    this.codes[place] = message.code;
+    this.blocks[place] = message.block;
+    this.status[place] = message.status;
+    this.stamps[place] = message.stamp;
+    if (message.code === BLOCK) this.entries[place] = message.count;
   }
 
-  // The CPU sends commands. A transcript by order says itself who sent a frame.
-  directionsOf() {
-    const own = (place) => this.isFaulty[place] || this.others.has(place) ? DIRECTION.none : this.wayByType(place);
-    return Uint8Array.from({ length: this.count }, (_, place) => this.form === LOG_FORMS.transcript ? this.sides[place] : own(place));
-  }
-
+  // The CPU sends commands.
   wayByType(place) {
-    return this.octets(place)[0] < FIRST_ANSWER ? DIRECTION.sent : DIRECTION.heard;
+    return this.octets(place)[0] < FIRST_ANSWER ? fromCpu : fromModule;
   }
 
-  // Whether the CPU sent or heard a message, as it is judged: by its first octet if nothing says it.
-  judgedWay(place) {
-    return this.directions[place] === DIRECTION.none ? this.wayByType(place) : this.directions[place];
+  // Whether the CPU sent a message, as it is judged: by its first octet if nothing says it.
+  isSent(place) {
+    return (this.directions[place] || this.wayByType(place)) === fromCpu;
+  }
+
+  // Counts a message to tell which directions the log has, and what kind of log it looks like.
+  countHead(place, sides) {
+    sides.add(place);
+    if (this.isSure(place)) this.arena.signs.frame(this.isSent(place), this.sides[place], this.address(place), this.lengths[place]);
+  }
+
+  // How many messages each fact holds for; of entries how many there are, and no frame with another address is a message.
+  *sum() {
+    this.summary = { badLines: this.lengths.subarray(0, this.count).reduce((sum, length) => sum + (length === 0 ? 1 : 0), -this.others.size) };
+    for (const [index, [name, , test]] of FACTS.entries()) {
+      this.summary[name] = yield* part(index / FACTS.length, (index + 1) / FACTS.length, each(this.count, (place) => test(this, place)));
+    }
+    Object.assign(this.summary, { messages: this.count - this.others.size, entries: this.entries.reduce((sum, entries) => sum + entries, 0) });
   }
 
   // What `fio2070 check` says of a transcript, by the rules on messages alone.
@@ -129,11 +162,16 @@ export class Log {
     return this.codes[place] === BLOCK && (this.status[place] & bit) !== 0;
   }
 
+  // The next place in a direction that is no frame with another address.
+  beside(place, step) {
+    let next = place + step;
+    while (this.others.has(next)) next += step;
+    return next;
+  }
+
   // Whether an answer is not directly below its command.
   isUndue(place) {
-    let above = place - 1;
-    while (this.others.has(above)) above -= 1;
-    return this.codes[above] + FIRST_ANSWER !== this.codes[place];
+    return this.codes[this.beside(place, -1)] + FIRST_ANSWER !== this.codes[place];
   }
 
   // Whether an answer is to a command above: a block of the number that was polled last, or of the one before.
@@ -145,9 +183,9 @@ export class Log {
   // Whether a message is a poll with no block answer directly below. Above a damaged line that is not known, nor in a log that
   // has one direction alone.
   isUnanswered(place) {
-    let next = place + 1;
-    while (this.others.has(next)) next += 1;
-    return this.codes[place] === POLL && this.codes[next] !== BLOCK && !this.damaged.has(next) && !isOfOneSide(this.logged);
+    if (this.codes[place] !== POLL) return false;
+    const next = this.beside(place, 1);
+    return this.codes[next] !== BLOCK && !this.damaged.has(next) && !isOfOneSide(this.logged);
   }
 
   // The text that `show` writes of these messages.
@@ -172,24 +210,3 @@ export const FACTS = [
   ['blocks', 'block', (log, place) => log.codes[place] === BLOCK],
   ['entries', 'entry', (log, place) => log.entries[place] > 0],
 ];
-
-// How many messages each fact holds for; of entries how many there are, and no frame with another address is a message.
-function summaryOf(log) {
-  const { size } = log.others, count = (test) => {
-    let found = 0;
-    for (let place = 0; place < log.count; place++) found += test(log, place) ? 1 : 0;
-    return found;
-  };
-  return { ...Object.fromEntries(FACTS.map(([name, , test]) => [name, count(test)])), messages: log.count - size,
-    badLines: count((_, place) => log.isBadLine(place)) - size, entries: log.entries.reduce((sum, entries) => sum + entries, 0) };
-}
-
-// What kind of log it looks like, if it is not the log of one link in order: the number of its sign, by which SIGNS has the words.
-function signOf(log, signs) {
-  signs.call('start');
-  for (let place = 0; place < log.count; place++) {
-    if (log.isPossible[place] || log.isBadLine(place)) continue;
-    signs.frame(log.judgedWay(place) === DIRECTION.sent, log.sides[place], log.address(place), log.lengths[place]);
-  }
-  return signs.call('sign');
-}

@@ -1,81 +1,57 @@
 // The library's reader of logs. It takes the octets of a log, and gives a verdict on each line.
 
-import { AT, SIZE } from './layouts.js';
+import { STRUCTS } from './layouts.js';
+import { Kept } from './library.js';
 
 // The octets that are handed to the library at a time.
 const PIECE = 65536;
 
-export class LogReader {
+export class LogReader extends Kept {
   constructor(library) {
-    const { machine, calls } = library;
-    Object.assign(this, { machine, calls, reader: BigInt(machine.reserve(SIZE.logReader)), batch: machine.reserve(SIZE.logBatch),
-      piece: machine.reserve(PIECE) });
+    super(library, 'log', 'logReader');
+    Object.assign(this, { batch: this.machine.reserve(STRUCTS.logBatch.size), piece: this.machine.reserve(PIECE) });
   }
 
-  // The verdicts on all lines of a log, in order. `form` is one of LOG_FORMS.
+  // The verdicts on all lines of a log, in order, a batch at a time, with the share of the log that was read. `form` is one of LOG_FORMS.
   *read(octets, form) {
-    this.calls.fio2070_log_start(this.reader, form);
-    for (let start = 0; start < octets.length; start += PIECE) yield* this.ofPiece(octets.subarray(start, start + PIECE));
-    this.calls.fio2070_log_end(this.reader);
-    for (;;) {
-      this.take(0, 0);
-      const verdicts = this.verdicts();
-      if (verdicts.length === 0) return;
-      yield* verdicts;
+    this.call('start', form);
+    for (let start = 0; start < octets.length; start += PIECE) {
+      const piece = octets.subarray(start, start + PIECE);
+      this.machine.octets(this.piece, piece.length).set(piece);
+      for (let taken = 0; taken < piece.length;) {
+        taken += this.take(taken, piece.length - taken);
+        yield [this.verdicts(), start / octets.length];
+      }
     }
-  }
-
-  *ofPiece(octets) {
-    this.machine.octets(this.piece, octets.length).set(octets);
-    let taken = 0;
-    while (taken < octets.length) {
-      taken += this.take(taken, octets.length - taken);
-      yield* this.verdicts();
+    this.call('end');
+    for (let found = null; found === null || found.length > 0;) {
+      this.take(0, 0);
+      found = this.verdicts();
+      yield [found, 1];
     }
   }
 
   // Hands octets of the piece to the library, and returns how many it took.
   take(start, length) {
-    return Number(this.calls.fio2070_log_read(this.reader, BigInt(this.piece + start), BigInt(length), BigInt(this.batch)));
+    return Number(this.call('read', BigInt(this.piece + start), BigInt(length), BigInt(this.batch)));
   }
 
-  // The verdicts of the batch, each with copies of its frames.
+  // The verdicts of the batch, each with copies of its frames, and with where their octets are written: a line, and the indexes of its
+  // first character and of the one after the last.
   verdicts() {
-    const { data } = this.machine, { logBatch, logVerdict } = AT, found = [];
-    const count = data.getUint32(this.batch + logBatch.verdict_count, true);
-    // How many frames, octets and places are those of verdicts above.
-    const above = { frames: 0, octets: 0, places: 0 };
-    for (let index = 0, at = this.batch + logBatch.verdicts; index < count; index++, at += SIZE.logVerdict) {
-      found.push({
-        line: Number(data.getBigUint64(at + logVerdict.line, true)), kind: data.getUint8(at + logVerdict.kind),
-        reason: data.getUint8(at + logVerdict.reason), said: data.getUint8(at + logVerdict.said),
-        // In seconds.
-        time: data.getUint8(at + logVerdict.has_time) === 1 ? Number(data.getBigUint64(at + logVerdict.time, true)) / 1e6 : null,
-        frames: this.frames(above, data.getUint32(at + logVerdict.frames, true)),
-        places: this.places(above, data.getUint32(at + logVerdict.places, true)),
-      });
-    }
-    return found;
-  }
-
-  // The next frames of the batch.
-  frames(above, count) {
-    const { data } = this.machine, { logBatch } = AT, found = [];
-    for (let index = 0; index < count; index++) {
-      const length = data.getUint16(this.batch + logBatch.lengths + 2 * above.frames++, true), start = this.batch + logBatch.octets + above.octets;
-      found.push(this.machine.all.slice(start, start + length));
-      above.octets += length;
-    }
-    return found;
-  }
-
-  // Where the octets of the next frames are written: a line, and the indexes of its first character and of the one after the last.
-  places(above, count) {
-    const { data } = this.machine, { logBatch, logPlace } = AT, found = [];
-    for (let index = 0; index < count; index++) {
-      const at = this.batch + logBatch.places + SIZE.logPlace * above.places++;
-      found.push({ line: Number(data.getBigUint64(at + logPlace.line, true)), start: data.getUint32(at + logPlace.start, true),
-        end: data.getUint32(at + logPlace.end, true) });
+    const { library, machine } = this, batch = library.read('logBatch', this.batch), found = [];
+    const next = (name, field) => library.read(name, (batch[field] += STRUCTS[name].size) - STRUCTS[name].size);
+    for (let index = 0; index < batch.verdict_count; index++) {
+      const verdict = next('logVerdict', 'verdicts'), frames = [], places = [];
+      for (let count = 0; count < verdict.frames; count++, batch.lengths += 2) {
+        const start = batch.octets;
+        batch.octets += machine.data.getUint16(batch.lengths, true);
+        frames.push(machine.all.slice(start, batch.octets));
+      }
+      for (let count = 0; count < verdict.places; count++) places.push(next('logPlace', 'places'));
+      // A time in seconds.
+      const { kind, reason, said } = verdict, time = verdict.has_time ? Number(verdict.time) / 1e6 : null;
+      found.push({ kind, reason, said, line: Number(verdict.line), time, frames, places });
     }
     return found;
   }

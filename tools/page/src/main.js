@@ -1,8 +1,8 @@
 // Starts the library and the views, and says so where this browser can't.
 
-import { byId } from './dom.js';
+import { byId, element } from './dom.js';
 import { InputsView } from './inputs.js';
-import { Library, LogJudge, LogSigns, Poller } from './library.js';
+import { Arena, Library } from './library.js';
 import { readAny } from './line.js';
 import { Log } from './log.js';
 import { LogReader } from './log_reader.js';
@@ -11,24 +11,8 @@ import { MessagesView } from './messages.js';
 import { OpenView } from './open.js';
 import { PlanView } from './plan.js';
 import { PlayView } from './play.js';
+import { inSlices, part } from './slices.js';
 import { Tabs } from './tabs.js';
-
-// What the log that is open needs in the machine's memory: its octets, a poller, what judges it, and what counts its messages.
-class Arena {
-  constructor(library) {
-    Object.assign(this, { machine: library.machine, address: 0, size: 0 });
-    Object.assign(this, { poller: new Poller(library, 0), judge: new LogJudge(library), signs: new LogSigns(library) });
-  }
-
-  hold(octets) {
-    if (octets.length > this.size) {
-      this.address = this.machine.reserve(octets.length);
-      this.size = octets.length;
-    }
-    this.machine.octets(this.address, octets.length).set(octets);
-    return this.address;
-  }
-}
 
 function trouble(text) {
   byId('trouble').textContent = text;
@@ -36,18 +20,24 @@ function trouble(text) {
 }
 
 function useTheme() {
-  const dark = matchMedia('(prefers-color-scheme: dark)');
-  const set = (isDark) => { document.documentElement.dataset.theme = isDark ? 'dark' : 'light'; };
+  const dark = matchMedia('(prefers-color-scheme: dark)'), { dataset } = document.documentElement;
+  const set = (isDark) => { dataset.theme = isDark ? 'dark' : 'light'; };
   set(dark.matches);
   dark.addEventListener('change', () => set(dark.matches));
   // Paper is light.
   let before = '';
   window.addEventListener('beforeprint', () => {
-    before = document.documentElement.dataset.theme;
+    before = dataset.theme;
     set(false);
   });
   window.addEventListener('afterprint', () => set(before === 'dark'));
-  byId('theme').addEventListener('click', () => set(document.documentElement.dataset.theme !== 'dark'));
+  byId('theme').addEventListener('click', () => set(dataset.theme !== 'dark'));
+}
+
+// Reads and judges a log.
+function* logOf(library, arena, logReader, name, octets, chosen) {
+  const found = yield* part(0, 0.6, readAny(library, logReader, name, octets, chosen));
+  return yield* part(0.6, 1, new Log(library, arena, name, found, chosen.end).work());
 }
 
 function startViews(library) {
@@ -59,11 +49,23 @@ function startViews(library) {
     tabs.show('messages');
     messages.goTo(place);
   }, back);
-  const open = (name, octets, end, form, own) => {
+  // What is read last is shown.
+  let latest = null;
+  const open = async (name, octets, chosen) => {
+    const own = latest = {}, stop = () => {
+      latest = null;
+      messages.close(`${name} was not read to its end`, element('p', {}, 'Nothing of it is shown.'));
+    };
     trouble('');
-    const log = new Log(library, arena, name, readAny(library, logReader, name, octets, form, own), end);
     tabs.show('messages');
-    messages.open(log, octets, () => open(name, octets, end, 'any', own));
+    const log = await inSlices(logOf(library, arena, logReader, name, octets, chosen), (share) => {
+      if (latest !== own) return false;
+      inputs.close();
+      messages.showReading(name, share, stop);
+      return true;
+    });
+    if (!log) return;
+    messages.open(log, octets, () => open(name, octets, { ...chosen, form: 'any' }));
     inputs.open(log);
     document.documentElement.dataset.opened = name;
   };

@@ -1,13 +1,13 @@
 // Messages of a log as they are read: their octets one after the other, and a column for each thing known of them.
 
-// Who sent a message, by the numbers of LOG_SIDES.
-export const DIRECTION = { none: 0, sent: 1, heard: 2 };
+import { LOG_SIDES } from './constants.js';
+
 // What skipped lines say above a message: that frames may be lost, or that another part of the log begins.
 export const MARKS = { loss: 1, heading: 2 };
 
-// The columns: `sides` has what the log says of the side that sent each; `marks` the MARKS of the lines directly above each, and those
-// above the end of the log in the place after the last.
-const COLUMN_OF = { starts: Uint32Array, lengths: Uint32Array, lines: Uint32Array, sides: Uint8Array, isPossible: Uint8Array,
+// The columns: `at` has the octet of its line at which each begins, counted from 1, or 0; `sides` what the log says of the side that sent
+// each; `marks` the MARKS of the lines directly above each, and those above the end of the log in the place after the last.
+const COLUMN_OF = { starts: Uint32Array, lengths: Uint32Array, lines: Uint32Array, at: Uint32Array, sides: Uint8Array, isPossible: Uint8Array,
   marks: Uint8Array, times: Float64Array };
 
 export class MessageList {
@@ -30,11 +30,12 @@ export class MessageList {
     }
   }
 
-  add({ line, side, octets, isPossible, time, clock }) {
+  add({ line, at = 0, side = LOG_SIDES.noSide, octets, isPossible = false, time = null, clock = '' }) {
     const place = this.count++;
     this.starts[place] = this.end;
     this.lengths[place] = octets.length;
     this.lines[place] = line;
+    this.at[place] = at;
     this.sides[place] = side;
     this.isPossible[place] = isPossible ? 1 : 0;
     this.times[place] = time ?? NaN;
@@ -58,6 +59,6 @@ export class MessageList {
   // A line that can't be read: a message without octets. `damage` is why it gave no frame, and its text, if it may have held one.
   addBad(line, damage = null) {
     if (damage) this.damaged.set(this.count, damage);
-    this.add({ line, side: DIRECTION.none, octets: new Uint8Array(0), isPossible: false, time: null, clock: '' });
+    this.add({ line, octets: new Uint8Array(0) });
   }
 }

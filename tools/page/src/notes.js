@@ -8,13 +8,12 @@ import { POSSIBLE } from './log_words.js';
 // The bits of a block's status in few words; the detail has them in full.
 const IN_SHORT = { C: 'more entries wait', F: 'entries were pushed out', E: 'sent again', G: 'a block number was left out' };
 
-// What the bits of the status that are 1 say.
-export function statusNotes(code, status) {
-  const found = BITS[code];
-  if (!found || found.word !== 'status' || status === 0) return [];
-  return found.bits.filter(([, bit]) => (status & bit) !== 0)
-    .map(([letter, , says]) => `${letter}: ${code === BLOCK && IN_SHORT[letter] || says}`);
-}
+// The bits that are 1 in a value of the flags or the status of a type: their letters, and what they say.
+export const bitsOf = (code, value) => (BITS[code]?.bits || []).filter(([, bit]) => (value & bit) !== 0).map(([letter, , says]) => [letter, says]);
+
+// The same of a status, in few words.
+export const statusNotes = (code, status) => BITS[code]?.word !== 'status' ? []
+  : bitsOf(code, status).map(([letter, says]) => `${letter}: ${code === BLOCK && IN_SHORT[letter] || says}`);
 
 // Why a message is not judged, or a line gave none; empty if neither is so.
 export const doubtOf = (log, place) => log.isPossible[place] ? POSSIBLE : (log.damaged.get(place) || log.others.get(place) || { why: '' }).why;
@@ -29,6 +28,7 @@ export function noteOf(log, place) {
 
 // Whether a row of a log has a note.
 export function hasNotes(log) {
-  if (log.breaches.size > 0 || log.restarts.size > 0 || log.damaged.size > 0 || log.others.size > 0 || log.summary.unanswered > 0 || log.summary.possible > 0) return true;
-  return log.status.subarray(0, log.count).some((status, place) => status > 0 && statusNotes(log.codes[place], status).length > 0);
+  const { summary, status, codes } = log;
+  return log.breaches.size + log.restarts.size + log.damaged.size + log.others.size + summary.unanswered + summary.possible > 0
+    || status.some((it, place) => it > 0 && statusNotes(codes[place], it).length > 0);
 }

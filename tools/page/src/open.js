@@ -4,7 +4,7 @@ import { element, labelled, select } from './dom.js';
 import { fromHex } from './hex.js';
 import { ENDS } from './judging.js';
 import { LINE_WAYS } from './line.js';
-import { REWRITINGS, rewritten } from './rewriting.js';
+import { REWRITINGS } from './rewriting.js';
 import { ANY, OWN } from './wire.js';
 
 const MOST_OCTETS = 256 * 2 ** 20;
@@ -47,7 +47,7 @@ const IN_WORDS = {
 };
 
 export class OpenView {
-  // `open(name, octets, end, form)` opens a log, which is read in a form by order, or in `auto`.
+  // `open(name, octets, chosen)` opens a log, which was taken at an end, and is read in a form.
   constructor(root, examples, open) {
     Object.assign(this, { open, end: ENDS.auto, form: 'auto', examples });
     const names = Object.keys(examples).filter((name) => !name.endsWith('.script') && !STORIES.some(([story]) => story === name));
@@ -69,7 +69,7 @@ export class OpenView {
     const ends = select('Where the log was taken', [[ENDS.auto, 'Take it from the directions'], [ENDS.cpu, 'At the CPU'],
       [ENDS.module, 'At the module'], [ENDS.bus, 'Elsewhere on the bus']], (end) => { this.end = end; }, 'end');
     const forms = select('How the log is written', [['auto', 'Take it from the lines'], ['frames', 'Frames, as fio2070 show reads them'],
-      ['transcript', 'A transcript, as fio2070 check reads it'], ...Object.entries(REWRITINGS).map(([way, [words]]) => [way, words]), ...Object.entries(LINE_WAYS)],
+      ['transcript', 'A transcript, as fio2070 check reads it'], ...Object.entries(REWRITINGS), ...Object.entries(LINE_WAYS)],
     (form) => {
       this.form = form;
       pattern.hidden = form !== 'pattern';
@@ -109,7 +109,7 @@ export class OpenView {
 
   example(name) {
     const octets = Uint8Array.from(atob(this.examples[name]), (letter) => letter.charCodeAt(0));
-    this.open(name, octets, ENDS.auto, 'auto');
+    this.open(name, octets, { form: 'auto', end: ENDS.auto });
   }
 
   dropped(event) {
@@ -136,8 +136,7 @@ export class OpenView {
   }
 
   give(name, octets) {
-    if (this.form in REWRITINGS) this.open(name, rewritten(octets, this.form, this.pattern.value), this.end, 'any');
-    else this.open(name, octets, this.end, this.form, this.own);
+    this.open(name, octets, { form: this.form, end: this.end, own: this.own, pattern: this.pattern.value });
   }
 
   // The address and control octet that are judged.

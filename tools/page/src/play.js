@@ -30,7 +30,7 @@ const PLAYED_STORIES = [['lost-poll.script', 'A poll is lost'], ['lost-answer.sc
 
 export class PlayView {
   constructor(root, library, examples) {
-    Object.assign(this, { library, examples, module: new Module(library), poller: new Poller(library, 0), levels: ALL_ONES, lost: new Set() });
+    Object.assign(this, { library, examples, module: new Module(library), poller: new Poller(library), levels: ALL_ONES, lost: new Set() });
     const buttons = Array.from({ length: INPUTS }, (_, input) => this.levelButton(input));
     this.grid = element('div', { role: 'group', 'aria-label': `Levels of the ${INPUTS} inputs` }, element('div', { class: 'levels' }, ...buttons.slice(0, SEEN_INPUTS)),
       element('details', {}, element('summary', {}, `${INPUTS - SEEN_INPUTS} more inputs`), element('div', { class: 'levels' }, ...buttons.slice(SEEN_INPUTS))));
@@ -193,8 +193,8 @@ export class PlayView {
     this.drawLevels();
     this.drawFrames(this.toModule, run.toModule, 'to-module');
     this.drawFrames(this.toCpu, run.toCpu, 'to-cpu');
-    const rows = [['The module’s counter shows', run.module.counter + ' ms'], ['Entries wait at the module', String(run.module.waiting)],
-      ['The filtered states are', levelsText(run.module.filtered)], ['The CPU polls next for', 'block ' + run.poller.number]];
+    const rows = [['The module’s counter shows', run.module.state.counter + ' ms'], ['Entries wait at the module', String(run.module.state.waiting)],
+      ['The filtered states are', levelsText(run.module.state.filtered)], ['The CPU polls next for', 'block ' + run.poller.number]];
     this.ends.replaceChildren(...rows.map(([what, value]) => element('tr', {},
       element('th', { scope: 'row' }, what), element('td', { class: 'mono' }, value))));
     this.record.textContent = run.record.slice(-SHOWN_LINES).map(itemText).join('\n') || 'Nothing is recorded yet.';

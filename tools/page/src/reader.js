@@ -3,18 +3,21 @@
 
 import { isCapture, linesOfCapture } from './captures.js';
 import { clockOf } from './clocks.js';
-import { LOG_FORMS, LOG_KINDS, LOG_REASONS } from './constants.js';
+import { LOG_FORMS, LOG_KINDS, LOG_REASONS, LOG_SIDES } from './constants.js';
 import { Doubts } from './doubts.js';
 import { fromHex } from './hex.js';
 import { FIRST_ANSWER } from './library.js';
 import { REASONS } from './log_words.js';
-import { DIRECTION, MARKS, MessageList } from './messagelist.js';
+import { MARKS, MessageList } from './messagelist.js';
 import { IN_TWO_LINES, Pieces } from './pieces.js';
+import { part } from './slices.js';
 
 // The year 10000, which no time of a log has.
 const END_OF_TIME = 253_402_300_800;
 // Of a damaged line the beginning is shown.
 const LONGEST_SHOWN = 100;
+// The octets of which lines are made at a time.
+const PIECE_OF_LINES = 1 << 17, NEW_LINE = 10;
 // What is no character of a line.
 const UNSEEN = /\x1b\[[^A-Za-z]*[A-Za-z]?|[\0\ufeff]/g;
 const BYTE_ORDER_MARKS = { 0xfffe: 'utf-16le', 0xfeff: 'utf-16be' };
@@ -27,43 +30,63 @@ export function formOf(name, asked) {
 }
 
 // The octets of a file in UTF-8; those of a capture of packets are its lines.
-export function octetsOf(file) {
-  if (isCapture(file)) return linesOfCapture(file);
+export function* octetsOf(file) {
+  if (isCapture(file)) return yield* linesOfCapture(file);
   const encoding = file.length > 1 ? BYTE_ORDER_MARKS[file[0] << 8 | file[1]] : undefined;
   return encoding ? new TextEncoder().encode(new TextDecoder(encoding).decode(file)) : file;
 }
 
 // The lines of a log.
-export const linesOf = (octets, form) => new TextDecoder().decode(octets).split(form === LOG_FORMS.auto ? /\r\n|\r|\n/ : '\n');
+export function* linesOf(octets, form) {
+  const lines = [''], decoder = new TextDecoder(), ending = form === LOG_FORMS.auto ? /\r\n|\r|\n/ : '\n';
+  for (let start = 0; start < octets.length;) {
+    yield start / octets.length;
+    // Up to the end of a line.
+    const end = octets.indexOf(NEW_LINE, start + PIECE_OF_LINES) + 1 || octets.length;
+    const [first, ...more] = decoder.decode(octets.subarray(start, end), { stream: true }).split(ending);
+    lines[lines.length - 1] += first;
+    for (const line of more) lines.push(line);
+    start = end;
+  }
+  return lines;
+}
 
 // What a skipped line says of the messages below it, by the number of its reason. One with a short message may have been a frame.
 const MARK_OF = { [LOG_REASONS.loss]: MARKS.loss, [LOG_REASONS.shortMessage]: MARKS.loss, [LOG_REASONS.heading]: MARKS.heading };
 
 const WITHOUT_MESSAGE = [LOG_KINDS.damaged, LOG_KINDS.passedOver];
 
-// Reads a file in a form of LOG_FORMS: its messages, how many lines are passed over by the number of their reason, what is doubtful,
-// and what the log says of directions.
-export function readLog(library, logReader, file, form) {
-  const octets = octetsOf(file), lines = linesOf(octets, form);
-  const found = new Found(lines, form, new MessageList(lines.length, octets.length), new Doubts(library));
+// Reads the octets of a log in a form of LOG_FORMS.
+export function* readLog(library, logReader, octets, form) {
+  const lines = yield* part(0, 0.1, linesOf(octets, form)), found = new Found(lines, form, octets.length, new Doubts(library));
   const pieces = new Pieces(library, found);
-  for (const verdict of logReader.read(octets, form)) {
-    if (verdict.kind !== LOG_KINDS.blank) pieces.add(verdict, form === LOG_FORMS.auto && WITHOUT_MESSAGE.includes(verdict.kind));
+  for (const [verdicts, share] of logReader.read(octets, form)) {
+    for (const verdict of verdicts) {
+      if (verdict.kind !== LOG_KINDS.blank) pieces.add(verdict, form === LOG_FORMS.auto && WITHOUT_MESSAGE.includes(verdict.kind));
+    }
+    yield 0.1 + 0.9 * share;
   }
   pieces.end();
-  return found.result();
+  return found;
 }
 
-// Makes messages of verdicts.
+// What is found in a log by verdicts: its messages, how many lines are passed over by the number of their reason, what is doubtful, and
+// what the log says of directions.
 export class Found {
-  constructor(lines, form, messages, doubts) {
-    // How many frames have the direction of their type in the log's words, and how many the other one.
-    Object.assign(this, { lines, form, messages, doubts, passed: REASONS.map(() => 0), inTwoLines: 0, agreeing: 0, reversed: 0 });
+  // `lines` are those of a log with so many octets.
+  constructor(lines, form, octets, doubts) {
+    Object.assign(this, { lines, form, doubts, messages: new MessageList(lines.length, octets) });
+    // How many frames are sure; how many have the direction of their type in the log's words, and how many the other one.
+    Object.assign(this, { passed: REASONS.map(() => 0), inTwoLines: 0, sure: 0, agreeing: 0, reversed: 0 });
   }
 
-  result() {
-    const { form, messages, passed, doubts, inTwoLines, agreeing, reversed } = this;
-    return { form, messages, passed, doubts: doubts.words(), inTwoLines, isReversed: reversed > agreeing };
+  get isReversed() {
+    return this.reversed > this.agreeing;
+  }
+
+  // What stays doubtful, a sentence each.
+  get remarks() {
+    return this.doubts.words();
   }
 
   textOf(line) {
@@ -98,20 +121,25 @@ export class Found {
     this.addFrames({ line, kind: LOG_KINDS.says, said, time: null, frames: [fromHex(digits)], places: [] });
   }
 
-  // The numbers of the sides are those of directions.
-  addFrames({ line, kind, said: side, time, frames, places }) {
+  // The numbers of the sides are those of directions. `at` is the octet of the line at which the first frame begins, counted from 1; 0
+  // if it begins in a line above.
+  addFrames({ line, kind, said: side, time, frames, places, at = 1 }) {
     const text = this.textOf(line), isPossible = kind === LOG_KINDS.possible, inTime = time < END_OF_TIME ? time : null;
     const clock = inTime === null ? '' : clockOf([text, this.textOf(line - 1)], inTime);
-    if (!isPossible) frames.forEach((octets) => this.noteSide(side, octets[0]));
+    let begin = at;
     for (const octets of frames) {
-      this.messages.add({ line, side, octets, isPossible, time: inTime, clock });
-      if (!isPossible && this.form === LOG_FORMS.auto) this.doubts.add(text, octets, places);
+      this.messages.add({ line, side, octets, isPossible, time: inTime, clock, at: begin });
+      begin += octets.length;
+      if (isPossible) continue;
+      this.sure += 1;
+      this.noteSide(side, octets[0]);
+      if (this.form === LOG_FORMS.auto) this.doubts.add(text, octets, places);
     }
   }
 
   noteSide(side, code) {
-    if (side === DIRECTION.none) return;
-    if (side === (code < FIRST_ANSWER ? DIRECTION.sent : DIRECTION.heard)) this.agreeing += 1;
+    if (side === LOG_SIDES.noSide) return;
+    if (side === (code < FIRST_ANSWER ? LOG_SIDES.fromCpu : LOG_SIDES.fromModule)) this.agreeing += 1;
     else this.reversed += 1;
   }
 }

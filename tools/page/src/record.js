@@ -1,23 +1,63 @@
 // The record that the CPU of a log has, by the proved poller: transitions in order, and gap marks where the module said
 // that entries are missing. Times go on from one another, where the counter wraps, is loaded or starts anew.
 
+import { clockAfter } from './clocks.js';
 import { CONTENT_RULES } from './constants.js';
 import { BLOCK, HEARD, POLL } from './library.js';
 import { entryOf } from './rules.js';
 import { itemText } from './script.js';
+import { firstFrom } from './waves.js';
 
 const WRAP = 2 ** 32;
 // The input of a breach that has none.
 const NO_INPUT = 255;
 
-class Record {
-  constructor() {
-    // One array for each field of a transition: its time, its input, its state, and the message that carried it; and the indexes of
-    // those that break a rule on content.
-    Object.assign(this, { times: [], inputs: [], states: [], places: [], broken: [] });
+export class Record {
+  constructor(log) {
+    // The items, transitions and gap marks; the lanes of inputs, with the transitions of each; those that break a rule on content.
+    Object.assign(this, { log, items: [], lanes: new Map(), broken: new Set() });
     // Stretches with entries missing, the blocks taken, polls without an answer, polls that left a block out, and restarts.
     Object.assign(this, { gaps: [], blocks: [], lostPolls: [], skips: [], restarts: [] });
-    Object.assign(this, { offset: 0, latest: 0 });
+    Object.assign(this, { offset: 0, latest: 0, isStarted: false });
+    // The first item below a poll; and below which item `fio2070 record` ends, with its last line.
+    Object.assign(this, { begin: null, end: null });
+  }
+
+  // How many transitions there are.
+  get count() {
+    return this.items.length - this.gaps.length;
+  }
+
+  // Takes the next message. A poll that asks for the block that was taken last changes nothing: its answer is stale. One that asks for any
+  // other number than the poller's own sets the poller: the CPU of the log left a block out.
+  take(place) {
+    const { log } = this, { poller } = log, code = log.codes[place], mark = { place, time: this.latest };
+    if (log.restarts.has(place)) {
+      this.restarts.push(mark);
+      this.end ||= [this.items.length, `line ${log.lines[place]} restarted`];
+    }
+    if (!this.isStarted && (code === POLL || code === BLOCK)) {
+      poller.number = log.blocks[place];
+      this.isStarted = true;
+    }
+    if (code === BLOCK) this.hear(place, log.content(place));
+    else if (log.content(place)) this.end ||= [this.items.length, contentLine(log, place)];
+    if (code !== POLL) return;
+    this.begin ??= this.items.length;
+    if (log.isUnanswered(place)) this.lostPolls.push(mark);
+    const ahead = (log.blocks[place] - poller.number) & 255;
+    if (ahead === 0 || ahead === 255) return;
+    this.skips.push(mark);
+    poller.number = log.blocks[place];
+  }
+
+  // Hears a block, which may break a rule on content.
+  hear(place, content) {
+    const { log } = this, heard = log.poller.hear(log.address(place), log.lengths[place]), count = this.items.length;
+    if (content) this.end ||= [count + Math.min(content.items, heard.items), contentLine(log, place)];
+    if (heard.kind !== HEARD.taken) return;
+    this.add(heard.items, place, log.stamps[place]);
+    if (content && entryOf(log, place, content) >= 0) this.broken.add(this.items[count + content.items]);
   }
 
   // Follows the counter to the stamp of a block. A step back of more than half its range is a wrap; after any other, the
@@ -28,82 +68,46 @@ class Record {
     this.latest = stamp + this.offset;
   }
 
-  // Adds the items of a block that the poller took, which came in the message at a place.
-  add(poller, heard, place, stamp) {
+  // Adds the items of a block that the poller took.
+  add(count, place, stamp) {
     const before = this.latest;
     this.follow(stamp);
     this.blocks.push({ time: this.latest, place });
-    let from = -1;
-    for (let index = 0; index < heard.items; index++) {
-      const item = poller.recordItem(index);
-      if (item.isGap) {
-        from = before;
-        continue;
-      }
+    let gap = null;
+    for (let index = 0; index < count; index++) {
       // An entry is at most 65,536 ms older than its block.
-      const age = (stamp - item.wide) >>> 0;
-      const time = Math.max(this.latest - age, 0);
-      if (from >= 0) this.gaps.push({ from: Math.min(from, time), to: time, place });
-      from = -1;
-      this.times.push(time);
-      this.inputs.push(item.input);
-      this.states.push(item.state);
-      this.places.push(place);
+      const { gap: isGap, input, state, wide } = this.log.poller.recordItem(index), time = Math.max(this.latest - ((stamp - wide) >>> 0), 0);
+      const item = { gap: isGap, input, state, wide, place, time };
+      this.items.push(item);
+      if (isGap) this.gaps.push(gap = { from: before, to: this.latest });
+      else {
+        if (gap) Object.assign(gap, { from: Math.min(before, time), to: time });
+        gap = null;
+        this.lane(input).push(item);
+      }
     }
-    if (from >= 0) this.gaps.push({ from, to: this.latest, place });
   }
-}
 
-// Marks what stands between two blocks at the time of the block before it.
-const mark = (record, place) => ({ place, time: record.latest });
-
-// The record of a log. A poll that asks for the block that was taken last changes nothing: its answer is stale. One that
-// asks for any other number than the poller's own sets the poller: the CPU of the log left a block out.
-export function recordOf(log) {
-  const record = new Record(), { poller } = log;
-  let isStarted = false;
-  for (let place = 0; place < log.count; place++) {
-    const code = log.codes[place];
-    if (log.restarts.has(place)) record.restarts.push(mark(record, place));
-    if (code !== POLL && code !== BLOCK) continue;
-    if (!isStarted) poller.number = log.blocks[place];
-    isStarted = true;
-    if (code === BLOCK) {
-      const heard = poller.hear(log.address(place), log.lengths[place]);
-      if (heard.kind !== HEARD.taken) continue;
-      const content = log.content(place), entry = content ? entryOf(log, place, content) : -1;
-      if (entry >= 0) record.broken.push(record.times.length + entry);
-      record.add(poller, heard, place, log.stamps[place]);
-      continue;
-    }
-    if (log.isUnanswered(place)) record.lostPolls.push(mark(record, place));
-    const ahead = (log.blocks[place] - poller.number) & 255;
-    if (ahead === 0 || ahead === 255) continue;
-    record.skips.push(mark(record, place));
-    poller.number = log.blocks[place];
+  // The transitions of an input.
+  lane(input) {
+    if (!this.lanes.has(input)) this.lanes.set(input, []);
+    return this.lanes.get(input);
   }
-  return record;
-}
 
-// The lines that `fio2070 record` writes of a log: the record, to the first breach of a rule on content or the first restart of the
-// module, where the log keeps the rules of `check`, else the line of `check`. Null if the log does not say what the CPU sent and heard.
-export function recordLines(log) {
-  if (!log.isOfCpu) return null;
-  if (!log.checkLine.startsWith('good ')) return [log.checkLine];
-  const { poller } = log, lines = [];
-  const first = log.codes.indexOf(POLL);
-  if (first >= 0) poller.number = log.blocks[first];
-  for (let place = 0; place < log.count; place++) {
-    const content = log.content(place);
-    if (log.restarts.has(place)) return [`record ${lines.length}`, ...lines, `line ${log.lines[place]} restarted`];
-    if (first >= 0 && place > first && log.codes[place] === BLOCK) {
-      const heard = poller.hear(log.address(place), log.lengths[place]);
-      const items = Array.from({ length: heard.items }, (_, index) => itemText(poller.recordItem(index)));
-      lines.push(...items.slice(0, content ? content.items : heard.items));
-    }
-    if (content) return [`record ${lines.length}`, ...lines, contentLine(log, place)];
+  // The log's clock at a time of the record, by the latest block up to it; empty if the log has no time there.
+  clockAt(time) {
+    const block = this.blocks[Math.max(firstFrom(this.blocks, time + 1) - 1, 0)], clock = block ? this.log.clocks[block.place] : '';
+    return clock && clockAfter(clock, (time - block.time) / 1000);
   }
-  return [`record ${lines.length}`, ...lines];
+
+  // The lines that `fio2070 record` writes of a log: the record, to the first breach of a rule on content or the first restart of the
+  // module, where the log keeps the rules of `check`, else the line of `check`.
+  get lines() {
+    const { log, items } = this, [end, ...last] = this.end || [items.length];
+    if (!log.checkLine.startsWith('good ')) return [log.checkLine];
+    const recorded = items.slice(this.begin ?? end, end);
+    return [`record ${recorded.length}`, ...recorded.map(itemText), ...last];
+  }
 }
 
 // What `fio2070 record` says of a breach of a rule on content.

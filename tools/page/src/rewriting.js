@@ -3,6 +3,7 @@
 import { LOG_FORMS } from './constants.js';
 import { fromHex, hexText } from './hex.js';
 import { linesOf, octetsOf } from './reader.js';
+import { each, part } from './slices.js';
 
 const FLAGS = 0x7e, HEADER = 2, DUMPED = 16;
 // The octets at the end of a line, as hexadecimal digits of two each.
@@ -22,33 +23,30 @@ function withoutFraming(line) {
   return line.slice(0, -found.length) + hexText(octets.subarray(HEADER));
 }
 
-// What an expression finds in a line: the group `octets`, and perhaps `time` and `dir`.
-function found(expression, line) {
-  const { octets, time = '', dir = '' } = (expression.exec(line) || {}).groups || {};
-  return octets === undefined ? NO_FRAME : `${time} ${dir} ${digitsOf(octets)}`;
+// What an expression finds in a line: the group `octets`, and perhaps `time` and `dir`. Python names a group by `(?P<`.
+function byPattern(pattern) {
+  const expression = new RegExp(pattern.replaceAll('(?P<', '(?<'));
+  return (line) => {
+    const { octets, time = '', dir = '' } = (expression.exec(line) || {}).groups || {};
+    return octets === undefined ? NO_FRAME : `${time} ${dir} ${digitsOf(octets)}`;
+  };
 }
 
-// The rows of a hex dump of a file that is no text.
-function dump(file) {
-  const rows = Array.from({ length: Math.ceil(file.length / DUMPED) }, (_, row) => row * DUMPED);
-  return rows.map((at) => `${at.toString(16).padStart(8, '0')}: ${hexText(file.subarray(at, at + DUMPED)).replace(/(....)(?=.)/g, '$1 ')}`);
+// A row of the hex dump of a file that is no text.
+function dumped(file, row) {
+  const at = row * DUMPED;
+  return `${at.toString(16).padStart(8, '0')}: ${hexText(file.subarray(at, at + DUMPED)).replace(/(....)(?=.)/g, '$1 ')}`;
 }
 
-const inLines = (write) => (file) => linesOf(octetsOf(file), LOG_FORMS.auto).map((line) => line.trim() === '' ? '' : write(line));
-// Python names a group by `(?P<`.
-const expressionOf = (text) => new RegExp(text.replaceAll('(?P<', '(?<'));
-
-// The ways that a reader may choose: its name, its words, and the lines that it makes of a file.
-export const REWRITINGS = {
-  unchecked: ['SDLC frames, without their check', inLines(withoutFraming)],
-  pattern: ['As an expression finds it', (file, pattern) => {
-    const expression = expressionOf(pattern);
-    return inLines((line) => found(expression, line))(file);
-  }],
-  octets: ['A binary file of messages without flags', dump],
-};
+// The ways that a reader may choose, and their words.
+export const REWRITINGS = { unchecked: 'SDLC frames, without their check', pattern: 'As an expression finds it', octets: 'A binary file of messages without flags' };
 
 // The octets of a file as they are read if it is written in this way.
-export function rewritten(file, way, pattern) {
-  return new TextEncoder().encode(REWRITINGS[way][1](file, pattern).join('\n') + '\n');
+export function* rewritten(file, way, pattern) {
+  const isText = way !== 'octets', lines = isText ? yield* part(0, 0.2, linesOf(yield* part(0, 0.1, octetsOf(file)), LOG_FORMS.auto)) : [];
+  const write = way === 'pattern' ? byPattern(pattern) : withoutFraming, made = [];
+  yield* part(0.2, 1, each(isText ? lines.length : Math.ceil(file.length / DUMPED), (index) => {
+    made.push(isText ? lines[index].trim() && write(lines[index]) : dumped(file, index));
+  }));
+  return new TextEncoder().encode(made.join('\n') + '\n');
 }

@@ -42,7 +42,7 @@ export const RESTART_HELP = 'At a restart entries may be missing, and no gap mar
 // What was due and what came, or what the breach means.
 export function breachWords(log, place, breach) {
   if (breach.isContent) return contentWords(log, place, breach);
-  const { rule, hasDue, due, got } = breach;
+  const { rule, has_due: hasDue, due, got } = breach;
   if (hasDue) return DUE[RULES[rule]](due, got);
   if (rule === READABLE) return log.isFaulty[place] ? log.words(place)[0] : 'this line ' + RULE_BREACHES[rule];
   if (rule === LIMITS) return limitsWords(log, place);

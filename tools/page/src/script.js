@@ -102,13 +102,12 @@ export class Run {
     this.isRefused = outcome.startsWith('refused');
     this.events.push(line);
     this.lines.push(`${this.events.length} ${outcome}`);
-    this.waits.push(this.module.waiting);
+    this.waits.push(this.module.state.waiting);
     this.recorded.push(this.record.length);
   }
 
   sent(octets) {
-    const message = this.library.decode(this.library.place(octets), octets.length);
-    return message.code === POLL ? 'refused poll is ours' : this.toModule.send(octets);
+    return octets[0] === POLL ? 'refused poll is ours' : this.toModule.send(octets);
   }
 
   atModule(octets) {
@@ -130,8 +129,8 @@ export class Run {
 
   // The report, as `simulate` writes it.
   report() {
-    const end = this.isRefused ? [] : [`counter ${this.module.counter}`, `number ${this.poller.number}`,
-      `waiting ${this.module.waiting}`, `record ${this.record.length}`, ...this.record.map(itemText)];
+    const end = this.isRefused ? [] : [`counter ${this.module.state.counter}`, `number ${this.poller.number}`,
+      `waiting ${this.module.state.waiting}`, `record ${this.record.length}`, ...this.record.map(itemText)];
     return [...this.lines, ...end].map((line) => line + '\n').join('');
   }
 
@@ -148,4 +147,4 @@ const HEARD_WORDS = {
   [HEARD.other]: ({ code }) => `other ${code}`,
 };
 
-export const itemText = (item) => item.isGap ? 'gap' : `input ${item.input} state ${item.state} stamp ${item.stamp} wide ${item.wide}`;
+export const itemText = (item) => item.gap ? 'gap' : `input ${item.input} state ${item.state} stamp ${item.wide & 0xffff} wide ${item.wide}`;

@@ -2,51 +2,51 @@
 // reason.
 
 import { WHY } from './constants.js';
-import { counted, sentence, withCommas } from './dom.js';
+import { capital, counted, sentence, withCommas } from './dom.js';
 import { CAUSES, ENDS, isOfOneSide } from './judging.js';
 import { POLL } from './library.js';
 import { SIDES, SIGNS } from './log_words.js';
 import { RESTART_HELP, ruleOf } from './rules.js';
 
-export const VERDICTS = { good: 'good', partly: 'partly', unjudged: 'unjudged', restarted: 'restarted', broken: 'broken', none: 'none' };
-
-// The kind of a verdict, its sentence, more on it, the place of the first breach or restart (-1 if there is none), what kind of log it
-// looks like if it is not the log of one link in order, and sentences on what was not judged.
+// Its kind, as the style names it; its sentence, and more on it; the place of the first breach or restart (-1 if there is none); what kind
+// of log it looks like if it is not the log of one link in order; and sentences on what was not judged.
 export function verdictOf(log) {
-  const { messages, broken, restarts, possible, badLines } = log.summary, readable = messages - badLines - possible;
-  const judged = log.judging.unjudged.reduce((rest, count) => rest - count, readable);
-  const notJudged = sentencesOf(log, readable > 0);
-  const said = { more: '', first: -1, looksLike: sentence(SIGNS[log.sign]), notJudged };
-  if (readable === 0) return { ...said, kind: VERDICTS.none, text: possible > 0 ? 'No message is sure, so none is judged.' : 'No message was found.' };
-  if (isOfOneSide(log.logged)) return { ...said, kind: VERDICTS.unjudged, text: sentence(SIDES[log.logged]) };
-  if (broken > 0) {
-    const [place, breach] = log.breaches.entries().next().value;
-    const rule = `line ${log.lines[place]} breaks the rule ${ruleOf(breach)}`, restarted = restarts > 0 ? ` ${restartsIn(log)}. ${RESTART_HELP}` : '';
-    if (log.summary.faults === messages && readable > 1) {
-      return { ...said, kind: VERDICTS.broken, first: place, text: `None of the ${withCommas(readable)} lines with octets is a message`,
-        more: `; line ${log.lines[place]}: ${log.words(place)[0]}. Perhaps the log is of another link, or the bits of its octets are in reverse order.` };
-    }
-    const text = broken === 1 ? rule.replace('line', 'Line') : `${counted(broken, 'message')} of ${withCommas(readable)} break a rule. The first: ${rule}`;
-    return { ...said, kind: VERDICTS.broken, text, more: `: ${log.meaning(place)}.${restarted}`, first: place };
-  }
-  if (restarts > 0) {
-    const [first] = log.restarts, more = `. No rule is broken in the ${counted(judged, 'message')} that could be judged. ${RESTART_HELP}`;
-    return { ...said, kind: VERDICTS.restarted, text: restartsIn(log), more, first };
-  }
+  const { messages, badLines, possible } = log.summary, readable = messages - badLines - possible;
+  const [kind, text, more = '', first = -1] = saidOf(log, readable);
+  return { kind, text, more, first, looksLike: sentence(SIGNS[log.sign]), notJudged: sentencesOf(log, readable > 0) };
+}
+
+// The kind, the sentence, more, and the place, where so many messages are sure.
+function saidOf(log, readable) {
+  const { messages, broken, restarts, possible, badLines } = log.summary, judged = log.judging.unjudged.reduce((rest, count) => rest - count, readable);
+  const couldBe = `No rule is broken in the ${counted(judged, 'message')} that could be judged.`;
+  if (readable === 0) return ['none', possible > 0 ? 'No message is sure, so none is judged.' : 'No message was found.'];
+  if (isOfOneSide(log.logged)) return ['unjudged', sentence(SIDES[log.logged])];
+  if (broken > 0) return brokenOf(log, readable);
+  if (restarts > 0) return ['restarted', restartsIn(log), `. ${couldBe} ${RESTART_HELP}`, [...log.restarts][0]];
+  if (judged === 0) return ['unjudged', 'No message could be judged.'];
   if (2 * judged < messages) {
-    return { ...said, kind: VERDICTS.unjudged, text: judged === 0 ? 'No message could be judged.' : `Only ${counted(judged, 'message')} of ${withCommas(messages)} could be judged.`,
-      more: judged === 0 ? '' : ` No rule is broken in ${judged === 1 ? 'it' : 'them'}.` };
+    return ['unjudged', `Only ${counted(judged, 'message')} of ${withCommas(messages)} could be judged.`, ` No rule is broken in ${judged === 1 ? 'it' : 'them'}.`];
   }
-  if (badLines > 0 || judged < readable || possible > 0 || log.others.size > 0 || log.logged !== '') {
-    return { ...said, kind: VERDICTS.partly, text: `No rule is broken in the ${counted(judged, 'message')} that could be judged.` };
+  const isPart = badLines > 0 || judged < readable || possible > 0 || log.others.size > 0 || log.logged !== '';
+  return isPart ? ['partly', couldBe] : ['good', `No rule is broken in ${counted(judged, 'message')}.`];
+}
+
+function brokenOf(log, readable) {
+  const { messages, broken, restarts, faults } = log.summary, [[place, breach]] = log.breaches;
+  if (faults === messages && readable > 1) {
+    return ['broken', `None of the ${withCommas(readable)} lines with octets is a message`,
+      `; ${log.where(place)}: ${log.words(place)[0]}. Perhaps the log is of another link, or the bits of its octets are in reverse order.`, place];
   }
-  return { ...said, kind: VERDICTS.good, text: `No rule is broken in ${counted(judged, 'message')}.` };
+  const rule = `${log.where(place)} breaks the rule ${ruleOf(breach)}`;
+  return ['broken', broken === 1 ? capital(rule) : `${counted(broken, 'message')} of ${withCommas(readable)} break a rule. The first: ${rule}`,
+    `: ${log.meaning(place)}.${restarts > 0 ? ` ${restartsIn(log)}. ${RESTART_HELP}` : ''}`, place];
 }
 
 // Where the module restarted.
 function restartsIn(log) {
-  const [place] = log.restarts, { size } = log.restarts, where = `ine ${log.lines[place]}: ${log.meaning(place)}`;
-  return size === 1 ? `L${where}` : `${counted(size, 'restart')}. The first: l${where}`;
+  const [place] = log.restarts, { size } = log.restarts, where = `${log.where(place)}: ${log.meaning(place)}`;
+  return size === 1 ? capital(where) : `${counted(size, 'restart')}. The first: ${where}`;
 }
 
 // What was not judged, and why.

@@ -1,6 +1,6 @@
 // The library's decoders of what a line carried: octets with octet stuffing, or bits with bit stuffing.
 
-import { AT, SIZE } from './layouts.js';
+import { Kept } from './library.js';
 
 // The octets, or bits, that are handed to the library at a time.
 const READ_AT_ONCE = 4096;
@@ -9,39 +9,40 @@ export const SAYS = { nothing: 0, message: 1, other: 2, damaged: 3 };
 export const OWN = { address: 0x14, control: 0x83 };
 export const ANY = { address: 256, control: 256 };
 
-class Wire {
+class Wire extends Kept {
   // A decoder of octets or, if `isOfBits`, of bits: an octet each, of which the lowest bit counts.
-  constructor({ machine, calls }, isOfBits = false) {
-    const [name, size, at] = isOfBits ? ['fio2070_wire_bits', SIZE.wireBits, AT.wireBits] : ['fio2070_wire', SIZE.wire, AT.wire];
-    Object.assign(this, { machine, calls, name, octets: at.octets, address: machine.reserve(size), heard: machine.reserve(1), piece: machine.reserve(READ_AT_ONCE) });
+  constructor(library, isOfBits = false) {
+    super(library, isOfBits ? 'wire_bits' : 'wire', isOfBits ? 'wireBits' : 'wire');
+    Object.assign(this, { heard: this.machine.reserve(1), piece: this.machine.reserve(READ_AT_ONCE) });
   }
 
   // Begins a line, before its first flag; frames with this address and control octet are one's own.
   start({ address, control }) {
-    this.calls[`${this.name}_start`](BigInt(this.address), address, control);
+    this.call('start', address, control);
+    // How many octets, or bits, were read.
+    this.count = 0;
     return this;
   }
 
   // What the next octets, or bits, say: at each flag that ends something, a kind of SAYS and, of a frame, address, control octet and
-  // message.
+  // message, and how many octets or bits of the line were read.
   *read(line) {
-    for (let start = 0; start < line.length; start += READ_AT_ONCE) yield* this.ofPiece(line.subarray(start, start + READ_AT_ONCE));
-  }
-
-  *ofPiece(line) {
-    this.machine.octets(this.piece, line.length).set(line);
-    for (let taken = 0; taken < line.length;) {
-      const left = [BigInt(this.piece + taken), BigInt(line.length - taken)];
-      taken += Number(this.calls[`${this.name}_read`](BigInt(this.address), ...left, BigInt(this.heard)));
-      const kind = this.machine.all[this.heard];
-      if (kind !== SAYS.nothing) yield { kind, ...this.frame() };
+    for (let start = 0; start < line.length; start += READ_AT_ONCE) {
+      const piece = line.subarray(start, start + READ_AT_ONCE);
+      this.machine.octets(this.piece, piece.length).set(piece);
+      for (let taken = 0; taken < piece.length;) {
+        taken += Number(this.call('read', BigInt(this.piece + taken), BigInt(piece.length - taken), BigInt(this.heard)));
+        const kind = this.machine.all[this.heard];
+        if (kind !== SAYS.nothing) yield { kind, end: this.count + taken, ...this.frame() };
+      }
+      this.count += piece.length;
     }
   }
 
   // The frame that is held.
   frame() {
-    const length = Number(this.calls[`${this.name}_message_length`](BigInt(this.address)));
-    const [address, control, ...message] = this.machine.octets(this.address + this.octets, length > 0 ? length + 2 : 0);
+    const length = Number(this.call('message_length')), { octets } = this.library.read(this.struct, this.place);
+    const [address, control, ...message] = this.machine.octets(octets, length > 0 ? length + 2 : 0);
     return { address, control, message: Uint8Array.from(message) };
   }
 }
