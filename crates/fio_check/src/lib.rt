@@ -70,6 +70,7 @@ mod late_answers;
 pub mod laws;
 mod limits;
 mod line;
+mod link_frames;
 mod link_judge;
 mod log_counts;
 mod log_judge;
