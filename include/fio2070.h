@@ -780,8 +780,8 @@ struct fio2070_content_checker {
             uint64_t hidden;
             uint64_t reopened;
             uint64_t touched;
-            uint64_t told;
-            uint64_t told_levels;
+            uint64_t shown;
+            uint64_t shown_levels;
             uint64_t unlogged;
             uint64_t shut;
             uint64_t levels;

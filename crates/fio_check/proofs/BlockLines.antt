@@ -1,16 +1,10 @@
 -- The events of a log around an entry of a block.
-use Rattle.fio_check.proofs.Names.{subst, ◌≡◌, ◌∙◌, ◌+◌, ◌++◌, ◌%◌, ℕ, suc, Bool, true, false, List, [], ◌∷◌, Option, Some, None, is_some, refl, sym, ap, ap₂, arith, length, map, length-append, append_assoc, fold, Block, block_answer, items_of_block, gap_if, item_of, says_lost, Item, Entry, Gap, ContentFacts, content_at, content_with, no_content, ContentEvent, Ended, Heard, LineEvent, Recorded, events_below, events_in, events_of_block, events_of_log, TranscriptLine}
-use Rattle.std.proofs.lemmas.List.{map-append}
-use Rattle.std.proofs.lemmas.List.Sums.{fold-append}
-use Rattle.std.proofs.lemmas.List.{length-map}
-use Rattle.fio_message.specs.Decoding.{answer_in, answered_block}
-use Rattle.fio_message.specs.declared.answers.Answer.{Answer}
+use Rattle.fio_check.proofs.Names.{subst, ◌≡◌, ◌∙◌, ◌+◌, ◌++◌, ◌%◌, ℕ, suc, Bool, true, false, List, [], ◌∷◌, Option, Some, None, is_some, refl, sym, ap, ap₂, arith, length, map, length-append, append_assoc, fold, Block, block_answer, items_of_block, gap_if, item_of, says_lost, Item, Entry, Gap, ContentFacts, content_at, content_with, no_content, ContentEvent, Ended, Heard, LineEvent, Recorded, events_below, events_in, events_of_block, events_of_log, TranscriptLine, Answer, LineTakesBlock, answer_in, content_below, content_step, fold-append, forgetting, is_aging, length-map, map-append, number_below, number_below_lines, place_of_entry, with_entries}
+use Rattle.fio_message.specs.Decoding.{answered_block}
 use Rattle.fio_message.specs.declared.answers.Answer.TheVariants as answers
 use Rattle.fio_message.specs.declared.fields.Entry.{Entry as EntryOf}
-use Rattle.fio_check.specs.ContentEvents.{is_taken, number_below}
-use Rattle.fio_check.specs.ContentFacts.{content_step, forgetting, is_aging}
+use Rattle.fio_check.specs.ContentEvents.{is_taken}
 use Rattle.fio_check.specs.ContentRules.{is_excused}
-use Rattle.fio_check.specs.Finding.{LineTakesBlock, content_below, number_below_lines, place_of_entry, with_entries}
 use Rattle.fio_check.specs.Lines.{answer_from}
 use Rattle.fio_check.proofs.ContentCourse.{tagged}
 use Rattle.fio_check.proofs.Unexcused.{step_only}

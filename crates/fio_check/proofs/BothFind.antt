@@ -1,10 +1,6 @@
 -- Two checkers, side by side.
-use Rattle.fio_check.proofs.Names.{◌≡◌, ◌∙◌, ℕ, zero, suc, List, [], ◌∷◌, Option, Some, None, refl, sym, ap, ap₂, length, option_or, option_map, option_and_then, slice_get, TranscriptLine, ContentChecking, checking_with, found_in_frame, found_first, found_on, is_sent_at, observation_at, observation_on, earliest_above}
-use Rattle.fio_check.specs.Checkers.{checker_from, checker_with, found_by}
-use Rattle.fio_check.specs.ContentCheckers.{FoundFault}
-use Rattle.fio_check.specs.LinkLaws.{Accused, FindFirst, both_find_first, broken_at, broken_first, broken_on, content_on, fault_accused}
-use Rattle.fio_check.specs.declared.checker.Checker.{Checker}
-use Rattle.fio_check.specs.declared.content.ContentBreach.{ContentBreach}
+use Rattle.fio_check.proofs.Names.{◌≡◌, ◌∙◌, ℕ, zero, suc, List, [], ◌∷◌, Option, Some, None, refl, sym, ap, ap₂, length, option_or, option_map, option_and_then, slice_get, TranscriptLine, ContentChecking, checking_with, found_in_frame, found_first, found_on, is_sent_at, observation_at, observation_on, earliest_above, Accused, Checker, ContentBreach, FoundFault, both_find_first, broken_on, checker_from, checker_with, content_on, found_by}
+use Rattle.fio_check.specs.LinkLaws.{FindFirst, broken_at, broken_first, fault_accused}
 use Rattle.fio_check.proofs.KeptContent.{option_or-none, option_or_assoc}
 
 -- ---- the earliest above a place, by the first place and those below it

@@ -1,6 +1,5 @@
 -- What a check has found once it has gone through the first lines of a transcript.
-use Rattle.fio_check.proofs.Names.{◌≡◌, ◌≤◌, ◌∙◌, ℕ, suc, List, Option, Some, None, refl, sym, ap, ap₂, arith, length, option_map, slice_get, unwrap_or, option_or, facts_at, facts_with, TranscriptLine, observation_on, earliest_above, first_broken, rule_broken, breach_at, verdict_on, Rule, Verdict, Good, Broken}
-use Rattle.fio_check.specs.declared.facts.Facts.{Facts}
+use Rattle.fio_check.proofs.Names.{◌≡◌, ◌≤◌, ◌∙◌, ℕ, suc, List, Option, Some, None, refl, sym, ap, ap₂, arith, length, option_map, slice_get, unwrap_or, option_or, facts_at, facts_with, TranscriptLine, observation_on, earliest_above, first_broken, rule_broken, breach_at, verdict_on, Rule, Verdict, Good, Broken, Facts}
 use Rattle.fio_check.proofs.KeptFacts.{facts_next, seen_at}
 use Rattle.fio_check.proofs.Verdicts.{breach-is, earliest_stays}
 

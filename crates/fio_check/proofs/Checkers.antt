@@ -1,14 +1,7 @@
 -- The checker, one line at a time.
-use Rattle.fio_check.proofs.Names.{◌≡◌, ◌≤◌, ◌<◌, inl, inr, ◌∙◌, ◌+◌, ℕ, zero, suc, Bool, true, false, List, [], ◌∷◌, Option, Some, None, refl, sym, ap, ap₂, arith, length, drop, is_some, option_map, option_and_then, slice_get, unwrap_or, if◌then◌else◌, option_or, slice_get_cases, facts_at, facts_with, number_polled, TranscriptLine, from_first_command, is_sent_at, observation_at, earliest_above, first_broken, rule_broken, breach_at, verdict_on, Rule, Verdict, Good, Broken}
-use Rattle.fio_check.specs.Checkers.{BeginsAnywhere, HasNoPollBetween, GoesOn, breach_of, checker_anywhere, checker_at, checker_below_breach, checker_from, checker_skipping, checker_with, checker_within, due_in, found_at, found_by, found_from, passes_over, verdict_found_at, verdict_of_checker}
-use Rattle.fio_check.specs.declared.checker.Skips.TheVariants.{Nothing, ToCommand}
-use Rattle.fio_check.specs.declared.checker.Breach.{Breach}
-use Rattle.fio_check.specs.declared.checker.Checker.{Checker}
-use Rattle.fio_check.specs.declared.facts.Facts.{Facts}
-use Rattle.fio_check.specs.declared.limits.RuleLimits.{RuleLimits}
-use Rattle.fio_check.specs.Rules.{first_broken_within, standard_rule_limits}
-use Rattle.fio_check.specs.declared.observation.Observation.{Observation}
-use Rattle.fio_check.specs.declared.observation.Observation.TheVariants.{Unreadable, Poll, Command, Block, Answer}
+use Rattle.fio_check.proofs.Names.{◌≡◌, ◌≤◌, ◌<◌, inl, inr, ◌∙◌, ◌+◌, ℕ, zero, suc, Bool, true, false, List, [], ◌∷◌, Option, Some, None, refl, sym, ap, ap₂, arith, length, drop, is_some, option_map, option_and_then, slice_get, unwrap_or, if◌then◌else◌, option_or, slice_get_cases, facts_at, facts_with, number_polled, TranscriptLine, from_first_command, is_sent_at, observation_at, earliest_above, first_broken, rule_broken, breach_at, verdict_on, Rule, Verdict, Good, Broken, Breach, Checker, Facts, Nothing, Observation, Poll, RuleLimits, ToCommand, breach_of, checker_below_breach, checker_from, checker_with, first_broken_within, found_by, passes_over}
+use Rattle.fio_check.specs.Checkers.{BeginsAnywhere, HasNoPollBetween, GoesOn, checker_anywhere, checker_at, checker_skipping, checker_within, due_in, found_at, found_from, verdict_found_at, verdict_of_checker}
+use Rattle.fio_check.specs.Rules.{standard_rule_limits}
 use Rattle.fio_check.proofs.FirstCommands.{IsBelowHeard, below_heard}
 use Rattle.fio_check.proofs.KeptFacts.{facts_next, seen_at}
 use Rattle.fio_check.proofs.Verdicts.{below-or-at, breach-is}
@@ -35,9 +28,7 @@ with-taking limits facts from_cpu observation none = rw (takes-it limits facts f
 verdict-of : (facts : Facts) (observation : Observation) (broken : Option Rule) (line : Option TranscriptLine)
     → option_and_then (λ l. option_map (λ (breach : Breach). Broken l.number breach.rule) (option_map (λ rule. record { rule = rule; due = due_in facts observation rule }) broken)) line
     ≡ option_and_then (λ l. option_map (Broken l.number) broken) line
-verdict-of facts observation broken None = refl
-verdict-of facts observation None (Some line) = refl
-verdict-of facts observation (Some rule) (Some line) = refl
+verdict-of facts observation broken line = grind arith
 
 unbroken : (number : ℕ) (broken : Option Rule) → option_map (Broken number) broken ≡ None → broken ≡ None
 unbroken number None is = refl
@@ -94,17 +85,11 @@ finds_the_first_breach lines =
 
 pub with-breach : (limits : RuleLimits) (checker taken : Checker) (passes : Bool) (breach : Option Breach) → is_some (if passes then None else breach) ≡ true
     → (if passes then checker else (if is_some breach then checker_below_breach limits else taken)) ≡ checker_below_breach limits
-with-breach limits checker taken true breach is = absurd (cc)
-with-breach limits checker taken false None is = absurd (cc)
-with-breach limits checker taken false (Some breach) is = refl
+with-breach limits checker taken passes breach is = grind arith
 
 pub passes-it : (limits : RuleLimits) (from_cpu : Bool) (observation : Observation) → number_polled observation ≡ None
     → passes_over (checker_below_breach limits) from_cpu observation ≡ true
-passes-it limits from_cpu (Poll number) none = absurd (cc)
-passes-it limits from_cpu (Command answer absent) none = refl
-passes-it limits from_cpu (Block number status entries absent) none = refl
-passes-it limits from_cpu (Answer code accepted) none = refl
-passes-it limits from_cpu Unreadable none = refl
+passes-it limits from_cpu observation none = grind arith
 
 -- what a checker below a breach keeps, and finds, until the next poll
 with-passing : (limits : RuleLimits) (from_cpu : Bool) (observation : Observation) → number_polled observation ≡ None
@@ -119,9 +104,7 @@ found-passing limits from_cpu observation none = rw (passes-it limits from_cpu o
 limits-kept : (checker : Checker) (passes : Bool) (breach : Option Breach) (facts : Facts)
     → (if passes then checker else (if is_some breach then checker_below_breach checker.limits else (record checker { facts = facts; skips = Nothing }))).limits
     ≡ checker.limits
-limits-kept checker true breach facts = refl
-limits-kept checker false None facts = refl
-limits-kept checker false (Some found) facts = refl
+limits-kept checker passes breach facts = grind arith
 
 pub limits-stay : (checker : Checker) (from_cpu : Bool) (observation : Observation) → (checker_with checker from_cpu observation).limits ≡ checker.limits
 limits-stay checker from_cpu observation = limits-kept checker (passes_over checker from_cpu observation) (breach_of checker.limits checker.facts observation) (facts_with checker.facts observation)
@@ -149,19 +132,11 @@ module _ (limits : RuleLimits) (lines : List TranscriptLine) (breach : ℕ) (bro
 -- a poll is taken alike by a checker below a breach and a new one
 found-alike : (limits : RuleLimits) (from_cpu : Bool) (observation : Observation) → is_some (number_polled observation) ≡ true
     → found_by (checker_below_breach limits) from_cpu observation ≡ found_by (checker_within limits) from_cpu observation
-found-alike limits from_cpu (Poll number) is = refl
-found-alike limits from_cpu (Command answer absent) is = absurd (cc)
-found-alike limits from_cpu (Block number status entries absent) is = absurd (cc)
-found-alike limits from_cpu (Answer code accepted) is = absurd (cc)
-found-alike limits from_cpu Unreadable is = absurd (cc)
+found-alike limits from_cpu observation is = grind arith
 
 with-alike : (limits : RuleLimits) (from_cpu : Bool) (observation : Observation) → is_some (number_polled observation) ≡ true
     → checker_with (checker_below_breach limits) from_cpu observation ≡ checker_with (checker_within limits) from_cpu observation
-with-alike limits from_cpu (Poll number) is = refl
-with-alike limits from_cpu (Command answer absent) is = absurd (cc)
-with-alike limits from_cpu (Block number status entries absent) is = absurd (cc)
-with-alike limits from_cpu (Answer code accepted) is = absurd (cc)
-with-alike limits from_cpu Unreadable is = absurd (cc)
+with-alike limits from_cpu observation is = grind arith
 
 get-drop : {A : Type 0} (all : List A) (n i : ℕ) → slice_get (drop n all) i ≡ slice_get all (n + i)
 get-drop all zero i = ap (slice_get all) (omega arith)
@@ -187,9 +162,6 @@ record TakesAlike (one other : Checker) (from_cpu : Bool) (observation : Observa
 
 module _ (one other : Checker) (lines others : List TranscriptLine) (start : ℕ) (rest : (further : ℕ) → slice_get lines (start + further) ≡ slice_get others further)
     (alike : TakesAlike (checker_from one lines start) other (is_sent_at lines start) (observation_at lines start)) where
-  same-line : (further : ℕ) → IsLineAt lines others (start + further) further
-  same-line further = line-at lines others (start + further) further (rest further)
-
   first-line : IsLineAt lines others start 0
   first-line = let place : start + 0 ≡ start = omega arith in line-at lines others start 0 (ap (slice_get lines) (sym place) ∙ rest 0)
 

@@ -1,10 +1,6 @@
 -- The first fault of a transcript's events, found event by event.
-use Rattle.fio_check.proofs.Names.{◌≡◌, ◌<◌, ◌≤◌, ◌∙◌, ℕ, zero, suc, ◌+◌, List, [], ◌∷◌, ◌++◌, length, drop, take, map, Option, Some, None, refl, sym, ap, ap₂, arith, append_assoc, append-nil, length-append, fold, option_map, option_and_then, slice_get, flat_map, option_or, slice_get_within, Item, ContentFacts, content_at, content_with, breach_among, breach_below, items_below, ContentEvent, LineEvent, item_of_event, recorded_items, earliest_above}
-use Rattle.std.proofs.lemmas.List.{drop_at, flat_map_more, take_at}
-use Rattle.fio_check.specs.ContentRules.{rule_broken_by}
-use Rattle.fio_check.specs.ContentFaults.{ContentFault, content_fault_at, fault_by}
-use Rattle.fio_check.specs.declared.content.ContentBreach.{ContentBreach}
-use Rattle.fio_check.specs.declared.content_rules.BrokenRule.{BrokenRule}
+use Rattle.fio_check.proofs.Names.{◌≡◌, ◌<◌, ◌≤◌, ◌∙◌, ℕ, zero, suc, ◌+◌, List, [], ◌∷◌, ◌++◌, length, drop, take, map, Option, Some, None, refl, sym, ap, ap₂, arith, append_assoc, append-nil, length-append, fold, option_map, option_and_then, slice_get, flat_map, option_or, slice_get_within, Item, ContentFacts, content_at, content_with, breach_among, breach_below, items_below, ContentEvent, LineEvent, item_of_event, recorded_items, earliest_above, BrokenRule, ContentBreach, ContentFault, content_fault_at, drop_at, fault_by, rule_broken_by}
+use Rattle.std.proofs.lemmas.List.{flat_map_more, take_at}
 use Rattle.fio_check.proofs.ContentNext.{content_next}
 use Rattle.fio_check.proofs.KeptContent.{option_or-none, option_or_assoc}
 

@@ -1,14 +1,7 @@
 -- What a checker of the rules on content finds first is the first fault of the transcript.
-use Rattle.std.specs.Prelude.{◌&&◌}
-use Rattle.fio_check.proofs.Names.{◌==◌, subst, ◌≡◌, ◌∙◌, if◌then◌else◌, checking_at_start, checking_with, content_found, found_in_frame, from_first_command, Block, block_answer, gap_if, items_of_block, events_of_block, Sent, Heard, Ended, items_and_end, ℕ, Bool, true, false, List, [], ◌∷◌, ◌++◌, length, drop, Option, Some, None, refl, sym, ap, ap₂, arith, length-drop, option_map, flat_map, option_or, Item, ContentFacts, content_with, ContentKept, breach_among, breach_below, breach_found, fault_found, found_first, found_on, items_below, kept_at_start, kept_with, no_content, ContentEvent, LineEvent, events_above, events_below, events_in, events_of_lines, events_of_log, item_of_event, TranscriptLine, earliest_above}
-use Rattle.fio_message.specs.Status.{says_again, says_error}
+use Rattle.fio_check.proofs.Names.{◌==◌, subst, ◌≡◌, ◌∙◌, if◌then◌else◌, checking_at_start, checking_with, content_found, found_in_frame, from_first_command, Block, block_answer, gap_if, items_of_block, events_of_block, Sent, Heard, Ended, items_and_end, ℕ, Bool, true, false, List, [], ◌∷◌, ◌++◌, length, drop, Option, Some, None, refl, sym, ap, ap₂, arith, length-drop, option_map, flat_map, option_or, Item, ContentFacts, content_with, ContentKept, breach_among, breach_below, breach_found, fault_found, found_first, found_on, items_below, kept_at_start, kept_with, no_content, ContentEvent, LineEvent, events_above, events_below, events_in, events_of_lines, events_of_log, item_of_event, TranscriptLine, earliest_above, BrokenRule, ContentFault, FoundFault, content_fault_at, content_fault_in, content_step, fault_by, rule_broken_by, says_again, says_error, ◌&&◌}
 use Rattle.fio_message.specs.declared.answers.Answer.TheVariants as answers
-use Rattle.fio_check.specs.ContentCheckers.{FoundFault}
 use Rattle.fio_check.specs.ContentEvents.{judged_lines}
-use Rattle.fio_check.specs.ContentRules.{rule_broken_by}
-use Rattle.fio_check.specs.ContentFacts.{content_step}
-use Rattle.fio_check.specs.ContentFaults.{ContentFault, content_fault_at, content_fault_in, fault_by}
-use Rattle.fio_check.specs.declared.content_rules.BrokenRule.{BrokenRule}
 use Rattle.fio_check.specs.declared.content_rules.ContentRule.TheVariants.{Clock}
 use Rattle.fio_check.proofs.Unexcused.{sent_step, step_only}
 use Rattle.fio_check.proofs.ContentNext.{content_is_kept}

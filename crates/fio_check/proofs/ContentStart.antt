@@ -1,21 +1,10 @@
 -- What is above the first line of a log that begins with both ends.
-use Rattle.fio_check.proofs.Names.{◌≡◌, ◌<◌, ◌∙◌, ◌++◌, not, option_or, Block, block_answer, gap_if, items_of_block, Sent, Heard, Ended, events_of_block, items_and_end, ℕ, zero, suc, inl, inr, Bool, true, false, List, [], ◌∷◌, Option, None, Some, refl, sym, ap, ap₂, arith, fold, ◌==◌, if◌then◌else◌, nat_lt, nat_tests, is_some_and, eqb_tells, ContentFacts, content_with, no_content}
-use Rattle.std.specs.Prelude.{◌&&◌, ◌||◌}
-use Rattle.std.proofs.Math.Path.{fun_ext}
-use Rattle.fio_message.specs.Status.{says_again, says_error, says_lost, says_more}
+use Rattle.fio_check.proofs.Names.{◌≡◌, ◌<◌, ◌∙◌, ◌++◌, not, option_or, Block, block_answer, gap_if, items_of_block, Sent, Heard, Ended, events_of_block, items_and_end, ℕ, zero, suc, inl, inr, Bool, true, false, List, [], ◌∷◌, Option, None, Some, refl, sym, ap, ap₂, arith, fold, ◌==◌, if◌then◌else◌, nat_lt, nat_tests, is_some_and, eqb_tells, ContentFacts, content_with, no_content, Command, INPUTS, InputItem, below_clear, coming, content_begun, content_step, fun_ext, input_begun, input_below_clear, input_coming, input_ended, input_with_answer, input_with_item, is_aging, is_far, is_set-zero, item_for, last_item_of, no_input, says_again, says_error, says_lost, says_more, seen_below, settled_now, unnamed, ◌&&◌, ◌||◌}
 use Rattle.fio_message.specs.declared.answers.Answer.TheVariants as answers
-use Rattle.fio_message.specs.declared.commands.Command.{Command}
 use Rattle.fio_message.specs.declared.commands.Command.TheVariants as commands
-use Rattle.fio_message.specs.declared.fields.InputItem.{InputItem}
-use Rattle.fio_message.specs.declared.limits.TheConstants.{INPUTS}
-use Rattle.fio_message.proofs.Bits.{is_set-zero}
-use Rattle.fio_input.specs.FilterHistory.{last_item_of}
-use Rattle.fio_check.specs.ContentSaid.{is_far, item_for}
 use Rattle.fio_check.specs.ContentEvents.{events_at_start, item_at_start, items_at_start}
 use Rattle.fio_check.proofs.Unexcused.{sent_step, step_only}
 use Rattle.fio_check.proofs.KeptContent.{option_or-none, option_or_assoc}
-use Rattle.fio_check.specs.ContentFacts.{below_clear, coming, content_step, content_begun, input_ended, input_begun, input_below_clear, input_with_answer, is_aging, input_with_item, no_input, seen_below, settled_now, unnamed}
-use Rattle.fio_check.specs.ContentKnown.{input_coming}
 
 -- the status 0 says nothing
 pub no_error : says_error 0 ≡ false

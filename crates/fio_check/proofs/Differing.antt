@@ -1,9 +1,6 @@
 -- The lowest input whose state in the record is not that of the latest 181.
-use Rattle.fio_check.proofs.Names.{◌≡◌, ◌<◌, ℕ, suc, true, false, Some, None, sym, ap, ap₂, arith, if◌then◌else◌, option_or, earliest_above}
-use Rattle.fio_message.specs.declared.limits.TheConstants.{INPUTS}
-use Rattle.fio_check.specs.ContentKnown.{ContentFacts}
-use Rattle.fio_check.specs.ContentSaid.{Seen}
-use Rattle.fio_check.specs.ContentRules.{differing, differs, first_differing}
+use Rattle.fio_check.proofs.Names.{◌≡◌, ◌<◌, ℕ, suc, true, false, Some, None, sym, ap, ap₂, arith, if◌then◌else◌, option_or, earliest_above, ContentFacts, INPUTS, Seen, differing, differs}
+use Rattle.fio_check.specs.ContentRules.{first_differing}
 use Rattle.fio_check.proofs.Verdicts.{earliest_stays}
 
 module _ (facts : ContentFacts) (seen : Seen) where

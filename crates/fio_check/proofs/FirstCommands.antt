@@ -1,9 +1,7 @@
 -- Lines from the first command on: what is above it is heard.
-use Rattle.fio_check.proofs.Names.{◌≡◌, ◌<◌, ◌∙◌, ◌+◌, ◌++◌, ◌⊎◌, inl, inr, ℕ, zero, suc, Bool, true, false, List, [], ◌∷◌, Option, Some, None, refl, sym, ap, arith, length, fold, slice_get, if◌then◌else◌, TranscriptLine, from_first_command, is_sent_at, number_polled, observation_at, observation_on}
-use Rattle.fio_message.specs.Decoding.{answer_in}
-use Rattle.fio_message.specs.declared.answers.Answer.{Answer}
+use Rattle.fio_check.proofs.Names.{◌≡◌, ◌<◌, ◌∙◌, ◌+◌, ◌++◌, ◌⊎◌, inl, inr, ℕ, zero, suc, Bool, true, false, List, [], ◌∷◌, Option, Some, None, refl, sym, ap, arith, length, fold, slice_get, if◌then◌else◌, TranscriptLine, from_first_command, is_sent_at, number_polled, observation_at, observation_on, Answer, answer_in, number_below}
 use Rattle.fio_message.specs.declared.answers.Answer.TheVariants as answers
-use Rattle.fio_check.specs.ContentEvents.{number_after, number_below}
+use Rattle.fio_check.specs.ContentEvents.{number_after}
 use Rattle.fio_check.specs.Observations.{observation_of}
 
 -- what an answer above the first poll says, and leaves

@@ -1,15 +1,6 @@
 -- Sets of inputs as words, and arrays by input.
-use Rattle.fio_check.proofs.Names.{◌≡◌, ◌<◌, ◌≤◌, ◌∙◌, ℕ, inl, inr, Bool, true, false, List, refl, sym, ap, length, get_or, set, get_or-set_same, get_or-set_other, ◌==◌, not, if◌then◌else◌, eqb_tells, is_set}
-use Rattle.std.specs.Prelude.{◌&&◌, ◌^◌}
-use Rattle.std.proofs.Common.{w64}
-use Rattle.std.specs.Int.Bits.{bit_and, bit_or}
-use Rattle.std.specs.Int.{bit_not}
-use Rattle.std.proofs.lemmas.Bool.Decides.{leb_tells}
-use Rattle.fio_message.proofs.Bits.{is_set-above, is_set-and, is_set-clear_other, is_set-clear_same, is_set-not, is_set-set_other, is_set-set_same, one_at}
-
-and-false : (a : Bool) → (a && false) ≡ false
-and-false true = refl
-and-false false = refl
+use Rattle.fio_check.proofs.Names.{◌≡◌, ◌<◌, ◌≤◌, ◌∙◌, ℕ, inl, inr, true, false, sym, ap, ◌==◌, not, if◌then◌else◌, eqb_tells, is_set, bit_and, bit_not, bit_or, is_set-above, is_set-and, is_set-not, leb_tells, w64, ◌&&◌, ◌^◌}
+use Rattle.fio_message.proofs.Bits.{is_set-clear_other, is_set-clear_same, is_set-set_other, is_set-set_same, one_at}
 
 module _ (word input : ℕ) (within : input < 64) where
   -- an input that is put in
@@ -45,11 +36,3 @@ without word others input fits fits' =
           ap (λ b. b && is_set (bit_not w64 others) input) none ∙ sym (ap (λ b. b && not (is_set others input)) none))
       | inr below ↦ ap (λ b. is_set word input && b) (is_set-not others input fits' below.1)
     ])
-
--- an array with one place set
-pub at_set : (all : List ℕ) (place value other none : ℕ) → place < length all
-    → ◌≡◌ {A = ℕ} (get_or (set all place value) other none) (if other == place then value else get_or all other none)
-at_set all place value other none within = elim (eqb_tells other place) as (λ _. ◌≡◌ {A = ℕ} (get_or (set all place value) other none) (if other == place then value else get_or all other none)) [
-  | inl same ↦ rw (same.0, same.1) (get_or-set_same all place value none within)
-  | inr differs ↦ rw differs.0 (get_or-set_other all place other value none differs.1)
-]

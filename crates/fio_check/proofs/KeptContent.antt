@@ -1,14 +1,7 @@
 -- The events of a block, and the number of a CPU's end, as the checker of the rules on content takes them.
-use Rattle.fio_check.proofs.Names.{◌≡◌, ◌∙◌, ◌+◌, ◌++◌, ℕ, Bool, true, false, List, [], ◌∷◌, Option, Some, None, refl, sym, ap, ap₂, arith, length, map, fold, option_or, option_and_then, gap_if, Item, if◌then◌else◌, ◌==◌, not, is_set, InputAbove, Seen, ContentFacts, content_with, breach_among, breach_found, ContentEvent, Recorded, Ended, items_and_end}
-use Rattle.std.specs.Prelude.{◌||◌}
-use Rattle.std.proofs.Math.Path.{fun_ext}
-use Rattle.fio_message.specs.Status.{says_again, says_more}
-use Rattle.fio_message.proofs.Bits.{is_set-zero}
-use Rattle.fio_check.specs.ContentSaid.{is_clear_end}
-use Rattle.fio_check.specs.ContentFacts.{below_clear, coming, content_step, input_ended, seen_below, settles, timely_below}
-use Rattle.fio_check.specs.ContentKnown.{if_comes, input_coming}
+use Rattle.fio_check.proofs.Names.{◌≡◌, ◌∙◌, ◌+◌, ◌++◌, ℕ, Bool, true, false, List, [], ◌∷◌, Option, Some, None, refl, sym, ap, ap₂, arith, length, map, fold, option_or, option_and_then, gap_if, Item, if◌then◌else◌, ◌==◌, not, is_set, InputAbove, Seen, ContentFacts, content_with, breach_among, breach_found, ContentEvent, Recorded, Ended, items_and_end, ContentBreach, below_clear, coming, content_step, fun_ext, if_comes, input_coming, input_ended, is_clear_end, is_set-zero, says_again, says_more, seen_below, settles, ◌||◌}
+use Rattle.fio_check.specs.ContentFacts.{timely_below}
 use Rattle.fio_check.specs.ContentKept.{flagged_number, is_flagged}
-use Rattle.fio_check.specs.declared.content.ContentBreach.{ContentBreach}
 
 pub option_or_assoc : {A : Type 0} (a b c : Option A) → option_or (option_or a b) c ≡ option_or a (option_or b c)
 option_or_assoc None b c = refl

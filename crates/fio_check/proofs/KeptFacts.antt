@@ -1,7 +1,6 @@
 -- What is kept line by line is what is above the next line.
-use Rattle.fio_check.proofs.Names.{◌≡◌, ℕ, suc, List, Some, refl, ◌==◌, not, slice_get, facts_at, facts_with, latest_poll, KeepsFacts, TranscriptLine, observation_at, observation_on}
-use Rattle.fio_check.specs.declared.observation.Observation.{Observation}
-use Rattle.fio_check.specs.declared.observation.Observation.TheVariants.{Unreadable, Poll, Command, Block, Answer}
+use Rattle.fio_check.proofs.Names.{◌≡◌, ℕ, suc, List, Some, refl, ◌==◌, not, slice_get, facts_at, facts_with, latest_poll, KeepsFacts, TranscriptLine, observation_at, observation_on, Observation, Poll, Unreadable}
+use Rattle.fio_check.specs.declared.observation.Observation.TheVariants.{Command, Block, Answer}
 use Rattle.fio_check.proofs.Places.{is_some_and-map}
 
 -- the facts with a line more, by what it says

@@ -2,6 +2,7 @@ pub mod Names
 pub mod FirstFound
 pub mod InputSets
 pub mod KeptInputs
+pub mod KeptSettled
 pub mod Places
 pub mod KeptFacts
 pub mod FirstCommands
@@ -9,6 +10,10 @@ pub mod Verdicts
 pub mod Differing
 pub mod KeptContent
 pub mod ContentPlaces
+pub mod StatePlaces
+pub mod ShownPlaces
+pub mod InputParts
+pub mod InputNext
 pub mod ContentNext
 pub mod Unexcused
 pub mod ContentStart
@@ -17,12 +22,14 @@ pub mod ContentFound
 pub mod LogFaults
 pub mod BlockLines
 pub mod RulesFound
-pub mod ToldLater
+pub mod ShownLater
 pub mod Shaded
 pub mod Found
+pub mod FoundTurned
 pub mod BreachesSoFar
 pub mod Checkers
 pub mod LinkJudges
 pub mod LinkLaws
+pub mod LinkTranscripts
 pub mod LogLaws
 pub mod BothFind

@@ -1,17 +1,7 @@
 -- The judge of a link, one frame at a time.
-use Rattle.fio_check.proofs.Names.{◌≡◌, ◌∙◌, ℕ, Bool, true, false, List, Option, Some, None, refl, sym, ap, ap₂}
-use Rattle.fio_message.specs.declared.commands.Command.{Command}
-use Rattle.fio_check.specs.Checkers.{checker_below_breach, checker_with}
-use Rattle.fio_check.specs.ContentCheckers.{ContentKept, breach_among, checking_with, found_in_frame}
-use Rattle.fio_check.specs.ContentEvents.{content_events}
-use Rattle.fio_check.specs.Lines.{command_from}
-use Rattle.fio_check.specs.LinkJudges.{Judging, checking_again, checking_above, content_here, loads_below, place_lost}
-use Rattle.fio_check.specs.Observations.{observation_in}
+use Rattle.fio_check.proofs.Names.{◌≡◌, ◌∙◌, ℕ, Bool, true, false, List, Option, Some, None, refl, sym, ap, ap₂, Checker, Command, ContentBreach, ContentKept, Judging, Nothing, Skips, ToCommand, ToPoll, breach_among, checker_below_breach, checker_with, checking_above, checking_with, command_from, content_events, content_here, found_in_frame, loads_below, observation_in, place_lost}
+use Rattle.fio_check.specs.LinkJudges.{checking_again}
 use Rattle.fio_check.proofs.Checkers.{limits-stay}
-use Rattle.fio_check.specs.declared.checker.Checker.{Checker}
-use Rattle.fio_check.specs.declared.checker.Skips.{Skips}
-use Rattle.fio_check.specs.declared.checker.Skips.TheVariants.{Nothing, ToCommand, ToPoll}
-use Rattle.fio_check.specs.declared.content.ContentBreach.{ContentBreach}
 
 -- ---- a checker of the rules on content that begins anew
 

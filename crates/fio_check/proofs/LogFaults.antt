@@ -1,10 +1,8 @@
 -- A fault of a log, by its events: what is above an event depends on those above it alone, and a fault stays one if lines
 -- follow.
-use Rattle.fio_check.proofs.Names.{◌≡◌, ◌<◌, ◌≤◌, ◌∙◌, ◌+◌, ◌++◌, inl, inr, false, from_first_command, ℕ, zero, suc, Bool, true, List, [], ◌∷◌, Option, Some, None, refl, sym, ap, ap₂, arith, length, drop, take, map, length-append, append_assoc, append-nil, fold, is_some, option_map, option_and_then, option_or, slice_get, slice_get_within, ContentFacts, content_at, content_with, no_content, LineEvent, events_above, events_below, events_of_lines, events_of_log, recorded_items, TranscriptLine, earliest_above}
-use Rattle.fio_check.specs.ContentEvents.{events_on, number_below}
-use Rattle.fio_check.specs.ContentRules.{rule_broken_by}
-use Rattle.fio_check.specs.ContentFaults.{ContentFault, content_fault_at, content_fault_in, fault_by, first_fault_in}
-use Rattle.fio_check.specs.Finding.{IsFoundBy, number_below_lines}
+use Rattle.fio_check.proofs.Names.{◌≡◌, ◌<◌, ◌≤◌, ◌∙◌, ◌+◌, ◌++◌, inl, inr, false, from_first_command, ℕ, zero, suc, Bool, true, List, [], ◌∷◌, Option, Some, None, refl, sym, ap, ap₂, arith, length, drop, take, map, length-append, append_assoc, append-nil, fold, is_some, option_map, option_and_then, option_or, slice_get, slice_get_within, ContentFacts, content_at, content_with, no_content, LineEvent, events_above, events_below, events_of_lines, events_of_log, recorded_items, TranscriptLine, earliest_above, ContentFault, content_fault_at, content_fault_in, fault_by, first_fault_in, number_below, number_below_lines, rule_broken_by}
+use Rattle.fio_check.specs.ContentEvents.{events_on}
+use Rattle.fio_check.specs.Finding.{IsFoundBy}
 use Rattle.fio_check.proofs.ContentCourse.{dropped_first}
 use Rattle.fio_check.proofs.ContentNext.{content_is_kept, content_next}
 use Rattle.fio_check.proofs.FirstCommands.{with_or_without}
@@ -39,11 +37,6 @@ pub content_of_all : (events : List LineEvent) → content_at events (length eve
 content_of_all events = ap (λ all. content_at all (length events)) (sym (append-nil events)) ∙ content_of events []
 
 -- ---- an event of two lists
-
--- the first of the second list
-pub event_between : {A : Type 0} (above : List A) (event : A) (below : List A) → slice_get (above ++ (event ∷ below)) (length above) ≡ Some event
-event_between [] event below = refl
-event_between (one ∷ above) event below = event_between above event below
 
 -- one of the second list
 pub event_below : {A : Type 0} (above below : List A) (place : ℕ) → slice_get (above ++ below) (length above + place) ≡ slice_get below place

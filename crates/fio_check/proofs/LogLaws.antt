@@ -1,20 +1,13 @@
 -- Without late answers the judge of a log is the judge of a link.
-use Rattle.std.proofs.Common.{◌≡◌, ◌∙◌, ℕ, Bool, true, false, List, [], ◌∷◌, ◌++◌, Option, Some, None, map, refl, sym, subst, ap, ap₂, append_assoc}
-use Rattle.std.specs.Prelude.{if◌then◌else◌}
-use Rattle.std.specs.List.{flat_map}
+use Rattle.fio_check.proofs.Names.{Bool, Frame, FrameOutcome, Judging, Link, List, LogJudging, LogLine, LogPlace, None, Option, Some, [], ap, append_assoc, ap₂, false, flat_map, if◌then◌else◌, judging_below, log_reached, map, map-append, observation_in, outcome_reached, outcomes_of, place_of, refl, subst, sym, true, ℕ, ◌++◌, ◌∙◌, ◌∷◌, ◌≡◌}
 use Rattle.std.proofs.lemmas.Grind.{flat_map-append}
-use Rattle.std.proofs.lemmas.List.{map-append}
-use Rattle.fio_check.specs.LinkJudges.{Frame, Judging, LogLine, judging_below, judging_with_line, outcome_on, outcomes_of}
-use Rattle.fio_check.specs.LogJudges.{Found, LogEvent, LogJudging, Lost, Missing, Possible, is_explained, log_below_events, log_lost, log_reached, log_with_event, one_more, outcome_of_event, outcome_reached, outcomes_in_log, place_of}
+use Rattle.fio_check.specs.LinkJudges.{judging_with_line, outcome_on}
+use Rattle.fio_check.specs.LogJudges.{Found, LogEvent, Lost, Missing, Possible, is_explained, log_below_events, log_lost, log_with_event, one_more, outcome_of_event, outcomes_in_log}
 use Rattle.fio_check.specs.LogLaws.{SaysAsLink, frame_found, frame_on, link_lines, link_lines_of, mark_if}
 use Rattle.fio_check.specs.MissingFrames.{missing_below}
-use Rattle.fio_check.specs.Observations.{observation_in}
 use Rattle.fio_check.specs.declared.late_answers.LateAnswers.{LateAnswers}
 use Rattle.fio_check.specs.declared.log_judge.LogOutcome.{LogOutcome}
-use Rattle.fio_check.specs.declared.log_judge.LogOutcome.TheVariants.{Link}
 use Rattle.fio_check.specs.declared.missing_frames.MissingFrames.{MissingFrames}
-use Rattle.fio_check.specs.declared.outcome.LogPlace.{LogPlace}
-use Rattle.fio_check.specs.declared.outcome.FrameOutcome.{FrameOutcome}
 
 -- ---- lines and others below them
 

@@ -1,14 +1,10 @@
--- Which rule an event breaks: an entry that does not come behind the one above it, an entry with the state that its input
+-- Which rule an event breaks: an entry that does not come after the one above it, an entry with the state that its input
 -- had, and states that differ from the record.
-use Rattle.fio_check.proofs.Names.{ap₂, ◌≡◌, ◌<◌, ◌∙◌, ◌+◌, ℕ, Bool, true, false, [], ◌∷◌, Option, Some, None, refl, sym, ap, arith, find, if◌then◌else◌, is_some, nat_lt, not, eqb_tells, inl, inr, ◌≤◌, option_map, option_or, ◌==◌, ◌%◌, nat_tests, Entry, ContentFacts, Seen, is_set, ContentEvent, Recorded, Ended, is_some_and}
-use Rattle.std.specs.Prelude.{◌&&◌, ◌||◌, ◌^◌, ◌-◌, nat_le}
-use Rattle.std.specs.Bool.{beq}
-use Rattle.fio_message.specs.declared.limits.TheConstants.{INPUTS}
-use Rattle.fio_check.specs.ContentSaid.{TimedState, comes_to, milliseconds_between}
-use Rattle.fio_check.specs.ContentRules.{breaks_entry, broken_state, comes_behind, differing, differs, entry_rules, first_differing, rule_broken_by, state_breach}
-use Rattle.fio_check.specs.Finding.{tells_of}
-use Rattle.fio_check.specs.declared.content_rules.ContentRule.{ContentRule}
-use Rattle.fio_check.specs.declared.content_rules.ContentRule.TheVariants.{Order, Fresh, Alternate, Apart, Ignored, State}
+use Rattle.fio_check.proofs.Names.{ap₂, ◌≡◌, ◌<◌, ◌∙◌, ◌+◌, ℕ, Bool, true, false, [], ◌∷◌, Option, Some, None, refl, sym, ap, arith, find, if◌then◌else◌, is_some, nat_lt, not, eqb_tells, inl, inr, ◌≤◌, option_map, option_or, ◌==◌, ◌%◌, nat_tests, Entry, ContentFacts, Seen, is_set, ContentEvent, Recorded, Ended, is_some_and, ContentRule, INPUTS, Order, TimedState, beq, breaks_entry, comes_after, comes_to, differing, differs, entry_rules, rule_broken_by, tells_of, ◌&&◌, ◌-◌, ◌^◌, ◌||◌}
+use Rattle.std.specs.Prelude.{nat_le}
+use Rattle.fio_check.specs.ContentSaid.{milliseconds_between}
+use Rattle.fio_check.specs.ContentRules.{broken_state, first_differing, state_breach}
+use Rattle.fio_check.specs.declared.content_rules.ContentRule.TheVariants.{Fresh, Alternate, Apart, Ignored, State}
 use Rattle.fio_check.proofs.Verdicts.{none_said, some_said}
 
 -- ---- the first of the rules of entries
@@ -18,17 +14,11 @@ order-first true fresh alternate rest broken = refl
 order-first false fresh alternate rest broken = absurd (cc)
 
 alternate-first : (order fresh alternate : Bool) (rest : Option ContentRule) → alternate ≡ true → is_some (if order then Some Order else (if fresh then Some Fresh else (if alternate then Some Alternate else rest))) ≡ true
-alternate-first true fresh alternate rest broken = refl
-alternate-first false true alternate rest broken = refl
-alternate-first false false true rest broken = refl
-alternate-first false false false rest broken = absurd (cc)
+alternate-first order fresh alternate rest broken = grind arith
 
 none-first : (order fresh alternate : Bool) (rest : Option ContentRule) → (if order then Some Order else (if fresh then Some Fresh else (if alternate then Some Alternate else rest))) ≡ None
     → (order ≡ false) × (alternate ≡ false)
-none-first true fresh alternate rest none = absurd (cc)
-none-first false true alternate rest none = absurd (cc)
-none-first false false true rest none = absurd (cc)
-none-first false false false rest none = (refl, refl)
+none-first order fresh alternate rest none = grind arith
 
 -- the rules that are tried after alternate
 abbrev further : ContentFacts → ℕ → TimedState → Option ContentRule
@@ -86,8 +76,8 @@ keeps_both facts input stamp wide level none =
 
 -- ---- order
 
--- an entry does not come behind itself
-pub not_behind_itself : (input wide : ℕ) → comes_behind input wide input wide ≡ false
+-- an entry does not come after itself
+pub not_behind_itself : (input wide : ℕ) → comes_after input wide input wide ≡ false
 not_behind_itself input wide = rw (eq-self wide, less-self input) refl
   where
     eq-self : (n : ℕ) → (n == n) ≡ true
@@ -96,10 +86,10 @@ not_behind_itself input wide = rw (eq-self wide, less-self input) refl
     less-self : (n : ℕ) → nat_lt n n ≡ false
     less-self n = grind (arith, nat_tests)
 
--- of two entries one alone comes behind the other
-pub behind_one_way : (input wide other above : ℕ) → wide < 2 ^ 32 → above < 2 ^ 32 → comes_behind other above input wide ≡ true → comes_behind input wide other above ≡ false
+-- of two entries one alone comes after the other
+pub behind_one_way : (input wide other above : ℕ) → wide < 2 ^ 32 → above < 2 ^ 32 → comes_after other above input wide ≡ true → comes_after input wide other above ≡ false
 behind_one_way input wide other above one two behind =
-    elim (eqb_tells above wide) as (λ _. comes_behind input wide other above ≡ false) [
+    elim (eqb_tells above wide) as (λ _. comes_after input wide other above ≡ false) [
       | inl same ↦ (let now : nat_lt input other ≡ true = rw (same.1, eq-self wide) at behind in rw same.1 (at-once input wide other now))
       | inr apart ↦ rw (unequal wide above (λ e. apart.1 (sym e)), half-turn wide above one two (λ e. apart.1 (sym e)) (ahead-of (milliseconds_between wide above) (rw apart.0 at behind))) refl
     ]
@@ -111,7 +101,7 @@ behind_one_way input wide other above one two behind =
     unequal a b apart = grind (arith, nat_tests)
 
     -- at one time
-    at-once : (input wide other : ℕ) → nat_lt input other ≡ true → comes_behind input wide other wide ≡ false
+    at-once : (input wide other : ℕ) → nat_lt input other ≡ true → comes_after input wide other wide ≡ false
     at-once input wide other below = rw (eq-self wide, above-false other input below) refl
       where
         above-false : (a b : ℕ) → nat_lt b a ≡ true → nat_lt a b ≡ false
@@ -171,13 +161,10 @@ input-differs : (facts : ContentFacts) (seen : Seen) (input : ℕ) → input < I
 unfolding first_differing
 input-differs facts seen input within other = some_said (differing facts seen) INPUTS input within (rw other refl)
 
--- ---- a state that is told
+-- ---- a state that is shown
 
 opposite : (one other : Bool) → beq one other ≡ false → one ≡ not other
-opposite true true other = absurd (cc)
-opposite true false other = refl
-opposite false true other = refl
-opposite false false other = absurd (cc)
+opposite one other is = grind arith
 
 alike : (one : Bool) → beq one one ≡ true
 alike true = refl
@@ -207,10 +194,7 @@ module _ (facts spoiled : ContentFacts) (input : ℕ) (within : input < INPUTS) 
       differ spoiled seen (same seen is).spoiled_seen (same seen is).spoiled_judged event comes (input-differs spoiled seen input within (rw (other, shade) (turned-differs level states agrees)))
     where
       turned-differs : (level states : Bool) → not (beq level states) ≡ false → not (beq (not level) states) ≡ true
-      turned-differs true true agrees = refl
-      turned-differs true false agrees = absurd (cc)
-      turned-differs false true agrees = absurd (cc)
-      turned-differs false false agrees = refl
+      turned-differs level states agrees = grind arith
 
   by-entry : (recorded stamp wide : ℕ) (now own : Bool) → (input == recorded && nat_lt input INPUTS) ≡ own
       → (is_some (if own then Some (timed now wide) else None) || (not shaded && is_some_and known (λ states. comes_to states (Recorded (Entry recorded now stamp wide))))) ≡ true
@@ -225,7 +209,7 @@ module _ (facts spoiled : ContentFacts) (input : ℕ) (within : input < INPUTS) 
       named : (a b : ℕ) (within : Bool) → (a == b && within) ≡ true → a ≡ b
       named a b within is = grind (arith, nat_tests)
 
-  pub is_told : (event : ContentEvent) → tells_of known input event (record { level = level; shaded = shaded }) ≡ true
+  pub has_content : (event : ContentEvent) → tells_of known input event (record { level = level; shaded = shaded }) ≡ true
       → rule_broken_by facts event ≡ None → is_some (rule_broken_by spoiled event) ≡ true
-  is_told (Recorded (Entry recorded now stamp wide)) tells none = by-entry recorded stamp wide now (input == recorded && nat_lt input INPUTS) refl tells none
-  is_told event tells none = by-states event known refl shaded refl tells none
+  has_content (Recorded (Entry recorded now stamp wide)) tells none = by-entry recorded stamp wide now (input == recorded && nat_lt input INPUTS) refl tells none
+  has_content event tells none = by-states event known refl shaded refl tells none

@@ -1,13 +1,6 @@
 -- Where no item that ignores an input was sent since the clear block above its latest entry, none was sent since the latest
 -- clear block.
-use Rattle.fio_check.proofs.Names.{◌≡◌, ◌≤◌, ◌∙◌, ℕ, zero, suc, Bool, true, false, List, Option, Some, None, refl, sym, subst, ap, arith, length, if◌then◌else◌, nat_lt, not, option_map, option_and_then, slice_get, slice_get_within, slice_get_cases, inl, inr, ◌==◌, Entry, Gap, ContentFacts, InputAbove, SentItem, content_at, content_with, ContentEvent, Sent, Heard, Recorded, Ended, LineEvent}
-use Rattle.std.specs.Prelude.{◌&&◌}
-use Rattle.fio_message.specs.declared.fields.InputItem.{InputItem}
-use Rattle.fio_message.specs.declared.limits.TheConstants.{INPUTS}
-use Rattle.fio_check.specs.ContentKnown.{WatchedState}
-use Rattle.fio_check.specs.ContentSaid.{item_for, items_sent}
-use Rattle.fio_check.specs.ContentFacts.{coming, input_below_clear, input_ended, input_with_entry, input_with_item, settled_now, settles, shaded, unless_shaded, unnamed}
-use Rattle.fio_check.specs.ContentKnown.{input_coming}
+use Rattle.fio_check.proofs.Names.{◌≡◌, ◌≤◌, ◌∙◌, ℕ, zero, suc, Bool, true, false, List, Option, Some, None, refl, sym, subst, ap, arith, length, if◌then◌else◌, nat_lt, not, option_map, option_and_then, slice_get, slice_get_within, slice_get_cases, inl, inr, ◌==◌, Entry, Gap, ContentFacts, InputAbove, SentItem, content_at, content_with, ContentEvent, Sent, Heard, Recorded, Ended, LineEvent, INPUTS, InputItem, WatchedState, coming, input_below_clear, input_coming, input_ended, input_with_entry, input_with_item, item_for, items_sent, settled_now, settles, shaded, unless_shaded, unnamed, ◌&&◌}
 use Rattle.fio_check.proofs.ContentNext.{content_next}
 use Rattle.fio_check.proofs.KeptContent.{ended_input}
 

@@ -1,13 +1,9 @@
 -- Where no load of the counter excuses anything, no event is excused.
-use Rattle.fio_check.proofs.Names.{◌≡◌, ◌≤◌, ◌<◌, ◌∙◌, ℕ, zero, suc, Bool, true, false, List, Option, None, Some, refl, ap, sym, arith, length, inl, inr, is_some, not, if◌then◌else◌, ◌==◌, eqb_tells, slice_get_cases, Entry, Gap, ContentEvent, Sent, Heard, Recorded, Ended, ContentFacts, LineEvent, content_at, content_event_at, content_with, option_map, option_or}
-use Rattle.std.specs.Prelude.{◌&&◌}
-use Rattle.fio_message.specs.declared.commands.Command.{Command}
-use Rattle.fio_check.specs.ContentAbove.{latest_said, one_excuse_more}
-use Rattle.fio_check.specs.ContentFacts.{content_step, forgetting}
-use Rattle.fio_check.specs.ContentRules.{breaks_time, is_excused, without_excuse}
-use Rattle.fio_check.specs.ContentSaid.{is_clear_end, is_loading}
+use Rattle.fio_check.proofs.Names.{◌≡◌, ◌≤◌, ◌<◌, ◌∙◌, ℕ, zero, suc, Bool, true, false, List, Option, None, Some, refl, ap, sym, arith, length, inl, inr, is_some, not, if◌then◌else◌, ◌==◌, eqb_tells, slice_get_cases, Entry, Gap, ContentEvent, Sent, Heard, Recorded, Ended, ContentFacts, LineEvent, content_at, content_event_at, content_with, option_map, option_or, Command, content_step, forgetting, is_clear_end, is_loading, latest_said, one_excuse_more, without_excuse, ◌&&◌}
+use Rattle.fio_check.specs.ContentRules.{breaks_time, is_excused}
 use Rattle.fio_check.proofs.ContentNext.{content_is_kept, content_next}
-use Rattle.fio_check.proofs.ContentPlaces.{event_of, latest_next, placed}
+use Rattle.fio_check.proofs.ContentPlaces.{latest_next, placed}
+use Rattle.fio_check.proofs.ShownPlaces.{event_of}
 
 and-none : (b : Bool) → (b && false) ≡ false
 and-none true = refl

@@ -18,9 +18,7 @@ earliest_stays said place (suc n) value within found =
     ]
 
 neither : {A : Type 0} (earlier here : Option A) → option_or earlier here ≡ None → (earlier ≡ None) × (here ≡ None)
-neither None None is = (refl, refl)
-neither None (Some x) is = absurd (cc)
-neither (Some x) here is = absurd (cc)
+neither earlier here is = grind arith
 
 -- where nothing is found, nothing is said above
 pub none_said : {A : Type 0} (said : ℕ → Option A) (n place : ℕ) → earliest_above said n ≡ None → place < n → said place ≡ None
@@ -73,9 +71,7 @@ breach-is lines place line broken here is =
 
 no_breach : (line : Option TranscriptLine) (broken : Option Rule) → is_some line ≡ true
     → option_and_then (λ l. option_map (Broken l.number) broken) line ≡ None → broken ≡ None
-no_breach (Some line) None is none = refl
-no_breach (Some line) (Some rule) is none = absurd (cc)
-no_breach None broken is none = absurd (cc)
+no_breach line broken is none = grind arith
 
 some_line : (lines : List TranscriptLine) (place : ℕ) → place < length lines → is_some (slice_get lines place) ≡ true
 some_line lines place within =

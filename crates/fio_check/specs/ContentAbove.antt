@@ -13,9 +13,9 @@ use Rattle.fio_message.specs.declared.commands.Command.{Command}
 use Rattle.fio_message.specs.declared.commands.Command.TheVariants as commands
 use Rattle.fio_message.specs.declared.fields.InputItem.{InputItem}
 use Rattle.fio_check.specs.ContentEvents.{ContentEvent, LineEvent, content_event_at}
-use Rattle.fio_check.specs.ContentSaid.{FilterPair, Floor, Seen, SentItem, TimedState, awaiting, block_stamp, comes_to, ends_told, entry_recorded, filters_of, floor_of, full_end, ignoring, is_accepting, is_again_end, is_clear_end, is_end, is_far, is_gap, is_loading, is_set_dog, item_for, item_of_input, item_sent, items_sent, opening, polling, said_if, stamp_heard, states_heard}
+use Rattle.fio_check.specs.ContentSaid.{FilterPair, Floor, Seen, SentItem, TimedState, awaiting, block_stamp, comes_to, ends_shown, entry_recorded, filters_of, floor_of, full_end, ignoring, is_accepting, is_again_end, is_clear_end, is_end, is_far, is_gap, is_loading, is_set_dog, item_for, item_of_input, item_sent, items_sent, opening, polling, said_if, stamp_heard, states_heard}
 use Rattle.fio_check.specs.Observations.{names_absent}
-use Rattle.fio_check.specs.ContentKnown.{ContentFacts, InputAbove, WatchedState, if_comes, tells_other, state_told}
+use Rattle.fio_check.specs.ContentKnown.{ContentFacts, InputAbove, WatchedState, if_comes, shows_other, state_shown}
 use Rattle.fio_check.specs.ContentRules.{is_excused}
 use Rattle.fio_check.specs.Places.{Placed, is_some_and, latest_above}
 
@@ -242,18 +242,18 @@ is_touched events input place = is_some_and (latest_above (touching_at events in
 
 -- the state of this input that is known below an event: none after an event that ends this knowledge, or the state that the
 -- record comes to
-abbrev pub telling_at : List LineEvent → ℕ → ℕ → Option (Option Bool)
-telling_at events input place = if is_at (ends_told input) events place then Some None
-    else (if nat_lt input INPUTS then option_map (state_told input (is_touched events input place)) (coming_at events place) else None)
+abbrev pub showing_at : List LineEvent → ℕ → ℕ → Option (Option Bool)
+showing_at events input place = if is_at (ends_shown input) events place then Some None
+    else (if nat_lt input INPUTS then option_map (state_shown input (is_touched events input place)) (coming_at events place) else None)
 
 -- the state of this input that is known by a 181
-abbrev pub told_at : List LineEvent → ℕ → ℕ → Option Bool
-told_at events input place = option_and_then (λ found. found.value) (latest_above (telling_at events input) place)
+abbrev pub shown_at : List LineEvent → ℕ → ℕ → Option Bool
+shown_at events input place = option_and_then (λ found. found.value) (latest_above (showing_at events input) place)
 
 -- for an event with which the record comes to another state of this input, true; for an item of the input, false
 abbrev pub unlogging_at : List LineEvent → ℕ → ℕ → Option Bool
 unlogging_at events input place = if is_at (λ event. is_some (item_of_input input event)) events place then Some false
-    else said_if (nat_lt input INPUTS && is_some_and (coming_at events place) (tells_other input (is_touched events input place) (told_at events input place)))
+    else said_if (nat_lt input INPUTS && is_some_and (coming_at events place) (shows_other input (is_touched events input place) (shown_at events input place)))
 
 -- the changes of this input are not logged
 abbrev pub is_unlogged : List LineEvent → ℕ → ℕ → Bool
@@ -270,7 +270,7 @@ input_at timed at events input place = record {
   watched = option_and_then (watched_state events input place) (latest_said (entry_recorded input) events place);
   timed = option_and_then (timed_below timed) (latest_said (entry_recorded input) timed at);
   touched = is_touched events input place;
-  told = told_at timed input at;
+  shown = shown_at timed input at;
   unlogged = is_unlogged timed input at;
   shut = is_some_and (settled events input place) (is_shut_by events input place);
   least = least_since events input place (settled events input place);

@@ -26,7 +26,7 @@ no_input = record {
   watched = None;
   timed = None;
   touched = false;
-  told = None;
+  shown = None;
   unlogged = false;
   shut = false;
   least = one_sample;
@@ -82,7 +82,7 @@ input_with_item above (Some item) = record (turned_by item.ignore above) {
   item = Some (item_kept item);
   taken = false;
   touched = true;
-  told = None;
+  shown = None;
   unlogged = false;
   least = lesser above.least (filters_of item);
 }
@@ -171,7 +171,7 @@ abbrev pub input_with_entry : ContentFacts → Bool → ℕ → InputAbove → I
 input_with_entry facts level wide above = record above {
   watched = watched_now facts.clear level above;
   timed = if facts.timely && not facts.aged then Some wide else None;
-  told = None;
+  shown = None;
 }
 
 -- an input below an entry of this input or another
@@ -182,7 +182,7 @@ input_recorded facts recorded level wide input above = if input == recorded && n
 
 -- an input below a gap mark
 abbrev pub unwatched : InputAbove → InputAbove
-unwatched above = record above { watched = None; told = None }
+unwatched above = record above { watched = None; shown = None }
 
 -- an input below a block that settles it, with the item that is then settled
 abbrev pub input_below_clear : InputAbove → Option SentItem → InputAbove
@@ -247,7 +247,7 @@ content_step facts (Ended status stamp) =
 abbrev pub forgetting_input : Bool → InputAbove → InputAbove
 forgetting_input forgets above = record above {
   timed = if forgets then None else above.timed;
-  told = if forgets then None else above.told;
+  shown = if forgets then None else above.shown;
   unlogged = not forgets && above.unlogged;
 }
 

@@ -48,7 +48,7 @@ input_kept inputs input = record {
       (record { level = is_set inputs.levels input; shaded = is_set inputs.shaded input });
   timed = some_in inputs.timed input (slice_index_or inputs.times input 0);
   touched = is_set inputs.touched input;
-  told = some_in inputs.told input (is_set inputs.told_levels input);
+  shown = some_in inputs.shown input (is_set inputs.shown_levels input);
   unlogged = is_set inputs.unlogged input;
   shut = is_set inputs.shut input;
   least = if is_set inputs.settled input then filters_in inputs.leading inputs.trailing input

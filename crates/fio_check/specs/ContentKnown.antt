@@ -39,7 +39,7 @@ pub record InputAbove : Type 0 where
   pub touched : Bool
   -- its state in the latest 181 that the record has come to, if since then neither an entry of it nor a gap mark is recorded,
   -- and no item of it was sent since the block above that settles it
-  pub told : Option Bool
+  pub shown : Option Bool
   -- the record came to a 181 with the other state: its changes are not logged, and no item of it was sent since
   pub unlogged : Bool
   -- it is ignored for each entry that is logged from now on
@@ -87,27 +87,27 @@ abbrev pub if_comes : ContentEvent → Seen → Option Seen
 if_comes event seen = if comes_to seen event then Some seen else None
 
 -- the state of this input in states, if no item of it was sent since the latest block that settles it
-abbrev pub state_told : ℕ → Bool → Seen → Option Bool
-state_told input touched seen = if touched then None else Some (is_set seen.levels input)
+abbrev pub state_shown : ℕ → Bool → Seen → Option Bool
+state_shown input touched seen = if touched then None else Some (is_set seen.levels input)
 
 -- the states contradict the known state of this input
-abbrev pub tells_other : ℕ → Bool → Option Bool → Seen → Bool
-tells_other input touched told seen =
-    not touched && is_some_and told (λ level. not (beq level (is_set seen.levels input)))
+abbrev pub shows_other : ℕ → Bool → Option Bool → Seen → Bool
+shows_other input touched shown seen =
+    not touched && is_some_and shown (λ level. not (beq level (is_set seen.levels input)))
 
 -- the known state of an input after the record comes to these states, if it does
-abbrev pub told_after : ℕ → Option Seen → InputAbove → Option Bool
-told_after input None above = above.told
-told_after input (Some seen) above =
-    if nat_lt input INPUTS then state_told input above.touched seen else above.told
+abbrev pub shown_after : ℕ → Option Seen → InputAbove → Option Bool
+shown_after input None above = above.shown
+shown_after input (Some seen) above =
+    if nat_lt input INPUTS then state_shown input above.touched seen else above.shown
 
 -- whether the changes of an input are not logged, after the record comes to these states, if it does
 abbrev pub unlogged_after : ℕ → Option Seen → InputAbove → Bool
 unlogged_after input None above = above.unlogged
 unlogged_after input (Some seen) above =
-    (nat_lt input INPUTS && tells_other input above.touched above.told seen) || above.unlogged
+    (nat_lt input INPUTS && shows_other input above.touched above.shown seen) || above.unlogged
 
 -- an input after the record comes to these states, if it does
 abbrev pub input_coming : ℕ → Option Seen → InputAbove → InputAbove
 input_coming input seen above =
-    record above { told = told_after input seen above; unlogged = unlogged_after input seen above }
+    record above { shown = shown_after input seen above; unlogged = unlogged_after input seen above }

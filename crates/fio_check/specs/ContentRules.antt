@@ -24,13 +24,13 @@ use Rattle.fio_check.specs.declared.content_rules.ContentRule.TheVariants.{Order
 -- ---- an entry
 
 -- an entry of one input comes after an entry of another: it is later, or it has the same time and a higher input
-abbrev pub comes_behind : ℕ → ℕ → ℕ → ℕ → Bool
-comes_behind input wide above time = is_later wide time || (wide == time && nat_lt above input)
+abbrev pub comes_after : ℕ → ℕ → ℕ → ℕ → Bool
+comes_after input wide above time = is_later wide time || (wide == time && nat_lt above input)
 
 -- an entry does not come after the entry above it
 abbrev pub is_out_of_order : ℕ → ℕ → Floor → Bool
 is_out_of_order input wide floor =
-    is_some_and floor.input (λ above. not (comes_behind input wide above floor.time))
+    is_some_and floor.input (λ above. not (comes_after input wide above floor.time))
 
 -- an entry is not later than the block without C above it
 abbrev pub is_stale : ℕ → Floor → Bool
@@ -62,8 +62,8 @@ coming_with facts wide =
 
 -- an entry of this state contradicts what a 181 shows of an input: it repeats the known state, or the input's changes are not
 -- logged
-abbrev pub is_told_otherwise : Bool → InputAbove → Bool
-is_told_otherwise level above = is_some_and above.told (beq level) || above.unlogged
+abbrev pub is_shown_otherwise : Bool → InputAbove → Bool
+is_shown_otherwise level above = is_some_and above.shown (beq level) || above.unlogged
 
 -- An entry of this input breaks a rule:
 abbrev pub breaks_entry : ContentFacts → ℕ → TimedState → ContentRule → Bool
@@ -85,7 +85,7 @@ breaks_entry facts input entry Ignored = (facts.inputs input).shut
 -- State: its input has that state in the latest 181 already, and no entry since; or it changed its state between two of them
 -- without an entry. No item of the input was sent since the clear block above them, and times are judged.
 breaks_entry facts input entry State = is_judged facts
-    && is_told_otherwise entry.level (input_coming input (coming_with facts entry.wide) (facts.inputs input))
+    && is_shown_otherwise entry.level (input_coming input (coming_with facts entry.wide) (facts.inputs input))
 breaks_entry facts input entry rule = false
 
 -- the rules on entries, in the order in which they are tried

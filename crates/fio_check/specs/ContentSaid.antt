@@ -198,8 +198,8 @@ is_gap (Recorded Gap) = Some true
 is_gap event = None
 
 -- what makes the state of this input in a 181 outdated: an item or an entry of it, or a gap mark
-abbrev pub ends_told : ℕ → ContentEvent → Bool
-ends_told input event = (is_some (item_of_input input event) || is_some (entry_recorded input event))
+abbrev pub ends_shown : ℕ → ContentEvent → Bool
+ends_shown input event = (is_some (item_of_input input event) || is_some (entry_recorded input event))
     || is_some (is_gap event)
 
 -- the states that were asked for

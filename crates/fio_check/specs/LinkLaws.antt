@@ -9,7 +9,7 @@ use Rattle.fio_check.specs.ContentEvents.{Sent}
 use Rattle.fio_check.specs.ContentSaid.{is_loading}
 use Rattle.fio_check.specs.Facts.{number_polled}
 use Rattle.fio_check.specs.Lines.{TranscriptLine, command_from}
-use Rattle.fio_check.specs.LinkJudges.{Frame, Judging, LogLine, Lost, checking_again, is_set_back, judging_anywhere, judging_begun, judging_below, judging_lost, judging_with, loads_left, outcome_in, outcomes_of}
+use Rattle.fio_check.specs.LinkJudges.{Frame, Judging, LogLine, Lost, checking_again, judging_anywhere, judging_begun, judging_below, judging_lost, judging_with, loads_left, outcome_in, outcomes_of}
 use Rattle.fio_check.specs.Observations.{observation_in}
 use Rattle.fio_check.specs.Places.{earliest_above, is_some_and}
 use Rattle.fio_check.specs.declared.checker.Breach.{Breach}
@@ -17,8 +17,6 @@ use Rattle.fio_check.specs.declared.checker.Checker.{Checker}
 use Rattle.fio_check.specs.declared.checker.Skips.TheVariants.{ToCommand}
 use Rattle.fio_check.specs.declared.limits.RuleLimits.{RuleLimits}
 use Rattle.fio_check.specs.declared.content.ContentBreach.{ContentBreach}
-use Rattle.fio_check.specs.declared.content_rules.ContentRule.{ContentRule}
-use Rattle.fio_check.specs.declared.content_rules.ContentRule.TheVariants.{Watchdog}
 use Rattle.fio_check.specs.declared.outcome.LogPlace.{LogPlace}
 use Rattle.fio_check.specs.declared.outcome.LogPlace.TheVariants.{Cpu}
 use Rattle.fio_check.specs.declared.outcome.Excuse.TheVariants.{Load}

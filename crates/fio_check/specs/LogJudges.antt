@@ -175,20 +175,20 @@ outcome_without_content judging observation = if passes_over judging.checker fal
     else outcome_found false (found_by judging.checker false observation) None
 
 -- the rules on content get commands and block answers only
-abbrev pub is_told : Bool → Observation → Bool
-is_told true observation = true
-is_told false (Block number status entries absent) = true
-is_told false observation = false
+abbrev pub has_content : Bool → Observation → Bool
+has_content true observation = true
+has_content false (Block number status entries absent) = true
+has_content false observation = false
 
 -- the outcome of a frame that is not a late answer
 abbrev pub outcome_in_time : Judging → LogPlace → Bool → List ℕ → FrameOutcome
-outcome_in_time judging at from_cpu octets = if is_told from_cpu (observation_in from_cpu octets)
+outcome_in_time judging at from_cpu octets = if has_content from_cpu (observation_in from_cpu octets)
     then outcome_in judging at from_cpu octets
     else outcome_without_content judging (observation_in from_cpu octets)
 
 -- the judge of the link after a frame that is not a late answer
 abbrev pub judging_in_time : Judging → LogPlace → Bool → List ℕ → Judging
-judging_in_time judging at from_cpu octets = if is_told from_cpu (observation_in from_cpu octets)
+judging_in_time judging at from_cpu octets = if has_content from_cpu (observation_in from_cpu octets)
     then judging_with judging at from_cpu octets
     else record judging { checker = checker_with judging.checker false (observation_in from_cpu octets) }
 

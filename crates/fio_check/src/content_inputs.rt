@@ -8,7 +8,7 @@ ghost use Rattle.fio_check.specs.ContentSaid.{item_for};
 ghost use Rattle.fio_check.specs.ContentFacts.{forgetting_input, input_begun, input_ended, input_with_answer, input_with_earlier, no_input, turned_by, unnamed, unwatched, watched_now};
 ghost use Rattle.fio_check.specs.ContentKnown.{input_coming};
 ghost use Rattle.fio_check.specs.ContentKept.{input_kept};
-ghost use Rattle.fio_check.specs.ContentRules.{filter_towards, is_told_otherwise, steady_state};
+ghost use Rattle.fio_check.specs.ContentRules.{filter_towards, is_shown_otherwise, steady_state};
 
 use crate::input_sets::{has_input, with_input};
 use fio_input::DEFAULT_FILTER;
@@ -35,9 +35,9 @@ pub struct ContentInputs {
     /// An item of the input was sent since the latest block that settles it.
     touched: u64,
     /// The input's state is known to be that of the latest 181 that the record has come to.
-    told: u64,
+    shown: u64,
     /// That state.
-    told_levels: u64,
+    shown_levels: u64,
     /// The input changed between two such 181 without an entry.
     unlogged: u64,
     /// The input is ignored for each entry below.
@@ -75,8 +75,8 @@ impl ContentInputs {
             hidden: 0,
             reopened: 0,
             touched: 0,
-            told: 0,
-            told_levels: 0,
+            shown: 0,
+            shown_levels: 0,
             unlogged: 0,
             shut: 0,
             levels: 0,
@@ -106,8 +106,8 @@ impl ContentInputs {
             hidden: 0,
             reopened: 0,
             touched: 0,
-            told: 0,
-            told_levels: 0,
+            shown: 0,
+            shown_levels: 0,
             unlogged: 0,
             shut: u64::MAX,
             levels: 0,
@@ -202,7 +202,7 @@ impl ContentInputs {
               item = Some (record { ignore = ignore; filters = record { leading = leading; trailing = trailing } });
               taken = false;
               touched = true;
-              told = None;
+              shown = None;
               unlogged = false;
             }
             else input_kept self.old input) }
@@ -212,7 +212,7 @@ impl ContentInputs {
         self.ignoring = with_input(self.ignoring, place, ignore);
         self.taken = with_input(self.taken, place, false);
         self.touched = with_input(self.touched, place, true);
-        self.told = with_input(self.told, place, false);
+        self.shown = with_input(self.shown, place, false);
         self.unlogged = with_input(self.unlogged, place, false);
         self.leading[place] = leading;
         self.trailing[place] = trailing;
@@ -255,7 +255,7 @@ impl ContentInputs {
             then record (input_kept self.old input) {
               watched = watched_now clear level (input_kept self.old input);
               timed = if timely then Some wide else None;
-              told = None;
+              shown = None;
             }
             else input_kept self.old input) }
     {
@@ -265,7 +265,7 @@ impl ContentInputs {
         self.shaded = with_input(self.shaded, place, hidden);
         self.levels = with_input(self.levels, place, level);
         self.timed = with_input(self.timed, place, timely);
-        self.told = with_input(self.told, place, false);
+        self.shown = with_input(self.shown, place, false);
         self.times[place] = wide;
     }
 
@@ -274,7 +274,7 @@ impl ContentInputs {
         ensures { (input : ℕ) → input_kept self.new input ≡ unwatched (input_kept self.old input) }
     {
         self.watched = 0;
-        self.told = 0;
+        self.shown = 0;
     }
 
     /// The record comes to the states of a 181.
@@ -282,10 +282,10 @@ impl ContentInputs {
         ensures { (input stamp : ℕ) → input_kept self.new input
             ≡ input_coming input (Some (record { stamp = stamp; levels = levels })) (input_kept self.old input) }
     {
-        let untouched = self.told & !self.touched;
-        self.unlogged = self.unlogged | (untouched & (self.told_levels ^ levels));
-        self.told = !self.touched;
-        self.told_levels = levels;
+        let untouched = self.shown & !self.touched;
+        self.unlogged = self.unlogged | (untouched & (self.shown_levels ^ levels));
+        self.shown = !self.touched;
+        self.shown_levels = levels;
     }
 
     /// Forgets all that rests on times.
@@ -293,7 +293,7 @@ impl ContentInputs {
         ensures { (input : ℕ) → input_kept self.new input ≡ forgetting_input true (input_kept self.old input) }
     {
         self.timed = 0;
-        self.told = 0;
+        self.shown = 0;
         self.unlogged = 0;
     }
 
@@ -362,21 +362,21 @@ impl ContentInputs {
     }
 
     /// Returns whether an entry of this state contradicts what a 181 shows of an input.
-    pub(crate) fn is_told_otherwise(&self, place: usize, level: bool) -> bool
-        ensures { result ≡ is_told_otherwise level (input_kept self.now place) }
+    pub(crate) fn is_shown_otherwise(&self, place: usize, level: bool) -> bool
+        ensures { result ≡ is_shown_otherwise level (input_kept self.now place) }
     {
-        let told = has_input(self.told, place) && has_input(self.told_levels, place) == level;
-        told || has_input(self.unlogged, place)
+        let shown = has_input(self.shown, place) && has_input(self.shown_levels, place) == level;
+        shown || has_input(self.unlogged, place)
     }
 
     /// Returns whether an entry of this state contradicts what a 181 shows of an input, if the record comes to these states
     /// with the entry.
-    pub(crate) fn is_told_otherwise_by(&self, place: usize, level: bool, levels: u64) -> bool
-        ensures { (stamp : ℕ) → result ≡ is_told_otherwise level (input_coming place
+    pub(crate) fn is_shown_otherwise_by(&self, place: usize, level: bool, levels: u64) -> bool
+        ensures { (stamp : ℕ) → result ≡ is_shown_otherwise level (input_coming place
             (Some (record { stamp = stamp; levels = levels })) (input_kept self.now place)) }
     {
         if place >= INPUTS {
-            return self.is_told_otherwise(place, level);
+            return self.is_shown_otherwise(place, level);
         }
         if has_input(self.unlogged, place) {
             return true;
@@ -385,7 +385,7 @@ impl ContentInputs {
             return false;
         }
         let now = has_input(levels, place);
-        now == level || (has_input(self.told, place) && has_input(self.told_levels, place) != now)
+        now == level || (has_input(self.shown, place) && has_input(self.shown_levels, place) != now)
     }
 
     /// Returns the lowest filter of an input that can be in force for a change to this state.

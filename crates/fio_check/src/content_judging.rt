@@ -201,9 +201,9 @@ impl ContentAbove {
         if self.has_seen != 0 && is_later(wide, self.seen) {
             return self
                 .inputs
-                .is_told_otherwise_by(place, level, self.seen_levels);
+                .is_shown_otherwise_by(place, level, self.seen_levels);
         }
-        self.inputs.is_told_otherwise(place, level)
+        self.inputs.is_shown_otherwise(place, level)
     }
 
     /// Returns whether an entry is nearer to the latest one of its input than the lowest filter that can be in

@@ -119,7 +119,7 @@ pub fn judges_go_on()
 {}
 
 /// In a whole log at the CPU's end the judge accuses first what the two checkers find first.
-#[tactic(auto, using(crate::proofs::LinkLaws::says_the_same))]
+#[tactic(auto, using(crate::proofs::LinkTranscripts::says_the_same))]
 pub fn judges_say_what_checkers_find()
     ensures { (limits : RuleLimits) (lines : List TranscriptLine) → SaysTheSame limits lines }
 {}

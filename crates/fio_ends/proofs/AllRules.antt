@@ -1,9 +1,6 @@
 -- All rules on content at once, along a prompt run.
-use Rattle.fio_ends.proofs.Names.{◌≡◌, ◌+◌, ℕ, Bool, true, false, List, [], ◌∷◌, Option, None, refl, ap, ap₂, option_map, IsCommand, Life, life_of, loads_of, Settings, AreInRange, ContentFacts, ContentKept, content_with, no_content, ContentEvent, events_in, no_facts, ContentRule, Accepted, Alternate, Apart, Cleared, Clock, Done, Fresh, Ignored, Order, State, Watchdog, Facts, Event, Machine, number_of, sending_refusal, refusal, after, after_sending, IsNotRestart, CpuFrame, frames_at, IsPrompt, IsWithinRanges, command_octets}
-use Rattle.std.specs.Option.{option_or}
-use Rattle.fio_message.specs.declared.commands.Command.{Command}
+use Rattle.fio_ends.proofs.Names.{◌≡◌, ◌+◌, ℕ, Bool, true, false, List, [], ◌∷◌, Option, None, refl, ap, ap₂, option_map, IsCommand, Life, life_of, loads_of, Settings, AreInRange, ContentFacts, ContentKept, content_with, no_content, ContentEvent, events_in, no_facts, ContentRule, Accepted, Alternate, Apart, Cleared, Clock, Done, Fresh, Ignored, Order, State, Watchdog, Facts, Event, Machine, number_of, sending_refusal, refusal, after, after_sending, IsNotRestart, CpuFrame, frames_at, IsPrompt, IsWithinRanges, command_octets, Command, breach_among, content_found, option_or}
 use Rattle.fio_message.specs.declared.commands.Command.TheVariants as commands
-use Rattle.fio_check.specs.ContentCheckers.{breach_among, content_found}
 use Rattle.fio_link.specs.declared.event.Event.TheVariants as events
 use Rattle.fio_ends.proofs.AlternateKept.{FollowHolds, alternate_is_invariant}
 use Rattle.fio_ends.proofs.AlwaysKept.{always-begins}
@@ -19,7 +16,7 @@ use Rattle.fio_ends.proofs.FirstPolls.{polls_begin}
 use Rattle.fio_ends.proofs.Following.{Follows, GoesOn, facts_below, from_after, goes_on-same}
 use Rattle.fio_ends.proofs.IgnoredKept.{ignored_is_invariant}
 use Rattle.fio_ends.proofs.Shut.{ShutHolds}
-use Rattle.fio_ends.proofs.Timeless.{HasExcuses}
+use Rattle.fio_ends.proofs.JumpedBlocks.{HasExcuses}
 use Rattle.fio_ends.proofs.TimesKept.{AsksTimes, KeepsTimed, TimeState, time_above, time_after, timeless_timed, times_are_invariant}
 
 -- ---- each of the rules
@@ -247,7 +244,7 @@ module _ (settings : Settings) (range : AreInRange settings) (first : ℕ) (begi
           upto = goes_on-same life life refl;
           has = has;
           timed = λ steady. timeless_timed settings _ above s life machine (content_again excuses)
-              (record { clock = refl; heard = refl; timely = refl; seen = refl; timed = λ input. refl; told = λ input. refl; unlogged = λ input. refl })
+              (record { clock = refl; heard = refl; timely = refl; seen = refl; timed = λ input. refl; shown = λ input. refl; unlogged = λ input. refl })
               (record { bright = always.bright; both = always.both; least = always.least; watch = always.watch }) recorded;
         };
         watchdog = λ is. absurd (cc is);

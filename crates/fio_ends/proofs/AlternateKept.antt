@@ -1,19 +1,13 @@
 -- The rule `alternate` never accuses: an entry that is watched is a change from the state of the latest one of its input.
-use Rattle.fio_ends.proofs.Names.{◌≡◌, ◌≢◌, ◌∙◌, ◌+◌, ◌<◌, ◌≤◌, ◌&&◌, ◌||◌, inl, inr, ℕ, Bool, true, false, not, List, [], ◌∷◌, ◌++◌, length, Option, Some, None, option_map, option_and_then, refl, ap, sym, subst, arith, if◌then◌else◌, ◌==◌, beq, slice_get, eqb_tells, nat_lt, nat_tests, is_some_and, same_Some, Command, Block, InputItem, command_in, command_octets, IsCommand, says_again, says_more, Settings, AreInRange, Life, Occurrence, Scanned, LineSynced, Raised, life_of, life_after_command, log_of, Transition, entry_of, MadeBlock, blocks_in, ContentFacts, InputAbove, content_with, Ended, Recorded, Sent, Gap, Event, SentFrame, Machine, start, after, after_sending, after_delivery_to_module, after_taken, Alternate, IsKept}
+use Rattle.fio_ends.proofs.Names.{◌≡◌, ◌≢◌, ◌∙◌, ◌+◌, ◌<◌, ◌≤◌, ◌&&◌, ◌||◌, inl, inr, ℕ, Bool, true, false, not, List, [], ◌∷◌, ◌++◌, length, Option, Some, None, option_map, option_and_then, refl, ap, sym, subst, arith, if◌then◌else◌, ◌==◌, beq, slice_get, eqb_tells, nat_lt, nat_tests, is_some_and, same_Some, Command, Block, InputItem, command_in, command_octets, IsCommand, says_again, says_more, Settings, AreInRange, Life, Occurrence, Scanned, LineSynced, Raised, life_of, life_after_command, log_of, Transition, entry_of, MadeBlock, blocks_in, ContentFacts, InputAbove, content_with, Ended, Recorded, Sent, Gap, Event, SentFrame, Machine, start, after, after_sending, after_delivery_to_module, after_taken, Alternate, IsKept, Always, KeepsRule, WatchedState, block_answer, coming, content_begun, end_of_blocks, ignores, input_below_clear, input_coming, input_ended, input_with_entry, input_with_item, item_for, items_sent, opens, settled_now, unnamed}
 use Rattle.fio_message.specs.declared.commands.Command.TheVariants as commands
-use Rattle.fio_message.specs.Blocks.{block_answer}
 use Rattle.fio_input.specs.Widening.{wide_time_of}
-use Rattle.fio_module.specs.Blocks.{end_of_blocks}
-use Rattle.fio_check.specs.ContentKnown.{WatchedState}
-use Rattle.fio_check.specs.ContentSaid.{SentItem, ignores, item_for, items_sent, opens}
-use Rattle.fio_check.specs.ContentFacts.{coming, content_begun, input_below_clear, input_ended, input_with_entry, input_with_item, settled_now, shaded, unless_shaded, unnamed}
-use Rattle.fio_check.specs.ContentKnown.{input_coming}
-use Rattle.fio_link.specs.declared.event.Event.TheVariants as events
-use Rattle.fio_ends.specs.ContentRuns.{Always, ContentNeverAccuses, KeepsRule}
+use Rattle.fio_check.specs.ContentFacts.{shaded, unless_shaded}
+use Rattle.fio_ends.specs.ContentRuns.{ContentNeverAccuses}
 use Rattle.fio_ends.proofs.BlockPlaces.{end_at, ends_within, is_next}
 use Rattle.fio_ends.proofs.BlockWalk.{IsWalk, entry_event, gap_keeps, walk}
 use Rattle.fio_ends.proofs.ContentBegun.{begun_input}
-use Rattle.fio_ends.proofs.ContentSteps.{IsInvariant, IsKnown, IsPastBus, Takes}
+use Rattle.fio_ends.proofs.ContentSteps.{IsInvariant, IsKnown, IsPastBus, Takes, past_cases}
 use Rattle.fio_ends.proofs.ContentFrame.{heard_keeps}
 use Rattle.fio_ends.proofs.ContentHeld.{content_never_accuses}
 use Rattle.fio_ends.proofs.Following.{IsNoCommand}
@@ -139,20 +133,12 @@ module _ (life : Life) (frames : List SentFrame) (last upto : ℕ) (transition :
   }
 
 differs : (level : Bool) (before : Bool) → level ≡ not before → beq level before ≡ false
-differs true true is = absurd (cc is)
-differs true false is = refl
-differs false true is = refl
-differs false false is = absurd (cc is)
+differs level before is = grind arith
 
 none_same : (level : Bool) (watched : Option WatchedState) → ((before : WatchedState) → watched ≡ Some before → level ≡ not before.level)
     → is_some_and watched (λ before. beq level before.level) ≡ false
 none_same level None changed = refl
 none_same level (Some before) changed = differs level before.level (changed before refl)
-
--- below a clear block
-shown_below : (above : InputAbove) (item : Option SentItem) → (input_below_clear above item).hidden ≡ false
-shown_below above None = refl
-shown_below above (Some item) = refl
 
 module _ (settings : Settings) (range : AreInRange settings) (first : ℕ) (begin : Machine) where
   module _ (from : Life) (machine : Machine) (place number : ℕ) (answer : Block) (block : MadeBlock)
@@ -265,14 +251,8 @@ module _ (settings : Settings) (range : AreInRange settings) (first : ℕ) (begi
 
   follow-happens : (machine : Machine) (facts : ContentFacts) (event : Event) → IsPastBus event → FollowHolds settings machine facts
       → FollowHolds settings (after settings first machine event) facts
-  follow-happens machine facts (events.Scan raw) past p = λ input low. quiet machine facts (Scanned raw) tt p input low
-  follow-happens machine facts events.LineSync past p = λ input low. quiet machine facts LineSynced tt p input low
-  follow-happens machine facts (events.Raise mask) past p = λ input low. quiet machine facts (Raised mask) tt p input low
-  follow-happens machine facts events.Poll past p = absurd past
-  follow-happens machine facts (events.Send command) past p = absurd past
-  follow-happens machine facts (events.ToModule index) past p = absurd past
-  follow-happens machine facts (events.ToCpu index) past p = absurd past
-  follow-happens machine facts events.Restart past p = absurd past
+  follow-happens machine facts event past p = past_cases (λ event. FollowHolds settings (after settings first machine event) facts)
+      (λ raw. quiet machine facts (Scanned raw) tt p) (quiet machine facts LineSynced tt p) (λ mask. quiet machine facts (Raised mask) tt p) event past
 
   follow-sends : (machine : Machine) (facts : ContentFacts) (command : Command) → IsCommand command → FollowHolds settings machine facts
       → FollowHolds settings (after_sending machine command) (content_with facts (Sent command))

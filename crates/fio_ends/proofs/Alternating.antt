@@ -1,9 +1,6 @@
 -- The changes of an input in a part of the log alternate, from a state to a state.
-use Rattle.fio_ends.proofs.Names.{◌≡◌, ◌≢◌, ◌∙◌, ◌<◌, ◌≤◌, ◌&&◌, ◌⊎◌, inl, inr, ℕ, zero, suc, Bool, true, false, not, List, [], ◌∷◌, ◌++◌, refl, ap, sym, subst, arith, if◌then◌else◌, AllByRecursion, eqb_tells, beq, Life, Scanned, filter_events, Transition, input_setting}
-use Rattle.fio_input.specs.FilterHistory.{is_reported, input_state}
-use Rattle.fio_module.specs.Log.{transition_at, transitions_below}
-use Rattle.fio_module.proofs.ListParts.{each-from_get}
-use Rattle.fio_module.proofs.ScanTransitions.{of_scan}
+use Rattle.fio_ends.proofs.Names.{◌≡◌, ◌≢◌, ◌∙◌, ◌<◌, ◌≤◌, ◌&&◌, ◌⊎◌, inl, inr, ℕ, zero, suc, Bool, true, false, not, List, [], ◌∷◌, ◌++◌, refl, ap, sym, subst, arith, if◌then◌else◌, AllByRecursion, eqb_tells, beq, Life, Scanned, filter_events, Transition, input_setting, each-from_get, input_state, is_reported, of_scan, transition_at}
+use Rattle.fio_module.specs.Log.{transitions_below}
 
 -- no transition is of this input
 abbrev pub NoneOf : ℕ → List Transition → Type 0
@@ -42,10 +39,7 @@ alternate-split input before state (transition ∷ front) back (inr other) =
     (rest.0, inr (other.0, rest.1), rest.2)
 
 not-same : (a b : Bool) → not a ≡ not b → a ≡ b
-not-same true true same = refl
-not-same true false same = absurd (cc same)
-not-same false true same = absurd (cc same)
-not-same false false same = refl
+not-same a b same = grind arith
 
 -- both ways to the same state are from the same one
 pub alternate-same : (input : ℕ) (before other state : Bool) (transitions : List Transition) → Alternate input before transitions state
@@ -60,16 +54,10 @@ alternate-same input before other state (transition ∷ transitions) (inr first)
 -- ---- one scan
 
 differ : (a b : Bool) → not (beq a b) ≡ true → a ≡ not b
-differ true true is = absurd (cc is)
-differ true false is = refl
-differ false true is = refl
-differ false false is = absurd (cc is)
+differ a b is = grind arith
 
 agree : (a b : Bool) → not (beq a b) ≡ false → b ≡ a
-agree true true is = refl
-agree true false is = absurd (cc is)
-agree false true is = absurd (cc is)
-agree false false is = refl
+agree a b is = grind arith
 
 module _ (input raw : ℕ) (life : Life) where
   abbrev state_before : Bool

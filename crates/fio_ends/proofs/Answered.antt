@@ -1,21 +1,14 @@
 -- What an answer that the CPU hears says of the module's life at the command.
-use Rattle.fio_ends.proofs.Names.{◌≡◌, ◌∙◌, ◌^◌, ◌<◌, ℕ, Bool, false, not, List, ◌∷◌, Some, None, refl, ap, sym, arith, same_Some, Answer, Command, answer_in, answer_octets, answer_to, answer_type_to, observation_of, all_present, Settings, Life, Commanded, filter_events, Machine, ContentFacts}
-use Rattle.std.specs.Int.{w32, w64, from_be_bytes, from_le_bytes, to_be_bytes, to_le_bytes}
-use Rattle.std.specs.Prelude.{is_some}
+use Rattle.fio_ends.proofs.Names.{◌≡◌, ◌∙◌, ◌^◌, ◌<◌, ℕ, Bool, false, not, List, ◌∷◌, Some, None, refl, ap, sym, arith, same_Some, Answer, Command, answer_in, answer_octets, answer_to, answer_type_to, observation_of, all_present, Settings, Life, Commanded, filter_events, Machine, ContentFacts, ArrayVec, answer_code, counter_of, error_status, flags_of, input_state, is_some, raw_levels, set_before_status, to_be_bytes, w32, watchdog_of, word_of-fits}
+use Rattle.std.specs.Int.{w64, from_be_bytes, from_le_bytes, to_le_bytes}
 use Rattle.std.proofs.lemmas.Nat.{from_be_bytes-to_be_bytes_4, from_le_bytes-to_le_bytes_8}
-use Rattle.arrayvec.specs.ArrayVec.{ArrayVec}
-use Rattle.fio_message.specs.Answers.{answer_code}
 use Rattle.fio_message.specs.Decoding.{message_in}
-use Rattle.fio_message.specs.Status.{error_status, set_before_status}
 use Rattle.fio_message.specs.declared.answers.Answer.TheVariants as answers
 use Rattle.fio_message.specs.declared.answers.OtherAnswer.{OtherAnswer}
 use Rattle.fio_message.specs.declared.answers.OtherAnswer.TheVariants as other_answers
 use Rattle.fio_message.specs.declared.commands.Command.TheVariants as commands
 use Rattle.fio_message.specs.declared.commands.OtherCommand.TheVariants as other_commands
-use Rattle.fio_input.specs.FilterHistory.{input_state, raw_levels}
-use Rattle.fio_module.specs.Flags.{flags_of, watchdog_of, word_of}
-use Rattle.fio_module.specs.Life.{counter_of}
-use Rattle.fio_module.proofs.Words.{word_of-fits}
+use Rattle.fio_module.specs.Flags.{word_of}
 use Rattle.fio_check.specs.declared.observation.Observation.TheVariants as seen
 use Rattle.fio_ends.proofs.ContentSteps.{HearsAnswer}
 

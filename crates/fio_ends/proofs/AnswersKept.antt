@@ -1,22 +1,14 @@
 -- The rules on answers that read no times never accuse: `done`, `accepted`, `cleared` and `watchdog`.
-use Rattle.fio_ends.proofs.Names.{◌≡◌, ◌∙◌, ◌&&◌, ◌||◌, ◌==◌, ℕ, suc, ◌<◌, Bool, true, false, not, List, [], ◌∷◌, ◌++◌, Option, Some, None, refl, ap, sym, subst, arith, fold, if◌then◌else◌, list_any, nat_lt, nat_tests, InputItem, Answer, Command, Block, says_error, all_present, is_absent, Settings, Life, Occurrence, Commanded, life_of, life_after_command, Item, Entry, Gap, items_of_block, ContentFacts, content_with, Heard, Recorded, Ended, events_of_block, Accepted, Cleared, Done, Watchdog, ContentRule, Machine}
-use Rattle.std.specs.Int.{bit_at}
-use Rattle.std.specs.List.{list_all}
-use Rattle.std.specs.Prelude.{bit_and, is_some, min, zero}
+use Rattle.fio_ends.proofs.Names.{◌≡◌, ◌∙◌, ◌&&◌, ◌||◌, ◌==◌, ℕ, ◌<◌, Bool, true, false, not, List, [], ◌∷◌, ◌++◌, refl, ap, sym, subst, arith, fold, if◌then◌else◌, list_any, nat_lt, nat_tests, InputItem, Answer, Command, Block, says_error, all_present, is_absent, Settings, Life, Occurrence, Commanded, life_of, Item, Entry, Gap, items_of_block, ContentFacts, content_with, Heard, Recorded, Ended, events_of_block, Accepted, Cleared, Done, Watchdog, ContentRule, Machine, Always, KeepsRule, below_clear, bit_at, bit_at-lt, bit_at-word_of, bit_of, block_answer, breaks_answer, error_back, error_status, flags_of, is_clear_end, is_some, items_and_end, list_all, same_from_bits_below, watchdog_of, word_of-fits}
+use Rattle.std.specs.Prelude.{bit_and, min}
 use Rattle.std.proofs.lemmas.Nat.{and_le_l}
-use Rattle.std.proofs.lemmas.Nat.Bits.{bit_at_and, bit_at-lt, bit_at-zero, same_from_bits_below}
-use Rattle.fio_module.proofs.Words.{bit_at-word_of, word_of-fits}
-use Rattle.fio_message.specs.Bits.{bit_of, is_set}
-use Rattle.fio_message.specs.Blocks.{block_answer}
-use Rattle.fio_message.specs.Status.{error_status}
+use Rattle.std.proofs.lemmas.Nat.Bits.{bit_at_and, bit_at-zero}
+use Rattle.fio_message.specs.Bits.{is_set}
 use Rattle.fio_message.specs.declared.commands.Command.TheVariants as commands
-use Rattle.fio_message.proofs.StatusBits.{error_back, set_before_back}
-use Rattle.fio_module.specs.Flags.{flags_of, is_flag_up, watchdog_of, word_of}
-use Rattle.fio_check.specs.ContentSaid.{is_clear_end, is_set_dog}
-use Rattle.fio_check.specs.ContentFacts.{below_clear}
-use Rattle.fio_check.specs.ContentEvents.{items_and_end}
-use Rattle.fio_check.specs.ContentRules.{breaks_answer}
-use Rattle.fio_ends.specs.ContentRuns.{Always, ContentNeverAccuses, KeepsRule}
+use Rattle.fio_message.proofs.StatusBits.{set_before_back}
+use Rattle.fio_module.specs.Flags.{is_flag_up, word_of}
+use Rattle.fio_check.specs.ContentSaid.{is_set_dog}
+use Rattle.fio_ends.specs.ContentRuns.{ContentNeverAccuses}
 use Rattle.fio_ends.proofs.Answered.{Says, says_of}
 use Rattle.fio_ends.proofs.Following.{GoesOn, IsSince}
 use Rattle.fio_ends.proofs.ContentLines.{EventsKeep}
@@ -117,11 +109,7 @@ accepted_never_accuses = kept_by_answers Accepted (λ facts input low wide statu
 -- ---- cleared
 
 none_of_bit : (bit : Bool) (cleared : ℕ) → cleared < 2 → min (bit_of (if cleared == 1 then false else bit)) cleared ≡ 0
-none_of_bit true zero fits = refl
-none_of_bit false zero fits = refl
-none_of_bit true (suc zero) fits = refl
-none_of_bit false (suc zero) fits = refl
-none_of_bit bit (suc (suc n)) fits = absurd (omega (arith, fits))
+none_of_bit bit cleared fits = grind arith
 
 -- no flag is left that is cleared
 none_left : (life : Life) (clear : ℕ) → bit_and (flags_of (Commanded (commands.Status clear) ∷ life)) clear ≡ 0
@@ -154,11 +142,6 @@ cleared_never_accuses = kept_by_answers Cleared (λ facts input low wide status 
 abbrev pub IsSet : Life → Type 0
 IsSet life = is_some (watchdog_of life) ≡ true
 
-set-command : (command : Option Command) (life : Life) → IsSet life → IsSet (life_after_command command life)
-set-command None life set = set
-set-command (Some (commands.Watchdog timeout)) life set = refl
-set-command (Some other) life set = set
-
 set-more : (more life : List Occurrence) → IsSet life → IsSet (more ++ life)
 set-more [] life set = set
 set-more (Commanded (commands.Watchdog timeout) ∷ more) life set = refl
@@ -174,9 +157,7 @@ watchdog_heard facts life (commands.Watchdog timeout) answer says set =
     rw says.is (ap (λ before. not before && facts.watchdog_set) (set_before_back (is_some (watchdog_of life))) ∙ by facts.watchdog_set (is_some (watchdog_of life)) set)
   where
     by : (known before : Bool) → (known ≡ true → before ≡ true) → (not before && known) ≡ false
-    by known true set = refl
-    by true false set = absurd (cc (set refl))
-    by false false set = refl
+    by known before set = grind arith
 watchdog_heard facts life (commands.Poll number) answer says set = absurd says
 watchdog_heard facts life other answer says set = rw says.is refl
 

@@ -1,20 +1,12 @@
 -- The rule `apart` never accuses: an entry is as far from the latest one of its input as the least filter that can be in force.
-use Rattle.fio_ends.proofs.Names.{after_sending, fold, Answer, Command, IsCommand, Sent, MadeBlock, Block, events_of_block, ◌≡◌, ◌∙◌, ◌+◌, ◌<◌, ◌≤◌, ℕ, true, false, [], ◌∷◌, ◌++◌, length, Some, refl, ap, sym, subst, arith, Option, append-nil, slice_get, command_in, command_octets, Settings, AreInRange, Life, Scanned, LineSynced, Raised, life_of, life_after_command, log_of, log_of-with_command, blocks_of, blocks_in, ContentFacts, InputAbove, Heard, Event, SentFrame, Machine, start, after, after_delivery_to_module, after_taken, Apart, IsKept, take, drop}
-use Rattle.fio_message.specs.Blocks.{block_answer}
-use Rattle.fio_module.specs.Blocks.{end_of_blocks}
+use Rattle.fio_ends.proofs.Names.{after_sending, fold, Answer, Command, IsCommand, Sent, MadeBlock, Block, events_of_block, ◌≡◌, ◌∙◌, ◌+◌, ◌<◌, ◌≤◌, ℕ, true, false, [], ◌∷◌, ◌++◌, length, Some, refl, ap, sym, subst, arith, Option, append-nil, slice_get, command_in, command_octets, Settings, AreInRange, Life, Scanned, LineSynced, Raised, life_of, life_after_command, log_of, log_of-with_command, blocks_of, blocks_in, ContentFacts, InputAbove, Heard, Event, SentFrame, Machine, start, after, after_delivery_to_module, after_taken, Apart, IsKept, take, drop, KeepsRule, block_answer, blocks_taken, content_begun, content_step, end_of_blocks, item_for, item_parts, items_sent, scans_above, without_excuse, Occurrence}
 use Rattle.fio_module.specs.Log.{transitions_below}
-use Rattle.fio_check.specs.ContentFacts.{content_begun, content_step}
-use Rattle.fio_check.specs.ContentSaid.{item_for, items_sent}
-use Rattle.fio_check.proofs.ContentNext.{item_parts}
-use Rattle.fio_link.specs.declared.event.Event.TheVariants as events
-use Rattle.fio_ends.specs.ContentPremises.{blocks_taken, scans_above}
-use Rattle.fio_ends.specs.ContentRuns.{KeepsRule}
 use Rattle.fio_ends.proofs.BlockPlaces.{end_at}
 use Rattle.fio_ends.proofs.BlockWalk.{walk}
 use Rattle.fio_ends.proofs.ContentBegun.{begun_input}
-use Rattle.fio_ends.proofs.ContentSteps.{HearsAnswer, IsKnown, IsPastBus, Takes}
+use Rattle.fio_ends.proofs.ContentSteps.{HearsAnswer, IsKnown, IsPastBus, Takes, past_cases}
+use Rattle.fio_ends.proofs.Following.{IsNoCommand}
 use Rattle.fio_ends.proofs.ContentLines.{EachKeeps}
-use Rattle.fio_check.specs.ContentRules.{without_excuse}
 use Rattle.fio_ends.proofs.IgnoredKept.{both_begun, both-happens, both-receives, both-sends, item-heard}
 use Rattle.fio_ends.proofs.LeastFilters.{KeepsLeast, least-quiet, least-received, least-sent}
 use Rattle.fio_ends.proofs.Sends.{read_back}
@@ -37,17 +29,12 @@ module _ (settings : Settings) (range : AreInRange settings) (first : ℕ) (begi
       → (input : ℕ) → input < 64
       → KeepsLeast (life_of (after settings first machine event).history) (after settings first machine event).to_module (after settings first machine event).last_to_module
       (end_at settings (life_of (after settings first machine event).history) (after settings first machine event).round) input (facts.inputs input).least
-  least-happens machine facts (events.Scan raw) past p input low =
-      least-quiet machine.to_module machine.last_to_module (end_at settings (life_of machine.history) machine.round) input (facts.inputs input).least low (life_of machine.history) (Scanned raw) tt (p input low)
-  least-happens machine facts events.LineSync past p input low =
-      least-quiet machine.to_module machine.last_to_module (end_at settings (life_of machine.history) machine.round) input (facts.inputs input).least low (life_of machine.history) LineSynced tt (p input low)
-  least-happens machine facts (events.Raise mask) past p input low =
-      least-quiet machine.to_module machine.last_to_module (end_at settings (life_of machine.history) machine.round) input (facts.inputs input).least low (life_of machine.history) (Raised mask) tt (p input low)
-  least-happens machine facts events.Poll past p input low = absurd past
-  least-happens machine facts (events.Send command) past p input low = absurd past
-  least-happens machine facts (events.ToModule index) past p input low = absurd past
-  least-happens machine facts (events.ToCpu index) past p input low = absurd past
-  least-happens machine facts events.Restart past p input low = absurd past
+  least-happens machine facts event past p input low =
+      let now = life_of machine.history in
+      let each = λ (occurrence : Occurrence) (none : IsNoCommand occurrence).
+      least-quiet machine.to_module machine.last_to_module (end_at settings now machine.round) input (facts.inputs input).least low now occurrence none (p input low) in
+      past_cases (λ event. KeepsLeast (life_of (after settings first machine event).history) (after settings first machine event).to_module (after settings first machine event).last_to_module (end_at settings (life_of (after settings first machine event).history) (after settings first machine event).round) input (facts.inputs input).least)
+      (λ raw. each (Scanned raw) tt) (each LineSynced tt) (λ mask. each (Raised mask) tt) event past
 
   times-happens : (machine : Machine) (facts : ContentFacts) (event : Event) → IsPastBus event
       → KeepsTimes settings begin_life (life_of machine.history) (end_at settings (life_of machine.history) machine.round) machine.round
@@ -55,26 +42,15 @@ module _ (settings : Settings) (range : AreInRange settings) (first : ℕ) (begi
       → KeepsTimes settings begin_life (life_of (after settings first machine event).history)
       (end_at settings (life_of (after settings first machine event).history) (after settings first machine event).round) (after settings first machine event).round
       (latest_after none_yet (entries_in (blocks_taken settings begin (after settings first machine event)))) facts
-  times-happens machine facts (events.Scan raw) past k =
+  times-happens machine facts event past k =
       let now = life_of machine.history in
       let upto = end_at settings now machine.round in
       let latest = latest_after none_yet (entries_in (blocks_taken settings begin machine)) in
-      times-later settings begin_life now (Scanned raw ∷ now) (transitions_below 64 raw now) upto upto machine.round latest latest facts refl (omega arith) refl k
-  times-happens machine facts events.LineSync past k =
-      let now = life_of machine.history in
-      let upto = end_at settings now machine.round in
-      let latest = latest_after none_yet (entries_in (blocks_taken settings begin machine)) in
-      times-later settings begin_life now (LineSynced ∷ now) [] upto upto machine.round latest latest facts (sym (append-nil (log_of now))) (omega arith) refl k
-  times-happens machine facts (events.Raise mask) past k =
-      let now = life_of machine.history in
-      let upto = end_at settings now machine.round in
-      let latest = latest_after none_yet (entries_in (blocks_taken settings begin machine)) in
-      times-later settings begin_life now (Raised mask ∷ now) [] upto upto machine.round latest latest facts (sym (append-nil (log_of now))) (omega arith) refl k
-  times-happens machine facts events.Poll past k = absurd past
-  times-happens machine facts (events.Send command) past k = absurd past
-  times-happens machine facts (events.ToModule index) past k = absurd past
-  times-happens machine facts (events.ToCpu index) past k = absurd past
-  times-happens machine facts events.Restart past k = absurd past
+      let none = sym (append-nil (log_of now)) in
+      past_cases (λ event. KeepsTimes settings begin_life (life_of (after settings first machine event).history) (end_at settings (life_of (after settings first machine event).history) (after settings first machine event).round) (after settings first machine event).round (latest_after none_yet (entries_in (blocks_taken settings begin (after settings first machine event)))) facts)
+      (λ raw. times-later settings begin_life now (Scanned raw ∷ now) (transitions_below 64 raw now) upto upto machine.round latest latest facts refl (omega arith) refl k)
+      (times-later settings begin_life now (LineSynced ∷ now) [] upto upto machine.round latest latest facts none (omega arith) refl k)
+      (λ mask. times-later settings begin_life now (Raised mask ∷ now) [] upto upto machine.round latest latest facts none (omega arith) refl k) event past
 
   pub apart-receives : (machine : Machine) (facts : ContentFacts) (place : ℕ) (frame : SentFrame) → IsKept settings first machine → machine.last_to_module < place + 1
       → slice_get machine.to_module place ≡ Some frame → KeepsApart settings begin above machine facts

@@ -1,10 +1,5 @@
 -- The time of the latest entry of each input, and what is asked of the next one.
-use Rattle.fio_ends.proofs.Names.{◌≡◌, ◌∙◌, ◌+◌, ◌-◌, ◌^◌, ◌<◌, ◌≤◌, ◌&&◌, ◌⊎◌, inl, inr, ℕ, Bool, true, false, not, List, [], ◌∷◌, ◌++◌, length, Option, Some, None, refl, ap, subst, arith, append-nil, if◌then◌else◌, flat_map, flat_map-append, slice_get, nat_lt, nat_tests, is_some_and, same_Some, Settings, Life, life_of, log_of, Transition, MadeBlock, blocks_of, ContentFacts, InputAbove, FilterPair, Machine, get_before_push}
-use Rattle.fio_input.specs.Delivery.{filter_to}
-use Rattle.fio_check.specs.ContentSaid.{milliseconds_between}
-use Rattle.fio_check.specs.ContentFacts.{input_with_entry}
-use Rattle.fio_check.specs.ContentRules.{filter_towards}
-use Rattle.fio_ends.specs.ContentPremises.{BlocksAreNear, InputsAreNear, blocks_taken, latest_with}
+use Rattle.fio_ends.proofs.Names.{◌≡◌, ◌∙◌, ◌+◌, ◌-◌, ◌^◌, ◌<◌, ◌≤◌, ◌&&◌, ◌⊎◌, inl, inr, ℕ, Bool, true, false, not, List, [], ◌∷◌, ◌++◌, length, Option, Some, None, refl, ap, subst, arith, append-nil, if◌then◌else◌, flat_map, flat_map-append, slice_get, nat_lt, nat_tests, is_some_and, same_Some, Settings, Life, life_of, log_of, Transition, MadeBlock, blocks_of, ContentFacts, InputAbove, FilterPair, Machine, get_before_push, BlocksAreNear, InputsAreNear, blocks_taken, filter_to, filter_towards, input_with_entry, latest_with, milliseconds_between}
 use Rattle.fio_ends.proofs.BlockPlaces.{end_at}
 use Rattle.fio_ends.proofs.Clocks.{between_clocks, clock, offset_of}
 use Rattle.fio_ends.proofs.Fulls.{KeepsFull}

@@ -1,8 +1,7 @@
 -- The scans that there were when the module received the command sent last.
-use Rattle.fio_ends.proofs.Names.{◌≡◌, ◌∙◌, ◌+◌, ◌==◌, ℕ, true, ◌∷◌, Some, ap, sym, subst, arith, length, if◌then◌else◌, nat_tests, Command, command_in, Life, Occurrence, Scanned, LineSynced, Raised, Commanded, life_of, life_after_command, scans_of, Settings, Event, SentFrame, Machine, after, after_delivery_to_module}
+use Rattle.fio_ends.proofs.Names.{◌≡◌, ◌∙◌, ◌+◌, ◌==◌, ℕ, true, ◌∷◌, Some, ap, sym, subst, arith, length, if◌then◌else◌, nat_tests, Command, command_in, Life, Occurrence, Scanned, LineSynced, Raised, Commanded, life_of, life_after_command, scans_of, Settings, Event, SentFrame, Machine, after, after_delivery_to_module, scans_asked}
 use Rattle.fio_link.specs.declared.event.Event.TheVariants as events
-use Rattle.fio_ends.specs.ContentPremises.{scans_asked}
-use Rattle.fio_ends.proofs.ContentSteps.{IsPastBus}
+use Rattle.fio_ends.proofs.ContentSteps.{IsPastBus, past_cases}
 use Rattle.fio_ends.proofs.Following.{GoesOn, IsNoCommand, IsSince}
 use Rattle.fio_ends.proofs.Stamps.{IsAsked, none_since, since-back, since-now}
 
@@ -14,14 +13,8 @@ module _ (settings : Settings) (first : ℕ) (asked : ℕ) (from : Life) (machin
       received all command life (since-back command life (life_of machine.history) occurrence none since) goes_on
 
   pub asked-happens : (event : Event) → IsPastBus event → IsAsked asked from machine → IsAsked (scans_asked machine asked event) from (after settings first machine event)
-  asked-happens (events.Scan raw) past received = quiet (Scanned raw) tt received
-  asked-happens events.LineSync past received = quiet LineSynced tt received
-  asked-happens (events.Raise mask) past received = quiet (Raised mask) tt received
-  asked-happens events.Poll past received = absurd past
-  asked-happens (events.Send command) past received = absurd past
-  asked-happens (events.ToModule index) past received = absurd past
-  asked-happens (events.ToCpu index) past received = absurd past
-  asked-happens events.Restart past received = absurd past
+  asked-happens event past received = past_cases (λ event. IsAsked (scans_asked machine asked event) from (after settings first machine event))
+      (λ raw. quiet (Scanned raw) tt received) (quiet LineSynced tt received) (λ mask. quiet (Raised mask) tt received) event past
 
   pub asked-receives : (place : ℕ) (frame : SentFrame) → (place + 1 ≡ length machine.to_module → (command : Command) × (command_in frame.octets ≡ Some command)) → IsAsked asked from machine
       → IsAsked (scans_asked machine asked (events.ToModule (place + 1))) from (after_delivery_to_module settings machine (place + 1) (Some frame))

@@ -1,26 +1,20 @@
 -- The checkers begin anew at any command of a prompt run, below loads of the counter that may take effect, and go on.
-use Rattle.fio_ends.proofs.Names.{◌≡◌, ◌+◌, inr, ℕ, Bool, false, true, List, [], ◌∷◌, ◌++◌, map, Option, None, refl, ap, ap₂, sym, subst, arith, AllByRecursion, option_map, if◌then◌else◌, Life, life_of, loads_of, Settings, AreInRange, ContentKept, kept_with, no_facts, Done, Facts, RuleLimits, Event, Machine, start, refusal, after, Leads, IsNotRestart, HaveNoRestart, kept, kept_all, CpuFrame, TranscriptLine, cpu_frame_on, frames_at, frames_from, due_after, ArePrompt, IsPrompt, IsWithinRanges, SuitModule}
-use Rattle.std.specs.Option.{option_or}
-use Rattle.fio_check.specs.ContentCheckers.{checking_with, content_found, found_first, found_in_frame, found_on}
-use Rattle.fio_check.specs.Lines.{from_first_command}
+use Rattle.fio_ends.proofs.Names.{◌≡◌, ◌+◌, inr, ℕ, Bool, false, true, List, [], ◌∷◌, ◌++◌, map, Option, None, refl, ap, ap₂, sym, subst, arith, AllByRecursion, option_map, if◌then◌else◌, Life, life_of, loads_of, Settings, AreInRange, ContentKept, kept_with, no_facts, Done, Facts, RuleLimits, Event, Machine, start, refusal, after, Leads, IsNotRestart, HaveNoRestart, kept, kept_all, CpuFrame, TranscriptLine, cpu_frame_on, frames_at, frames_from, due_after, ArePrompt, IsPrompt, IsWithinRanges, SuitModule, AreTimesNear, AreUnderWay, HaveFrames, IsPromptRun, checking_with, content_found, found_first, found_in_frame, found_on, from_first_command, option_or, scans_above}
 use Rattle.fio_link.specs.declared.event.Event.TheVariants as events
-use Rattle.fio_ends.specs.ContentPremises.{AreTimesNear, scans_above}
-use Rattle.fio_ends.specs.LinkLogs.{AccusesNoneBelowLoads, AreUnderWay}
-use Rattle.fio_ends.specs.PromptRuns.{IsPromptRun}
-use Rattle.fio_ends.specs.Transcripts.{HaveFrames}
+use Rattle.fio_ends.specs.LinkLogs.{AccusesNoneBelowLoads}
 use Rattle.fio_ends.proofs.AllRules.{AllKeep, AllKnown, OfEach, agrees_again, again_known, all-event, all-poll, all-send, both_follow, done_is, each_follows, kept_again, none_in_frame, order_is}
 use Rattle.fio_ends.proofs.ClockKept.{clock_above}
 use Rattle.fio_ends.proofs.ContentFrame.{Agrees}
 use Rattle.fio_ends.proofs.ContentLines.{FramesKeep, content_below, frames_keep}
 use Rattle.fio_ends.proofs.ContentRuns.{begun_after, rounds_after}
 use Rattle.fio_ends.proofs.ContentSteps.{IsKnown}
-use Rattle.fio_ends.proofs.Following.{Follows, facts_below, follows-start, from_after, goes_on-both, goes_on-same, may_begin}
+use Rattle.fio_ends.proofs.Following.{Follows, facts_below, follows-start, from_after, goes_on-same, may_begin}
 use Rattle.fio_ends.proofs.GoodLines.{KeepRules}
 use Rattle.fio_ends.proofs.LaterLogs.{from_any}
 use Rattle.fio_ends.proofs.PromptRuns.{BeginsWithCommand, ReachesLater, keeps-event, reaches}
 use Rattle.fio_ends.proofs.Sends.{sends-other, sends-poll}
 use Rattle.fio_ends.proofs.StateKept.{state_above}
-use Rattle.fio_ends.proofs.Timeless.{HasExcuses}
+use Rattle.fio_ends.proofs.JumpedBlocks.{HasExcuses}
 use Rattle.fio_ends.proofs.TimesKept.{AsksTimes, TimeState, time_after}
 
 -- what an event of a run keeps: its frames break no rule, and all is known below them
@@ -72,14 +66,6 @@ module _ (settings : Settings) (range : AreInRange settings) (first : ℕ) (begi
           content = all-event settings range first begin begun above s from machine facts kept known a p due f event fine none within prompt rest asks;
           known = known_after from machine event (due_after machine due event) (facts_below facts (frames_at first machine event)) known fine none here.follows;
         }
-
-    pub known_now : IsKnown settings first begin (life_of machine.history) machine
-    known_now = record {
-      is_kept = known.is_kept;
-      begun = goes_on-both (life_of begin.history) from (life_of machine.history) known.begun known.now;
-      rounds = known.rounds;
-      now = goes_on-same (life_of machine.history) (life_of machine.history) refl;
-    }
 
   -- a command at which the checkers begin anew
   pub went-again : (s : TimeState) (from : Life) (machine : Machine) (due : ℕ) (facts : Facts) → IsKnown settings first begin (life_of machine.history) machine

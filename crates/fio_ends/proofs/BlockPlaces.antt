@@ -32,7 +32,7 @@ part_at log per_block before zero (first ∷ blocks) block follow at =
 part_at log per_block before (suc k) (first ∷ blocks) block follow at =
     part_at log per_block first.end k blocks block follow.2 at
 
--- a block behind the first blocks of a life
+-- a block after the first blocks of a life
 pub record IsNext (settings : Settings) (life : Life) (round : ℕ) (block : MadeBlock) : Type 0 where
   pub forward : end_at settings life round ≤ block.start
   pub begins : block.lost ≡ false → end_at settings life round ≡ block.start

@@ -1,11 +1,6 @@
 -- The events of a block that the CPU takes, one by one.
-use Rattle.fio_ends.proofs.Names.{◌==◌, ◌≡◌, ◌∙◌, ◌+◌, ◌≤◌, ℕ, suc, Bool, true, false, List, [], ◌∷◌, ◌++◌, length, map, Option, Some, None, refl, ap, sym, subst, arith, fold, slice_get, Block, says_lost, Settings, Life, Transition, entry_of, log_of, MadeBlock, blocks_of, item_of, Gap, ContentFacts, Ended, Heard, Recorded, events_of_block, ContentEvent, ContentRule, State}
-use Rattle.fio_message.specs.Blocks.{block_answer}
-use Rattle.fio_cpu.specs.Record.{gap_if}
-use Rattle.fio_check.specs.ContentSaid.{Seen}
-use Rattle.fio_check.specs.ContentRules.{broken_state, first_differing}
-use Rattle.fio_link.specs.Rounds.{CarriesBlock}
-use Rattle.fio_ends.specs.ContentRuns.{KeepsRule}
+use Rattle.fio_ends.proofs.Names.{◌==◌, ◌≡◌, ◌∙◌, ◌+◌, ◌≤◌, ℕ, suc, Bool, true, false, List, [], ◌∷◌, ◌++◌, length, map, Option, Some, None, refl, ap, sym, subst, arith, fold, slice_get, Block, says_lost, Settings, Life, Transition, entry_of, log_of, MadeBlock, blocks_of, item_of, Gap, ContentFacts, Ended, Heard, Recorded, events_of_block, ContentEvent, ContentRule, State, CarriesBlock, KeepsRule, Seen, block_answer, broken_state, gap_if}
+use Rattle.fio_check.specs.ContentRules.{first_differing}
 use Rattle.fio_ends.proofs.BlockPlaces.{IsNext, end_at, is_next}
 use Rattle.fio_ends.proofs.ContentLines.{EachKeeps, none_comes}
 

@@ -1,22 +1,13 @@
 -- A run is built along a plan.
-use Rattle.fio_ends.proofs.Names.{loads_of, AllByRecursion, Answer, ArePrompt, Bool, Command, Commanded, CpuFrame, Event, HaveNoRestart, IsCommand, IsWithinRanges, Leads, Life, List, Machine, None, Option, SentFrame, Some, ToCpu, ToModule, [], after, after_delivered_block, after_delivery_to_cpu, after_delivery_to_module, after_sending, after_taken, answer_octets, ap, ap₂, arith, block_in, command_in, command_octets, due_after, false, filter_events, frame_heard, frames_from, get_push, if◌then◌else◌, item_numbered, length, length-append, life_after_command, life_of, nat_tests, number_of, number_of-fits, option_map, polled_number, refl, refusal, scans_of, sending_refusal, subst, suc, sym, true, zero, ℕ, ◌%◌, ◌++◌, ◌+◌, ◌<◌, ◌==◌, ◌^◌, ◌∙◌, ◌∷◌, ◌≡◌, ◌≤◌}
+use Rattle.fio_ends.proofs.Names.{loads_of, AllByRecursion, Answer, ArePrompt, Bool, Command, Commanded, CpuFrame, Event, HaveNoRestart, IsCommand, IsWithinRanges, Leads, Life, List, Machine, None, Option, SentFrame, Some, ToCpu, ToModule, [], after, after_delivered_block, after_delivery_to_cpu, after_delivery_to_module, after_sending, after_taken, answer_octets, ap, ap₂, arith, block_in, command_in, command_octets, due_after, false, filter_events, frame_heard, frames_from, get_push, if◌then◌else◌, item_numbered, length, length-append, life_after_command, life_of, nat_tests, number_of, number_of-fits, option_map, polled_number, refl, refusal, scans_of, sending_refusal, subst, suc, sym, true, zero, ℕ, ◌%◌, ◌++◌, ◌+◌, ◌<◌, ◌==◌, ◌^◌, ◌∙◌, ◌∷◌, ◌≡◌, ◌≤◌, IsQuiet, LoadsAreSent, Sending, after_module_event, answer_frames, answer_of_sending, answer_to, delivery_refusal, frame_at_place, input_state, latest_sending, polls_with, repeat_of, said}
 use Rattle.fio_message.specs.declared.answers.Answer.TheVariants as answers
 use Rattle.fio_message.specs.declared.commands.Command.TheVariants as commands
-use Rattle.fio_input.specs.FilterHistory.{input_state}
 use Rattle.fio_module.specs.Flags.{word_of}
-use Rattle.fio_module.specs.Life.{counter_of}
 use Rattle.fio_module.specs.Life as module_events
-use Rattle.fio_module.specs.Replies.{answer_to}
-use Rattle.fio_module.specs.Sendings.{Sending, answer_of_sending, latest_sending, repeat_of}
-use Rattle.fio_link.specs.Link.{answer_frames, after_module_event, delivery_refusal, polls_with}
 use Rattle.fio_link.specs.declared.event.Event.TheVariants as events
-use Rattle.fio_link.proofs.Events.{frame_at_place}
 use Rattle.fio_link.proofs.Kept.{after_frame}
 use Rattle.fio_link.proofs.Received.{no_block_reply}
-use Rattle.fio_link.proofs.Spelled.{said}
-use Rattle.fio_ends.specs.ContentPremises.{LoadsAreSent}
 use Rattle.fio_ends.proofs.Steady.{IsCalm, loads_on}
-use Rattle.fio_ends.specs.PollLogs.{IsQuiet}
 use Rattle.fio_ends.proofs.LevelLives.{changes_below, has_counter, levels-scan, log-scan, raw_at}
 use Rattle.fio_ends.proofs.Sends.{read_back}
 use Rattle.fio_ends.proofs.Plans.{AreTakeable, HasCome, IsTakeable, Keep, Look, Lose, LosePoll, Plan, Poll, Repeat, Stands, Step, frame_of_answer, frame_sent, frames_of, made_at, scan_after, sending_at}

@@ -1,18 +1,8 @@
 -- The rule `clock` never accuses: a stamp is later than the one before it, or the same.
-use Rattle.fio_ends.proofs.Names.{◌≡◌, ◌∙◌, ◌+◌, ℕ, Bool, true, false, List, [], ◌∷◌, Option, Some, None, refl, ap, sym, subst, arith, fold, if◌then◌else◌, is_some_and, same_Some, Answer, Command, Block, answer_in, says_again, Settings, Life, life_of, loads_of, scans_of, MadeBlock, Item, Entry, Gap, items_of_block, ContentFacts, Ended, Heard, Recorded, Sent, events_of_block, Clock, Event, SentFrame, Machine, start, after_sending, after_taken}
-use Rattle.std.specs.Option.{option_or}
-use Rattle.std.specs.Prelude.{is_some, option_and_then}
-use Rattle.fio_message.specs.Blocks.{block_answer}
+use Rattle.fio_ends.proofs.Names.{◌≡◌, ◌∙◌, ◌+◌, ℕ, Bool, true, false, List, [], ◌∷◌, Option, Some, None, refl, ap, sym, subst, arith, fold, if◌then◌else◌, is_some_and, same_Some, Answer, Command, Block, answer_in, says_again, Settings, Life, life_of, loads_of, scans_of, MadeBlock, Item, Entry, Gap, items_of_block, ContentFacts, Ended, Heard, Recorded, Sent, events_of_block, Clock, Event, SentFrame, Machine, start, after_sending, after_taken, IsNear, KeepsRule, StampsAreNear, below_clear, block_answer, content_begun, content_step, counter_of, frame_at_place, is_before, is_clear_end, is_some, items_and_end, option_and_then, option_or, scans_above, stamp_of, without_excuse}
 use Rattle.fio_message.specs.declared.commands.Command.TheVariants as commands
-use Rattle.fio_module.specs.Life.{counter_of}
-use Rattle.fio_check.specs.ContentSaid.{is_before, is_clear_end, stamp_of}
-use Rattle.fio_check.specs.ContentEvents.{items_and_end}
-use Rattle.fio_check.specs.ContentFacts.{below_clear, content_begun, content_step}
-use Rattle.fio_link.proofs.Events.{frame_at_place}
 use Rattle.fio_link.specs.declared.event.Event.TheVariants as events
-use Rattle.fio_ends.specs.ContentPremises.{IsNear, StampsAreNear, hears_stamp, scans_above}
-use Rattle.fio_ends.specs.ContentRuns.{KeepsRule}
-use Rattle.fio_check.specs.ContentRules.{without_excuse}
+use Rattle.fio_ends.specs.ContentPremises.{hears_stamp}
 use Rattle.fio_ends.proofs.Answered.{says_of}
 use Rattle.fio_ends.proofs.Clocks.{clock, counter_is_clock, not_before, offset_of}
 use Rattle.fio_ends.proofs.ContentSteps.{HearsAnswer, IsKnown, IsSending, Takes}
@@ -77,14 +67,7 @@ module _ (settings : Settings) (first : ℕ) (begin : Machine) where
   -- sending asks for nothing else
   sent_before : (state : ClockState) (machine : Machine) (event : Event) (command : Command) → IsSending first machine event command
       → (clock_after state machine event).before ≡ state.before
-  sent_before state machine events.Poll command may = refl
-  sent_before state machine (events.Send sent) command may = refl
-  sent_before state machine (events.Scan raw) command may = absurd may
-  sent_before state machine (events.Raise mask) command may = absurd may
-  sent_before state machine events.LineSync command may = absurd may
-  sent_before state machine (events.ToModule index) command may = absurd may
-  sent_before state machine (events.ToCpu index) command may = absurd may
-  sent_before state machine events.Restart command may = absurd may
+  sent_before state machine event command may = grind arith
 
   pub clock-sends : (state : ClockState) (from : Life) (machine : Machine) (facts : ContentFacts) (event : Event) (command : Command) → IsKnown settings first begin from machine
       → IsSending first machine event command → KeepsClock begin_life state from machine facts

@@ -1,11 +1,9 @@
 -- Where no load of the counter takes effect since a life, each counter since then is the scans and an offset.
-use Rattle.fio_ends.proofs.Names.{◌≡◌, ◌≢◌, ◌∙◌, ◌∷◌, ◌+◌, ◌-◌, ◌%◌, ◌^◌, ◌<◌, ◌≤◌, ℕ, true, false, Some, ap, sym, subst, arith, slice_get, nat_tests, Settings, Life, Scanned, counter_events, loads_of, scans_of, Transition, MadeBlock, each-at}
-use Rattle.fio_input.specs.Counter.{counter, loads_in, ticks_in}
+use Rattle.fio_ends.proofs.Names.{◌≡◌, ◌≢◌, ◌∙◌, ◌∷◌, ◌+◌, ◌-◌, ◌%◌, ◌^◌, ◌<◌, ◌≤◌, ℕ, true, false, Some, ap, sym, subst, arith, slice_get, nat_tests, Settings, Life, Scanned, counter_events, loads_of, scans_of, Transition, MadeBlock, each-at, BlockTimely, IsTimely, counter_of, is_before, is_later, loads_in, milliseconds_between, ticks_in}
+use Rattle.fio_input.specs.Counter.{counter}
 use Rattle.fio_input.specs.Widening.{wide_time_of}
 use Rattle.fio_input.proofs.Ticks.{counter-append}
-use Rattle.fio_module.specs.Life.{counter_of}
-use Rattle.fio_check.specs.ContentSaid.{is_before, is_later, milliseconds_between}
-use Rattle.fio_link.proofs.Times.{BlockTimely, IsTimely, wide_time}
+use Rattle.fio_link.proofs.Times.{wide_time}
 use Rattle.fio_ends.proofs.Following.{GoesOn}
 use Rattle.fio_ends.proofs.Lives.{IsLoggedSince, IsMadeSince, counter_events-append, goes_on-scan, loads_grow, scans_grow, scans_more}
 

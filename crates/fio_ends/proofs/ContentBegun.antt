@@ -1,14 +1,8 @@
 -- What is above a log that begins with both ends: events that break no rule, and what is known of each input.
-use Rattle.fio_ends.proofs.Names.{◌∙◌, None, Answer, content_step, ◌≡◌, ◌<◌, ◌&&◌, ◌++◌, not, ℕ, Bool, true, false, [], ◌∷◌, refl, ap, sym, subst, arith, if◌then◌else◌, nat_lt, nat_tests, ContentFacts, content_with, no_content, Ended, Heard, Sent, ContentRule, Accepted, Clock, State}
-use Rattle.fio_message.specs.Blocks.{block_answer}
+use Rattle.fio_ends.proofs.Names.{◌∙◌, None, Answer, content_step, ◌≡◌, ◌<◌, ◌&&◌, ◌++◌, not, ℕ, Bool, true, false, [], ◌∷◌, refl, ap, sym, subst, arith, if◌then◌else◌, nat_lt, nat_tests, ContentFacts, content_with, no_content, Ended, Heard, Sent, ContentRule, Accepted, Clock, State, KeepsRule, block_answer, breaks_answer, broken_state, events_above, gap_if, items_and_end, no_input, sent_step, step_only}
 use Rattle.fio_message.specs.declared.answers.Answer.TheVariants as answers
-use Rattle.fio_cpu.specs.Record.{gap_if}
-use Rattle.fio_check.specs.ContentEvents.{events_above, items_and_end}
-use Rattle.fio_check.specs.ContentFacts.{input_begun, no_input}
+use Rattle.fio_check.specs.ContentFacts.{input_begun}
 use Rattle.fio_check.proofs.ContentStart.{block_at_start, command_at_start, no_again, no_error, no_lost}
-use Rattle.fio_check.proofs.Unexcused.{sent_step, step_only}
-use Rattle.fio_check.specs.ContentRules.{breaks_answer, broken_state}
-use Rattle.fio_ends.specs.ContentRuns.{KeepsRule}
 use Rattle.fio_ends.proofs.ContentFrame.{sent_keeps}
 use Rattle.fio_ends.proofs.ContentLines.{EventsKeep}
 

@@ -1,13 +1,9 @@
 -- What is kept of content along a prompt run, frame by frame.
-use Rattle.fio_ends.proofs.Names.{◌≡◌, ◌∙◌, ◌+◌, ◌%◌, ℕ, true, List, [], ◌∷◌, Option, Some, None, refl, ap, sym, subst, arith, if◌then◌else◌, ◌==◌, fold, nat_tests, same_Some, Answer, Command, answered_block, ContentFacts, content_with, ContentKept, kept_at_start, false, ContentEvent, Sent, events_in, content_events, events_of_block, number_after, facts_with, no_facts, ContentRule, Alternate, Apart, Fresh, Ignored, Order, State, Facts, Observation, Machine, number_of, sending_refusal, CpuFrame, SentFrame, length, ◌++◌, length-append, slice_get, get_push, command_in, Bool, Settings}
+use Rattle.fio_ends.proofs.Names.{◌≡◌, ◌∙◌, ◌+◌, ◌%◌, ℕ, true, List, [], ◌∷◌, Option, Some, None, refl, ap, sym, subst, arith, if◌then◌else◌, ◌==◌, fold, nat_tests, same_Some, Answer, Command, answered_block, ContentFacts, content_with, ContentKept, kept_at_start, false, ContentEvent, Sent, events_in, content_events, events_of_block, number_after, facts_with, no_facts, ContentRule, Alternate, Apart, Fresh, Ignored, Order, State, Facts, Observation, Machine, number_of, sending_refusal, CpuFrame, SentFrame, length, ◌++◌, length-append, slice_get, get_push, command_in, Bool, Settings, KeepsRule, Seen, breaks_answer, broken_state, item_for, item_parts, items_sent, number_with_command}
 use Rattle.fio_message.specs.declared.answers.Answer.TheVariants as answers
-use Rattle.fio_message.specs.declared.commands.Command.TheVariants as commands
 use Rattle.fio_message.specs.Blocks.{Block as BlockOf}
-use Rattle.fio_check.proofs.ContentNext.{item_parts}
-use Rattle.fio_check.specs.ContentSaid.{Seen, item_for, items_sent}
-use Rattle.fio_check.specs.ContentEvents.{number_below, number_with_command}
-use Rattle.fio_check.specs.ContentRules.{breaks_answer, broken_state, first_differing}
-use Rattle.fio_ends.specs.ContentRuns.{KeepsRule}
+use Rattle.fio_check.specs.ContentEvents.{number_below}
+use Rattle.fio_check.specs.ContentRules.{first_differing}
 use Rattle.fio_ends.proofs.GoodLines.{said_by}
 use Rattle.fio_ends.proofs.Following.{IsSentLast, facts_below}
 use Rattle.fio_ends.proofs.ContentSteps.{Awaits, PollsKnown}
@@ -99,9 +95,7 @@ sent_keeps other facts command = tt
 
 -- the number below a command that is no poll
 pub number_stays : (number : Option ℕ) (command : Command) → sending_refusal command ≡ None → number_with_command number command ≡ number
-number_stays number (commands.Poll polled) fine = absurd (cc fine)
-number_stays None other fine = refl
-number_stays (Some number) other fine = refl
+number_stays number other fine = grind arith
 
 -- ---- an answer is heard
 

@@ -1,19 +1,11 @@
 -- Along a prompt run an invariant of content holds, from its start or from any command on.
-use Rattle.fio_ends.proofs.Names.{◌≡◌, ◌∙◌, ◌+◌, ◌%◌, ◌<◌, ◌≤◌, ◌⊎◌, inl, inr, ℕ, Bool, true, false, List, [], ◌∷◌, length, Option, Some, None, refl, ap, sym, subst, arith, if◌then◌else◌, ◌==◌, slice_get, AllByRecursion, list_any, nat_tests, Answer, Command, command_octets, IsCommand, Life, life_of, answer_in, block_in, Settings, AreInRange, ContentFacts, ContentKept, kept_at_start, Heard, Sent, content_events, events_of_block, number_after, no_facts, answer_type_to, is_absent, names_absent, observation_of, ContentRule, Facts, Event, SentFrame, Machine, number_of, sending_refusal, after_sending, after_delivery_to_module, after_delivered_block, after_delivery_to_cpu, refusal, after, Leads, HasBlock, IsNotRestart, HaveNoRestart, blocks_in, CarriesBlockOf, number_of-fits, number_of-next, after_taken, in_order, same_round, after_delivery, IsKept, carries_own, kept_all, kept, frame_heard, frames_at, frames_from, due_after, IsPrompt, ArePrompt, IsWithinRanges, Block, items_of_block, item_numbered, ◌++◌, command_in, same_Some, InputAbove, InputItem, content_with, fold, Ended, Recorded, map, fold-append, ◌&&◌}
+use Rattle.fio_ends.proofs.Names.{◌≡◌, ◌∙◌, ◌+◌, ◌%◌, ◌<◌, ◌≤◌, ◌⊎◌, inl, inr, ℕ, Bool, true, false, List, [], ◌∷◌, length, Option, Some, None, refl, ap, sym, subst, arith, if◌then◌else◌, ◌==◌, slice_get, AllByRecursion, list_any, nat_tests, Answer, Command, command_octets, IsCommand, Life, life_of, answer_in, block_in, Settings, AreInRange, ContentFacts, ContentKept, kept_at_start, Heard, Sent, content_events, events_of_block, number_after, no_facts, answer_type_to, is_absent, names_absent, observation_of, ContentRule, Facts, Event, SentFrame, Machine, number_of, sending_refusal, after_sending, after_delivery_to_module, after_delivered_block, after_delivery_to_cpu, refusal, after, Leads, HasBlock, IsNotRestart, HaveNoRestart, blocks_in, CarriesBlockOf, number_of-fits, number_of-next, after_taken, in_order, same_round, after_delivery, IsKept, carries_own, kept_all, kept, frame_heard, frames_at, frames_from, due_after, IsPrompt, ArePrompt, IsWithinRanges, Block, items_of_block, item_numbered, ◌++◌, command_in, same_Some, InputAbove, InputItem, content_with, fold, Ended, Recorded, map, fold-append, ◌&&◌, Observation, block_answer, facts_with, frame_at_place, input_with_item, item_for, items_sent, number_with_command, observation_of_command, polling, unnamed, unwrap_or}
 use Rattle.fio_message.specs.declared.answers.Answer.TheVariants as answers
 use Rattle.fio_message.specs.declared.commands.Command.TheVariants as commands
-use Rattle.std.specs.Prelude.{◌||◌, unwrap_or}
-use Rattle.fio_message.specs.Blocks.{block_answer}
-use Rattle.fio_check.specs.ContentEvents.{number_with_command}
-use Rattle.fio_check.specs.ContentFacts.{input_with_item, unnamed}
-use Rattle.fio_check.specs.ContentSaid.{item_for, items_sent, polling}
-use Rattle.fio_check.specs.Facts.{facts_with}
-use Rattle.fio_check.specs.Observations.{observation_of_command}
-use Rattle.fio_check.specs.declared.observation.Observation.{Observation}
+use Rattle.std.specs.Prelude.{◌||◌}
 use Rattle.fio_check.specs.declared.observation.Observation.TheVariants as seen
 use Rattle.fio_check.proofs.KeptContent.{ended_unpolled}
 use Rattle.fio_link.specs.declared.event.Event.TheVariants as events
-use Rattle.fio_link.proofs.Events.{frame_at_place}
 use Rattle.fio_ends.proofs.FirstPolls.{polls_begin, polls_raised, polls_received, polls_scanned, polls_sent, polls_synced, polls_taken}
 use Rattle.fio_ends.proofs.Heard.{IsHeardAs}
 use Rattle.fio_ends.proofs.Following.{Answers, Follows, GoesOn, IsBlockFor, IsReceived, Keeps, Stage, facts_below, from_after, goes_on-both, goes_on-same, may_begin}

@@ -1,14 +1,11 @@
 -- Worked runs and their transcripts, by computation.
-use Rattle.fio_ends.proofs.Names.{◌≡◌, ◌+◌, ℕ, true, false, List, [], ◌∷◌, refl, arith, TranscriptLine, verdict_on, Event, ToModule, ToCpu, Machine, start, after, CpuFrame}
+use Rattle.fio_ends.proofs.Names.{◌≡◌, ◌+◌, ℕ, true, false, List, [], ◌∷◌, refl, arith, TranscriptLine, verdict_on, Event, ToModule, ToCpu, Machine, start, after, CpuFrame, Broken, IsPromptRun, Send, standard_settings}
 use Rattle.fio_message.specs.declared.commands.Command.TheVariants as commands
 use Rattle.fio_message.specs.Bits.{is_set}
 use Rattle.fio_message.specs.Decoding.{message_in}
-use Rattle.fio_module.specs.Settings.{standard_settings}
 use Rattle.fio_check.specs.declared.rules.Rule.TheVariants.{Pair, Same}
-use Rattle.fio_check.specs.declared.verdict.Verdict.TheVariants.{Broken}
-use Rattle.fio_link.specs.declared.event.Event.TheVariants.{Poll, Send}
+use Rattle.fio_link.specs.declared.event.Event.TheVariants.{Poll}
 use Rattle.fio_ends.specs.Transcripts.{transcript_of}
-use Rattle.fio_ends.specs.PromptRuns.{IsPromptRun}
 
 -- the machine after these events
 abbrev done : ℕ → Machine → List Event → Machine
@@ -21,7 +18,7 @@ lines_from number [] = []
 lines_from number (frame ∷ frames) =
     record { number = number; from_cpu = frame.from_cpu; octets = frame.octets } ∷ lines_from (number + 1) frames
 
--- a poll that reaches the module late, behind another: the answer to the other one is heard, and has E
+-- a poll that reaches the module late, after another: the answer to the other one is heard, and has E
 abbrev late : List Event
 late = Poll ∷ Poll ∷ ToModule 1 ∷ ToModule 2 ∷ ToCpu 2 ∷ Poll ∷ ToModule 3 ∷ ToCpu 3 ∷ []
 

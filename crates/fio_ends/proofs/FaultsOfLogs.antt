@@ -1,15 +1,10 @@
 -- Where the rules are kept, a log has no fault of them.
-use Rattle.fio_ends.proofs.Names.{◌≡◌, ℕ, Bool, false, List, length, Option, Some, None, refl, ap, ap₂, option_map, slice_get, Answer, Entry, Gap, TranscriptLine, ContentFacts, ContentEvent, LineEvent, Ended, Heard, Recorded, Sent, content_event_at, events_of_log, ContentRule, Accepted, Alternate, Apart, Cleared, Clock, Done, Fresh, Ignored, Order, State, Watchdog, rule_broken_by}
-use Rattle.std.specs.Option.{option_or}
-use Rattle.std.specs.Prelude.{find, option_and_then, take, if◌then◌else◌}
-use Rattle.fio_check.specs.ContentAbove.{content_at}
-use Rattle.fio_check.specs.ContentSaid.{TimedState}
+use Rattle.fio_ends.proofs.Names.{◌≡◌, ℕ, Bool, false, List, length, Option, Some, None, refl, ap, ap₂, option_map, slice_get, Answer, Entry, Gap, TranscriptLine, ContentFacts, ContentEvent, LineEvent, Ended, Heard, Recorded, Sent, content_event_at, events_of_log, ContentRule, Accepted, Alternate, Apart, Cleared, Clock, Done, Fresh, Ignored, Order, State, Watchdog, rule_broken_by, BrokenRule, HasNearTimes, KeepsRule, TimedState, breaks_answer, breaks_entry, content_at, content_fault_in, entry_rules, find, option_and_then, option_or}
+use Rattle.std.specs.Prelude.{take, if◌then◌else◌}
 use Rattle.fio_check.specs.ContentEvents.{recorded_items}
-use Rattle.fio_check.specs.ContentRules.{answer_rules, breaks_answer, breaks_entry, entry_rules}
-use Rattle.fio_check.specs.ContentFaults.{content_fault_at, content_fault_in, fault_by}
-use Rattle.fio_check.specs.declared.content_rules.BrokenRule.{BrokenRule}
-use Rattle.fio_ends.specs.ContentPremises.{HasNearTimes}
-use Rattle.fio_ends.specs.ContentRuns.{AccusesNone, ContentNeverAccuses, KeepsRule}
+use Rattle.fio_check.specs.ContentRules.{answer_rules}
+use Rattle.fio_check.specs.ContentFaults.{content_fault_at, fault_by}
+use Rattle.fio_ends.specs.ContentRuns.{AccusesNone, ContentNeverAccuses}
 use Rattle.fio_ends.proofs.TimesKept.{apart_never_accuses, clock_never_accuses, fresh_never_accuses, order_never_accuses, state_never_accuses}
 use Rattle.fio_ends.proofs.AlternateKept.{alternate_never_accuses}
 use Rattle.fio_ends.proofs.AnswersKept.{accepted_never_accuses, cleared_never_accuses, done_never_accuses, watchdog_never_accuses}

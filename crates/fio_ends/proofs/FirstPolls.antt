@@ -1,11 +1,7 @@
 -- The first poll for the block that is due. If that block is made, it was made at this poll or later: all that was sent above was
 -- received by then, or is lost.
-use Rattle.fio_ends.proofs.Names.{◌≡◌, ◌∙◌, ◌+◌, ◌<◌, ◌≤◌, ◌⊎◌, inl, inr, ℕ, Bool, true, false, List, [], ◌∷◌, ◌++◌, length, length-append, Option, Some, None, refl, ap, sym, subst, arith, slice_get, slice_get_within, AllByRecursion, same_Some, Command, command_in, poll_in, InputItem, ArrayVec, Settings, Life, Occurrence, Scanned, LineSynced, Raised, Commanded, life_after_command, blocks_of, SentFrame, HasPoll, next_round, get_after_push, Sent}
-use Rattle.std.proofs.lemmas.Bool.{cases_lt}
-use Rattle.std.specs.Prelude.{unwrap_or}
+use Rattle.fio_ends.proofs.Names.{◌≡◌, ◌∙◌, ◌+◌, ◌<◌, ◌≤◌, ◌⊎◌, inl, inr, ℕ, Bool, true, false, List, [], ◌∷◌, ◌++◌, length, length-append, Option, Some, None, refl, ap, sym, subst, arith, slice_get, slice_get_within, AllByRecursion, same_Some, Command, command_in, poll_in, InputItem, ArrayVec, Settings, Life, Occurrence, Scanned, LineSynced, Raised, Commanded, life_after_command, blocks_of, SentFrame, HasPoll, next_round, get_after_push, Sent, cases_lt, item_for, items_sent, polling, polls_with, unwrap_or}
 use Rattle.fio_message.specs.declared.commands.Command.TheVariants as commands
-use Rattle.fio_check.specs.ContentSaid.{item_for, items_sent, polling}
-use Rattle.fio_link.specs.Link.{polls_with}
 use Rattle.fio_ends.proofs.Following.{AreBefore, IsNoCommand}
 use Rattle.fio_ends.proofs.Receives.{before_received}
 use Rattle.fio_ends.proofs.Sends.{before_more, before_other}

@@ -1,10 +1,6 @@
--- The entries of a block that the CPU takes come behind the floor, and are the floor of those after them.
-use Rattle.fio_ends.proofs.Names.{◌≡◌, ◌∙◌, ◌+◌, ◌≤◌, ℕ, Bool, true, false, List, [], ◌∷◌, ◌++◌, length, Option, Some, None, refl, ap, sym, subst, arith, if◌then◌else◌, slice_get, Block, says_again, says_more, Settings, AreInRange, Life, life_of, scans_of, log_of, Transition, entry_of, MadeBlock, blocks_of, ContentFacts, content_step, Ended, Recorded, Machine, after_taken, Order, Fresh, ContentEvent, loads_of, same_Some, Gap, each-at}
+-- The entries of a block that the CPU takes come after the floor, and are the floor of those after them.
+use Rattle.fio_ends.proofs.Names.{◌≡◌, ◌∙◌, ◌+◌, ◌≤◌, ℕ, Bool, true, false, List, [], ◌∷◌, ◌++◌, length, Option, Some, None, refl, ap, sym, subst, arith, if◌then◌else◌, slice_get, Block, says_again, says_more, Settings, AreInRange, Life, life_of, scans_of, log_of, Transition, entry_of, MadeBlock, blocks_of, ContentFacts, content_step, Ended, Recorded, Machine, after_taken, Order, Fresh, ContentEvent, loads_of, same_Some, Gap, each-at, BlockTimely, BlocksAreNear, Floor, IsNear, IsTimely, KeepsRule, blocks_taken, blocks_timely, is_out_of_order, is_stale, scans_below, without_excuse}
 use Rattle.fio_input.specs.Widening.{wide_time_of}
-use Rattle.fio_check.specs.ContentSaid.{Floor}
-use Rattle.fio_link.proofs.Times.{BlockTimely, IsTimely, blocks_timely}
-use Rattle.fio_ends.specs.ContentPremises.{BlocksAreNear, IsNear, blocks_taken, scans_below}
-use Rattle.fio_ends.specs.ContentRuns.{KeepsRule}
 use Rattle.fio_ends.proofs.Ahead.{log_ahead}
 use Rattle.fio_ends.proofs.BlockPlaces.{end_at, is_next}
 use Rattle.fio_ends.proofs.BlockWalk.{IsWalk, entry_event}
@@ -17,8 +13,6 @@ use Rattle.fio_ends.proofs.EntryTimes.{WaitBriefly}
 use Rattle.fio_ends.proofs.EntryTimes as times
 use Rattle.fio_ends.proofs.Steady.{IsSteady}
 use Rattle.fio_ends.proofs.Taken.{taken_with}
-use Rattle.fio_check.specs.ContentFacts.{content_step}
-use Rattle.fio_check.specs.ContentRules.{is_out_of_order, is_stale, without_excuse}
 use Rattle.fio_ends.proofs.Floors.{IsBehind, IsFloor, KeepsFloor, behind, floor-same, none_breaks}
 
 -- an event keeps both rules, whatever loads of the counter excuse
@@ -80,7 +74,7 @@ module _ (settings : Settings) (range : AreInRange settings) (first : ℕ) (begi
             ahead = λ j later high there. log_ahead now upto j transition later (omega arith) logged there;
           })
 
-      -- and it comes behind the floor above
+      -- and it comes after the floor above
       entry_behind : (floor : Floor) → IsFloor (offset_of begin_life) now upto before_block floor
           → IsBehind floor transition.input (wide_time_of answer.stamp (entry_of transition).stamp)
       entry_behind floor found =

@@ -1,12 +1,6 @@
--- A floor: each entry that is still to be recorded comes behind it.
-use Rattle.fio_ends.proofs.Names.{◌≡◌, ◌∙◌, ◌-◌, ◌<◌, ◌≤◌, ◌&&◌, ◌||◌, inl, inr, ℕ, Bool, true, false, not, ◌∷◌, length, Option, Some, None, refl, ap, sym, arith, ◌==◌, slice_get, nat_lt, nat_tests, is_some_and, Settings, Life, life_of, Scanned, scans_of, log_of, Transition, ContentFacts, Machine, get_in_front}
-use Rattle.std.proofs.lemmas.Bool.{cases_lt}
+-- A floor: each entry that is still to be recorded comes after it.
+use Rattle.fio_ends.proofs.Names.{◌≡◌, ◌∙◌, ◌-◌, ◌<◌, ◌≤◌, ◌&&◌, ◌||◌, inl, inr, ℕ, Bool, true, false, not, ◌∷◌, length, Option, Some, None, refl, ap, sym, arith, ◌==◌, slice_get, nat_lt, nat_tests, is_some_and, Settings, Life, life_of, Scanned, scans_of, log_of, Transition, ContentFacts, Machine, get_in_front, Floor, IsNear, blocks_taken, cases_lt, comes_after, get_in_back, is_later, is_out_of_order, is_stale, scans_now}
 use Rattle.fio_module.specs.Log.{transitions_below}
-use Rattle.fio_module.proofs.ListParts.{get_in_back}
-use Rattle.fio_module.proofs.ScanTransitions.{scans_now}
-use Rattle.fio_check.specs.ContentSaid.{Floor, is_later}
-use Rattle.fio_check.specs.ContentRules.{comes_behind, is_out_of_order, is_stale}
-use Rattle.fio_ends.specs.ContentPremises.{IsNear, blocks_taken}
 use Rattle.fio_ends.proofs.Ahead.{IsAhead, ahead_later}
 use Rattle.fio_ends.proofs.BlockPlaces.{end_at}
 use Rattle.fio_ends.proofs.Clocks.{clock, later_clock, offset_of}
@@ -14,7 +8,7 @@ use Rattle.fio_ends.proofs.Fulls.{KeepsFull, scans_after}
 
 -- ---- one entry
 
--- a time comes behind this floor
+-- a time comes after this floor
 pub record IsBehind (floor : Floor) (input wide : ℕ) : Type 0 where
   pub in_order : is_out_of_order input wide floor ≡ false
   pub fresh : is_stale wide floor ≡ false
@@ -22,14 +16,14 @@ pub record IsBehind (floor : Floor) (input wide : ℕ) : Type 0 where
 pub behind-none : (time wide input : ℕ) → is_later wide time ≡ true → IsBehind (record { time = time; input = None }) input wide
 behind-none time wide input later = record { in_order = refl; fresh = ap (λ b. not b) later }
 
-pub behind-some : (time wide above input : ℕ) → comes_behind input wide above time ≡ true → IsBehind (record { time = time; input = Some above }) input wide
+pub behind-some : (time wide above input : ℕ) → comes_after input wide above time ≡ true → IsBehind (record { time = time; input = Some above }) input wide
 behind-some time wide above input behind = record { in_order = ap (λ b. not b) behind; fresh = refl }
 
 pub or_true : (b : Bool) → (b || true) ≡ true
 or_true true = refl
 or_true false = refl
 
--- an entry that is ahead in scans and near comes behind
+-- an entry that is ahead in scans and near comes after
 pub behind : (offset : ℕ) (floor : Option ℕ) (scans : ℕ) (transition : Transition) → IsAhead floor scans transition
     → IsNear (Some scans) transition.scans
     → IsBehind (record { time = clock offset scans; input = floor }) transition.input (clock offset transition.scans)
@@ -57,7 +51,7 @@ none_breaks test true false (Some f) kept = kept refl refl f refl
 
 -- ---- what is kept
 
--- a floor, no earlier than the latest block without C: each entry that is still to be recorded comes behind it
+-- a floor, no earlier than the latest block without C: each entry that is still to be recorded comes after it
 pub record IsFloor (offset : ℕ) (now : Life) (upto : ℕ) (before : Option ℕ) (floor : Floor) : Type 0 where
   pub scans : ℕ
   pub time : floor.time ≡ clock offset scans

@@ -1,14 +1,9 @@
--- The rules `order` and `fresh` where no load of the counter takes effect: below a clear block each entry comes behind the latest entry or block without C.
-use Rattle.fio_ends.proofs.Names.{fold, ◌++◌, MadeBlock, Block, events_of_block, ◌≡◌, ◌+◌, ◌≤◌, ℕ, true, [], ◌∷◌, length, Option, Some, refl, ap, subst, arith, Settings, AreInRange, Life, life_of, life_after_command, command_in, blocks_of, ContentFacts, Heard, Event, SentFrame, Machine, after, after_delivery_to_module, after_taken, blocks_in, IsKept, start, same_Some, take, drop}
-use Rattle.fio_message.specs.Blocks.{block_answer}
-use Rattle.fio_module.specs.Blocks.{end_of_blocks}
-use Rattle.fio_module.proofs.LifeLaws.{log_of-with_command}
+-- The rules `order` and `fresh` where no load of the counter takes effect: below a clear block each entry comes after the latest entry or block without C.
+use Rattle.fio_ends.proofs.Names.{fold, ◌++◌, MadeBlock, Block, events_of_block, ◌≡◌, ◌+◌, ◌≤◌, ℕ, true, [], ◌∷◌, length, Option, Some, refl, ap, subst, arith, Settings, AreInRange, Life, life_of, life_after_command, command_in, blocks_of, ContentFacts, Heard, Event, SentFrame, Machine, after, after_delivery_to_module, after_taken, blocks_in, IsKept, start, same_Some, take, drop, BlocksAreNear, block_answer, blocks_taken, content_begun, content_step, end_of_blocks, log_of-with_command, scans_above}
 use Rattle.fio_link.specs.declared.event.Event.TheVariants as events
-use Rattle.fio_check.specs.ContentFacts.{content_begun, content_step}
-use Rattle.fio_ends.specs.ContentPremises.{BlocksAreNear, blocks_taken, scans_above}
 use Rattle.fio_ends.proofs.BlockPlaces.{end_at}
 use Rattle.fio_ends.proofs.BlockWalk.{walk}
-use Rattle.fio_ends.proofs.ContentSteps.{IsKnown, IsPastBus, Takes}
+use Rattle.fio_ends.proofs.ContentSteps.{IsKnown, IsPastBus, Takes, past_cases}
 use Rattle.fio_ends.proofs.Clocks.{offset_of}
 use Rattle.fio_ends.proofs.Steady.{IsSteady}
 use Rattle.fio_ends.proofs.Taken.{blocks_stay, taken_stay}
@@ -27,28 +22,25 @@ module _ (settings : Settings) (range : AreInRange settings) (first : ℕ) (begi
       → IsPastBus event
       → KeepsFloor settings begin above machine facts
       → KeepsFloor settings begin above (after settings first machine event) facts
-  floor-happens machine facts (events.Scan raw) past p = record {
-    full = full-happens settings range first begin above machine facts (events.Scan raw) past p.full;
-    floor = λ clear f at. floor-scan (offset_of begin_life) (life_of machine.history) raw
-        (end_at settings (life_of machine.history) machine.round) (scans_after above (blocks_taken settings begin machine)) f (p.floor clear f at);
-  }
-  floor-happens machine facts events.LineSync past p = record {
-    full = full-happens settings range first begin above machine facts events.LineSync past p.full;
-    floor = λ clear f at. floor-same (offset_of begin_life) (life_of machine.history) (life_of (after settings first machine events.LineSync).history)
-        (end_at settings (life_of machine.history) machine.round) (end_at settings (life_of machine.history) machine.round)
-        (scans_after above (blocks_taken settings begin machine)) (scans_after above (blocks_taken settings begin machine)) f refl refl (omega arith) refl (p.floor clear f at);
-  }
-  floor-happens machine facts (events.Raise mask) past p = record {
-    full = full-happens settings range first begin above machine facts (events.Raise mask) past p.full;
-    floor = λ clear f at. floor-same (offset_of begin_life) (life_of machine.history) (life_of (after settings first machine (events.Raise mask)).history)
-        (end_at settings (life_of machine.history) machine.round) (end_at settings (life_of machine.history) machine.round)
-        (scans_after above (blocks_taken settings begin machine)) (scans_after above (blocks_taken settings begin machine)) f refl refl (omega arith) refl (p.floor clear f at);
-  }
-  floor-happens machine facts events.Poll past p = absurd past
-  floor-happens machine facts (events.Send command) past p = absurd past
-  floor-happens machine facts (events.ToModule index) past p = absurd past
-  floor-happens machine facts (events.ToCpu index) past p = absurd past
-  floor-happens machine facts events.Restart past p = absurd past
+  floor-happens machine facts event past p = past_cases (λ event. KeepsFloor settings begin above (after settings first machine event) facts)
+      (λ raw. record {
+        full = full-happens settings range first begin above machine facts (events.Scan raw) tt p.full;
+        floor = λ clear f at. floor-scan (offset_of begin_life) (life_of machine.history) raw
+            (end_at settings (life_of machine.history) machine.round) (scans_after above (blocks_taken settings begin machine)) f (p.floor clear f at);
+      })
+      (record {
+        full = full-happens settings range first begin above machine facts events.LineSync tt p.full;
+        floor = λ clear f at. floor-same (offset_of begin_life) (life_of machine.history) (life_of (after settings first machine events.LineSync).history)
+            (end_at settings (life_of machine.history) machine.round) (end_at settings (life_of machine.history) machine.round)
+            (scans_after above (blocks_taken settings begin machine)) (scans_after above (blocks_taken settings begin machine)) f refl refl (omega arith) refl (p.floor clear f at);
+      })
+      (λ mask. record {
+        full = full-happens settings range first begin above machine facts (events.Raise mask) tt p.full;
+        floor = λ clear f at. floor-same (offset_of begin_life) (life_of machine.history) (life_of (after settings first machine (events.Raise mask)).history)
+            (end_at settings (life_of machine.history) machine.round) (end_at settings (life_of machine.history) machine.round)
+            (scans_after above (blocks_taken settings begin machine)) (scans_after above (blocks_taken settings begin machine)) f refl refl (omega arith) refl (p.floor clear f at);
+      })
+      event past
 
   pub floor-receives : (machine : Machine) (facts : ContentFacts) (place : ℕ) (frame : SentFrame) → IsKept settings first machine
       → KeepsFloor settings begin above machine facts

@@ -1,8 +1,7 @@
 -- What a prompt run keeps of its transcript and its machine.
-use Rattle.fio_ends.proofs.Names.{◌≡◌, ◌∙◌, ◌+◌, ◌<◌, ◌≤◌, ◌⊎◌, inl, inr, ℕ, Bool, true, false, List, [], ◌∷◌, ◌++◌, length, Some, refl, ap, sym, subst, arith, append_assoc, slice_get, AllByRecursion, Command, block_in, command_in, says_again, Settings, Life, Occurrence, Commanded, Event, life_of, newest_poll, is_new, MadeBlock, blocks_of, facts_with, no_facts, number_due, answer_type_to, names_absent, Facts, RuleLimits, SentFrame, Machine, start, number_of, HasPoll, next_round, CpuFrame, SuitModule}
+use Rattle.fio_ends.proofs.Names.{◌≡◌, ◌∙◌, ◌+◌, ◌<◌, ◌≤◌, ◌⊎◌, inl, inr, ℕ, Bool, true, false, List, [], ◌∷◌, ◌++◌, length, Some, refl, ap, sym, subst, arith, append_assoc, slice_get, AllByRecursion, Command, block_in, command_in, says_again, Settings, Life, Occurrence, Commanded, Event, life_of, newest_poll, is_new, MadeBlock, blocks_of, facts_with, no_facts, number_due, answer_type_to, names_absent, Facts, RuleLimits, SentFrame, Machine, start, number_of, HasPoll, next_round, CpuFrame, SuitModule, History}
 use Rattle.fio_message.specs.declared.commands.Command.TheVariants as commands
 use Rattle.fio_message.specs.Blocks.{Block as BlockOf}
-use Rattle.fio_module.specs.Life.{History}
 use Rattle.fio_link.specs.declared.event.Event.TheVariants as events
 use Rattle.fio_ends.proofs.GoodLines.{KeepRules, said_by}
 use Rattle.fio_ends.proofs.Heard.{IsHeardAs}

@@ -1,18 +1,9 @@
 -- The latest block without C: each entry that is still to be recorded was logged later than it was made.
-use Rattle.fio_ends.proofs.Names.{◌||◌, ◌≡◌, ◌∙◌, ◌+◌, ◌-◌, ◌^◌, ◌<◌, ◌≤◌, inl, inr, ℕ, Bool, true, false, List, [], ◌∷◌, ◌++◌, length, Option, Some, None, refl, ap, ap₂, sym, subst, arith, take, drop, if◌then◌else◌, slice_get, nat_le, nat_tests, is_some_and, Command, Block, says_again, says_more, Settings, AreInRange, Life, Occurrence, life_of, life_after_command, Scanned, LineSynced, Raised, scans_of, log_of, Transition, MadeBlock, blocks_of, blocks_in, ContentFacts, content_step, Ended, Event, SentFrame, Machine, after, after_delivery_to_module, after_taken, IsKept, command_in, end_of_blocks, log_of-with_command, length-append, get_in_front, each-at}
-use Rattle.std.proofs.lemmas.Bool.{cases_lt}
-use Rattle.fio_message.specs.declared.commands.Command.TheVariants as commands
+use Rattle.fio_ends.proofs.Names.{◌||◌, ◌≡◌, ◌∙◌, ◌+◌, ◌-◌, ◌^◌, ◌<◌, ◌≤◌, inl, inr, ℕ, Bool, true, false, List, [], ◌∷◌, ◌++◌, length, Option, Some, None, refl, ap, ap₂, sym, subst, arith, take, drop, if◌then◌else◌, slice_get, nat_le, nat_tests, is_some_and, Command, Block, says_again, says_more, Settings, AreInRange, Life, Occurrence, life_of, life_after_command, Scanned, LineSynced, Raised, scans_of, log_of, Transition, MadeBlock, blocks_of, blocks_in, ContentFacts, content_step, Ended, Event, SentFrame, Machine, after, after_delivery_to_module, after_taken, IsKept, command_in, end_of_blocks, log_of-with_command, length-append, get_in_front, each-at, BlockTimely, BlocksAreNear, IsNear, IsTimely, blocks_taken, blocks_timely, cases_lt, each-from_get, get_in_back, is_aging, is_far, scans_below, scans_now}
 use Rattle.fio_module.specs.Log.{transitions_below}
-use Rattle.fio_module.proofs.ListParts.{each-from_get, get_in_back}
-use Rattle.fio_module.proofs.ScanTransitions.{scans_now}
-use Rattle.fio_check.specs.ContentSaid.{is_far}
-use Rattle.fio_check.specs.ContentFacts.{content_step, is_aging}
-use Rattle.fio_link.proofs.Times.{BlockTimely, IsTimely, blocks_timely}
-use Rattle.fio_link.specs.declared.event.Event.TheVariants as events
-use Rattle.fio_ends.specs.ContentPremises.{BlocksAreNear, IsNear, blocks_taken, scans_below}
 use Rattle.fio_ends.proofs.BlockPlaces.{end_at, is_next}
 use Rattle.fio_ends.proofs.Clocks.{IsStamped, between_clocks, block_stamped, clock, offset_of}
-use Rattle.fio_ends.proofs.ContentSteps.{IsKnown, IsPastBus, Takes}
+use Rattle.fio_ends.proofs.ContentSteps.{IsKnown, IsPastBus, Takes, past_cases}
 use Rattle.fio_ends.proofs.EntryTimes.{WaitBriefly}
 use Rattle.fio_ends.proofs.EntryTimes as times
 use Rattle.fio_ends.proofs.Following.{GoesOn}
@@ -108,9 +99,7 @@ full-same settings begin now later upto upto_later round round_later before befo
 -- ---- other events
 
 pub scans-command : (command : Option Command) (life : Life) → scans_of (life_after_command command life) ≡ scans_of life
-scans-command None life = refl
-scans-command (Some (commands.LoadCounter load)) life = refl
-scans-command (Some other) life = refl
+scans-command command life = grind arith
 
 module _ (settings : Settings) (range : AreInRange settings) (first : ℕ) (begin : Machine) (above : Option ℕ) where
   quiet : (machine later : Machine) (facts : ContentFacts) (occurrence : Occurrence)
@@ -126,16 +115,13 @@ module _ (settings : Settings) (range : AreInRange settings) (first : ℕ) (begi
   -- a scan, a line sync or raised flags
   pub full-happens : (machine : Machine) (facts : ContentFacts) (event : Event) → IsPastBus event → KeepsFull settings begin above machine facts
       → KeepsFull settings begin above (after settings first machine event) facts
-  full-happens machine facts (events.Scan raw) past p = λ clear.
+  full-happens machine facts event past p = past_cases (λ event. KeepsFull settings begin above (after settings first machine event) facts)
+      (λ raw. λ clear.
       full-scan settings (life_of begin.history) (life_of machine.history) raw (end_at settings (life_of machine.history) machine.round) machine.round
-      (scans_after above (blocks_taken settings begin machine)) facts.full (p clear)
-  full-happens machine facts events.LineSync past p = λ clear. quiet machine machine facts LineSynced refl refl refl p clear
-  full-happens machine facts (events.Raise mask) past p = λ clear. quiet machine machine facts (Raised mask) refl refl refl p clear
-  full-happens machine facts events.Poll past p = absurd past
-  full-happens machine facts (events.Send command) past p = absurd past
-  full-happens machine facts (events.ToModule index) past p = absurd past
-  full-happens machine facts (events.ToCpu index) past p = absurd past
-  full-happens machine facts events.Restart past p = absurd past
+      (scans_after above (blocks_taken settings begin machine)) facts.full (p clear))
+      (λ clear. quiet machine machine facts LineSynced refl refl refl p clear)
+      (λ mask. λ clear. quiet machine machine facts (Raised mask) refl refl refl p clear)
+      event past
 
   -- the module receives a frame
   pub full-receives : (machine : Machine) (facts : ContentFacts) (place : ℕ) (frame : SentFrame) → IsKept settings first machine

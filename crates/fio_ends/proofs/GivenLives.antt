@@ -1,9 +1,7 @@
 -- Each life without polls is that of a machine to which a prompt run leads: its commands are sent and received, and none of the
 -- answers is heard.
-use Rattle.fio_ends.proofs.Names.{◌≡◌, ◌∙◌, ◌+◌, ◌≤◌, ℕ, List, [], ◌∷◌, ◌++◌, length, Some, None, refl, ap, sym, subst, arith, append_assoc, length-append, nat_tests, AllByRecursion, IsCommand, command_in, command_octets, Life, Scanned, LineSynced, Raised, Commanded, life_of, life_after_command, Settings, Event, ToModule, SentFrame, Machine, start, item_numbered, refusal, sending_refusal, after_sending, after_delivery_to_module, after, Leads, HaveNoRestart, IsNotRestart, due_after, IsPrompt, ArePrompt, IsWithinRanges, get_push}
-use Rattle.fio_link.specs.Link.{delivery_refusal}
+use Rattle.fio_ends.proofs.Names.{◌≡◌, ◌∙◌, ◌+◌, ◌≤◌, ℕ, List, [], ◌∷◌, ◌++◌, length, Some, None, refl, ap, sym, subst, arith, append_assoc, length-append, nat_tests, AllByRecursion, IsCommand, command_in, command_octets, Life, Scanned, LineSynced, Raised, Commanded, life_of, life_after_command, Settings, Event, ToModule, SentFrame, Machine, start, item_numbered, refusal, sending_refusal, after_sending, after_delivery_to_module, after, Leads, HaveNoRestart, IsNotRestart, due_after, IsPrompt, ArePrompt, IsWithinRanges, get_push, delivery_refusal, frame_at_place}
 use Rattle.fio_link.specs.declared.event.Event.TheVariants as events
-use Rattle.fio_link.proofs.Events.{frame_at_place}
 use Rattle.fio_ends.proofs.Sends.{read_back}
 
 -- commands that are no polls, whole and within their ranges

@@ -1,10 +1,7 @@
 -- What the CPU hears of the answer to a command that is no poll.
-use Rattle.fio_ends.proofs.Names.{◌≡◌, ◌∙◌, ◌&&◌, ◌||◌, ℕ, Bool, true, false, List, [], ◌∷◌, Some, None, refl, ap, subst, arith, not, nat_le, nat_lt, list_any, same_Some, nat_tests, Answer, Command, InputItem, answer_octets, polled_number, says_error, all_present, Settings, Life, answer_to, answer_type_to, is_absent, names_absent, observation_in}
-use Rattle.std.specs.List.{list_all}
+use Rattle.fio_ends.proofs.Names.{◌≡◌, ◌∙◌, ◌&&◌, ◌||◌, ℕ, Bool, true, false, List, [], ◌∷◌, Some, None, refl, ap, subst, arith, not, nat_le, nat_lt, list_any, same_Some, nat_tests, Answer, Command, InputItem, answer_octets, polled_number, says_error, all_present, Settings, Life, answer_to, answer_type_to, is_absent, names_absent, observation_in, error_back, error_status, list_all}
 use Rattle.fio_message.specs.declared.commands.Command.TheVariants as commands
 use Rattle.fio_message.specs.Decoding.{message_in}
-use Rattle.fio_message.specs.Status.{error_status}
-use Rattle.fio_message.proofs.StatusBits.{error_back}
 use Rattle.fio_check.specs.declared.observation.Observation.TheVariants as seen
 
 -- the octets are heard as an answer of the command's type, which does not say that a configuration was

@@ -1,7 +1,5 @@
 -- The CPU hears the answer that is due: its line breaks no rule.
-use Rattle.fio_ends.proofs.Names.{◌≡◌, ◌∙◌, ◌+◌, ◌%◌, ◌<◌, ◌≤◌, ◌&&◌, ◌||◌, inl, inr, ℕ, Bool, true, false, List, [], ◌∷◌, length, map, Option, Some, None, refl, ap, sym, subst, arith, if◌then◌else◌, ◌==◌, not, nat_le, nat_lt, option_map, slice_get, AllByRecursion, list_any, option_map_or, nat_tests, same_Some, Answer, Command, answer_in, answered_block, block_in, says_again, says_lost, says_more, Settings, AreInRange, Life, life_of, Transition, entry_of, MadeBlock, blocks_of, facts_with, answer_type_to, is_absent, observation_in, observation_of, first_broken_within, Facts, RuleLimits, ToCpu, SentFrame, Machine, number_of, after_delivered_block, after_delivery_to_cpu, refusal, after, item_numbered, HasBlock, next_round, CarriesBlockOf, number_of-next, HasInput, each-at, after_taken, in_order, same_round, after_delivery, IsKept, carries_own, frame_heard, SuitModule}
-use Rattle.std.specs.Prelude.{is_some}
-use Rattle.std.proofs.lemmas.List.{length-map}
+use Rattle.fio_ends.proofs.Names.{◌≡◌, ◌∙◌, ◌+◌, ◌%◌, ◌<◌, ◌≤◌, ◌&&◌, ◌||◌, inl, inr, ℕ, Bool, true, false, List, [], ◌∷◌, length, map, Option, Some, None, refl, ap, sym, subst, arith, if◌then◌else◌, ◌==◌, not, nat_le, nat_lt, option_map, slice_get, AllByRecursion, list_any, option_map_or, nat_tests, same_Some, Answer, Command, answer_in, answered_block, block_in, says_again, says_lost, says_more, Settings, AreInRange, Life, life_of, Transition, entry_of, MadeBlock, blocks_of, facts_with, answer_type_to, is_absent, observation_in, observation_of, first_broken_within, Facts, RuleLimits, ToCpu, SentFrame, Machine, number_of, after_delivered_block, after_delivery_to_cpu, refusal, after, item_numbered, HasBlock, next_round, CarriesBlockOf, number_of-next, HasInput, each-at, after_taken, in_order, same_round, after_delivery, IsKept, carries_own, frame_heard, SuitModule, is_some, length-map}
 use Rattle.fio_message.specs.declared.answers.Answer.TheVariants as answers
 use Rattle.fio_message.specs.declared.commands.Command.TheVariants as commands
 use Rattle.fio_message.specs.Blocks.{Block as BlockOf}
@@ -48,9 +46,7 @@ within_limits fewer lost true entries per_block implied full =
     rw same (with_more fewer lost)
   where
     with_more : (fewer lost : Bool) → ((fewer && (lost && false)) || false) ≡ false
-    with_more true true = refl
-    with_more true false = refl
-    with_more false lost = refl
+    with_more fewer lost = grind arith
 within_limits true true false entries per_block implied full = absurd (cc (implied refl refl))
 within_limits true false false entries per_block implied full = refl
 within_limits false lost false entries per_block implied full = refl
@@ -92,9 +88,7 @@ block_said (Some other) block is = absurd (cc is)
 -- another answer
 pub no_block_said : (answer : Option Answer) (code : ℕ) (accepted : Bool) → observation_of None answer ≡ seen.Answer code accepted
     → answered_block answer ≡ None
-no_block_said None code accepted is = refl
-no_block_said (Some (answers.Block number entries status stamp)) code accepted is = absurd (cc is)
-no_block_said (Some other) code accepted is = refl
+no_block_said answer code accepted is = grind arith
 
 module _ (settings : Settings) (range : AreInRange settings) (first : ℕ) (machine : Machine)
     (k : IsKept settings first machine) (from : Life) (due : ℕ) (facts : Facts) (f : Follows settings first from machine due facts) where

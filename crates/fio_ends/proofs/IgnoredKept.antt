@@ -1,17 +1,9 @@
 -- The rule `ignored` never accuses: an input that was settled as ignored has no entries until an item opens it.
-use Rattle.fio_ends.proofs.Names.{◌≡◌, ◌∙◌, ◌+◌, ◌<◌, ◌≤◌, ◌&&◌, ◌||◌, inl, inr, ℕ, Bool, true, false, not, List, [], ◌∷◌, ◌++◌, length, Option, Some, None, is_some, same_Some, refl, ap, sym, subst, arith, if◌then◌else◌, ◌==◌, slice_get, slice_get_within, nat_lt, Answer, Command, Block, command_in, command_octets, IsCommand, says_again, says_more, says_error, all_present, InputItem, ArrayVec, Settings, AreInRange, Life, Scanned, LineSynced, Raised, life_of, life_after_command, log_of, Transition, entry_of, MadeBlock, blocks_in, ContentFacts, InputAbove, content_with, Ended, Recorded, Sent, Gap, Event, SentFrame, Machine, start, after, after_sending, after_delivery_to_module, after_taken, Ignored, IsKept}
+use Rattle.fio_ends.proofs.Names.{◌≡◌, ◌∙◌, ◌+◌, ◌<◌, ◌≤◌, ◌&&◌, ◌||◌, inl, inr, ℕ, Bool, true, false, not, List, [], ◌∷◌, ◌++◌, length, Option, Some, None, is_some, same_Some, refl, ap, sym, subst, arith, if◌then◌else◌, ◌==◌, slice_get, slice_get_within, nat_lt, Answer, Command, Block, command_in, command_octets, IsCommand, says_again, says_more, says_error, all_present, InputItem, ArrayVec, Settings, AreInRange, Life, Scanned, LineSynced, Raised, life_of, life_after_command, log_of, Transition, entry_of, MadeBlock, blocks_in, ContentFacts, InputAbove, content_with, Ended, Recorded, Sent, Gap, Event, SentFrame, Machine, start, after, after_sending, after_delivery_to_module, after_taken, Ignored, IsKept, Always, KeepsRule, SentItem, block_answer, coming, content_begun, end_of_blocks, error_back, error_status, input_below_clear, input_coming, input_ended, input_with_entry, item_for, item_parts, items_sent, opens, Occurrence}
 use Rattle.fio_message.specs.declared.commands.Command.TheVariants as commands
-use Rattle.fio_message.specs.Blocks.{block_answer}
-use Rattle.fio_message.specs.Status.{error_status}
-use Rattle.fio_message.proofs.StatusBits.{error_back}
 use Rattle.fio_input.specs.Widening.{wide_time_of}
-use Rattle.fio_module.specs.Blocks.{end_of_blocks}
-use Rattle.fio_check.specs.ContentSaid.{SentItem, accepts_items, item_for, items_sent, opens}
-use Rattle.fio_check.specs.ContentFacts.{coming, content_begun, input_below_clear, input_ended, input_with_entry}
-use Rattle.fio_check.specs.ContentKnown.{input_coming}
-use Rattle.fio_check.proofs.ContentNext.{item_parts}
-use Rattle.fio_link.specs.declared.event.Event.TheVariants as events
-use Rattle.fio_ends.specs.ContentRuns.{Always, ContentNeverAccuses, KeepsRule}
+use Rattle.fio_check.specs.ContentSaid.{accepts_items}
+use Rattle.fio_ends.specs.ContentRuns.{ContentNeverAccuses}
 use Rattle.fio_ends.proofs.Alternating.{NoneOf}
 use Rattle.fio_ends.proofs.SettledAgain.{MadeThen, hidden_then, made_then, settles_open}
 use Rattle.fio_ends.proofs.SteadyKept.{clear_open}
@@ -21,8 +13,8 @@ use Rattle.fio_ends.proofs.BlockWalk.{IsWalk, entry_event, gap_keeps, walk}
 use Rattle.fio_ends.proofs.ContentBegun.{begun_input}
 use Rattle.fio_ends.proofs.ContentFrame.{heard_keeps}
 use Rattle.fio_ends.proofs.ContentHeld.{content_never_accuses}
-use Rattle.fio_ends.proofs.ContentSteps.{HearsAnswer, IsInvariant, IsKnown, IsPastBus, Takes}
-use Rattle.fio_ends.proofs.Following.{IsSentLast, IsSince}
+use Rattle.fio_ends.proofs.ContentSteps.{HearsAnswer, IsInvariant, IsKnown, IsPastBus, Takes, past_cases}
+use Rattle.fio_ends.proofs.Following.{IsSentLast, IsSince, IsNoCommand}
 use Rattle.fio_ends.proofs.Sends.{read_back}
 use Rattle.fio_ends.proofs.Settled.{HasItem, KeepsItem, item-quiet, item-received, item-sent, item-taken, setting_of}
 use Rattle.fio_ends.proofs.Taken.{blocks_stay}
@@ -135,28 +127,20 @@ module _ (settings : Settings) (range : AreInRange settings) (first : ℕ) (begi
 
   -- ---- other events
 
+  quiet : (machine : Machine) (facts : ContentFacts) (occurrence : Occurrence) → IsNoCommand occurrence → ShutHolds settings machine facts → (input : ℕ) → input < 64
+      → KeepsBoth (occurrence ∷ life_of machine.history) machine.to_module machine.last_to_module (end_at settings (life_of machine.history) machine.round) input (facts.inputs input)
+  quiet machine facts occurrence none p input low =
+      let now = life_of machine.history in
+      let above = facts.inputs input in
+      record {
+        item = item-quiet machine.to_module machine.last_to_module input above.named above.item above.taken low now occurrence none (p input low).item;
+        shut = λ is. (let s = (p input low).shut is in (s.0, silent-quiet now occurrence (end_at settings now machine.round) input none (ends_within settings now machine.round) s.1));
+      }
+
   pub both-happens : (machine : Machine) (facts : ContentFacts) (event : Event) → IsPastBus event → ShutHolds settings machine facts
       → ShutHolds settings (after settings first machine event) facts
-  both-happens machine facts (events.Scan raw) past p = λ input low. (let k = p input low in
-      record {
-        item = item-quiet machine.to_module machine.last_to_module input (facts.inputs input).named (facts.inputs input).item (facts.inputs input).taken low (life_of machine.history) (Scanned raw) tt k.item;
-        shut = λ is. (let s = k.shut is in (s.0, silent-quiet (life_of machine.history) (Scanned raw) (end_at settings (life_of machine.history) machine.round) input tt (ends_within settings (life_of machine.history) machine.round) s.1));
-      })
-  both-happens machine facts events.LineSync past p = λ input low. (let k = p input low in
-      record {
-        item = item-quiet machine.to_module machine.last_to_module input (facts.inputs input).named (facts.inputs input).item (facts.inputs input).taken low (life_of machine.history) LineSynced tt k.item;
-        shut = λ is. (let s = k.shut is in (s.0, silent-quiet (life_of machine.history) LineSynced (end_at settings (life_of machine.history) machine.round) input tt (ends_within settings (life_of machine.history) machine.round) s.1));
-      })
-  both-happens machine facts (events.Raise mask) past p = λ input low. (let k = p input low in
-      record {
-        item = item-quiet machine.to_module machine.last_to_module input (facts.inputs input).named (facts.inputs input).item (facts.inputs input).taken low (life_of machine.history) (Raised mask) tt k.item;
-        shut = λ is. (let s = k.shut is in (s.0, silent-quiet (life_of machine.history) (Raised mask) (end_at settings (life_of machine.history) machine.round) input tt (ends_within settings (life_of machine.history) machine.round) s.1));
-      })
-  both-happens machine facts events.Poll past p = absurd past
-  both-happens machine facts (events.Send command) past p = absurd past
-  both-happens machine facts (events.ToModule index) past p = absurd past
-  both-happens machine facts (events.ToCpu index) past p = absurd past
-  both-happens machine facts events.Restart past p = absurd past
+  both-happens machine facts event past p = past_cases (λ event. ShutHolds settings (after settings first machine event) facts)
+      (λ raw. quiet machine facts (Scanned raw) tt p) (quiet machine facts LineSynced tt p) (λ mask. quiet machine facts (Raised mask) tt p) event past
 
   pub both-sends : (machine : Machine) (facts : ContentFacts) (command : Command) → IsCommand command → ShutHolds settings machine facts
       → ShutHolds settings (after_sending machine command) (content_with facts (Sent command))

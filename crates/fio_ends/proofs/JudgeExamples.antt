@@ -1,22 +1,15 @@
 -- Worked logs that fulfil what the laws of the judge of a link require, by computation: a frame is missing at a mark; the module is
 -- restarted; a load of the counter is under way where a log begins.
-use Rattle.fio_ends.proofs.Names.{◌≡◌, ◌∙◌, ◌+◌, ◌++◌, ℕ, true, false, List, [], ◌∷◌, None, refl, ap, sym, arith, is_some, list_any, Event, ToModule, ToCpu, Machine, start, after, standard_rule_limits, SuitModule, TranscriptLine, CpuFrame, frames_from, Leads}
-use Rattle.fio_message.specs.declared.commands.Command.TheVariants.{LoadCounter}
+use Rattle.fio_ends.proofs.Names.{◌≡◌, ◌∙◌, ◌+◌, ◌++◌, ℕ, true, false, List, [], ◌∷◌, None, refl, ap, sym, arith, is_some, list_any, Event, ToModule, ToCpu, Machine, start, after, standard_rule_limits, SuitModule, TranscriptLine, CpuFrame, frames_from, Leads, AreInRange, AreTimesNear, AreUnderWay, FewAreUnderWay, IsPromptRun, IsRestarted, Kept, LineSync, LoadCounter, LogStep, Logged, LoggedLife, Marked, Missing, Scan, Send, checking_again, events_from_command, events_of, found_first, is_restart, judging_anywhere, judging_below, log_from, machine_at_command, standard_settings}
 use Rattle.fio_message.specs.Bits.{is_set}
 use Rattle.fio_message.specs.Decoding.{message_in}
 use Rattle.fio_input.specs.Widening.{wide_time_of}
 use Rattle.fio_module.specs.Log.{transitions_below}
-use Rattle.fio_module.specs.Settings.{AreInRange, standard_settings}
-use Rattle.fio_check.specs.ContentCheckers.{found_first}
 use Rattle.fio_check.specs.ContentRules.{first_differing, is_excused}
-use Rattle.fio_check.specs.LinkJudges.{checking_again, judging_anywhere, judging_below}
-use Rattle.fio_check.specs.declared.outcome.FrameOutcome.TheVariants.{Kept}
 use Rattle.fio_check.specs.declared.outcome.LogPlace.TheVariants.{Cpu}
-use Rattle.fio_link.specs.declared.event.Event.TheVariants.{Poll, Scan, Send, LineSync}
-use Rattle.fio_ends.specs.LinkLogs.{AreUnderWay, FewAreUnderWay, FramesMayBeMissing, IsLogBelowLoads, LoadsMayBeUnderWay, LogStep, Logged, Marked, Missing, events_of, log_from, outcomes_begun}
-use Rattle.fio_ends.specs.ContentPremises.{AreTimesNear}
-use Rattle.fio_ends.specs.PromptRuns.{IsPromptRun, events_from_command, machine_at_command}
-use Rattle.fio_ends.specs.RestartedLogs.{IsRestarted, LoggedLife, RestartsAreFound, is_restart, outcomes_over_lives}
+use Rattle.fio_link.specs.declared.event.Event.TheVariants.{Poll}
+use Rattle.fio_ends.specs.LinkLogs.{FramesMayBeMissing, IsLogBelowLoads, LoadsMayBeUnderWay, outcomes_begun}
+use Rattle.fio_ends.specs.RestartedLogs.{RestartsAreFound, outcomes_over_lives}
 
 -- the machine after these events
 abbrev done : ℕ → Machine → List Event → Machine

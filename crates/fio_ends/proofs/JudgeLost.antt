@@ -1,19 +1,6 @@
 -- Where the place is lost in the log of a prompt run: what the judge of a link knows there, and how it goes on.
-use Rattle.fio_ends.proofs.Names.{◌≡◌, ◌∙◌, ◌+◌, ◌-◌, ◌≤◌, ◌⊎◌, inl, inr, ℕ, true, false, List, [], ◌∷◌, map, Option, Some, None, refl, ap, sym, subst, arith, fold, AllByRecursion, Command, IsCommand, command_octets, command_in, Life, life_of, loads_of, Settings, AreInRange, ContentFacts, content_with, content_step, Sent, kept_with, content_events, Facts, RuleLimits, observation_in, Event, Machine, SentFrame, sending_refusal, refusal, after, after_delivery_to_module, item_numbered, IsNotRestart, IsKept, kept_all, CpuFrame, frame_heard, frames_at, due_after, IsPrompt, IsWithinRanges, Done, answer_in}
-use Rattle.std.specs.Prelude.{max}
-use Rattle.std.proofs.Math.Nat.{le-max_left}
-use Rattle.fio_check.specs.Checkers.{checker_skipping, passes_over}
-use Rattle.fio_check.specs.ContentCheckers.{ContentChecking, checking_with}
-use Rattle.fio_check.specs.LinkJudges.{Judging, checker_below_lines, checking_again, judging_below, judging_lost, judging_passed, judging_with, loads_left, outcomes_of, with_loads}
-use Rattle.fio_check.specs.declared.checker.Checker.{Checker}
-use Rattle.fio_check.specs.declared.checker.Skips.{Skips}
-use Rattle.fio_check.specs.declared.checker.Skips.TheVariants.{Nothing, ToCommand, ToPoll}
-use Rattle.fio_check.specs.declared.outcome.LogPlace.{LogPlace}
-use Rattle.fio_check.proofs.Unexcused.{sent_step}
+use Rattle.fio_ends.proofs.Names.{◌≡◌, ◌∙◌, ◌+◌, ◌-◌, ◌≤◌, ◌⊎◌, inl, inr, ℕ, true, false, List, [], ◌∷◌, map, Option, Some, None, refl, ap, sym, subst, arith, fold, AllByRecursion, Command, IsCommand, command_octets, command_in, Life, life_of, loads_of, Settings, AreInRange, ContentFacts, content_with, content_step, Sent, kept_with, content_events, Facts, RuleLimits, observation_in, Event, Machine, SentFrame, sending_refusal, refusal, after, after_delivery_to_module, item_numbered, IsNotRestart, IsKept, kept_all, CpuFrame, frame_heard, frames_at, due_after, IsPrompt, IsWithinRanges, Done, answer_in, AccusesNeither, AreUnderWayAt, Checker, ContentChecking, Judging, LoadsAreSent, LogPlace, Nothing, Skips, ToCommand, ToPoll, checker_below_lines, checker_skipping, checking_again, checking_with, is_command, judging_below, judging_lost, judging_passed, judging_with, le-max_left, loads_left, loads_sent, logged_at, max, outcomes_of, passes_over, sent_step, with_loads}
 use Rattle.fio_link.specs.declared.event.Event.TheVariants as events
-use Rattle.fio_ends.specs.ContentPremises.{LoadsAreSent, loads_sent}
-use Rattle.fio_ends.specs.LinkLogs.{AccusesNeither, AreUnderWayAt, logged_at}
-use Rattle.fio_ends.specs.PromptRuns.{is_command}
 use Rattle.fio_ends.proofs.AllRules.{done_is}
 use Rattle.fio_ends.proofs.BegunAgain.{Sends}
 use Rattle.fio_ends.proofs.ContentRuns.{rounds_after}
@@ -24,26 +11,17 @@ use Rattle.fio_ends.proofs.Lives.{loads_grow}
 use Rattle.fio_ends.proofs.PromptRuns.{keeps-event}
 use Rattle.fio_ends.proofs.Sends.{other_said, read_back, said_of}
 use Rattle.fio_ends.proofs.Steady.{heard-life}
-use Rattle.fio_ends.proofs.Timeless.{HasExcuses}
+use Rattle.fio_ends.proofs.JumpedBlocks.{HasExcuses}
 use Rattle.fio_ends.proofs.TimesKept.{goes_on-command, past_life, sends_loads, sent_has}
 
 -- ---- events
 
 -- a command is sent at an event, or none is
 pub sends_if : (event : Event) → is_command event ≡ true → Sends event
-sends_if events.Poll is = tt
-sends_if (events.Send command) is = tt
-sends_if (events.Scan raw) is = absurd (cc is)
-sends_if events.LineSync is = absurd (cc is)
-sends_if (events.Raise mask) is = absurd (cc is)
-sends_if (events.ToModule index) is = absurd (cc is)
-sends_if (events.ToCpu index) is = absurd (cc is)
-sends_if events.Restart is = absurd (cc is)
+sends_if event is = grind arith
 
 pub no_loads_but : (event : Event) → is_command event ≡ false → loads_sent event ≡ 0
-no_loads_but (events.Send command) is = absurd (cc is)
-no_loads_but events.Poll is = absurd (cc is)
-no_loads_but other is = refl
+no_loads_but other is = grind arith
 
 -- all these frames are heard
 abbrev pub AreHeard : List CpuFrame → Type 0

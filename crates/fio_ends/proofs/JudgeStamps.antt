@@ -1,21 +1,14 @@
 -- Stamps are never set back in a log that lasts fewer than 2^31 scans and in which no load takes effect, whatever block is sent
 -- again.
-use Rattle.fio_ends.proofs.Names.{◌≡◌, ◌∙◌, ◌+◌, ◌<◌, ◌≤◌, ◌^◌, ◌⊎◌, inl, inr, ℕ, Bool, true, false, List, [], ◌∷◌, length, Option, Some, None, refl, ap, sym, subst, arith, if◌then◌else◌, ◌||◌, ◌==◌, eqb_tells, slice_get_within, option_and_then, list_any, Answer, Command, Block, IsCommand, poll_in, answer_in, answered_block, answer_type_to, is_absent, observation_of, is_some_and, says_again, same_Some, Life, life_of, loads_of, scans_of, Settings, AreInRange, MadeBlock, blocks_of, ContentFacts, content_with, Heard, Sent, Done, items_of_block, Event, SentFrame, Machine, number_of, after, after_sending, after_taken, item_numbered, Leads, HaveNoRestart, command_octets}
-use Rattle.std.specs.Option.{option_or}
-use Rattle.fio_message.specs.Blocks.{block_answer}
+use Rattle.fio_ends.proofs.Names.{◌≡◌, ◌∙◌, ◌+◌, ◌<◌, ◌≤◌, ◌^◌, ◌⊎◌, inl, inr, ℕ, Bool, true, false, List, [], ◌∷◌, length, Option, Some, None, refl, ap, sym, subst, arith, if◌then◌else◌, ◌||◌, ◌==◌, eqb_tells, slice_get_within, option_and_then, list_any, Answer, Command, Block, IsCommand, poll_in, answer_in, answered_block, answer_type_to, is_absent, observation_of, is_some_and, says_again, same_Some, Life, life_of, loads_of, scans_of, Settings, AreInRange, MadeBlock, blocks_of, ContentFacts, content_with, Heard, Sent, Done, items_of_block, Event, SentFrame, Machine, number_of, after, after_sending, after_taken, item_numbered, Leads, HaveNoRestart, command_octets, block_answer, counter_of, frame_at_place, is_before, no_poll_in, option_or, polls_with, stamp_of}
 use Rattle.fio_message.specs.declared.answers.Answer.TheVariants as answers
 use Rattle.fio_message.specs.declared.commands.Command.TheVariants as commands
-use Rattle.fio_module.specs.Life.{counter_of}
-use Rattle.fio_check.specs.ContentSaid.{is_before, stamp_of}
 use Rattle.fio_check.specs.declared.observation.Observation.TheVariants as seen
 use Rattle.fio_link.specs.declared.event.Event.TheVariants as events
-use Rattle.fio_link.specs.Link.{polls_with}
-use Rattle.fio_link.proofs.Events.{frame_at_place}
-use Rattle.fio_link.proofs.Spelled.{no_poll_in}
 use Rattle.fio_ends.proofs.Answered.{says_of}
 use Rattle.fio_ends.proofs.AnswersKept.{done_heard, items_keep}
 use Rattle.fio_ends.proofs.Clocks.{clock, counter_is_clock, not_before, offset_of}
-use Rattle.fio_ends.proofs.ContentSteps.{HearsAnswer, IsInvariant, IsKnown, IsPastBus, IsSending, Takes}
+use Rattle.fio_ends.proofs.ContentSteps.{HearsAnswer, IsInvariant, IsKnown, IsPastBus, IsSending, Takes, past_cases}
 use Rattle.fio_ends.proofs.Following.{AreBefore, GoesOn, goes_on-both, goes_on-same}
 use Rattle.fio_ends.proofs.JudgeLost.{life_on}
 use Rattle.fio_ends.proofs.Lives.{goes_on-since, loads_grow, made_since, scans_grow}
@@ -344,14 +337,11 @@ module _ (settings : Settings) (range : AreInRange settings) (first : ℕ) (begi
 
   stamps_past : (s : StampState) (from : Life) (machine : Machine) (facts : ContentFacts) (event : Event) → IsPastBus event → KeepsStamps s from machine facts
       → KeepsStamps (stamps_after first s machine event) from (after settings first machine event) facts
-  stamps_past s from machine facts (events.Scan raw) past p = record { none = p.none; latest = p.latest; asked = p.asked; any = p.any; polled = p.polled }
-  stamps_past s from machine facts events.LineSync past p = record { none = p.none; latest = p.latest; asked = p.asked; any = p.any; polled = p.polled }
-  stamps_past s from machine facts (events.Raise mask) past p = record { none = p.none; latest = p.latest; asked = p.asked; any = p.any; polled = p.polled }
-  stamps_past s from machine facts events.Poll past p = absurd past
-  stamps_past s from machine facts (events.Send command) past p = absurd past
-  stamps_past s from machine facts (events.ToModule index) past p = absurd past
-  stamps_past s from machine facts (events.ToCpu index) past p = absurd past
-  stamps_past s from machine facts events.Restart past p = absurd past
+  stamps_past s from machine facts event past p = past_cases (λ event. KeepsStamps (stamps_after first s machine event) from (after settings first machine event) facts)
+      (λ raw. record { none = p.none; latest = p.latest; asked = p.asked; any = p.any; polled = p.polled })
+      (record { none = p.none; latest = p.latest; asked = p.asked; any = p.any; polled = p.polled })
+      (λ mask. record { none = p.none; latest = p.latest; asked = p.asked; any = p.any; polled = p.polled })
+      event past
 
   stamps_sent : (s : StampState) (from : Life) (machine : Machine) (facts : ContentFacts) (event : Event) (command : Command) → IsKnown settings first begin from machine
       → IsSending first machine event command → IsCommand command → KeepsStamps s from machine facts

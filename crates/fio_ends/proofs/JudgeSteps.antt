@@ -1,21 +1,7 @@
 -- What the judge of a link does with a frame in which no breach is found.
-use Rattle.fio_ends.proofs.Names.{◌≡◌, ◌∙◌, ℕ, Bool, true, false, List, [], ◌∷◌, ◌++◌, ◌⊎◌, inl, inr, Option, Some, None, refl, ap, sym, subst, if◌then◌else◌, nat_lt, AllByRecursion, ContentKept, kept_with, facts_with, no_facts, first_broken_within, Facts, RuleLimits, Observation, observation_in, observation_of}
-use Rattle.fio_check.specs.Checkers.{checker_skipping, checker_with, found_by, passes_over}
-use Rattle.fio_check.specs.ContentCheckers.{checking_with, content_found, found_in_frame}
-use Rattle.fio_check.specs.LinkJudges.{Frame, Judging, LogLine, Lost, checking_above, content_here, is_set_back, is_unheard, judging_at, judging_below, judging_below_outcome, judging_kept, judging_passed, judging_taken, judging_with, judging_with_line, loads_below, loads_left, may_be_anew, outcome_anew, outcome_found, outcome_in, outcome_judged, outcome_set_back, outcomes_of, place_lost, stamp_in, unjudged_by}
-use Rattle.fio_check.specs.declared.checker.Checker.{Checker}
-use Rattle.fio_check.specs.declared.checker.Skips.{Skips}
-use Rattle.fio_check.specs.declared.checker.Skips.TheVariants.{Nothing, ToCommand, ToPoll}
+use Rattle.fio_ends.proofs.Names.{◌≡◌, ◌∙◌, ℕ, Bool, true, false, List, [], ◌∷◌, ◌++◌, ◌⊎◌, inl, inr, Option, Some, None, refl, ap, sym, subst, if◌then◌else◌, nat_lt, AllByRecursion, ContentKept, kept_with, facts_with, no_facts, first_broken_within, Facts, RuleLimits, Observation, observation_in, observation_of, AccusesNeither, Answer, Checker, CpuFrame, Excused, FrameOutcome, Judging, Kept, Load, LogLine, LogPlace, NotJudged, Nothing, Restarted, Skips, ToCommand, checker_skipping, checker_with, checking_above, checking_with, content_found, content_here, found-taking, found_by, found_in_frame, is_set_back, is_unheard, judging_at, judging_below, judging_below_outcome, judging_kept, judging_passed, judging_taken, judging_with, judging_with_line, loads_below, loads_left, may_be_anew, outcome_anew, outcome_found, outcome_in, outcome_judged, outcome_set_back, outcomes_of, passes_over, place_lost, stamp_in, taking, unjudged_by, with-taking, arith}
+use Rattle.fio_check.specs.LinkJudges.{Frame, Lost}
 use Rattle.fio_check.specs.declared.observation.Observation.TheVariants as seen
-use Rattle.fio_check.specs.declared.outcome.Excuse.TheVariants.{Load}
-use Rattle.fio_check.specs.declared.outcome.LogPlace.{LogPlace}
-use Rattle.fio_check.specs.declared.outcome.FrameOutcome.{FrameOutcome}
-use Rattle.fio_check.specs.declared.outcome.FrameOutcome.TheVariants.{Kept, Excused, Restarted, NotJudged}
-use Rattle.fio_check.proofs.Checkers.{found-taking, taking, with-taking}
-use Rattle.fio_message.specs.declared.answers.Answer.{Answer}
-use Rattle.fio_message.specs.declared.answers.Answer.TheVariants as answers
-use Rattle.fio_ends.specs.LinkLogs.{AccusesNeither}
-use Rattle.fio_ends.specs.Transcripts.{CpuFrame}
 
 -- the stamp of a frame is set back
 abbrev pub turns_back : Judging → CpuFrame → Bool
@@ -95,13 +81,7 @@ takes_all limits facts from_cpu other = refl
 -- what is heard where the place is lost
 pub heard_passed : (skips : Skips) (limits : RuleLimits) → (skips ≡ Nothing → ⊥) → (answer : Option Answer)
     → passes_over (checker_skipping skips limits) false (observation_of None answer) ≡ true
-heard_passed Nothing limits lost answer = absurd (lost refl)
-heard_passed ToCommand limits lost None = refl
-heard_passed ToCommand limits lost (Some (answers.Block number entries status stamp)) = refl
-heard_passed ToCommand limits lost (Some other) = refl
-heard_passed ToPoll limits lost None = refl
-heard_passed ToPoll limits lost (Some (answers.Block number entries status stamp)) = refl
-heard_passed ToPoll limits lost (Some other) = refl
+heard_passed skips limits lost answer = grind arith
 
 -- a command above which nothing was sent
 pub command_taken : (limits : RuleLimits) (said : Observation) → passes_over (checker_skipping ToCommand limits) true said ≡ false

@@ -1,27 +1,10 @@
 -- Where no frame is missing, and no load takes effect, each frame of a right link keeps all rules for the judge, from the first
 -- command on.
-use Rattle.fio_ends.proofs.Names.{number_due, ◌≡◌, ◌∙◌, ◌+◌, ◌<◌, ◌≤◌, inr, ℕ, Bool, true, false, List, [], ◌∷◌, ◌++◌, map, Option, Some, None, refl, ap, ap₂, sym, subst, arith, ◌==◌, AllByRecursion, if◌then◌else◌, option_and_then, Life, life_of, loads_of, Settings, AreInRange, Answer, answer_in, ContentFacts, ContentKept, kept_with, facts_with, no_facts, is_some_and, Facts, RuleLimits, observation_in, observation_of, answer_type_to, names_absent, says_again, Done, Event, Machine, SentFrame, start, number_of, number_of-fits, refusal, after, Leads, item_numbered, IsNotRestart, HaveNoRestart, IsKept, kept, CpuFrame, frame_heard, frames_at, due_after, ArePrompt, IsPrompt, IsWithinRanges, SuitModule, command_octets}
-use Rattle.std.specs.Option.{option_or}
-use Rattle.std.specs.Prelude.{◌||◌}
-use Rattle.fio_message.specs.declared.answers.Answer.TheVariants as answers
+use Rattle.fio_ends.proofs.Names.{number_due, ◌≡◌, ◌∙◌, ◌+◌, ◌<◌, ◌≤◌, inr, ℕ, Bool, true, false, List, [], ◌∷◌, ◌++◌, map, Option, Some, None, refl, ap, sym, subst, arith, AllByRecursion, if◌then◌else◌, option_and_then, Life, life_of, loads_of, Settings, AreInRange, answer_in, ContentFacts, ContentKept, kept_with, facts_with, no_facts, Facts, RuleLimits, observation_in, answer_type_to, names_absent, Done, Event, Machine, SentFrame, start, number_of, number_of-fits, refusal, after, Leads, item_numbered, IsNotRestart, HaveNoRestart, IsKept, kept, CpuFrame, frame_heard, frames_at, due_after, ArePrompt, IsPrompt, IsWithinRanges, SuitModule, command_octets, AreLogged, AreTimesNear, Checker, ContentChecking, FrameOutcome, IsPromptRun, IsRight, JudgesOn, Judging, Kept, LoadsAreSent, LogLine, LogPlace, LogStep, Logged, Marked, Missing, NotJudged, Nothing, ToCommand, checker_skipping, events_from_command, events_of, is_command, judging_anywhere, judging_below, judging_kept, judging_passed, judging_with, judging_with_line, loads_sent, log_from, logged_at, machine_at_command, outcome_in, outcomes_of, passes_over, taking, unjudged_by}
 use Rattle.fio_message.specs.declared.commands.Command.TheVariants as commands
-use Rattle.fio_check.specs.Checkers.{checker_skipping, passes_over}
-use Rattle.fio_check.specs.ContentCheckers.{ContentChecking}
-use Rattle.fio_check.specs.ContentSaid.{is_before, stamp_of}
-use Rattle.fio_check.specs.LinkJudges.{Judging, LogLine, asked_below, is_answer_set_back, judging_anywhere, judging_at, judging_below, judging_kept, judging_passed, judging_taken, judging_with, judging_with_line, outcome_in, outcomes_of, stamp_in, unjudged_by}
-use Rattle.fio_check.specs.declared.checker.Checker.{Checker}
-use Rattle.fio_check.specs.declared.checker.Skips.TheVariants.{Nothing, ToCommand}
-use Rattle.fio_check.specs.declared.observation.Observation.TheVariants as seen
-use Rattle.fio_check.specs.declared.outcome.LogPlace.{LogPlace}
-use Rattle.fio_check.specs.declared.outcome.FrameOutcome.{FrameOutcome}
-use Rattle.fio_check.specs.declared.outcome.FrameOutcome.TheVariants.{Kept, NotJudged}
 use Rattle.fio_check.specs.declared.outcome.Unjudged.TheVariants.{AboveCommand}
-use Rattle.fio_check.proofs.Checkers.{taking}
 use Rattle.fio_link.specs.declared.event.Event.TheVariants as events
-use Rattle.fio_ends.specs.ContentPremises.{AreTimesNear, LoadsAreSent, loads_sent}
-use Rattle.fio_ends.specs.LinkLogs.{AreLogged, IsCalm, IsRight, JudgeKeepsAll, LogStep, Logged, Marked, Missing, events_of, log_from, logged_at}
-use Rattle.fio_ends.specs.PromptRuns.{IsPromptRun, events_from_command, is_command, machine_at_command}
-use Rattle.fio_ends.specs.RestartedLogs.{JudgesOn}
+use Rattle.fio_ends.specs.LinkLogs.{IsCalm, JudgeKeepsAll}
 use Rattle.fio_ends.proofs.AllRules.{AllKnown, agrees_again, kept_again, none_in_frame}
 use Rattle.fio_ends.proofs.BegunAgain.{Sends, Went, asks_begun, asks_further, went-again, went-on}
 use Rattle.fio_ends.proofs.ClockKept.{clock_above}
@@ -31,7 +14,7 @@ use Rattle.fio_ends.proofs.ContentRuns.{content-event, content-poll, content-sen
 use Rattle.fio_ends.proofs.ContentSteps.{IsKnown}
 use Rattle.fio_ends.proofs.Following.{Follows, follows-start, from_after, goes_on-same}
 use Rattle.fio_ends.proofs.JudgeLost.{AreHeard, all_heard, sends_if}
-use Rattle.fio_ends.proofs.JudgeStamps.{IsCalmOn, KeepsStamps, StampState, calm_on, comes_back, lives_on, stamps_above, stamps_after, stamps_are_invariant, stamps_begin, stamps_heard, stamps_polled}
+use Rattle.fio_ends.proofs.JudgeStamps.{IsCalmOn, KeepsStamps, StampState, calm_on, lives_on, stamps_above, stamps_after, stamps_are_invariant, stamps_begin, stamps_heard, stamps_polled}
 use Rattle.fio_ends.proofs.JudgeSteps.{KeepsFrame, command_taken, frame_again, frame_kept, heard_passed, outcomes-append, passed, passed_is}
 use Rattle.fio_ends.proofs.LaterLogs.{moved}
 use Rattle.fio_ends.proofs.Lives.{loads_grow}
@@ -41,89 +24,7 @@ use Rattle.fio_ends.proofs.Stamps.{ClockState, clock_after}
 use Rattle.fio_ends.proofs.StateKept.{state_above}
 use Rattle.fio_ends.proofs.StateKnown.{StateState, state_after}
 use Rattle.fio_ends.proofs.TimesKept.{AsksTimes, TimeState, time_after}
-
--- ---- what the judge keeps of stamps
-
--- it is the same
-pub record HasStamps (judging : Judging) (number : Option ℕ) (s : StampState) : Type 0 where
-  pub latest : judging.latest ≡ s.latest
-  pub asked : judging.asked ≡ s.asked
-  pub polled : number ≡ s.polled
-
-latest_at : (judging : Judging) (stamp : Option ℕ) → (judging_at judging stamp).latest ≡ option_or stamp judging.latest
-latest_at judging None = refl
-latest_at judging (Some stamp) = refl
-
-asked_at : (judging : Judging) (stamp : Option ℕ) → (judging_at judging stamp).asked ≡ judging.asked
-asked_at judging None = refl
-asked_at judging (Some stamp) = refl
-
-module _ (judging : Judging) (s : StampState) (polled : Option ℕ) (h : HasStamps judging polled s) where
-  back_same : (answer : Answer) → is_answer_set_back judging answer ≡ comes_back s answer
-  back_same (answers.Block number entries status stamp) = ap₂ (λ asked latest. is_some_and (if says_again status then asked else latest) (is_before stamp)) h.asked h.latest
-  back_same (answers.Status flags receive transmit stamp) = ap (λ latest. is_some_and latest (is_before stamp)) h.latest
-  back_same (answers.RawInputs inputs stamp) = ap (λ latest. is_some_and latest (is_before stamp)) h.latest
-  back_same (answers.FilteredInputs inputs stamp) = ap (λ latest. is_some_and latest (is_before stamp)) h.latest
-  back_same other = refl
-
-  second : (a b : Bool) → (a || b) ≡ false → b ≡ false
-  second true b is = absurd (cc is)
-  second false b is = is
-
-  -- a frame that is heard is not set back
-  heard_on : (answer : Option Answer) → (stamps_heard s answer).back ≡ false → is_some_and answer (is_answer_set_back judging) ≡ false
-  heard_on None none = refl
-  heard_on (Some answer) none = back_same answer ∙ second s.back (comes_back s answer) none
-
-  heard_asked : (answer : Option Answer) → asked_below judging (observation_of None answer) ≡ judging.asked
-  heard_asked None = refl
-  heard_asked (Some (answers.Block number entries status stamp)) = refl
-  heard_asked (Some other) = refl
-
-  heard_polled : (facts : Facts) (answer : Option Answer) → (facts_with facts (observation_of None answer)).polled ≡ facts.polled
-  heard_polled facts None = refl
-  heard_polled facts (Some (answers.Block number entries status stamp)) = refl
-  heard_polled facts (Some other) = refl
-
-  heard_latest : (answer : Option Answer) → option_or (option_and_then stamp_of answer) judging.latest ≡ (stamps_heard s answer).latest
-  heard_latest None = h.latest
-  heard_latest (Some answer) = ap (option_or (stamp_of answer)) h.latest
-
-  heard_rest : (answer : Option Answer) → ((stamps_heard s answer).asked ≡ s.asked) × ((stamps_heard s answer).polled ≡ s.polled)
-  heard_rest None = (refl, refl)
-  heard_rest (Some answer) = (refl, refl)
-
--- below a frame that is kept it is the same
-heard_stamps : (judging : Judging) (s : StampState) (facts : Facts) (octets : List ℕ) → HasStamps judging facts.polled s
-    → HasStamps (judging_kept judging false octets) (facts_with facts (observation_in false octets)).polled (stamps_heard s (answer_in octets))
-heard_stamps judging s facts octets h =
-    let answer = answer_in octets in
-    let stamp = stamp_in false octets in
-    let taken = judging_taken judging judging.checker false octets in
-    let rest = heard_rest judging s facts.polled h answer in
-    record {
-      latest = latest_at taken stamp ∙ heard_latest judging s facts.polled h answer;
-      asked = asked_at taken stamp ∙ heard_asked judging s facts.polled h answer ∙ h.asked ∙ sym rest.0;
-      polled = heard_polled judging s facts.polled h facts answer ∙ h.polled ∙ sym rest.1;
-    }
-
-pub polled_stamps : (judging : Judging) (s : StampState) (facts : Facts) (octets : List ℕ) (number : ℕ) → judging.checker.facts ≡ facts → observation_in true octets ≡ seen.Poll number
-    → HasStamps judging facts.polled s → HasStamps (judging_kept judging true octets) (facts_with facts (observation_in true octets)).polled (stamps_polled s number)
-polled_stamps judging s facts octets number known says h = record {
-  latest = h.latest;
-  asked = ap (asked_below judging) says ∙ ap (λ (f : Facts). option_and_then (λ polled. if number == polled then judging.asked else judging.latest) f.polled) known
-      ∙ ap₂ (λ asked latest. option_and_then (λ polled. if number == polled then asked else latest) facts.polled) h.asked h.latest
-      ∙ ap (option_and_then (λ polled. if number == polled then s.asked else s.latest)) h.polled;
-  polled = ap (λ said. (facts_with facts said).polled) says;
-}
-
-sent_stamps : (judging : Judging) (s : StampState) (facts : Facts) (octets : List ℕ) (answer : ℕ) (absent : Bool) → observation_in true octets ≡ seen.Command answer absent
-    → HasStamps judging facts.polled s → HasStamps (judging_kept judging true octets) (facts_with facts (observation_in true octets)).polled s
-sent_stamps judging s facts octets answer absent says h = record {
-  latest = h.latest;
-  asked = ap (asked_below judging) says ∙ h.asked;
-  polled = ap (λ said. (facts_with facts said).polled) says ∙ h.polled;
-}
+use Rattle.fio_ends.proofs.CalmStamps.{HasStamps, heard_on, heard_stamps, polled_stamps, sent_stamps}
 
 -- ---- a run
 

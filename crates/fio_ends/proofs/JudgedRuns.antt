@@ -1,45 +1,23 @@
 -- The judge of a link accuses no right link: event by event of a prompt run, where frames may be missing at marks.
-use Rattle.fio_ends.proofs.Names.{◌≡◌, ◌∙◌, ◌+◌, ◌<◌, ◌≤◌, ◌⊎◌, inl, inr, ℕ, Bool, true, false, List, [], ◌∷◌, ◌++◌, map, Option, Some, None, refl, ap, sym, subst, arith, is_some, AllByRecursion, if◌then◌else◌, Life, life_of, loads_of, Settings, AreInRange, ContentKept, kept_with, facts_with, no_facts, Facts, RuleLimits, Observation, observation_in, Event, Machine, SentFrame, start, number_of, number_of-fits, refusal, after, Leads, item_numbered, IsNotRestart, HaveNoRestart, kept, kept_at_start, CpuFrame, frame_heard, frames_at, due_after, ArePrompt, IsPrompt, IsWithinRanges, SuitModule}
-use Rattle.std.specs.Prelude.{max}
-use Rattle.std.proofs.Math.Nat.{le-max_left}
+use Rattle.fio_ends.proofs.Names.{◌≡◌, ◌∙◌, ◌+◌, ◌<◌, ◌⊎◌, inl, inr, ℕ, Bool, true, false, List, [], ◌∷◌, map, Option, Some, None, refl, ap, sym, subst, arith, is_some, AllByRecursion, if◌then◌else◌, Life, life_of, loads_of, Settings, AreInRange, ContentKept, kept_with, facts_with, no_facts, Facts, RuleLimits, Observation, observation_in, Event, Machine, SentFrame, number_of, number_of-fits, refusal, after, Leads, item_numbered, IsNotRestart, HaveNoRestart, CpuFrame, frame_heard, frames_at, due_after, ArePrompt, IsPrompt, IsWithinRanges, SuitModule, AccusesNeither, AreUnderWayAt, Checker, ContentChecking, FewAreUnderWay, Judging, LoadsAreSent, LogLine, LogPlace, LogStep, Logged, Marked, Missing, Skips, StampsAreNear, StatesAreNear, ToCommand, ToPoll, checker_below_breach, checker_below_lines, checker_skipping, checking_above, checking_again, checking_with, command_octets, events_of, is_command, judging_below, judging_lost, le-max_left, loads_below, loads_left, loads_sent, log_from, logged_at, outcomes_of, passes_over, taking}
 use Rattle.fio_message.specs.declared.commands.Command.TheVariants as commands
-use Rattle.fio_message.specs.Commands.{command_octets}
-use Rattle.fio_check.specs.Checkers.{checker_below_breach, checker_skipping, passes_over}
-use Rattle.fio_check.specs.ContentCheckers.{ContentChecking, checking_with}
-use Rattle.fio_check.specs.LinkJudges.{Judging, LogLine, checker_below_lines, checking_again, checking_above, judging_anywhere, judging_begun, judging_below, judging_lost, loads_below, loads_left, outcomes_of, with_loads}
-use Rattle.fio_check.specs.declared.checker.Checker.{Checker}
-use Rattle.fio_check.specs.declared.checker.Skips.{Skips}
-use Rattle.fio_check.specs.declared.checker.Skips.TheVariants.{ToCommand, ToPoll}
-use Rattle.fio_check.specs.declared.outcome.LogPlace.{LogPlace}
-use Rattle.fio_check.proofs.Checkers.{taking}
 use Rattle.fio_link.specs.declared.event.Event.TheVariants as events
-use Rattle.fio_ends.specs.ContentPremises.{AreTimesNear, LoadsAreSent, StampsAreNear, StatesAreNear, loads_sent, scans_above}
-use Rattle.fio_ends.specs.LinkLogs.{AccusesNeither, AreMarked, AreUnderWayAt, FewAreUnderWay, JudgeAccusesNone, LogStep, Logged, Marked, Missing, below_command, events_of, log_from, logged_at}
-use Rattle.fio_ends.specs.PromptRuns.{IsPromptRun, events_from_command, is_command, machine_at_command}
-use Rattle.fio_check.proofs.ContentStart.{begun_is}
-use Rattle.fio_ends.proofs.AlternateKept.{follow_begun}
+use Rattle.fio_ends.specs.LinkLogs.{AreMarked, below_command}
 use Rattle.fio_ends.proofs.AllRules.{AllKnown, kept_again, none_in_frame}
 use Rattle.fio_ends.proofs.ApartTimes.{AreNearByInput}
 use Rattle.fio_ends.proofs.BegunAgain.{Sends, Went, went-again, went-on}
-use Rattle.fio_ends.proofs.ClockKept.{clock_above}
-use Rattle.fio_ends.proofs.ContentFrame.{Agrees, agrees-start}
-use Rattle.fio_ends.proofs.ContentSteps.{IsKnown, PollsKnown}
-use Rattle.fio_ends.proofs.FirstLoads.{loads_are_sent}
-use Rattle.fio_ends.proofs.FirstPolls.{polls_begun}
-use Rattle.fio_ends.proofs.Following.{Follows, follows-start, from_after, goes_on-both, goes_on-same}
-use Rattle.fio_ends.proofs.IgnoredKept.{both_begun}
+use Rattle.fio_ends.proofs.ContentFrame.{Agrees}
+use Rattle.fio_ends.proofs.ContentSteps.{IsKnown}
+use Rattle.fio_ends.proofs.Following.{Follows, from_after, goes_on-both}
 use Rattle.fio_ends.proofs.JudgeLost.{IsLost, IsReached, MayTakeEffect, all_heard, command_passed, has_later, heard_lost, is_somewhere, known_of, lost_at_mark, lost_command, lost_further, may_begin_at, no_loads_but, reached_of, sends_if}
 use Rattle.fio_ends.proofs.JudgeSteps.{checking_on, command_taken, frame_again, frame_kept, outcomes-append, passed, set_back, takes_all, turns_back}
-use Rattle.fio_ends.proofs.LaterLogs.{moved}
 use Rattle.fio_ends.proofs.Lives.{loads_grow}
-use Rattle.fio_ends.proofs.PromptRuns.{reaches}
 use Rattle.fio_ends.proofs.Sends.{said_of}
 use Rattle.fio_ends.proofs.Stamps.{ClockState, clock_after}
-use Rattle.fio_ends.proofs.StateKept.{state_above}
 use Rattle.fio_ends.proofs.StateKnown.{StateState, state_after}
 use Rattle.fio_ends.proofs.Taken.{Asks, asks_on}
-use Rattle.fio_ends.proofs.Timeless.{HasExcuses}
-use Rattle.fio_ends.proofs.TimesKept.{AsksTimes, TimeState, time_above, time_after, times_begun}
+use Rattle.fio_ends.proofs.JumpedBlocks.{HasExcuses}
+use Rattle.fio_ends.proofs.TimesKept.{AsksTimes, TimeState, time_after}
 
 -- an event has one frame at most
 abbrev IsShort : List CpuFrame → Type 0
@@ -73,7 +51,7 @@ module _ (settings : Settings) (range : AreInRange settings) (first : ℕ) (limi
   time_at c t sent = record { clock = c; state = t; sent = sent }
 
   -- what is asked of the rest of a log, but of loads
-  record AsksNear (c : ClockState) (t : StateState) (machine : Machine) (later : List Event) : Type 0 where
+  pub record AsksNear (c : ClockState) (t : StateState) (machine : Machine) (later : List Event) : Type 0 where
     pub taken : Asks settings first begin (AreNearByInput above) machine later
     pub stamps : StampsAreNear settings first machine c.asked c.before later
     pub states : StatesAreNear settings first machine t.asked t.seen later
@@ -91,7 +69,7 @@ module _ (settings : Settings) (range : AreInRange settings) (first : ℕ) (limi
   Lost = IsLost settings range first limits begin
 
   -- each frame is judged
-  record Judges (c : ClockState) (t : StateState) (machine : Machine) (due : ℕ) (later : List Event) (judging : Judging) : Type 0 where
+  pub record Judges (c : ClockState) (t : StateState) (machine : Machine) (due : ℕ) (later : List Event) (judging : Judging) : Type 0 where
     pub sent : ℕ
     pub from : Life
     pub facts : Facts
@@ -375,7 +353,7 @@ module _ (settings : Settings) (range : AreInRange settings) (first : ℕ) (limi
   missing_on begins c t event rest machine due judging some (inr (begun, j)) fine none within prompt = absurd (cc (sym (ap is_some begun) ∙ some))
 
   -- all steps
-  judged : (steps : List LogStep) (c : ClockState) (t : StateState) (machine last : Machine) (due : ℕ) (judging : Judging) (begins : Option ℕ) (marked : Bool) → AsksNear c t machine (events_of steps)
+  pub judged : (steps : List LogStep) (c : ClockState) (t : StateState) (machine last : Machine) (due : ℕ) (judging : Judging) (begins : Option ℕ) (marked : Bool) → AsksNear c t machine (events_of steps)
       → IsThere begins c t machine due (events_of steps) judging
       → Leads settings first machine (events_of steps) last → HaveNoRestart (events_of steps) → AllByRecursion IsWithinRanges (events_of steps) → ArePrompt settings first machine due (events_of steps)
       → AreMarked marked steps → (marked ≡ true → is_some begins ≡ true) → FewAreUnderWay settings first machine begins steps
@@ -394,135 +372,3 @@ module _ (settings : Settings) (range : AreInRange settings) (first : ℕ) (limi
       (inl (missing_on begins c t event (events_of steps) machine due judging (some marks.0) there leads.0 none.0 within.0 prompt.0)) leads.1 none.1 within.1 prompt.1 marks.1 some few
   judged (Marked ∷ steps) c t machine last due judging begins marked near there leads none within prompt marks some few =
       judged steps c t machine last due (judging_lost judging) (Some 1) true near (inl (at_mark begins c t machine due (events_of steps) judging there)) leads none within prompt marks (λ is. refl) few
-
--- ---- from its first line on
-
-module _ (settings : Settings) (range : AreInRange settings) (first : ℕ) (limits : RuleLimits) (suit : SuitModule settings limits) (last : Machine) where
-  -- above its first command, below this many loads that may take effect
-  record IsAbove (excuses : ℕ) (judging : Judging) : Type 0 where
-    pub checker : judging.checker ≡ checker_skipping ToCommand limits
-    pub content : judging.content ≡ checking_again excuses
-
-  abbrev IsFine : Judging → Machine → List LogStep → Type 0
-  IsFine judging machine steps = AllByRecursion AccusesNeither (outcomes_of judging (log_from settings first machine steps))
-
-  -- what is asked of the rest of a log above its first command
-  record Above (before : List Event) (machine : Machine) (excuses loads : ℕ) (marked : Bool) (steps : List LogStep) : Type 0 where
-    pub run : IsPromptRun settings first (before ++ events_of steps) last
-    pub leads : Leads settings first start before machine
-    pub few_excused : loads ≤ excuses
-    pub marks : AreMarked marked steps
-    pub few : FewAreUnderWay settings first machine (Some loads) steps
-
-  abbrev IsNear : Machine → List Event → Type 0
-  IsNear machine later = AreTimesNear false settings first (machine_at_command settings first machine later) (events_from_command later) last
-
-  -- its first command
-  begins : (before : List Event) (machine : Machine) (excuses loads : ℕ) (marked : Bool) (steps : List LogStep) (judging : Judging) → IsAbove excuses judging → Above before machine excuses loads marked steps
-      → AreTimesNear false settings first machine (events_of steps) last → IsFine judging machine steps
-  begins before machine excuses loads marked steps judging j a near =
-      let r = reaches settings range first before (events_of steps) [] start machine last 0 no_facts (kept settings range first [] start refl tt) (follows-start settings first)
-      a.leads a.run.is_run a.run.no_restart a.run.within a.run.prompt in
-      let left : loads_left judging ≡ excuses = ap (λ (content : ContentChecking). content.kept.facts.excuses) j.content in
-      judged settings range first limits suit machine false None steps (clock_above false) state_above machine last r.due judging (Some loads) marked
-      (record { taken = record { last = last; leads = r.leads; none = r.no_restart; asked = record { blocks_near = near.blocks; near = near.inputs } }; stamps = near.stamps; states = near.states })
-      (inl (record {
-        reached = record { is_kept = r.is_kept; since = goes_on-same _ _ refl; rounds = omega arith };
-        from = r.from;
-        facts = r.facts;
-        follows = r.follows;
-        skips = ToCommand;
-        checker = j.checker;
-        place = inr (refl, j.content ∙ ap checking_again (sym left));
-        loads = subst (λ n. loads ≤ n) (sym left) a.few_excused;
-      }))
-      r.leads r.no_restart r.within r.prompt a.marks (λ is. refl) a.few
-
-  -- an event is its first command, or another is
-  by_event : (before : List Event) (machine : Machine) (excuses loads : ℕ) (marked : Bool) (event : Event) (rest : List Event) (steps : List LogStep) (judging : Judging)
-      → events_of steps ≡ event ∷ rest → IsAbove excuses judging → Above before machine excuses loads marked steps
-      → IsNear machine (event ∷ rest) → (is_command event ≡ false → IsNear (after settings first machine event) rest → IsFine judging machine steps) → IsFine judging machine steps
-  by_event before machine excuses loads marked event rest steps judging are j a near further = by (is_command event) refl
-    where
-      near_if : (sends : Bool) → is_command event ≡ sends
-          → AreTimesNear false settings first (if sends then machine else machine_at_command settings first (after settings first machine event) rest)
-          (if sends then event ∷ rest else events_from_command rest) last
-      near_if sends is = subst (λ b. AreTimesNear false settings first (if b then machine else machine_at_command settings first (after settings first machine event) rest)
-          (if b then event ∷ rest else events_from_command rest) last) is near
-
-      by : (sends : Bool) → is_command event ≡ sends → IsFine judging machine steps
-      by true is = begins before machine excuses loads marked steps judging j a (subst (λ events. AreTimesNear false settings first machine events last) (sym are) (near_if true is))
-      by false is = further is (near_if false is)
-
-  -- what is above it
-  above_it : (steps : List LogStep) (before : List Event) (machine : Machine) (excuses loads : ℕ) (marked : Bool) (judging : Judging) → IsAbove excuses judging → Above before machine excuses loads marked steps
-      → IsNear machine (events_of steps) → IsFine judging machine steps
-  above_it [] before machine excuses loads marked judging j a near = tt
-  above_it (Marked ∷ steps) before machine excuses loads marked judging j a near =
-      above_it steps before machine (max 1 excuses) 1 true (judging_lost judging)
-      (record {
-        checker = ap (λ (checker : Checker). checker_below_lines checker checker.skips) j.checker;
-        content = ap (λ (content : ContentChecking). with_loads (max 1 content.kept.facts.excuses) content) j.content;
-      })
-      (record { run = a.run; leads = a.leads; few_excused = le-max_left 1 excuses; marks = a.marks; few = a.few }) near
-  above_it (Missing event ∷ steps) before machine excuses loads marked judging j a near =
-      by_event before machine excuses loads marked event (events_of steps) (Missing event ∷ steps) judging refl j a near
-      (λ is near. (let m = moved settings first last before (events_of steps) event machine a.run a.leads in
-      above_it steps (before ++ event ∷ []) (after settings first machine event) excuses loads marked judging j
-      (record { run = m.run; leads = m.leads; few_excused = a.few_excused; marks = a.marks.1; few = a.few }) near))
-  above_it (Logged at event ∷ steps) before machine excuses loads marked judging j a near =
-      by_event before machine excuses loads marked event (events_of steps) (Logged at event ∷ steps) judging refl j a near
-      (λ is near. (let m = moved settings first last before (events_of steps) event machine a.run a.leads in
-      let next = after settings first machine event in
-      let heard = heard_lost settings range first limits start judging ToCommand j.checker (λ nothing. absurd (cc nothing)) at (frames_at first machine event) (all_heard first machine event is) in
-      outcomes-append AccusesNeither (map (logged_at at) (frames_at first machine event)) (log_from settings first next steps) judging heard.0
-      (subst (λ j. AllByRecursion AccusesNeither (outcomes_of j (log_from settings first next steps))) (sym heard.1)
-      (above_it steps (before ++ event ∷ []) next excuses loads false judging j
-      (record {
-        run = m.run;
-        leads = m.leads;
-        few_excused = a.few_excused;
-        marks = a.marks;
-        few = subst (λ b. FewAreUnderWay settings first next (if b then None else Some loads) steps) is a.few.1;
-      }) near))))
-
--- of one that begins with both ends
-begun_whole : (settings : Settings) (range : AreInRange settings) (first : ℕ) (limits : RuleLimits) (suit : SuitModule settings limits) (last : Machine) (steps : List LogStep)
-    → IsPromptRun settings first (events_of steps) last → AreMarked false steps → FewAreUnderWay settings first start None steps → AreTimesNear true settings first start (events_of steps) last
-    → AllByRecursion AccusesNeither (outcomes_of (judging_begun limits) (log_from settings first start steps))
-begun_whole settings range first limits suit last steps run marks few near =
-    judged settings range first limits suit start true (scans_above true) steps (clock_above true) state_above start last 0 (judging_begun limits) None false
-    (record { taken = record { last = last; leads = run.is_run; none = run.no_restart; asked = record { blocks_near = near.blocks; near = near.inputs } }; stamps = near.stamps; states = near.states })
-    (inr (
-      refl,
-      record {
-        sent = 0;
-        from = [];
-        facts = no_facts;
-        kept = kept_at_start true;
-        known = record { is_kept = kept settings range first [] start refl tt; begun = goes_on-same _ _ refl; rounds = omega arith; now = goes_on-same _ _ refl };
-        follows = follows-start settings first;
-        agrees = agrees-start settings true first start (subst (PollsKnown settings start) (sym begun_is) (polls_begun settings (λ input. false)));
-        content = subst (AllKnown settings start (scans_above true) (time_above true) [] start) (sym begun_is)
-            (record { timed = times_begun settings; watchdog = λ is. absurd (cc is); follow = follow_begun settings; shut = both_begun settings });
-        loads = loads_are_sent settings first (events_of steps) last run.is_run run.no_restart run.within run.prompt;
-        checker_is = refl;
-        content_is = refl;
-      },
-    ))
-    run.is_run run.no_restart run.within run.prompt marks (λ is. absurd (cc is)) few
-
-pub judge_accuses_none : JudgeAccusesNone
-unfolding JudgeAccusesNone
-judge_accuses_none false settings limits first before steps machine last log =
-    above_it settings log.in_range first limits log.suit last steps before machine 0 0 false (judging_anywhere limits) (record { checker = refl; content = refl })
-    (record { run = log.run; leads = log.leads; few_excused = omega arith; marks = log.marked; few = log.few }) log.near
-judge_accuses_none true settings limits first before steps machine last log = nothing_before before log.begins log.run log.leads
-  where
-    nothing_before : (before : List Event) → before ≡ [] → IsPromptRun settings first (before ++ events_of steps) last → Leads settings first start before machine
-        → AllByRecursion AccusesNeither (outcomes_of (judging_begun limits) (log_from settings first machine steps))
-    nothing_before (event ∷ before) none run leads = absurd (cc none)
-    nothing_before [] none run leads =
-        subst (λ m. FewAreUnderWay settings first m None steps → AreTimesNear true settings first m (events_of steps) last
-        → AllByRecursion AccusesNeither (outcomes_of (judging_begun limits) (log_from settings first m steps))) (sym leads)
-        (begun_whole settings log.in_range first limits log.suit last steps run log.marked) log.few log.near

@@ -1,14 +1,8 @@
 -- The least filters that can be in force for the changes of an input that are still to be recorded.
-use Rattle.fio_ends.proofs.Names.{◌≡◌, ◌∙◌, ◌+◌, ◌-◌, ◌<◌, ◌≤◌, inl, inr, ℕ, Bool, true, false, List, [], ◌∷◌, ◌++◌, length, Option, Some, None, refl, ap, sym, subst, arith, append-nil, if◌then◌else◌, slice_get, slice_get_within, AllByRecursion, same_Some, Command, command_in, InputItem, ArrayVec, Life, Occurrence, Scanned, LineSynced, Raised, Commanded, life_after_command, all_present, log_of, log_of-with_command, Transition, FilterPair, SentFrame, get_after_push, get_in_front}
-use Rattle.std.proofs.lemmas.Bool.{cases_lt}
+use Rattle.fio_ends.proofs.Names.{◌≡◌, ◌∙◌, ◌+◌, ◌-◌, ◌<◌, ◌≤◌, inl, inr, ℕ, Bool, true, false, List, [], ◌∷◌, ◌++◌, length, Option, Some, None, refl, ap, sym, subst, arith, append-nil, if◌then◌else◌, slice_get, slice_get_within, AllByRecursion, same_Some, Command, command_in, InputItem, ArrayVec, Life, Occurrence, Scanned, LineSynced, Raised, Commanded, life_after_command, all_present, log_of, log_of-with_command, Transition, FilterPair, SentFrame, get_after_push, get_in_front, IsOfScan, Setting, applied_items, cases_lt, filter_in_force, get_in_back, item_for, items_sent, last_item_of, of_scan, setting_by}
 use Rattle.fio_message.specs.declared.commands.Command.TheVariants as commands
-use Rattle.fio_input.specs.FilterHistory.{applied_items, last_item_of, setting_by}
-use Rattle.fio_input.specs.FilterRule.{Setting, filter_in_force}
 use Rattle.fio_module.specs.Log.{transitions_below}
-use Rattle.fio_module.proofs.ListParts.{get_in_back}
-use Rattle.fio_module.proofs.ScanTransitions.{IsOfScan, of_scan}
 use Rattle.fio_check.specs.ContentAbove.{least_with, one_sample}
-use Rattle.fio_check.specs.ContentSaid.{item_for, items_sent}
 use Rattle.fio_ends.proofs.FirstPolls.{LeavesInput}
 use Rattle.fio_ends.proofs.Following.{GoesOn, IsNoCommand, goes_on-more}
 use Rattle.fio_ends.proofs.Lives.{logged_since}

@@ -1,14 +1,10 @@
 -- A life in which each filter is one sample: the states of the inputs are the latest samples, and each change is logged at its
 -- scan, if the input is not ignored.
-use Rattle.fio_ends.proofs.Names.{◌≡◌, ◌∙◌, ◌+◌, ◌<◌, ◌≤◌, ◌&&◌, ◌%◌, ◌^◌, ◌==◌, ◌⊎◌, inl, inr, ℕ, zero, suc, Bool, true, false, not, List, [], ◌∷◌, ◌++◌, refl, ap, ap₂, sym, arith, if◌then◌else◌, beq, Life, Scanned, filter_events, counter_events, scans_of, loads_of, Transition, log_of, input_setting}
-use Rattle.fio_message.specs.Bits.{bit_of, is_set}
-use Rattle.fio_input.specs.Counter.{loaded_number, ticks_after_load}
-use Rattle.fio_input.specs.FilterHistory.{Scan, input_samples, input_state, is_reported, state_at_configuration}
-use Rattle.fio_input.specs.FilterRule.{Setting, ends_run, filtered_state}
+use Rattle.fio_ends.proofs.Names.{◌≡◌, ◌∙◌, ◌+◌, ◌<◌, ◌≤◌, ◌&&◌, ◌%◌, ◌^◌, ◌==◌, ◌⊎◌, inl, inr, ℕ, zero, suc, Bool, true, false, not, List, [], ◌∷◌, ◌++◌, refl, ap, ap₂, sym, arith, if◌then◌else◌, beq, Life, Scanned, filter_events, counter_events, scans_of, loads_of, Transition, log_of, input_setting, Setting, bit_at-word_of, bit_of, counter_of, ends_run, filtered_state, input_samples, input_state, is_reported, loaded_number, state_at_configuration, ticks_after_load, transition_at}
+use Rattle.fio_message.specs.Bits.{is_set}
+use Rattle.fio_input.specs.FilterHistory.{Scan}
 use Rattle.fio_module.specs.Flags.{word_of}
-use Rattle.fio_module.specs.Life.{counter_of}
-use Rattle.fio_module.specs.Log.{transition_at, transitions_below}
-use Rattle.fio_module.proofs.Words.{bit_at-word_of}
+use Rattle.fio_module.specs.Log.{transitions_below}
 
 -- filters of one sample, and whether the input is ignored
 pub record IsOneSample (ignore : Bool) (setting : Setting) : Type 0 where
@@ -114,9 +110,7 @@ module _ (levels : ℕ → ℕ → Bool) (is_open : ℕ → Bool) (base since lo
   not-not false = refl
 
   none_same : (a b : Bool) → (a && not (beq b b)) ≡ false
-  none_same true true = refl
-  none_same true false = refl
-  none_same false b = refl
+  none_same a b = grind arith
 
   reported_is : (life : Life) (scan : ℕ) → HasLevels life scan → (input : ℕ) → input < 64
       → is_reported input (raw_at (suc scan)) (filter_events life) ≡ is_changed_at scan input

@@ -32,6 +32,7 @@ pub mod Answered
 pub mod AnswersKept
 pub mod Stamps
 pub mod Timeless
+pub mod JumpedBlocks
 pub mod Asked
 pub mod ClockKept
 pub mod Ahead
@@ -48,7 +49,7 @@ pub mod SeenStates
 pub mod BlockTimes
 pub mod Shut
 pub mod Reopening
-pub mod Told
+pub mod Shown
 pub mod AlternateKept
 pub mod IgnoredKept
 pub mod Spaced
@@ -67,6 +68,7 @@ pub mod StateHeard
 pub mod StateKept
 pub mod TimesKept
 pub mod FaultsOfLogs
+pub mod CallEvents
 pub mod Calls
 pub mod LineMessages
 pub mod LineParts
@@ -81,14 +83,19 @@ pub mod PlannedLives
 pub mod BuiltRuns
 pub mod ShortRuns
 pub mod GivenLives
+pub mod FirstSettings
 pub mod FirstLives
 pub mod TimedEntries
+pub mod TimedLogs
 pub mod Marks
 pub mod PollStories
+pub mod StoryRuns
 pub mod PollRuns
 pub mod PollFacts
 pub mod PollEntries
+pub mod PollMarks
 pub mod PollBlocks
+pub mod PollBetween
 pub mod PollTurns
 pub mod PollLogs
 pub mod PollExamples
@@ -97,8 +104,11 @@ pub mod BegunAgain
 pub mod JudgeSteps
 pub mod JudgeLost
 pub mod JudgedRuns
+pub mod JudgedLogs
 pub mod JudgeStamps
+pub mod CalmStamps
 pub mod JudgedCalm
 pub mod RestartedFrames
+pub mod AnewFrames
 pub mod Restarted
 pub mod JudgeExamples

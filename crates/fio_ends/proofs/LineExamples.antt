@@ -1,24 +1,17 @@
 -- A worked run over lines, by computation: noise, a frame whole, one struck, one sent again, octets lost, an answer that comes
 -- twice.
-use Rattle.fio_ends.proofs.Names.{◌≡◌, ◌∙◌, ◌-◌, ◌^◌, ◌≤◌, inl, ℕ, true, false, List, [], ◌∷◌, ◌++◌, Some, None, nat_tests, ◌==◌, refl, ap, sym, subst, arith, Polling, Event}
+use Rattle.fio_ends.proofs.Names.{◌≡◌, ◌∙◌, ◌-◌, ◌^◌, ◌≤◌, inl, ℕ, true, false, List, [], ◌∷◌, ◌++◌, Some, None, nat_tests, ◌==◌, refl, ap, sym, subst, arith, Polling, Event, Arrives, AtCpu, AtModule, EndOf, Entry, FLAG, Framing, Happens, IsStruck, LeadOverLines, Loss, MayFollow, Octet, Scan, Send, ToCpu, ToModule, Whole, WireEvent, WiredEnds, after_line_event, ends_at_start, events_on_wire, frame_of, part_brought, sent, standard_settings, stuffed}
 use Rattle.fio_message.specs.declared.commands.Command.TheVariants as commands
 use Rattle.fio_message.specs.Bits.{is_set}
 use Rattle.fio_message.specs.Decoding.{message_in}
 use Rattle.fio_input.specs.Widening.{wide_time_of}
 use Rattle.fio_module.specs.Log.{transitions_below}
-use Rattle.fio_module.specs.Settings.{standard_settings}
-use Rattle.fio_cpu.specs.declared.record.Item.TheVariants.{Entry}
-use Rattle.fio_link.specs.declared.event.Event.TheVariants.{Scan, Poll, Send, ToModule, ToCpu}
+use Rattle.fio_link.specs.declared.event.Event.TheVariants.{Poll}
 use Rattle.fio_wire.specs.Checks.{divided, with_octet}
-use Rattle.fio_wire.specs.declared.limits.TheConstants.{FLAG}
-use Rattle.fio_wire.specs.Frames.{frame_of}
-use Rattle.fio_wire.specs.Octets.{Whole, sent, stuffed}
 use Rattle.fio_wire.specs.Octets as wire
 use Rattle.fio_module.specs.Life as lives
 use Rattle.fio_ends.proofs.LinePremises.{at_module, at_cpu, frame_comes, struck_comes}
-use Rattle.fio_wire.specs.Laws.{Octet, Loss}
-use Rattle.fio_ends.specs.Lines.{Framing, WiredEnds, ends_at_start, EndOf, WireEvent, Happens, AtModule, AtCpu, events_on_wire, after_line_event, Arrives}
-use Rattle.fio_ends.specs.LineRuns.{IsStruck, LinesBringRecords, MayFollow, LeadOverLines, part_brought}
+use Rattle.fio_ends.specs.LineRuns.{LinesBringRecords}
 
 abbrev framing : Framing
 framing = record { address = 20; control = 131; own = record { address = 20; control = 131 } }

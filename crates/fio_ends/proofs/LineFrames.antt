@@ -1,13 +1,6 @@
 -- One line of octets follows the frames of the link machine.
-use Rattle.fio_ends.proofs.Names.{◌≡◌, ◌∙◌, ◌≤◌, ◌==◌, ℕ, zero, suc, false, List, [], ◌∷◌, ◌++◌, append-nil, length, Option, Some, None, slice_get, refl, ap, sym, subst, arith, option_map, nat_lt, nat_tests, same_Some, slice_get_within, AllByRecursion, Answer, answer_octets, SentFrame}
+use Rattle.fio_ends.proofs.Names.{◌≡◌, ◌∙◌, ◌≤◌, ◌==◌, ℕ, zero, suc, false, List, [], ◌∷◌, ◌++◌, append-nil, length, Option, Some, None, slice_get, refl, ap, sym, subst, arith, option_map, nat_lt, nat_tests, same_Some, slice_get_within, AllByRecursion, Answer, answer_octets, SentFrame, Arrives, ComesWhole, EndOf, FLAG, Framing, IsFraming, Loss, MayBring, Octet, WireLine, answer_frames, delivery_refusal, item_numbered, line_after, map_push, message_heard, sent, slice_get-map, with_answer_written, with_written}
 use Rattle.std.specs.Prelude.{◌||◌}
-use Rattle.std.proofs.lemmas.List.{map_push}
-use Rattle.std.proofs.lemmas.Option.{slice_get-map}
-use Rattle.fio_link.specs.Link.{item_numbered, delivery_refusal, answer_frames}
-use Rattle.fio_wire.specs.declared.limits.TheConstants.{FLAG}
-use Rattle.fio_wire.specs.Octets.{sent}
-use Rattle.fio_wire.specs.Laws.{Octet, Loss}
-use Rattle.fio_ends.specs.Lines.{Framing, IsFraming, WireLine, EndOf, ComesWhole, MayBring, line_after, message_heard, with_written, with_answer_written, Arrives}
 use Rattle.fio_ends.specs.LineRuns.{written_of}
 use Rattle.fio_ends.proofs.LineMessages.{IsMessage}
 use Rattle.fio_ends.proofs.LineParts.{IsReading, octet_heard, whole_heard, read_flag, read_loss}

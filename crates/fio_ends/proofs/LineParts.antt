@@ -1,19 +1,16 @@
 -- What a decoder hears of a line, octet by octet.
-use Rattle.fio_ends.proofs.Names.{◌≡◌, ◌≢◌, ◌∙◌, drop, inl, inr, ℕ, Bool, true, false, List, [], ◌∷◌, ◌++◌, Option, Some, None, refl, ap, sym, subst, append-nil, append_assoc, if◌then◌else◌, option_map, eqb_tells}
+use Rattle.fio_ends.proofs.Names.{◌≡◌, ◌≢◌, ◌∙◌, drop, inl, inr, ℕ, Bool, true, false, List, [], ◌∷◌, ◌++◌, Option, Some, None, refl, ap, sym, subst, append-nil, append_assoc, if◌then◌else◌, option_map, eqb_tells, Arrives, ComesWhole, FLAG, Framing, HasNoFlag, IsFraming, IsOctet, IsStruck, MayBring, Octet, Whole, WireLine, frame_of, message_heard, no_flag, part_after, sent, stuffed, arith}
 use Rattle.std.proofs.lemmas.Bool.{false≢true}
 use Rattle.std.proofs.lemmas.List.{same_from_push}
-use Rattle.fio_message.specs.Octets.{IsOctet}
 use Rattle.fio_wire.specs.declared.heard.WireHeard.{WireHeard}
 use Rattle.fio_wire.specs.declared.heard.WireHeard.TheVariants.{Nothing, Message, Other, Damaged}
-use Rattle.fio_wire.specs.declared.limits.TheConstants.{FLAG}
-use Rattle.fio_wire.specs.Frames.{Said, Frame, Damage, frame_of, wire_heard, is_own, message_of_frame, with_check}
+use Rattle.fio_wire.specs.Frames.{Said, Frame, Damage, wire_heard, is_own, message_of_frame, with_check}
 use Rattle.fio_wire.specs.Frames as frames
-use Rattle.fio_wire.specs.Octets.{HasNoFlag, Phase, Hunting, Within, Escaped, Lost, Whole, Reading, begun, ended_by, ending, fresh, lost, next, said_in, said_of, says, stuffed, sent}
-use Rattle.fio_wire.specs.Laws.{Octet, Struck}
-use Rattle.fio_wire.proofs.Lines.{no_flag, part_said}
+use Rattle.fio_wire.specs.Octets.{Phase, Hunting, Within, Escaped, Lost, Reading, begun, ended_by, ending, fresh, lost, next, said_in, said_of, says}
+use Rattle.fio_wire.specs.Laws.{Struck}
+use Rattle.fio_wire.proofs.Lines.{part_said}
 use Rattle.fio_wire.proofs.Sent.{arrive, message_again, sent_frame}
-use Rattle.fio_ends.specs.Lines.{Framing, IsFraming, WireLine, Arrives, IsNoise, ComesWhole, MayBring, message_if, message_heard, part_after}
-use Rattle.fio_ends.specs.LineRuns.{IsStruck}
+use Rattle.fio_ends.specs.Lines.{IsNoise, message_if}
 use Rattle.fio_ends.proofs.LineMessages.{IsMessage}
 
 -- ---- What is known of lines
@@ -114,11 +111,7 @@ deaf_flag own octets Whole deaf e = absurd deaf
 
 -- after a loss
 deaf_lost : (octets : List ℕ) (phase : Phase) → IsDeaf (lost (record { octets = octets; phase = phase })).phase
-deaf_lost octets Hunting = tt
-deaf_lost octets Within = tt
-deaf_lost octets Escaped = tt
-deaf_lost octets Lost = tt
-deaf_lost octets Whole = tt
+deaf_lost octets phase = grind arith
 
 pub read_loss : (reading : Reading) → IsReading None (lost reading)
 read_loss reading = deaf_lost reading.octets reading.phase
@@ -126,10 +119,7 @@ read_loss reading = deaf_lost reading.octets reading.phase
 -- ---- What is heard
 
 no_message : (heard : WireHeard) (reading : Reading) → heard ≢ Message → message_if heard reading ≡ None
-no_message Nothing reading other = refl
-no_message Message reading other = absurd (other refl)
-no_message Other reading other = refl
-no_message Damaged reading other = refl
+no_message heard reading other = grind arith
 
 -- at a flag after which a line may bring no frame whole
 flag_heard : (own : frames.WireSettings) (part : Option (List ℕ)) (reading : Reading) → IsReading part reading

@@ -1,15 +1,9 @@
 -- What a line may bring leaves open that frames come, whole and struck.
-use Rattle.fio_ends.proofs.Names.{◌≡◌, ◌∙◌, ◌≤◌, ℕ, List, [], ◌∷◌, ◌++◌, Option, Some, None, option_map, refl, ap, sym, subst, arith, append-nil, append_assoc, same_Some, if◌then◌else◌, Settings}
-use Rattle.fio_link.specs.Link.{item_numbered}
-use Rattle.fio_wire.specs.declared.limits.TheConstants.{FLAG}
-use Rattle.fio_wire.specs.Frames.{frame_of}
-use Rattle.fio_wire.specs.Octets.{HasNoFlag, sent, stuffed}
+use Rattle.fio_ends.proofs.Names.{◌≡◌, ◌∙◌, ◌≤◌, ℕ, List, [], ◌∷◌, ◌++◌, Option, Some, None, option_map, refl, ap, sym, subst, arith, append-nil, append_assoc, same_Some, if◌then◌else◌, Settings, Arrives, AtCpu, AtModule, EndOf, FLAG, Framing, HasNoFlag, IsStruck, MayBring, MayFollow, Octet, WireEvent, WireLine, WiredEnds, after_line_event, after_message, after_receipt, frame_of, item_numbered, line_after, message_heard, no_flag, part_after, part_brought, sent, stuffed}
 use Rattle.fio_wire.proofs.Sent.{free_of_flags}
-use Rattle.fio_wire.specs.Laws.{Octet}
-use Rattle.fio_ends.specs.Lines.{Framing, WireLine, WiredEnds, Brought, EndOf, WireEvent, AtModule, AtCpu, MayBring, MayCome, line_after, part_after, message_heard, after_receipt, after_message, after_line_event, Arrives, arrival_of}
+use Rattle.fio_ends.specs.Lines.{Brought, MayCome, arrival_of}
 use Rattle.fio_ends.proofs.LineParts.{struck_noise}
-use Rattle.fio_ends.specs.LineRuns.{IsStruck, MayFollow, part_brought, EachFrameMayCome, EachStruckFrameMayCome}
-use Rattle.fio_wire.proofs.Lines.{no_flag}
+use Rattle.fio_ends.specs.LineRuns.{EachFrameMayCome, EachStruckFrameMayCome}
 
 -- a direction: what its events bring, and the line that they change
 pub record IsDirection (line_of : WiredEnds → WireLine) (at : Brought → WireEvent) : Type 0 where

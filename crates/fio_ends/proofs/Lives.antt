@@ -1,12 +1,8 @@
 -- A life and those that go on from it: what stays, and what is since.
-use Rattle.fio_ends.proofs.Names.{◌≡◌, ◌∙◌, ◌+◌, ◌-◌, ◌≤◌, inl, inr, ℕ, Bool, true, false, List, [], ◌∷◌, ◌++◌, length, Some, refl, ap, sym, subst, arith, append-nil, append_assoc, if◌then◌else◌, slice_get, slice_get_within, AllByRecursion, LoadCounter, Poll, Command, Settings, Life, Occurrence, Scanned, LineSynced, Raised, Commanded, counter_events, loads_of, scans_of, Transition, log_of, MadeBlock, newest_poll, is_new, blocks_of, next_block, get_in_front, get_after_push}
-use Rattle.std.proofs.lemmas.Bool.{cases_lt}
-use Rattle.fio_input.specs.Counter.{AskLoad, CounterEvent, LineSync, Tick, ticks_in, loads_in}
+use Rattle.fio_ends.proofs.Names.{◌≡◌, ◌∙◌, ◌+◌, ◌-◌, ◌≤◌, inl, inr, ℕ, Bool, true, false, List, [], ◌∷◌, ◌++◌, length, Some, refl, ap, sym, subst, arith, append-nil, append_assoc, if◌then◌else◌, slice_get, slice_get_within, AllByRecursion, LoadCounter, Poll, Command, Settings, Life, Occurrence, Scanned, LineSynced, Raised, Commanded, counter_events, loads_of, scans_of, Transition, log_of, MadeBlock, newest_poll, is_new, blocks_of, next_block, get_in_front, get_after_push, IsOfScan, cases_lt, get_in_back, later_log, loads_in, of_scan, ticks_in}
+use Rattle.fio_input.specs.Counter.{AskLoad, CounterEvent, LineSync, Tick}
 use Rattle.fio_input.proofs.Ticks.{loads_in-append}
 use Rattle.fio_module.specs.Log.{transitions_below}
-use Rattle.fio_module.proofs.ListParts.{get_in_back}
-use Rattle.fio_module.proofs.NewLevels.{later_log}
-use Rattle.fio_module.proofs.ScanTransitions.{IsOfScan, of_scan}
 use Rattle.fio_ends.proofs.Following.{GoesOn, IsNoCommand, IsSince}
 
 -- ---- the counter

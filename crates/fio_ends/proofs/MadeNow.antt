@@ -1,7 +1,6 @@
 -- A block answer without E has the block that the poll directly above it made.
-use Rattle.fio_ends.proofs.Names.{◌≡◌, ◌∙◌, ◌+◌, ◌≤◌, inl, inr, ℕ, false, [], ◌∷◌, ◌++◌, length, Some, ap, sym, arith, if◌then◌else◌, slice_get, slice_get_within, length-append, Block, says_again, Settings, Life, Commanded, life_of, log_of, MadeBlock, blocks_of, next_block, blocks_in, Machine, get_after_push}
+use Rattle.fio_ends.proofs.Names.{◌≡◌, ◌∙◌, ◌+◌, ◌≤◌, inl, inr, ℕ, false, [], ◌∷◌, ◌++◌, length, Some, ap, sym, arith, if◌then◌else◌, slice_get, slice_get_within, length-append, Block, says_again, Settings, Life, Commanded, life_of, log_of, MadeBlock, blocks_of, next_block, blocks_in, Machine, get_after_push, blocks_without_more_take_all}
 use Rattle.fio_message.specs.declared.commands.Command.TheVariants as commands
-use Rattle.fio_module.proofs.BlockLaws.{blocks_without_more_take_all}
 use Rattle.fio_ends.proofs.ContentSteps.{IsKnown, Takes}
 use Rattle.fio_ends.proofs.Lives.{blocks_since}
 

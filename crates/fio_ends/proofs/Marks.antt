@@ -1,7 +1,6 @@
 -- Entries and the states that are seen, in the order of their scans: what a log says of its inputs, and which levels hold it.
-use Rattle.fio_ends.proofs.Names.{◌<◌, ◌==◌, ◌≡◌, ◌≤◌, ◌∙◌, ◌∷◌, ◌++◌, ◌||◌, ◌⊎◌, AllByRecursion, Bool, List, None, Option, Some, [], ap, append_assoc, arith, beq, false, if◌then◌else◌, inl, inr, is_some_and, nat_le, nat_tests, not, refl, same_Some, subst, sym, true, ℕ}
+use Rattle.fio_ends.proofs.Names.{◌<◌, ◌==◌, ◌≡◌, ◌≤◌, ◌∙◌, ◌∷◌, ◌++◌, ◌||◌, ◌⊎◌, AllByRecursion, Bool, List, None, Option, Some, [], ap, append_assoc, arith, beq, false, if◌then◌else◌, inl, inr, is_some_and, nat_le, nat_tests, not, refl, same_Some, subst, sym, true, ℕ, each-append, each-map}
 use Rattle.fio_message.specs.Bits.{is_set}
-use Rattle.fio_link.proofs.MadeBlocks.{each-append, each-map}
 use Rattle.fio_ends.proofs.TimedEntries.{Timed, has_entry, levels_with, levels_with-append, upto, with_level}
 use Rattle.fio_ends.proofs.TimedEntries as timed_entries
 
@@ -19,24 +18,24 @@ pub data Mark : Type 0 where
 -- states differ without an entry between
 pub record Known : Type 0 where
   pub level : Option Bool
-  pub told : Option Bool
+  pub shown : Option Bool
   pub unlogged : Bool
 
 -- of an input with an entry more, and with states more
 abbrev pub with_entry : Bool → Known → Known
-with_entry level known = record { level = Some level; told = None; unlogged = known.unlogged }
+with_entry level known = record { level = Some level; shown = None; unlogged = known.unlogged }
 
 abbrev pub with_states : Bool → Known → Known
 with_states bit known = record {
   level = known.level;
-  told = Some bit;
-  unlogged = is_some_and known.told (λ level. not (beq level bit)) || known.unlogged;
+  shown = Some bit;
+  unlogged = is_some_and known.shown (λ level. not (beq level bit)) || known.unlogged;
 }
 
 -- an entry is a change
 pub record IsChange (known : Known) (level : Bool) : Type 0 where
   pub of_level : (before : Bool) → known.level ≡ Some before → level ≡ not before
-  pub of_told : (before : Bool) → known.told ≡ Some before → level ≡ not before
+  pub of_shown : (before : Bool) → known.shown ≡ Some before → level ≡ not before
   pub logged : known.unlogged ≡ false
 
 abbrev pub known_with : (ℕ → Known) → Timed → ℕ → Known
@@ -109,40 +108,37 @@ marks_turn (At e ∷ marks) known levels a pass =
 marks_turn (Seen look ∷ marks) known levels a pass =
     marks_turn marks (known_seen known look.levels) levels (record { some = a.some; none = a.none }) pass.1
 
--- an input that is told, or whose changes are not logged, is turned from what was told
-told_first : (marks : List Mark) (known : ℕ → Known) (input : ℕ) (bit : Bool) → Pass known marks → input < 64 → ((known input).told ≡ Some bit) ⊎ ((known input).unlogged ≡ true)
+-- an input that is shown, or whose changes are not logged, is turned from what was shown
+shown_first : (marks : List Mark) (known : ℕ → Known) (input : ℕ) (bit : Bool) → Pass known marks → input < 64 → ((known input).shown ≡ Some bit) ⊎ ((known input).unlogged ≡ true)
     → has_entry (entries_in marks) input ≡ true → turned_from (entries_in marks) input ≡ bit
-told_first [] known input bit pass low is has = absurd (cc has)
-told_first (At e ∷ marks) known input bit pass low is has = by (told_first marks (known_with known e) input bit pass.2 low) (input == e.input) refl has
+shown_first [] known input bit pass low is has = absurd (cc has)
+shown_first (At e ∷ marks) known input bit pass low is has = by (shown_first marks (known_with known e) input bit pass.2 low) (input == e.input) refl has
   where
-    by : (((known_with known e input).told ≡ Some bit) ⊎ ((known_with known e input).unlogged ≡ true) → has_entry (entries_in marks) input ≡ true → turned_from (entries_in marks) input ≡ bit)
+    by : (((known_with known e input).shown ≡ Some bit) ⊎ ((known_with known e input).unlogged ≡ true) → has_entry (entries_in marks) input ≡ true → turned_from (entries_in marks) input ≡ bit)
         → (same : Bool) → (input == e.input) ≡ same → (same || has_entry (entries_in marks) input) ≡ true
         → (if same then not e.level else turned_from (entries_in marks) input) ≡ bit
     by rest true at has =
         let equal : input ≡ e.input = grind (arith, nat_tests) in
         elim is as (λ _. not e.level ≡ bit) [
-          | inl told ↦ ap not (pass.0.of_told bit (ap (λ (i : ℕ). (known i).told) (sym equal) ∙ told)) ∙ not-not bit
+          | inl shown ↦ ap not (pass.0.of_shown bit (ap (λ (i : ℕ). (known i).shown) (sym equal) ∙ shown)) ∙ not-not bit
           | inr unlogged ↦ absurd (cc (sym unlogged ∙ ap (λ (i : ℕ). (known i).unlogged) equal ∙ pass.0.logged))
         ]
     by rest false at has =
-        rest (subst (λ (k : Known). (k.told ≡ Some bit) ⊎ (k.unlogged ≡ true)) (sym (ap (λ (b : Bool). if b then with_entry e.level (known input) else known input) at)) is) has
-told_first (Seen look ∷ marks) known input bit pass low is has =
-    told_first marks (known_seen known look.levels) input bit pass.1 low (by (is_set look.levels input) is) has
+        rest (subst (λ (k : Known). (k.shown ≡ Some bit) ⊎ (k.unlogged ≡ true)) (sym (ap (λ (b : Bool). if b then with_entry e.level (known input) else known input) at)) is) has
+shown_first (Seen look ∷ marks) known input bit pass low is has =
+    shown_first marks (known_seen known look.levels) input bit pass.1 low (by (is_set look.levels input) is) has
   where
     or_true : (a : Bool) → (a || true) ≡ true
     or_true true = refl
     or_true false = refl
 
     same : (b : Bool) (unlogged : Bool) (c : Bool) → (Some c ≡ Some b) ⊎ ((not (beq b c) || unlogged) ≡ true)
-    same true unlogged true = inl refl
-    same false unlogged false = inl refl
-    same true unlogged false = inr refl
-    same false unlogged true = inr refl
+    same b unlogged c = grind arith
 
-    by : (seen : Bool) → ((known input).told ≡ Some bit) ⊎ ((known input).unlogged ≡ true)
-        → (Some seen ≡ Some bit) ⊎ ((is_some_and (known input).told (λ level. not (beq level seen)) || (known input).unlogged) ≡ true)
-    by seen (inl told) = subst (λ (t : Option Bool). (Some seen ≡ Some bit) ⊎ ((is_some_and t (λ level. not (beq level seen)) || (known input).unlogged) ≡ true)) (sym told) (same bit (known input).unlogged seen)
-    by seen (inr unlogged) = inr (ap (λ (u : Bool). is_some_and (known input).told (λ level. not (beq level seen)) || u) unlogged ∙ or_true (is_some_and (known input).told (λ level. not (beq level seen))))
+    by : (seen : Bool) → ((known input).shown ≡ Some bit) ⊎ ((known input).unlogged ≡ true)
+        → (Some seen ≡ Some bit) ⊎ ((is_some_and (known input).shown (λ level. not (beq level seen)) || (known input).unlogged) ≡ true)
+    by seen (inl shown) = subst (λ (t : Option Bool). (Some seen ≡ Some bit) ⊎ ((is_some_and t (λ level. not (beq level seen)) || (known input).unlogged) ≡ true)) (sym shown) (same bit (known input).unlogged seen)
+    by seen (inr unlogged) = inr (ap (λ (u : Bool). is_some_and (known input).shown (λ level. not (beq level seen)) || u) unlogged ∙ or_true (is_some_and (known input).shown (λ level. not (beq level seen))))
 
 -- the levels at states: those below the entries above
 abbrev pub SeesLevels : (ℕ → Bool) → List Timed → Look → Type 0
@@ -173,7 +169,7 @@ all_see (Seen look ∷ marks) known levels all a below pass =
   where
     by : (input : ℕ) → input < 64 → has_entry all input ≡ true → (found : Option Bool) → (known input).level ≡ found → levels input ≡ is_set look.levels input
     by input low has (Some level) is = a.some input level is ∙ pass.0 input low level is
-    by input low has None is = a.none input is ∙ told_first marks (known_seen known look.levels) input (is_set look.levels input) pass.1 low (inl refl) (below input is has)
+    by input low has None is = a.none input is ∙ shown_first marks (known_seen known look.levels) input (is_set look.levels input) pass.1 low (inl refl) (below input is has)
 
 -- ---- in the order of scans
 

@@ -1,12 +1,9 @@
 -- Lives that follow a plan: how they stand below a scan, a request and a poll.
-use Rattle.fio_ends.proofs.Names.{◌≡◌, ◌∙◌, ◌+◌, ◌≤◌, ◌==◌, ℕ, Bool, true, false, not, ◌∷◌, length, Option, Some, None, refl, ap, ap₂, subst, arith, if◌then◌else◌, option_map, nat_lt, nat_tests, answer_octets, block_in, Life, Scanned, Commanded, MadeBlock, newest_poll, is_new, blocks_of, end_of_blocks, next_block, start_after, last_end-append, number_of, number_of-fits, number_of-next, next_fits}
+use Rattle.fio_ends.proofs.Names.{◌≡◌, ◌∙◌, ◌+◌, ◌≤◌, ◌==◌, ℕ, Bool, true, false, not, ◌∷◌, length, Option, Some, None, refl, ap, ap₂, subst, arith, if◌then◌else◌, option_map, nat_lt, nat_tests, answer_octets, block_in, Life, Scanned, Commanded, MadeBlock, newest_poll, is_new, blocks_of, end_of_blocks, next_block, start_after, last_end-append, number_of, number_of-fits, number_of-next, next_fits, Sending, again_carries, answer_of_sending, carried_back, first_carries, first_sending, latest_sending, repeat_of, said, sending_of}
 use Rattle.fio_message.specs.declared.commands.Command.TheVariants as commands
-use Rattle.fio_module.specs.Sendings.{Sending, answer_of_sending, first_sending, latest_sending, repeat_of, sending_of}
 use Rattle.fio_module.specs.Laws.{Carries}
 use Rattle.fio_module.proofs.Stretches.{blocks_new, blocks_old}
-use Rattle.fio_link.proofs.Received.{again_carries, carried_back, first_carries}
 use Rattle.fio_link.proofs.RoundNumbers.{rounds_from_numbers}
-use Rattle.fio_link.proofs.Spelled.{said}
 use Rattle.fio_ends.proofs.LevelLives.{has_counter}
 use Rattle.fio_ends.proofs.Plans.{AwaitsPoll, HasCome, IsKeptFor, IsNext, IsTakeable, Plan, logged, made_at, sending_at}
 

@@ -1,11 +1,7 @@
 -- Plans of runs along a log: which levels the machine scans, when it answers what is asked, and what is lost.
-use Rattle.fio_ends.proofs.Names.{Answer, AreInRange, Bool, Command, CpuFrame, IsCommand, Life, List, Machine, MadeBlock, None, Option, Settings, Some, Transition, [], answer_octets, block_in, command_octets, drop, false, is_new, length, life_of, log_of, nat_lt, newest_end, newest_poll, number_of, suc, take, true, zero, ℕ, ◌%◌, ◌++◌, ◌+◌, ◌-◌, ◌^◌, ◌∷◌, ◌≡◌, ◌≢◌, ◌≤◌}
-use Rattle.std.proofs.Common.{min}
+use Rattle.fio_ends.proofs.Names.{Answer, AreInRange, Bool, Command, CpuFrame, IsCommand, Life, List, Machine, MadeBlock, None, Option, Settings, Some, Transition, [], answer_octets, block_in, command_octets, drop, false, is_new, length, life_of, log_of, nat_lt, newest_end, newest_poll, number_of, suc, take, true, zero, ℕ, ◌%◌, ◌++◌, ◌+◌, ◌-◌, ◌^◌, ◌∷◌, ◌≡◌, ◌≢◌, ◌≤◌, IsQuiet, Sending, answer_of_sending, is_out_of_sequence, latest_sending, min, repeat_of, said, sending_of}
 use Rattle.fio_message.specs.declared.answers.Answer.TheVariants as answers
 use Rattle.fio_message.specs.declared.commands.Command.TheVariants as commands
-use Rattle.fio_module.specs.Sendings.{Sending, answer_of_sending, is_out_of_sequence, latest_sending, repeat_of, sending_of}
-use Rattle.fio_link.proofs.Spelled.{said}
-use Rattle.fio_ends.specs.PollLogs.{IsQuiet}
 use Rattle.fio_ends.proofs.LevelLives.{HasLevels, changes_below, raw_at}
 
 -- the frame of a command, and that of an answer

@@ -1,22 +1,13 @@
--- What a block of a log of polls keeps that breaks no rule: its entries come one behind the other, and the states that were seen
+-- What a block of a log of polls keeps that breaks no rule: its entries come one after the other, and the states that were seen
 -- above it among them.
-use Rattle.fio_ends.proofs.Names.{content_step, ◌||◌, ◌&&◌, ◌+◌, ◌-◌, ◌<◌, ◌^◌, ◌≡◌, ◌≤◌, ◌∙◌, ◌∷◌, ◌++◌, ◌⊎◌, AllByRecursion, Bool, ContentEvent, ContentFacts, Ended, InputAbove, List, None, Option, Some, [], ap, ap₂, arith, content_with, false, if◌then◌else◌, inl, inr, map, not, refl, rule_broken_by, subst, suc, sym, true, ℕ}
-use Rattle.std.specs.Option.{option_or}
-use Rattle.std.specs.Prelude.{◌||◌, fold, option_and_then}
-use Rattle.fio_message.specs.Status.{block_status, says_again}
+use Rattle.fio_ends.proofs.Names.{content_step, ◌||◌, ◌&&◌, ◌+◌, ◌-◌, ◌<◌, ◌^◌, ◌≡◌, ◌≤◌, ◌∙◌, ◌∷◌, ◌++◌, ◌⊎◌, AllByRecursion, Bool, ContentEvent, ContentFacts, Ended, InputAbove, List, None, Option, Some, [], ap, ap₂, arith, content_with, false, if◌then◌else◌, inl, inr, map, not, refl, rule_broken_by, subst, suc, sym, true, ℕ, Floor, IsEntryOf64, Seen, SentItem, below_clear, block_status, comes_after, comes_to, coming, fold, if_comes, input_below_clear, input_coming, input_ended, is_later, milliseconds_between, option_and_then, option_or, says_again, seen_below, settled_now, status_back, step_only}
+use Rattle.std.specs.Prelude.{◌||◌}
 use Rattle.fio_message.specs.declared.fields.Entry.{Entry}
-use Rattle.fio_message.proofs.StatusBits.{status_back}
 use Rattle.fio_input.specs.Widening.{wide_time_of}
-use Rattle.fio_check.specs.ContentKnown.{if_comes}
-use Rattle.fio_check.specs.ContentFacts.{below_clear, coming, input_below_clear, input_ended, seen_below, settled_now}
-use Rattle.fio_check.specs.ContentKnown.{input_coming}
-use Rattle.fio_check.specs.ContentRules.{comes_behind}
-use Rattle.fio_check.specs.ContentSaid.{Floor, Seen, SentItem, comes_to, is_later, milliseconds_between}
-use Rattle.fio_ends.specs.PollLogs.{IsEntryOf64}
 use Rattle.fio_ends.proofs.Marks.{At, InTime, IsChange, Known, Look, Mark, Pass, entries_in, known_seen, known_with, looks_in}
 use Rattle.fio_ends.proofs.Marks as marks_of
-use Rattle.fio_ends.proofs.PollEntries.{IsSeenAfter, IsWatched, StatesPass, Within, behind, behind_age, block_comes, coming_input, comes_with, entry_after, entry_comes, entry_stays, fresh_age, is_change, known_coming, later, recorded, states_keep, states_pass}
-use Rattle.fio_check.proofs.Unexcused.{step_only}
+use Rattle.fio_ends.proofs.PollEntries.{IsSeenAfter, IsWatched, StatesPass, Within, behind_age, block_comes, coming_input, comes_with, entry_comes, entry_stays, fresh_age, known_coming, recorded, states_pass}
+use Rattle.fio_ends.proofs.PollMarks.{entry_after, states_keep, behind, is_change, later}
 use Rattle.fio_ends.proofs.Floors.{or_true}
 use Rattle.fio_ends.proofs.PollFacts.{AllKeep}
 use Rattle.fio_ends.proofs.PollStories.{IsYounger, age_of, every_input, timed}
@@ -69,8 +60,8 @@ end_is facts again stamp =
     }
 
 below-clear : (above : InputAbove) (item : Option SentItem) (known : Known) → IsWatched above known → IsWatched (input_below_clear above item) known
-below-clear above None known w = record { reopened = refl; hidden = refl; touched = refl; watched = w.watched; told = w.told; unlogged = w.unlogged }
-below-clear above (Some item) known w = record { reopened = refl; hidden = refl; touched = refl; watched = w.watched; told = w.told; unlogged = w.unlogged }
+below-clear above None known w = record { reopened = refl; hidden = refl; touched = refl; watched = w.watched; shown = w.shown; unlogged = w.unlogged }
+below-clear above (Some item) known w = record { reopened = refl; hidden = refl; touched = refl; watched = w.watched; shown = w.shown; unlogged = w.unlogged }
 
 below-end : (settling : Bool) (above : InputAbove) (known : Known) → IsWatched above known → IsWatched (input_ended settling above) known
 below-end true above known w = below-clear above (settled_now above) known w
@@ -140,7 +131,7 @@ module _ (now stamp gap full after : ℕ) (again : Bool) (fits : stamp < 2 ^ 32)
   abbrev events_of : List Entry → List ContentEvent
   events_of entries = map (recorded stamp) entries ++ (Ended (status again) stamp ∷ [])
 
-  -- what entries keep that are recorded of the block, behind an entry of a scan with an input below this one
+  -- what entries keep that are recorded of the block, after an entry of a scan with an input below this one
   pub record Walked (scan low : ℕ) (seen : Option Seen) (known : ℕ → Known) (facts : ContentFacts) (entries : List Entry) : Type 0 where
     pub young : AllByRecursion (IsYounger gap stamp) entries
     pub rises : (rest : List Timed) → Rise every_input now 64 rest → Rise every_input scan low (map (timed now stamp) entries ++ rest)
@@ -156,7 +147,7 @@ module _ (now stamp gap full after : ℕ) (again : Bool) (fits : stamp < 2 ^ 32)
   -- what the rules on times say of an entry below a floor
   abbrev FloorSays : ℕ → ℕ → Floor → Type 0
   FloorSays scan low floor = (entry : Entry)
-      → ((above : ℕ) → floor.input ≡ Some above → comes_behind entry.input (wide_time_of stamp entry.stamp) above floor.time ≡ true)
+      → ((above : ℕ) → floor.input ≡ Some above → comes_after entry.input (wide_time_of stamp entry.stamp) above floor.time ≡ true)
       → (floor.input ≡ None → is_later (wide_time_of stamp entry.stamp) floor.time ≡ true)
       → (age_of stamp entry < gap) × ((scan < now - age_of stamp entry) ⊎ ((now - age_of stamp entry ≡ scan) × (low ≤ entry.input)))
 

@@ -1,22 +1,12 @@
--- What the entries of a log of polls without a fault keep: each is behind the one above it, and turns the level of its input.
-use Rattle.fio_ends.proofs.Names.{ℕ, ◌==◌, ◌&&◌, subst, sym, AllByRecursion, Bool, ContentEvent, ContentFacts, ContentRule, InputAbove, List, None, Option, Recorded, Some, State, [], ap, ap₂, arith, beq, content_with, false, if◌then◌else◌, inl, inr, is_some_and, nat_le, nat_lt, nat_tests, not, option_map, refl, rule_broken_by, subst, suc, sym, true, zero, ℕ, ◌&&◌, ◌+◌, ◌<◌, ◌==◌, ◌^◌, ◌||◌, ◌∙◌, ◌∷◌, ◌≡◌, ◌≢◌, ◌≤◌, ◌⊎◌}
-use Rattle.std.specs.Prelude.{find, is_some, option_and_then}
+-- What the entries of a log of polls without a fault keep: each is after the one above it, and turns the level of its input.
+use Rattle.fio_ends.proofs.Names.{ℕ, ◌==◌, ◌&&◌, sym, Bool, ContentEvent, ContentFacts, InputAbove, None, Option, Recorded, Some, State, ap, ap₂, arith, beq, false, if◌then◌else◌, inl, inr, is_some_and, nat_le, nat_lt, nat_tests, not, option_map, refl, suc, sym, true, zero, ℕ, ◌&&◌, ◌+◌, ◌<◌, ◌==◌, ◌^◌, ◌||◌, ◌∙◌, ◌≡◌, ◌≢◌, ◌≤◌, ◌⊎◌, BrokenRule, Floor, Seen, WatchedState, broken_state, cases_lt, comes_after, comes_to, differing, earliest_above, if_comes, input_coming, is_before, is_later, item_of, milliseconds_between, option_and_then, state_breach, steady_state}
 use Rattle.fio_message.specs.declared.fields.Entry.{Entry}
-use Rattle.fio_cpu.specs.Record.{item_of}
 use Rattle.fio_input.specs.Widening.{wide_time_of}
-use Rattle.fio_check.specs.ContentFacts.{coming, input_recorded, input_with_entry, seen_below}
-use Rattle.fio_check.specs.ContentKnown.{input_coming}
-use Rattle.fio_check.specs.ContentKnown.{WatchedState, if_comes}
-use Rattle.fio_check.specs.Places.{earliest_above}
-use Rattle.fio_check.specs.declared.content_rules.BrokenRule.{BrokenRule}
 use Rattle.fio_message.specs.Bits.{is_set}
-use Rattle.std.proofs.lemmas.Bool.{cases_lt}
-use Rattle.fio_check.specs.ContentRules.{are_times_judged, state_breach, breaks_entry, broken_state, comes_behind, differing, differs, entry_rules, first_differing, is_out_of_order, is_stale, is_told_otherwise, steady_state}
-use Rattle.fio_check.specs.ContentSaid.{Floor, Seen, TimedState, comes_to, is_before, is_later, milliseconds_between}
-use Rattle.fio_check.proofs.Unexcused.{step_only}
+use Rattle.fio_check.specs.ContentRules.{differs, first_differing}
 use Rattle.fio_ends.proofs.PollFacts.{none_of_map, none_or}
-use Rattle.fio_ends.proofs.PollStories.{age_of, timed}
-use Rattle.fio_ends.proofs.Marks.{IsChange, Known, known_seen, known_with, with_entry}
+use Rattle.fio_ends.proofs.PollStories.{age_of}
+use Rattle.fio_ends.proofs.Marks.{Known, known_seen}
 
 -- ---- times
 
@@ -32,7 +22,7 @@ not_true : (b : Bool) → not b ≡ true → b ≡ false
 not_true false is = refl
 not_true true is = absurd (cc is)
 
-not_false : (b : Bool) → not b ≡ false → b ≡ true
+pub not_false : (b : Bool) → not b ≡ false → b ≡ true
 not_false true is = refl
 not_false false is = absurd (cc is)
 
@@ -56,9 +46,9 @@ fresh_age stamp before entry fits fits_before near is =
     let a = ahead (wide_time_of stamp entry.stamp) before is in
     omega (arith, a.differ, a.near)
 
--- and one that comes behind an entry of the same block is younger, or of the same time and a higher input
+-- and one that comes after an entry of the same block is younger, or of the same time and a higher input
 pub behind_age : (stamp : ℕ) (entry above : Entry) → stamp < 2 ^ 32
-    → comes_behind entry.input (wide_time_of stamp entry.stamp) above.input (wide_time_of stamp above.stamp) ≡ true
+    → comes_after entry.input (wide_time_of stamp entry.stamp) above.input (wide_time_of stamp above.stamp) ≡ true
     → (age_of stamp entry < age_of stamp above) ⊎ ((age_of stamp entry ≡ age_of stamp above) × (above.input < entry.input))
 unfolding wide_time_of
 behind_age stamp entry above fits is =
@@ -111,7 +101,7 @@ block_comes full stamp gap after seen fits fits_full gap_is near s =
 
 -- ---- what is known of the facts
 
-abbrev steady : Bool → WatchedState
+abbrev pub steady : Bool → WatchedState
 steady level = record { level = level; shaded = false }
 
 -- no change of an input is hidden, no item of it was sent, and this is known of it
@@ -120,7 +110,7 @@ pub record IsWatched (above : InputAbove) (known : Known) : Type 0 where
   pub hidden : above.hidden ≡ false
   pub touched : above.touched ≡ false
   pub watched : above.watched ≡ option_map steady known.level
-  pub told : above.told ≡ known.told
+  pub shown : above.shown ≡ known.shown
   pub unlogged : above.unlogged ≡ known.unlogged
 
 -- below the first block no load was sent and times are known, the latest block without C has this stamp, these states are awaited, and this is known
@@ -153,7 +143,7 @@ coming_input None above known input low w = record {
   hidden = w.hidden;
   touched = w.touched;
   watched = w.watched;
-  told = w.told;
+  shown = w.shown;
   unlogged = w.unlogged;
 }
 coming_input (Some seen) above known input low w =
@@ -164,9 +154,9 @@ coming_input (Some seen) above known input low w =
       hidden = w.hidden;
       touched = w.touched;
       watched = w.watched;
-      told = ap₂ (λ (b t : Bool). if b then (if t then None else Some bit) else above.told) there w.touched;
-      unlogged = ap₂ (λ (b t : Bool). (b && (not t && is_some_and above.told (λ level. not (beq level bit)))) || above.unlogged) there w.touched
-          ∙ ap₂ (λ (l : Option Bool) (u : Bool). is_some_and l (λ level. not (beq level bit)) || u) w.told w.unlogged;
+      shown = ap₂ (λ (b t : Bool). if b then (if t then None else Some bit) else above.shown) there w.touched;
+      unlogged = ap₂ (λ (b t : Bool). (b && (not t && is_some_and above.shown (λ level. not (beq level bit)))) || above.unlogged) there w.touched
+          ∙ ap₂ (λ (l : Option Bool) (u : Bool). is_some_and l (λ level. not (beq level bit)) || u) w.shown w.unlogged;
     }
 
 -- ---- an entry or the end of a block to which the record comes
@@ -186,10 +176,7 @@ StatesPass None known = Unit {0}
 StatesPass (Some seen) known = (input : ℕ) → input < 64 → (level : Bool) → (known input).level ≡ Some level → level ≡ is_set seen.levels input
 
 same_level : (a b : Bool) → not (beq a b) ≡ false → a ≡ b
-same_level true true is = refl
-same_level false false is = refl
-same_level true false is = absurd (cc is)
-same_level false true is = absurd (cc is)
+same_level a b is = grind arith
 
 module _ (facts : ContentFacts) (full : ℕ) (floor : Floor) (seen : Option Seen) (known : ℕ → Known) (w : Within facts full floor seen known) (event : ContentEvent)
     (keeps : broken_state facts event facts.seen ≡ None) where
@@ -217,133 +204,3 @@ module _ (facts : ContentFacts) (full : ℕ) (floor : Floor) (seen : Option Seen
       by : (found : Option Seen) → broken_state facts event found ≡ None → StatesPass (comes_with found event) known
       by None is = tt
       by (Some s) is = coming s (comes_to s event) refl (sym (ap (λ (n : ℕ). state_breach ((n == 0) && comes_to s event) (first_differing facts s)) w.judged) ∙ is)
-
--- ---- an entry
-
--- an entry that breaks no rule
-module _ (facts : ContentFacts) (stamp : ℕ) (entry : Entry) (keeps : rule_broken_by facts (recorded stamp entry) ≡ None) where
-  abbrev state : TimedState
-  state = record { level = entry.level; wide = wide_time_of stamp entry.stamp }
-
-  abbrev pub Passes : ContentRule → Type 0
-  Passes rule = breaks_entry facts entry.input state rule ≡ false
-
-  all_pass : (rules : List ContentRule) → find (breaks_entry facts entry.input state) rules ≡ None → AllByRecursion Passes rules
-  all_pass [] is = tt
-  all_pass (rule ∷ rules) is = by (all_pass rules) (breaks_entry facts entry.input state rule) refl is
-    where
-      by : (find (breaks_entry facts entry.input state) rules ≡ None → AllByRecursion Passes rules) → (b : Bool) → breaks_entry facts entry.input state rule ≡ b
-          → (if b then Some rule else find (breaks_entry facts entry.input state) rules) ≡ None → AllByRecursion Passes (rule ∷ rules)
-      by rest false at is = (at, rest is)
-      by rest true at is = absurd (cc is)
-
-  pub passes : AllByRecursion Passes entry_rules
-  passes = all_pass entry_rules (none_of_map _ (find (breaks_entry facts entry.input state) entry_rules) (none_or _ _ keeps).1)
-
-  pub states_keep : broken_state facts (recorded stamp entry) facts.seen ≡ None
-  states_keep = (none_or _ _ keeps).0
-
-module _ (facts : ContentFacts) (full : ℕ) (floor : Floor) (seen : Option Seen) (known : ℕ → Known) (w : Within facts full floor seen known) (now stamp : ℕ) (entry : Entry) (low : entry.input < 64) where
-  abbrev wide : ℕ
-  wide = wide_time_of stamp entry.stamp
-
-  abbrev event : ContentEvent
-  event = recorded stamp entry
-
-  abbrev comes : Option Seen
-  comes = comes_with seen event
-
-  abbrev floor_then : Floor
-  floor_then = record { time = wide; input = Some entry.input }
-
-  abbrev known_then : ℕ → Known
-  known_then = known_with (known_coming comes known) (timed now stamp entry)
-
-  entry_input : (input : ℕ) → input < 64 → (same : Bool)
-      → IsWatched (if same && nat_lt input 64 then input_with_entry facts entry.level wide (input_coming input comes (facts.inputs input)) else input_coming input comes (facts.inputs input))
-      (if same then with_entry entry.level (known_coming comes known input) else known_coming comes known input)
-  entry_input input within false = coming_input comes (facts.inputs input) known input within (w.inputs input within)
-  entry_input input within true =
-      let there : nat_lt input 64 ≡ true = grind (arith, nat_tests) in
-      let above = input_coming input comes (facts.inputs input) in
-      let old = coming_input comes (facts.inputs input) known input within (w.inputs input within) in
-      subst (λ (b : Bool). IsWatched (if b then input_with_entry facts entry.level wide above else above) (with_entry entry.level (known_coming comes known input))) (sym there)
-      (record {
-        reopened = old.reopened;
-        hidden = old.hidden;
-        touched = old.touched;
-        watched = ap₂ (λ (a b : Bool). if a && not b then Some (record { level = entry.level; shaded = above.hidden }) else None) w.clear old.reopened
-            ∙ ap (λ (h : Bool). Some (record { level = entry.level; shaded = h })) old.hidden;
-        told = refl;
-        unlogged = old.unlogged;
-      })
-
-  coming_is : coming facts event ≡ comes
-  coming_is = ap (option_and_then (if_comes event)) w.seen_is
-
-  pub entry_after : Within (content_with facts event) full floor_then (seen_below event seen) known_then
-  entry_after = subst (λ f. Within f full floor_then (seen_below event seen) known_then) (sym (step_only facts event w.judged)) (record {
-    judged = w.judged;
-    clear = w.clear;
-    timely = w.timely;
-    full_is = w.full_is;
-    aged = w.aged;
-    seen_is = ap (seen_below event) w.seen_is;
-    floor_is = ap (λ (b : Bool). if b then None else Some floor_then) w.aged;
-    inputs = λ input within. subst (λ c. IsWatched (input_recorded facts entry.input entry.level wide input (input_coming input c (facts.inputs input))) (known_then input)) (sym coming_is)
-        (entry_input input within (input == entry.input));
-  })
-
-  -- the entry breaks no rule
-  module _ (keeps : rule_broken_by facts event ≡ None) where
-    abbrev kept : AllByRecursion (Passes facts stamp entry keeps) entry_rules
-    kept = passes facts stamp entry keeps
-
-    -- the times of this entry are known
-    known_time : (test : Floor → Bool) → (are_times_judged facts && is_some_and facts.floor test) ≡ test floor
-    known_time test =
-        ap₂ (λ (n : ℕ) (f : Option Floor). ((n == 0) && (facts.timely && not facts.aged)) && is_some_and f test) w.judged w.floor_is
-        ∙ ap₂ (λ (c a : Bool). (c && not a) && test floor) w.timely w.aged
-
-    pub behind : (above : ℕ) → floor.input ≡ Some above → comes_behind entry.input wide above floor.time ≡ true
-    behind above is =
-        not_false (comes_behind entry.input wide above floor.time)
-        (sym (ap (λ (a : Option ℕ). is_some_and a (λ i. not (comes_behind entry.input wide i floor.time))) is)
-        ∙ sym (known_time (is_out_of_order entry.input wide)) ∙ kept.0)
-
-    pub later : floor.input ≡ None → is_later wide floor.time ≡ true
-    later is =
-        not_false (is_later wide floor.time)
-        (sym (ap (λ (a : Option ℕ). not (is_some a) && not (is_later wide floor.time)) is)
-        ∙ sym (known_time (is_stale wide)) ∙ kept.1.0)
-
-    other_level : (a b : Bool) → beq a b ≡ false → a ≡ not b
-    other_level true true is = absurd (cc is)
-    other_level true false is = refl
-    other_level false true is = refl
-    other_level false false is = absurd (cc is)
-
-    neither : (a b : Bool) → (a || b) ≡ false → (a ≡ false) × (b ≡ false)
-    neither false b is = (refl, is)
-    neither true b is = absurd (cc is)
-
-    -- the latest level of its input, which states do not change
-    level_kept : (c : Option Seen) (input : ℕ) → (known_coming c known input).level ≡ (known input).level
-    level_kept None input = refl
-    level_kept (Some s) input = refl
-
-    told_kept : is_told_otherwise entry.level (input_coming entry.input comes (facts.inputs entry.input)) ≡ false
-    told_kept = sym (ap (λ (c : Option Seen). is_told_otherwise entry.level (input_coming entry.input c (facts.inputs entry.input))) coming_is)
-        ∙ sym (ap (λ (n : ℕ). (n == 0) && is_told_otherwise entry.level (input_coming entry.input (coming facts event) (facts.inputs entry.input))) w.judged) ∙ kept.1.1.1.1.1.0
-
-    pub is_change : IsChange (known_coming comes known entry.input) entry.level
-    is_change =
-        let here = coming_input comes (facts.inputs entry.input) known entry.input low (w.inputs entry.input low) in
-        let parts = neither (is_some_and (input_coming entry.input comes (facts.inputs entry.input)).told (beq entry.level)) (input_coming entry.input comes (facts.inputs entry.input)).unlogged told_kept in
-        record {
-          of_level = λ before is.
-              (let watched = (w.inputs entry.input low).watched ∙ ap (option_map steady) (sym (level_kept comes entry.input) ∙ is) in
-              other_level entry.level before (sym (ap (λ (x : Option WatchedState). is_some_and x (λ s. beq entry.level s.level)) watched) ∙ kept.1.1.0));
-          of_told = λ before is. other_level entry.level before (sym (ap (λ (x : Option Bool). is_some_and x (beq entry.level)) (here.told ∙ is)) ∙ parts.0);
-          logged = sym here.unlogged ∙ parts.1;
-        }

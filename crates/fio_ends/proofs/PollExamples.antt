@@ -1,14 +1,12 @@
 -- Logs of polls, by computation: one without a fault, and one of which a block has an entry before the block above.
-use Rattle.fio_ends.proofs.Names.{◌≡◌, ◌∙◌, ◌∷◌, ◌++◌, List, None, TranscriptLine, [], ap, arith, false, refl, sym, true, ℕ}
-use Rattle.std.specs.Prelude.{is_some}
+use Rattle.fio_ends.proofs.Names.{◌≡◌, ◌∙◌, ◌∷◌, ◌++◌, List, None, TranscriptLine, [], ap, arith, false, refl, sym, true, ℕ, IsLogOfPolls, content_fault_in, is_some}
 use Rattle.fio_message.specs.Bits.{is_set}
 use Rattle.fio_message.specs.Decoding.{message_in}
 use Rattle.fio_input.specs.Widening.{wide_time_of}
 use Rattle.fio_check.specs.ContentRules.{first_differing, is_excused}
 use Rattle.fio_check.specs.ContentAbove.{excuses_at}
-use Rattle.fio_check.specs.ContentFaults.{content_fault_in}
 use Rattle.fio_ends.specs.Explainable.{AccusedAreNotExplainable}
-use Rattle.fio_ends.specs.PollLogs.{Answered, AreOfBothKinds, IsLogOfPolls, LogsOfPollsAreDecided}
+use Rattle.fio_ends.specs.PollLogs.{Answered, AreOfBothKinds, LogsOfPollsAreDecided}
 use Rattle.fio_ends.proofs.PollLogs.{logs_of_polls_are_decided}
 
 -- a block at 1,000, and an entry with these low bits in one at 1,001

@@ -1,17 +1,10 @@
--- What a log of polls without a fault keeps: its entries are one behind the other, and turn the levels of their inputs.
-use Rattle.fio_ends.proofs.Names.{AllByRecursion, Answer, Block, Bool, Command, ContentEvent, ContentFacts, CpuFrame, Ended, Heard, IsCommand, List, None, Option, Recorded, Sent, Some, TranscriptLine, [], answer_in, answer_octets, ap, arith, content_with, false, cpu_frame_on, if◌then◌else◌, map, nat_tests, option_map, refl, rule_broken_by, subst, true, ℕ, ◌%◌, ◌++◌, ◌+◌, ◌<◌, ◌==◌, ◌^◌, ◌∙◌, ◌∷◌, ◌≡◌}
-use Rattle.std.specs.Option.{option_or}
-use Rattle.std.specs.Prelude.{fold}
+-- What a log of polls without a fault keeps: its entries are one after the other, and turn the levels of their inputs.
+use Rattle.fio_ends.proofs.Names.{AllByRecursion, Answer, Block, Bool, Command, ContentEvent, ContentFacts, CpuFrame, Ended, Heard, IsCommand, List, None, Option, Recorded, Sent, Some, TranscriptLine, [], answer_in, answer_octets, ap, arith, content_with, false, cpu_frame_on, if◌then◌else◌, map, nat_tests, option_map, refl, rule_broken_by, subst, true, ℕ, ◌%◌, ◌++◌, ◌+◌, ◌<◌, ◌==◌, ◌^◌, ◌∙◌, ◌∷◌, ◌≡◌, ContentChecking, IsBlock, IsEntry, IsEntryOf64, block_frame, block_status, block_status-fits, breach_among, checking_with, command_frame, content_events, events_of_block, fold, found_first, found_in_frame, found_on, gap_if, item_of, number_after, number_with_command, option_or, status_back}
 use Rattle.fio_message.specs.declared.answers.Answer.TheVariants as answers
 use Rattle.fio_message.specs.declared.fields.Entry.{Entry}
-use Rattle.fio_message.specs.Octets.{IsEntry}
 use Rattle.fio_message.proofs.MessageLaws.{answer_back}
-use Rattle.fio_cpu.specs.Record.{gap_if, item_of}
-use Rattle.fio_message.specs.Status.{block_status}
-use Rattle.fio_message.proofs.StatusBits.{block_status-fits, status_back}
-use Rattle.fio_check.specs.ContentCheckers.{ContentChecking, breach_among, breach_below, checking_with, found_first, found_in_frame, found_on, kept_below}
-use Rattle.fio_check.specs.ContentEvents.{content_events, events_of_block, number_after, number_with_command}
-use Rattle.fio_ends.specs.PollLogs.{IsBlock, IsEntryOf64, block_frame, command_frame, states_frame}
+use Rattle.fio_check.specs.ContentCheckers.{breach_below, kept_below}
+use Rattle.fio_ends.specs.PollLogs.{states_frame}
 use Rattle.fio_ends.proofs.Sends.{read_back}
 
 -- ---- frames

@@ -1,25 +1,17 @@
 -- Of logs of polls exactly those are accused that no right link explains.
 use Rattle.fio_ends.proofs.Marks.{Agree, EndsBefore, Known, Look, LookHolds, all_see, entries_in, looks_hold, looks_in, marks_turn, turned_from}
 use Rattle.fio_ends.proofs.PollBlocks.{block_floor, end_is, status}
-use Rattle.fio_ends.proofs.Names.{content_step, ◌||◌, AllByRecursion, Bool, ContentEvent, ContentFacts, CpuFrame, Ended, Heard, InputAbove, List, None, Option, Sent, Some, TranscriptLine, [], ap, append_assoc, arith, content_with, false, cpu_frame_on, if◌then◌else◌, map, nat_le, nat_lt, nat_tests, no_content, option_map, refl, subst, suc, sym, true, ℕ, ◌%◌, ◌&&◌, ◌++◌, ◌+◌, ◌<◌, ◌==◌, ◌||◌, ◌∙◌, ◌∷◌, ◌≡◌, ◌≤◌}
-use Rattle.std.specs.Prelude.{fold, option_and_then}
+use Rattle.fio_ends.proofs.Names.{content_step, ◌||◌, AllByRecursion, Bool, ContentEvent, ContentFacts, CpuFrame, Ended, Heard, InputAbove, List, None, Option, Sent, Some, TranscriptLine, [], ap, append_assoc, arith, content_with, false, cpu_frame_on, if◌then◌else◌, map, nat_le, nat_lt, nat_tests, no_content, option_map, refl, subst, suc, sym, true, ℕ, ◌%◌, ◌&&◌, ◌++◌, ◌+◌, ◌<◌, ◌==◌, ◌||◌, ◌∙◌, ◌∷◌, ◌≡◌, ◌≤◌, AreInStep, IsExplainable, IsLogOfPolls, IsSeenBy, SentItem, Turn, coming, content_fault_in, each-append, each-map, fold, frames_of_turns, if_comes, input_below_clear, input_coming, input_recorded, input_with_answer, input_with_entry, milliseconds_between, no_input, option_and_then, seen_below, sent_step, settled_now, standard_rule_limits, step_only, unnamed, watched_now}
 use Rattle.fio_message.specs.Bits.{is_set}
 use Rattle.fio_message.specs.declared.commands.Command.TheVariants as commands
 use Rattle.fio_message.specs.declared.fields.Entry.{Entry}
 use Rattle.fio_input.specs.Widening.{wide_time_of}
 use Rattle.fio_check.specs.ContentCheckers.{checking_at_start, fault_found}
-use Rattle.fio_check.specs.ContentKnown.{if_comes}
-use Rattle.fio_check.specs.ContentFacts.{coming, input_below_clear, input_recorded, input_with_answer, input_with_entry, no_input, seen_below, settled_now, unnamed, watched_now}
-use Rattle.fio_check.specs.ContentKnown.{input_coming}
-use Rattle.fio_check.specs.ContentFaults.{ContentFault, content_fault_in}
-use Rattle.fio_check.specs.Rules.{standard_rule_limits}
-use Rattle.fio_check.specs.ContentSaid.{SentItem, milliseconds_between}
+use Rattle.fio_check.specs.ContentFaults.{ContentFault}
 use Rattle.fio_check.proofs.ContentFound.{finds_the_fault}
-use Rattle.fio_link.proofs.MadeBlocks.{each-append, each-map}
-use Rattle.fio_ends.specs.Explainable.{AccusedAreNotExplainable, IsExplainable}
-use Rattle.fio_ends.specs.PollLogs.{AreInStep, IsBlock, IsEntryOf64, IsLogOfPolls, IsSeenBy, LogsOfPollsAreDecided, Turn, frames_of_turns}
+use Rattle.fio_ends.specs.Explainable.{AccusedAreNotExplainable}
+use Rattle.fio_ends.specs.PollLogs.{LogsOfPollsAreDecided}
 use Rattle.fio_ends.specs.PollLogs as turns_of
-use Rattle.fio_check.proofs.Unexcused.{sent_step, step_only}
 use Rattle.fio_ends.proofs.PollEntries.{IsWatched, Within, recorded}
 use Rattle.fio_ends.proofs.PollFacts.{NoneFound, below_command, none_found}
 use Rattle.fio_ends.proofs.PollStories.{LooksAre, every_input, spent_of, timed_of}
@@ -27,17 +19,18 @@ use Rattle.fio_ends.proofs.ExplainableLogs.{accused_not_explainable}
 use Rattle.fio_ends.proofs.PollRuns.{explained}
 use Rattle.fio_ends.proofs.TimedEntries.{Rise, Timed, has_entry, levels_with, upto}
 use Rattle.fio_ends.proofs.TimedEntries as timed_entries
-use Rattle.fio_ends.proofs.PollTurns.{Kept, answer_of, below, heard_block, keeps_turns, looks_of_turns, no_item, number_fits}
+use Rattle.fio_ends.proofs.PollTurns.{Kept, below, heard_block, keeps_turns, looks_of_turns, number_fits}
+use Rattle.fio_ends.proofs.PollBetween.{no_item, answer_of}
 
 -- ---- the first block
 
 -- nothing is known of an input
 abbrev pub nothing : ℕ → Known
-nothing input = record { level = None; told = None; unlogged = false }
+nothing input = record { level = None; shown = None; unlogged = false }
 
 record IsUnknown (above : InputAbove) : Type 0 where
   pub watched : above.watched ≡ None
-  pub told : above.told ≡ None
+  pub shown : above.shown ≡ None
   pub unlogged : above.unlogged ≡ false
 
 -- above the end of the first block nothing is watched
@@ -53,7 +46,7 @@ none_comes : (facts : ContentFacts) (event : ContentEvent) → facts.seen ≡ No
 none_comes facts event is = ap (option_and_then (if_comes event)) is
 
 unknown_still : (above : InputAbove) (input : ℕ) → IsUnknown above → IsUnknown (input_coming input None above)
-unknown_still above input u = record { watched = u.watched; told = u.told; unlogged = u.unlogged }
+unknown_still above input u = record { watched = u.watched; shown = u.shown; unlogged = u.unlogged }
 
 unwatched_entry : (facts : ContentFacts) (stamp : ℕ) (entry : Entry) → IsUnwatched facts → IsUnwatched (content_with facts (recorded stamp entry))
 unwatched_entry facts stamp entry u = subst IsUnwatched (sym (step_only facts (recorded stamp entry) u.judged)) (record {
@@ -68,15 +61,15 @@ unwatched_entry facts stamp entry u = subst IsUnwatched (sym (step_only facts (r
   where
     by : (above : InputAbove) → IsUnknown above → (here : Bool) → IsUnknown (if here then input_with_entry facts entry.level (wide_time_of stamp entry.stamp) above else above)
     by above k false = k
-    by above k true = record { watched = ap (λ (c : Bool). watched_now c entry.level above) u.clear; told = refl; unlogged = k.unlogged }
+    by above k true = record { watched = ap (λ (c : Bool). watched_now c entry.level above) u.clear; shown = refl; unlogged = k.unlogged }
 
 unwatched_all : (entries : List Entry) (facts : ContentFacts) (stamp : ℕ) → IsUnwatched facts → IsUnwatched (fold content_with facts (map (recorded stamp) entries))
 unwatched_all [] facts stamp u = u
 unwatched_all (entry ∷ entries) facts stamp u = unwatched_all entries (content_with facts (recorded stamp entry)) stamp (unwatched_entry facts stamp entry u)
 
 clear_unknown : (above : InputAbove) (item : Option SentItem) (input : ℕ) → IsUnknown above → IsWatched (input_below_clear above item) (nothing input)
-clear_unknown above None input u = record { reopened = refl; hidden = refl; touched = refl; watched = u.watched; told = u.told; unlogged = u.unlogged }
-clear_unknown above (Some item) input u = record { reopened = refl; hidden = refl; touched = refl; watched = u.watched; told = u.told; unlogged = u.unlogged }
+clear_unknown above None input u = record { reopened = refl; hidden = refl; touched = refl; watched = u.watched; shown = u.shown; unlogged = u.unlogged }
+clear_unknown above (Some item) input u = record { reopened = refl; hidden = refl; touched = refl; watched = u.watched; shown = u.shown; unlogged = u.unlogged }
 
 after_first : (facts : ContentFacts) (stamp : ℕ) → IsUnwatched facts → Within (content_with facts (Ended (status false) stamp)) stamp (block_floor stamp) None nothing
 after_first facts stamp u = subst (λ f. Within f stamp (block_floor stamp) None nothing) (sym (step_only facts (Ended (status false) stamp) u.judged ∙ end_is facts false stamp))
@@ -213,7 +206,7 @@ module _ (lines : List TranscriptLine) (l : IsLogOfPolls lines) (good : content_
         seen = refl;
         inputs = λ input.
             (let above = sym (no_item (unnamed no_input) (nat_lt input 64)) in
-            subst (λ a. IsUnknown (input_with_answer false a)) above (record { watched = refl; told = refl; unlogged = refl }));
+            subst (λ a. IsUnknown (input_with_answer false a)) above (record { watched = refl; shown = refl; unlogged = refl }));
       })
 
   kept : Kept 0 l.stamp None nothing l.turns

@@ -1,25 +1,17 @@
--- A log of polls is explainable if its entries have scans of their own, one behind the other, and turn the levels of their inputs.
-use Rattle.fio_ends.proofs.Names.{AllByRecursion, AreInRange, Bool, CpuFrame, Event, Leads, Life, List, Machine, MadeBlock, None, Settings, TranscriptLine, Transition, [], after_sending, ap, append-nil, ap₂, arith, blocks_of, end_of_blocks, entry_of, false, frames_from, if◌then◌else◌, is_new, length, life_of, loads_of, log_of, map, nat_lt, nat_tests, newest_poll, number_of, refl, scans_of, start, subst, sym, take, ℕ, ◌%◌, ◌+◌, ◌-◌, ◌<◌, ◌^◌, ◌∙◌, ◌∷◌, ◌≡◌}
-use Rattle.std.proofs.Common.{◌*◌, min}
-use Rattle.std.proofs.lemmas.List.{length-map}
-use Rattle.std.proofs.Math.Seq.{take-length}
+-- A log of polls is explainable if its entries have scans of their own, one after the other, and turn the levels of their inputs.
+use Rattle.fio_ends.proofs.Names.{AllByRecursion, AreInRange, Bool, CpuFrame, Event, Leads, Life, List, Machine, MadeBlock, None, Settings, TranscriptLine, Transition, [], after_sending, ap, append-nil, ap₂, arith, blocks_of, end_of_blocks, entry_of, false, frames_from, if◌then◌else◌, is_new, length, life_of, loads_of, log_of, map, nat_lt, nat_tests, newest_poll, number_of, refl, scans_of, start, subst, sym, take, ℕ, ◌%◌, ◌+◌, ◌-◌, ◌<◌, ◌^◌, ◌∙◌, ◌∷◌, ◌≡◌, IsEntryOf64, IsExplainable, IsLogOfPolls, answer_octets, answer_of_sending, block_frame, block_status, frames_of_turns, is_out_of_sequence, length-map, min, poll_frame, standard_rule_limits, standard_settings, take-length}
+use Rattle.std.proofs.Common.{◌*◌}
 use Rattle.fio_message.specs.declared.answers.Answer.TheVariants as answers
 use Rattle.fio_message.specs.declared.commands.Command.TheVariants as commands
 use Rattle.fio_message.specs.declared.fields.Entry.{Entry}
-use Rattle.fio_message.specs.Answers.{answer_octets}
-use Rattle.fio_message.specs.Status.{block_status}
-use Rattle.fio_module.specs.Sendings.{answer_of_sending, is_out_of_sequence}
-use Rattle.fio_module.specs.Settings.{standard_settings}
-use Rattle.fio_check.specs.Rules.{standard_rule_limits}
 use Rattle.fio_link.specs.declared.event.Event.TheVariants as events
-use Rattle.fio_ends.specs.Explainable.{IsExplainable}
-use Rattle.fio_ends.specs.PollLogs.{IsEntryOf64, IsLogOfPolls, block_frame, frames_of_turns, poll_frame, scans_of_turns}
 use Rattle.fio_ends.specs.PollLogs as turns_of
 use Rattle.fio_ends.proofs.BuiltRuns.{Built, build, build_answered}
 use Rattle.fio_ends.proofs.Plans.{HasCome, IsTakeable, Plan, Stands, frame_of_answer, frames_of, made_at, scan_after, sending_at}
 use Rattle.fio_ends.proofs.FirstLives.{IsLogged, first_blocks, first_entries, first_given, first_levels, first_life, first_poll, first_scans}
 use Rattle.fio_ends.proofs.GivenLives.{HasLife, given}
-use Rattle.fio_ends.proofs.PollStories.{AreFresh, HoldLooks, IsTold, plan, steps_of, tells, timed_of}
+use Rattle.fio_ends.proofs.PollStories.{AreFresh, HoldLooks, steps_of, timed_of}
+use Rattle.fio_ends.proofs.StoryRuns.{IsTold, plan, tells}
 use Rattle.fio_ends.proofs.Steady.{loads_on}
 use Rattle.fio_ends.proofs.ShortRuns.{near_when_short}
 use Rattle.fio_ends.proofs.TimedEntries.{Rise, Timed, levels_with, upto}
@@ -124,8 +116,8 @@ module _ (lines : List TranscriptLine) (l : IsLogOfPolls lines) (start_levels : 
       ap₂ (λ (n : ℕ) (es : List Entry). record { from_cpu = false; octets = answer_octets (answers.Block n (record { items = es }) (block_status (nat_lt 255 (length above - 0)) false false false) ((l.stamp + 0) % 2 ^ 32)) }) number_is entries
       ∙ ap₂ (λ (m : Bool) (t : ℕ). record { from_cpu = false; octets = answer_octets (answers.Block l.number (record { items = l.entries }) (block_status m false false false) t) }) more stamp
 
-  told : IsTold settings in_range l.number (omega arith) (omega arith) l.stamp since loads above start_levels all is_open hidden rise turn l.turns 0 0 l.stamp first_made.end 1
-  told = tells settings in_range l.number (omega arith) (omega arith) l.stamp since loads above start_levels all is_open hidden rise turn l.turns 0 l.stamp first_made.end 1 None [] refl tt
+  shown : IsTold settings in_range l.number (omega arith) (omega arith) l.stamp since loads above start_levels all is_open hidden rise turn l.turns 0 0 l.stamp first_made.end 1
+  shown = tells settings in_range l.number (omega arith) (omega arith) l.stamp since loads above start_levels all is_open hidden rise turn l.turns 0 l.stamp first_made.end 1 None [] refl tt
       (omega (arith, count_is)) (let fits = l.first.fits in omega arith) l.in_step fresh holds
 
   -- ---- the run
@@ -139,7 +131,7 @@ module _ (lines : List TranscriptLine) (l : IsLogOfPolls lines) (start_levels : 
   built : Built the_plan (after_sending h.machine (commands.Poll (number_of l.number 0))) 0 end_scan
       (frame_of_answer (answer_of_sending (sending_at the_plan 0 0 0)) ∷ later_frames)
   built = build_answered the_plan h.machine 0 0 0 end_scan later_frames stands takes
-      (λ m there. build the_plan (steps_of l.stamp 0 l.turns) m (length h.machine.to_cpu + 1) 0 first_made.end 1 None there told.takeable)
+      (λ m there. build the_plan (steps_of l.stamp 0 l.turns) m (length h.machine.to_cpu + 1) 0 first_made.end 1 None there shown.takeable)
 
   polled : Built the_plan (after_sending h.machine (commands.Poll (number_of l.number h.machine.round))) 0 end_scan
       (frame_of_answer (answer_of_sending (sending_at the_plan 0 0 0)) ∷ later_frames)
@@ -157,10 +149,10 @@ module _ (lines : List TranscriptLine) (l : IsLogOfPolls lines) (start_levels : 
       let number : number_of l.number h.machine.round ≡ l.number = ap (number_of l.number) h.round ∙ number_is in
       let next : number_of l.number 1 ≡ (l.number + 1) % 256 = omega arith in
       ap₂ (λ (n : ℕ) (fs : List CpuFrame). poll_frame n ∷ fs) number
-      (polled.has ∙ ap₂ (λ (f : CpuFrame) (fs : List CpuFrame). f ∷ fs) first_frame (told.frames ∙ ap (λ n. frames_of_turns n l.turns) next))
+      (polled.has ∙ ap₂ (λ (f : CpuFrame) (fs : List CpuFrame). f ∷ fs) first_frame (shown.frames ∙ ap (λ n. frames_of_turns n l.turns) next))
 
   short : scans_of (life_of polled.last.history) < 2 ^ 31
-  short = omega (arith, polled.scans, told.scans, since_few, l.first.few, l.lasts)
+  short = omega (arith, polled.scans, shown.scans, since_few, l.first.few, l.lasts)
 
   pub explained : IsExplainable standard_rule_limits false lines
   explained = record {

@@ -1,110 +1,16 @@
 -- What the turns of a log of polls without a fault keep.
 use Rattle.fio_ends.proofs.Marks.{InTime, Known, Look, Mark, Pass, entries_in, entries_in-append, in_time-append, looks_in, looks_in-append}
 use Rattle.fio_ends.proofs.PollBlocks.{SeenNear, Walked, block_floor, looks_of, status, walk_block}
-use Rattle.fio_ends.proofs.Names.{AllByRecursion, Answer, Bool, Command, ContentEvent, ContentFacts, CpuFrame, Ended, Heard, InputAbove, IsCommand, List, None, Option, Recorded, Sent, Some, [], ap, ap₂, arith, content_with, false, fold-append, if◌then◌else◌, is_some_and, map, nat_le, nat_lt, nat_tests, option_map, refl, subst, sym, true, ℕ, ◌%◌, ◌++◌, ◌+◌, ◌-◌, ◌<◌, ◌^◌, ◌∙◌, ◌∷◌, ◌≡◌, ◌≤◌}
-use Rattle.std.specs.Prelude.{fold}
+use Rattle.fio_ends.proofs.Names.{AllByRecursion, Bool, Command, ContentFacts, CpuFrame, Ended, Heard, IsCommand, List, None, Option, Recorded, Sent, Some, [], ap, ap₂, arith, content_with, false, fold-append, map, option_map, refl, subst, sym, true, ℕ, ◌%◌, ◌++◌, ◌+◌, ◌-◌, ◌<◌, ◌^◌, ◌∙◌, ◌∷◌, ◌≡◌, ◌≤◌, AreInStep, IsBlock, IsQuiet, IsSeenBy, Seen, Turn, fold, frames_of_turns, item_of, milliseconds_between, number_with_command}
 use Rattle.fio_message.specs.declared.answers.Answer.TheVariants as answers
 use Rattle.fio_message.specs.declared.commands.Command.TheVariants as commands
 use Rattle.fio_message.specs.declared.fields.Entry.{Entry}
-use Rattle.fio_cpu.specs.Record.{item_of}
-use Rattle.fio_check.specs.ContentEvents.{number_with_command}
-use Rattle.fio_check.specs.ContentFacts.{input_with_answer, input_with_item, is_aging, unnamed}
-use Rattle.fio_check.specs.ContentSaid.{Floor, Seen, is_far, item_for, milliseconds_between}
-use Rattle.fio_ends.specs.PollLogs.{AreInStep, IsBlock, IsEntryOf64, IsLogOfPolls, IsQuiet, IsSeenBy, LogsOfPollsAreDecided, Turn, frames_of_turns}
 use Rattle.fio_ends.specs.PollLogs as turns_of
-use Rattle.fio_check.proofs.Unexcused.{sent_step, step_only}
-use Rattle.fio_ends.proofs.PollEntries.{IsWatched, Within, recorded}
+use Rattle.fio_ends.proofs.PollEntries.{Within, recorded}
 use Rattle.fio_ends.proofs.PollFacts.{AllKeep, NoneFound, below_block, below_command, below_states, judging}
 use Rattle.fio_ends.proofs.PollStories.{AreFresh, IsYounger, all_after, block_not_after, every_input, timed, timed_of}
 use Rattle.fio_ends.proofs.TimedEntries.{Rise, Timed}
-
-abbrev pub answer_of : ℕ → Bool → List Entry → ℕ → Answer
-answer_of number again entries stamp = answers.Block number (record { items = entries }) (status again) stamp
-
--- ---- from block to block
-
--- a command without items leaves an input as it is
-pub no_item : (above : InputAbove) (there : Bool) → input_with_item above (if there then None else None) ≡ above
-no_item above true = refl
-no_item above false = refl
-
-unnamed_watched : (above : InputAbove) (known : Known) (input : ℕ) → IsWatched above known → IsWatched (input_with_item (unnamed above) (item_for input [])) known
-unnamed_watched above known input w = subst (λ a. IsWatched a known) (sym (no_item (unnamed above) (nat_lt input 64)))
-    (record { reopened = w.reopened; hidden = w.hidden; touched = w.touched; watched = w.watched; told = w.told; unlogged = w.unlogged })
-
-answered_watched : (above : InputAbove) (known : Known) → IsWatched above known → IsWatched (input_with_answer false above) known
-answered_watched above known w = record { reopened = w.reopened; hidden = w.hidden; touched = w.touched; watched = w.watched; told = w.told; unlogged = w.unlogged }
-
--- a poll or another quiet command changes nothing of this
-module _ (facts : ContentFacts) (full : ℕ) (floor : Floor) (seen : Option Seen) (known : ℕ → Known) (w : Within facts full floor seen known) where
-  pub after_poll : (number : ℕ) → Within (content_with facts (Sent (commands.Poll number))) full floor seen known
-  after_poll number = subst (λ f. Within f full floor seen known) (sym (sent_step facts (commands.Poll number))) (record {
-    judged = w.judged;
-    clear = w.clear;
-    timely = w.timely;
-    full_is = w.full_is;
-    aged = w.aged;
-    seen_is = w.seen_is;
-    floor_is = w.floor_is;
-    inputs = λ input low. unnamed_watched (facts.inputs input) (known input) input (w.inputs input low);
-  })
-
-  pub after_lost : (command : Command) → IsQuiet command → Within (content_with facts (Sent command)) full floor seen known
-  after_lost (commands.Poll number) quiet = absurd quiet
-  after_lost (commands.LoadCounter load) quiet = absurd quiet
-  after_lost (commands.ConfigureInputs items) quiet = absurd quiet
-  after_lost other quiet = subst (λ f. Within f full floor seen known) (sym (sent_step facts other)) (record {
-    judged = w.judged;
-    clear = w.clear;
-    timely = w.timely;
-    full_is = w.full_is;
-    aged = w.aged;
-    seen_is = w.seen_is;
-    floor_is = w.floor_is;
-    inputs = λ input low. unnamed_watched (facts.inputs input) (known input) input (w.inputs input low);
-  })
-
-  -- nor does a block that is heard soon
-  pub after_heard : (number : ℕ) (again : Bool) (entries : List Entry) (stamp : ℕ) → milliseconds_between full stamp < 2 ^ 16
-      → Within (content_with facts (Heard (answer_of number again entries stamp))) full floor seen known
-  after_heard number again entries stamp near =
-      let soon : is_aging facts (Some stamp) ≡ false = ap (λ (f : Option ℕ). is_some_and f (λ t. is_far t stamp)) w.full_is ∙ not_far (milliseconds_between full stamp) near in
-      subst (λ f. Within f full floor seen known) (sym (step_only facts (Heard (answer_of number again entries stamp)) w.judged)) (record {
-        judged = w.judged;
-        clear = w.clear;
-        timely = w.timely;
-        full_is = w.full_is;
-        aged = soon;
-        seen_is = ap (λ (b : Bool). if b then None else facts.seen) soon ∙ w.seen_is;
-        floor_is = w.floor_is;
-        inputs = λ input low. answered_watched (facts.inputs input) (known input) (w.inputs input low);
-      })
-    where
-      not_far : (gap : ℕ) → gap < 2 ^ 16 → nat_le (2 ^ 16) gap ≡ false
-      not_far gap near = grind (arith, nat_tests)
-
-  -- states that are seen are awaited
-  pub after_states : (levels stamp : ℕ) → Within (content_with facts (Heard (answers.FilteredInputs levels stamp))) full floor (Some (record { stamp = stamp; levels = levels })) known
-  after_states levels stamp = subst (λ f. Within f full floor (Some (record { stamp = stamp; levels = levels })) known)
-      (sym (step_only facts (Heard (answers.FilteredInputs levels stamp)) w.judged)) (record {
-        judged = w.judged;
-        clear = w.clear;
-        timely = w.timely;
-        full_is = w.full_is;
-        aged = w.aged;
-        seen_is = ap (λ (k : Bool). if k then Some (record { stamp = stamp; levels = levels }) else None) w.timely;
-        floor_is = w.floor_is;
-        inputs = λ input low. answered_watched (facts.inputs input) (known input) (w.inputs input low);
-      })
-
--- events one after the other
-pub keep-parts : (facts : ContentFacts) (events more : List ContentEvent) → AllKeep facts (events ++ more) → AllKeep facts events × AllKeep (fold content_with facts events) more
-keep-parts facts [] more keeps = (tt, keeps)
-keep-parts facts (event ∷ events) more keeps = (let rest = keep-parts (content_with facts event) events more keeps.1 in ((keeps.0, rest.0), rest.1))
-
-pub recorded_are : (stamp : ℕ) (entries : List Entry) → map Recorded (map (item_of stamp) entries) ≡ map (recorded stamp) entries
-recorded_are stamp [] = refl
-recorded_are stamp (entry ∷ entries) = ap (λ es. recorded stamp entry ∷ es) (recorded_are stamp entries)
+use Rattle.fio_ends.proofs.PollBetween.{after_heard, after_lost, after_poll, after_states, recorded_are, answer_of}
 
 -- ---- all turns
 
@@ -161,9 +67,7 @@ abbrev pub IsNumber : Option ℕ → ℕ → Type 0
 IsNumber found number = number_with_command found (commands.Poll number) ≡ Some number
 
 same_number : (found : Option ℕ) (command : Command) → IsQuiet command → number_with_command found command ≡ found
-same_number None (commands.Poll number) quiet = absurd quiet
-same_number None other quiet = refl
-same_number (Some number) command quiet = refl
+same_number found other quiet = grind arith
 
 -- below a poll that is sent
 pub polled : (number : ℕ) (found : Option ℕ) (facts : ContentFacts) (frames : List CpuFrame) → number < 256 → IsNumber found number

@@ -1,11 +1,7 @@
 -- The module receives a frame, and may answer it.
-use Rattle.fio_ends.proofs.Names.{◌≡◌, ◌∙◌, ◌+◌, ◌<◌, ◌≤◌, inl, inr, ℕ, Bool, true, false, List, ◌++◌, length, Option, Some, None, refl, ap, sym, subst, arith, append-nil, if◌then◌else◌, ◌==◌, option_map, slice_get, nat_tests, eqb_tells, same_Some, slice_get_within, Answer, Command, answer_octets, command_in, poll_in, Settings, AreInRange, Life, life_of, newest_poll, is_new, answer_to, Facts, ToModule, SentFrame, Machine, number_of, after_delivery_to_module, refusal, after, next_round, get_push, number_of-fits, next_fits, after_delivery, IsKept, due_after, life_after_command, Commanded, []}
+use Rattle.fio_ends.proofs.Names.{◌≡◌, ◌∙◌, ◌+◌, ◌<◌, ◌≤◌, inl, inr, ℕ, Bool, true, false, List, ◌++◌, length, Option, Some, None, refl, ap, sym, subst, arith, append-nil, if◌then◌else◌, ◌==◌, option_map, slice_get, nat_tests, eqb_tells, same_Some, slice_get_within, Answer, Command, answer_octets, command_in, poll_in, Settings, AreInRange, Life, life_of, newest_poll, is_new, answer_to, Facts, ToModule, SentFrame, Machine, number_of, after_delivery_to_module, refusal, after, next_round, get_push, number_of-fits, next_fits, after_delivery, IsKept, due_after, life_after_command, Commanded, [], Sending, again_carries, answer_frames, answer_if, answer_of_sending, carried_back, first_carries, first_sending, polls_with, repeat_of, reply_to, said}
 use Rattle.fio_message.specs.declared.commands.Command.TheVariants as commands
-use Rattle.fio_module.specs.Sendings.{Sending, answer_of_sending, first_sending, repeat_of}
-use Rattle.fio_module.specs.Replies.{answer_if, reply_to}
-use Rattle.fio_link.specs.Link.{answer_frames, polls_with}
-use Rattle.fio_link.proofs.Spelled.{said}
-use Rattle.fio_link.proofs.Received.{same_number, first_carries, again_carries, carried_back, said_again, latest_sent, newest_fits}
+use Rattle.fio_link.proofs.Received.{same_number, said_again, latest_sent, newest_fits}
 use Rattle.fio_link.proofs.Kept.{sending_if}
 use Rattle.fio_link.proofs.OneLife.{continues}
 use Rattle.fio_ends.proofs.BlocksOfLives.{blocks_stay}

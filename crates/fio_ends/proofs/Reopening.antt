@@ -1,8 +1,6 @@
 -- An input whose changes that are still to be recorded alternate as long as it is not ignored and then opened again.
-use Rattle.fio_ends.proofs.Names.{◌≡◌, ◌≢◌, ◌∙◌, ◌+◌, ◌-◌, ◌<◌, ◌≤◌, ◌⊎◌, inl, inr, ℕ, Bool, true, false, not, List, [], ◌∷◌, ◌++◌, length, take, drop, Option, Some, None, refl, sym, subst, arith, slice_get, slice_get_within, take-append-drop, Command, command_in, Life, Occurrence, Scanned, LineSynced, Raised, Commanded, life_after_command, filter_events, log_of, log_of-with_command, Transition, SentFrame, get_after_push}
-use Rattle.std.proofs.lemmas.List.{drop-append-le}
+use Rattle.fio_ends.proofs.Names.{◌≡◌, ◌≢◌, ◌∙◌, ◌+◌, ◌-◌, ◌<◌, ◌≤◌, ◌⊎◌, inl, inr, ℕ, Bool, true, false, not, List, [], ◌∷◌, ◌++◌, length, take, drop, Option, Some, None, refl, sym, subst, arith, slice_get, slice_get_within, take-append-drop, Command, command_in, Life, Occurrence, Scanned, LineSynced, Raised, Commanded, life_after_command, filter_events, log_of, log_of-with_command, Transition, SentFrame, get_after_push, drop-append-le, state-configure}
 use Rattle.fio_message.specs.declared.commands.Command.TheVariants as commands
-use Rattle.fio_input.proofs.History.{state-configure}
 use Rattle.fio_module.specs.Log.{transitions_below}
 use Rattle.fio_ends.proofs.Alternating.{Alternate, NoneOf, alternate-append, alternate-split, none-alternate, none_ignored}
 use Rattle.fio_ends.proofs.Following.{IsNoCommand}

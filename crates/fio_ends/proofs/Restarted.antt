@@ -1,30 +1,14 @@
 -- Where a module is started anew the judge of a link accuses nobody, and says once at most that it was restarted: it goes on up to
 -- the first stamp, which is set back, and begins anew at the next poll.
 use Rattle.std.proofs.lemmas.List.Elements.{filter-append}
-use Rattle.fio_ends.proofs.Names.{length-append, append_assoc, ◌%◌, ◌≡◌, ◌∙◌, ◌+◌, ◌<◌, same_Some, nat_tests, command_in, ◌≤◌, ◌⊎◌, inl, inr, ℕ, suc, Bool, true, false, List, [], ◌∷◌, ◌++◌, length, map, Option, Some, None, refl, ap, ap₂, sym, subst, arith, is_some, option_and_then, AllByRecursion, Answer, Command, IsCommand, answer_in, answered_block, block_in, command_octets, Life, life_of, loads_of, Settings, AreInRange, ContentFacts, ContentKept, kept_with, Done, facts_with, no_facts, number_due, Facts, RuleLimits, Observation, first_broken_within, is_some_and, observation_in, Event, Machine, SentFrame, start, number_of, number_of-fits, after, after_delivered_block, after_delivery_to_cpu, after_delivery_to_module, Leads, item_numbered, IsNotRestart, HaveNoRestart, kept, CpuFrame, frame_heard, frames_at, due_after, ArePrompt, IsWithinRanges, SuitModule}
-use Rattle.std.specs.Prelude.{filter, nat_lt, nat_le, not, ◌&&◌, ◌==◌, option_map}
+use Rattle.fio_ends.proofs.Names.{length-append, append_assoc, ◌%◌, ◌≡◌, ◌∙◌, ◌+◌, ◌<◌, same_Some, nat_tests, command_in, ◌≤◌, ◌⊎◌, inl, inr, ℕ, suc, Bool, true, false, List, [], ◌∷◌, ◌++◌, length, map, Option, Some, None, refl, ap, ap₂, sym, subst, arith, is_some, option_and_then, AllByRecursion, Answer, Command, IsCommand, answer_in, answered_block, block_in, command_octets, Life, life_of, loads_of, Settings, AreInRange, ContentFacts, ContentKept, kept_with, Done, facts_with, no_facts, number_due, Facts, RuleLimits, Observation, first_broken_within, is_some_and, observation_in, Event, Machine, SentFrame, start, number_of, number_of-fits, after, after_delivered_block, after_delivery_to_cpu, after_delivery_to_module, Leads, item_numbered, IsNotRestart, HaveNoRestart, kept, CpuFrame, frame_heard, frames_at, due_after, ArePrompt, IsWithinRanges, SuitModule, AccusesNeither, AreLogged, BLOCK_ANSWER, Breach, Checker, Excused, FrameOutcome, HaveRestarts, IsRestarted, JudgesOn, Judging, Load, LogLine, LogPlace, LogStep, Logged, LoggedLife, Marked, Missing, Nothing, Restarted, ToPoll, answer_type_to, any_stamp_in, any_stamp_of, breach_of, checker_below_breach, checker_skipping, checking_above, content_found, events_of, filter, found-taking, found_by, found_in_frame, is_before, is_restart, is_set_back, judging_anywhere, judging_at, judging_below, judging_below_outcome, judging_taken, judging_with, judging_with_line, loads_below, loads_left, loads_sent, log_from, logged_at, may_be_anew, names_absent, nat_le, nat_lt, option_map, outcome_in, outcome_set_back, outcomes_of, passes_over, place_lost, polls_below, stamp_of, taking, ◌==◌}
+use Rattle.std.specs.Prelude.{not, ◌&&◌}
 use Rattle.fio_message.specs.declared.commands.Command.TheVariants as commands
-use Rattle.fio_check.specs.Checkers.{breach_of, checker_below_breach, checker_skipping, found_by, passes_over}
-use Rattle.fio_check.specs.ContentCheckers.{content_found, found_in_frame}
-use Rattle.fio_check.specs.ContentSaid.{is_before, stamp_of}
-use Rattle.fio_check.specs.LinkJudges.{judging_anywhere, Judging, LogLine, may_be_anew, polls_below, checking_above, any_stamp_in, any_stamp_of, is_set_back, judging_at, judging_below, judging_below_outcome, judging_taken, judging_with, judging_with_line, loads_below, loads_left, outcome_in, outcome_on, outcome_set_back, outcomes_of, place_lost}
-use Rattle.fio_check.specs.declared.checker.Checker.{Checker}
-use Rattle.fio_check.specs.declared.checker.Skips.TheVariants.{Nothing, ToPoll}
-use Rattle.fio_check.specs.Observations.{answer_type_to, names_absent}
-use Rattle.fio_check.specs.declared.checker.Breach.{Breach}
+use Rattle.fio_check.specs.LinkJudges.{outcome_on}
 use Rattle.fio_check.specs.declared.observation.Observation.TheVariants as seen
 use Rattle.fio_check.specs.declared.rules.Rule.TheVariants as tried
-use Rattle.fio_message.specs.declared.answers.Answer.TheVariants as answers
-use Rattle.fio_message.specs.declared.types.TheConstants.{BLOCK_ANSWER}
-use Rattle.fio_check.specs.declared.outcome.Excuse.TheVariants.{Load}
-use Rattle.fio_check.specs.declared.outcome.LogPlace.{LogPlace}
-use Rattle.fio_check.specs.declared.outcome.FrameOutcome.{FrameOutcome}
-use Rattle.fio_check.specs.declared.outcome.FrameOutcome.TheVariants.{Excused, Restarted}
-use Rattle.fio_check.proofs.Checkers.{found-taking, taking}
 use Rattle.fio_link.specs.declared.event.Event.TheVariants as events
-use Rattle.fio_ends.specs.ContentPremises.{loads_sent}
-use Rattle.fio_ends.specs.LinkLogs.{AccusesNeither, AreLogged, LogStep, Logged, Marked, Missing, events_of, log_from, logged_at}
-use Rattle.fio_ends.specs.RestartedLogs.{AreRestarted, BeginsEarlier, HaveRestarts, IsRestarted, JudgeFindsRestarts, JudgeFindsRestartsAnywhere, JudgesOn, LoggedLife, is_earlier, is_restart, lines_of_lives}
+use Rattle.fio_ends.specs.RestartedLogs.{AreRestarted, BeginsEarlier, JudgeFindsRestarts, JudgeFindsRestartsAnywhere, is_earlier, lines_of_lives}
 use Rattle.fio_ends.proofs.AllRules.{AllKnown, again_known, agrees_again, kept_again, none_in_frame}
 use Rattle.fio_ends.proofs.BegunAgain.{Went, asks_begun, asks_further, went-again, went-on}
 use Rattle.fio_ends.proofs.ClockKept.{clock_above}
@@ -36,7 +20,8 @@ use Rattle.fio_ends.proofs.Following.{Follows, facts_below, from_after, goes_on-
 use Rattle.fio_ends.proofs.JudgeLost.{life_on}
 use Rattle.fio_ends.proofs.JudgeStamps.{IsCalmOn, IsOf, KeepsStamps, StampState, calm_on, of_later, stamps_above, stamps_after, stamps_are_invariant, stamps_begin, stamps_heard, stamps_polled}
 use Rattle.fio_ends.proofs.JudgeSteps.{frame_again, frame_kept, heard_passed, outcomes-append, passed, passed_is, takes_all}
-use Rattle.fio_ends.proofs.JudgedCalm.{EndsAt, below_both, calm_above, calm_all, ends_judging, kept_on, none_loaded, polled_stamps}
+use Rattle.fio_ends.proofs.JudgedCalm.{EndsAt, below_both, calm_above, calm_all, ends_judging, kept_on, none_loaded}
+use Rattle.fio_ends.proofs.CalmStamps.{polled_stamps}
 use Rattle.fio_ends.proofs.Lives.{loads_grow}
 use Rattle.fio_ends.proofs.Rules.{KeepsRules, no_rule_broken, rules_kept_within}
 use Rattle.fio_ends.proofs.Sends.{other_said, poll_keeps, said_of}
@@ -44,7 +29,8 @@ use Rattle.fio_ends.proofs.Stamps.{ClockState, clock_after}
 use Rattle.fio_ends.proofs.StateKept.{state_above}
 use Rattle.fio_ends.proofs.StateKnown.{StateState, state_after}
 use Rattle.fio_ends.proofs.TimesKept.{AsksTimes, TimeState}
-use Rattle.fio_ends.proofs.RestartedFrames.{AreQuiet, HaveOneRestart, IsAgain, IsBlockAgain, KnowsPolls, again_found, anew_is, any_heard, are_quiet, block_again, breach_is_rest, none_of_breach, polls_kept, polls_polled, IsPlain, IsQuiet, IsSame, back_of, either, is_none, lost_by, not_back, one_back, one_quiet, plain_heard, quiet_of, same_stamp, sent_absent, sent_none, set_back_is, watchdog_is, answered_option}
+use Rattle.fio_ends.proofs.RestartedFrames.{IsAgain, IsBlockAgain, KnowsPolls, again_found, anew_is, block_again, breach_is_rest, none_of_breach, polls_kept, polls_polled, either, lost_by, set_back_is, watchdog_is}
+use Rattle.fio_ends.proofs.AnewFrames.{AreQuiet, HaveOneRestart, any_heard, are_quiet, IsPlain, IsQuiet, IsSame, back_of, is_none, not_back, one_back, one_quiet, plain_heard, quiet_of, same_stamp, sent_absent, sent_none, answered_option}
 
 -- ---- a run
 
@@ -473,9 +459,7 @@ module _ (settings : Settings) (range : AreInRange settings) (first : ℕ) (limi
             block_none (Some answer) is = is
 
         stamp_absent : (answer : Option Answer) → is_some (option_and_then any_stamp_of answer) ≡ false → is_some (option_and_then stamp_of answer) ≡ false
-        stamp_absent None is = refl
-        stamp_absent (Some (answers.Block number entries status stamp)) is = absurd (cc is)
-        stamp_absent (Some other) is = is
+        stamp_absent answer is = grind arith
 
         with_stamp : is_some (any_stamp_in false octets) ≡ true → (first_of : Bool) → is_some (option_and_then stamp_of (answer_in octets)) ≡ first_of → goal
         with_stamp is true stamped = set_back stamped (earlier.0 is)

@@ -1,8 +1,6 @@
 -- No first rule is broken exactly if none is.
-use Rattle.fio_ends.proofs.Names.{◌≡◌, ◌∙◌, ◌-◌, slice_get, Bool, true, false, List, [], ◌∷◌, Some, None, refl, ap, if◌then◌else◌, AllByRecursion, first_broken, first_broken_within, standard_rule_limits, Facts, RuleLimits, Observation, each-at}
-use Rattle.std.specs.Prelude.{find}
-use Rattle.fio_check.specs.Rules.{breaks_within, rule_number, rules}
-use Rattle.fio_check.specs.declared.rules.Rule.{Rule}
+use Rattle.fio_ends.proofs.Names.{◌≡◌, ◌∙◌, ◌-◌, slice_get, Bool, true, false, List, [], ◌∷◌, Some, None, refl, ap, if◌then◌else◌, AllByRecursion, first_broken, first_broken_within, standard_rule_limits, Facts, RuleLimits, Observation, each-at, Rule, breaks_within, find}
+use Rattle.fio_check.specs.Rules.{rule_number, rules}
 use Rattle.fio_check.specs.declared.rules.Rule.TheVariants.{Readable}
 
 -- none of these rules is broken

@@ -1,10 +1,7 @@
 -- An item of an input that was taken is the one that the module has.
-use Rattle.fio_ends.proofs.Names.{◌≡◌, ◌∙◌, ◌+◌, ◌<◌, ◌≤◌, inl, inr, ℕ, Bool, true, false, List, [], ◌∷◌, ◌++◌, length, Option, Some, None, refl, ap, sym, subst, arith, if◌then◌else◌, option_map, is_some, InputAbove, slice_get, slice_get_within, AllByRecursion, same_Some, Command, command_in, InputItem, ArrayVec, Life, Occurrence, Scanned, LineSynced, Raised, Commanded, life_after_command, filter_events, all_present, input_setting, SentFrame, get_after_push}
+use Rattle.fio_ends.proofs.Names.{◌≡◌, ◌∙◌, ◌+◌, ◌<◌, ◌≤◌, inl, inr, ℕ, Bool, true, false, List, [], ◌∷◌, ◌++◌, length, Option, Some, None, refl, ap, sym, subst, arith, if◌then◌else◌, option_map, is_some, InputAbove, slice_get, slice_get_within, AllByRecursion, same_Some, Command, command_in, InputItem, ArrayVec, Life, Occurrence, Commanded, life_after_command, filter_events, all_present, input_setting, SentFrame, get_after_push, SentItem, Setting, filter_in_force, input_with_item, item_for, items_sent, last_item_of, setting_by, unnamed}
 use Rattle.fio_message.specs.declared.commands.Command.TheVariants as commands
-use Rattle.fio_input.specs.FilterHistory.{last_item_of, setting_by}
-use Rattle.fio_input.specs.FilterRule.{Setting, filter_in_force}
-use Rattle.fio_check.specs.ContentFacts.{input_with_item, unnamed}
-use Rattle.fio_check.specs.ContentSaid.{SentItem, item_for, item_kept, items_sent}
+use Rattle.fio_check.specs.ContentSaid.{item_kept}
 use Rattle.fio_ends.proofs.ContentFrame.{last_of}
 use Rattle.fio_ends.proofs.FirstPolls.{NamesNot, NoneNames}
 use Rattle.fio_ends.proofs.Following.{IsNoCommand, IsSentLast, IsSince}
@@ -70,10 +67,7 @@ has-same life later input item same h = record {
 }
 
 pub setting-quiet : (occurrence : Occurrence) (life : Life) (input : ℕ) → IsNoCommand occurrence → setting_of input (occurrence ∷ life) ≡ setting_of input life
-setting-quiet (Scanned raw) life input quiet = refl
-setting-quiet LineSynced life input quiet = refl
-setting-quiet (Raised mask) life input quiet = refl
-setting-quiet (Commanded command) life input quiet = absurd quiet
+setting-quiet occurrence life input quiet = grind arith
 
 pub setting-since : (more life : List Occurrence) (input : ℕ) → AllByRecursion IsNoCommand more → setting_of input (more ++ life) ≡ setting_of input life
 setting-since [] life input quiet = refl

@@ -1,11 +1,8 @@
 -- A block that is sent again was made at a poll for it, and what was received since has no item of an input of which none was sent
 -- since the first of these polls. So, if it has no C, it settles the input as a clear block does.
-use Rattle.fio_ends.proofs.Names.{◌≡◌, ◌∙◌, ◌<◌, ◌≤◌, ◌&&◌, ◌⊎◌, inl, inr, ℕ, Bool, true, false, not, List, [], ◌∷◌, ◌++◌, length, length-append, Some, refl, ap, sym, subst, arith, slice_get_within, AllByRecursion, append_assoc, Block, Settings, AreInRange, Life, Occurrence, Scanned, LineSynced, Raised, Commanded, life_of, log_of, scans_of, MadeBlock, next_block, blocks_in, ContentFacts, Machine}
+use Rattle.fio_ends.proofs.Names.{◌≡◌, ◌∙◌, ◌<◌, ◌≤◌, ◌&&◌, ◌⊎◌, inl, inr, ℕ, Bool, true, false, not, List, [], ◌∷◌, ◌++◌, length, length-append, Some, refl, ap, sym, subst, arith, slice_get_within, AllByRecursion, append_assoc, Block, Settings, AreInRange, Life, Occurrence, Scanned, LineSynced, Raised, Commanded, life_of, log_of, scans_of, MadeBlock, next_block, blocks_in, ContentFacts, Machine, blocks_without_more_take_all, each-front, ignores, later_log}
 use Rattle.std.proofs.lemmas.List.{append_cancel_right}
-use Rattle.fio_module.proofs.BlockLaws.{blocks_without_more_take_all}
-use Rattle.fio_module.proofs.ListParts.{each-back, each-front}
-use Rattle.fio_module.proofs.NewLevels.{later_log}
-use Rattle.fio_check.specs.ContentSaid.{ignores}
+use Rattle.fio_module.proofs.ListParts.{each-back}
 use Rattle.fio_ends.proofs.ContentSteps.{IsKnown, PollsKnown, Takes}
 use Rattle.fio_ends.proofs.Following.{GoesOn}
 use Rattle.fio_ends.proofs.FirstPolls.{HasFirstPoll, IsBelow, LeavesInput}
@@ -27,9 +24,7 @@ MadeThen settings now block facts = facts.clear ≡ true → IsMadeThen settings
 
 -- such an input is settled
 pub settles_open : (clear since : Bool) → (clear && not since) ≡ true → (clear ≡ true) × (since ≡ false)
-settles_open true false is = (refl, refl)
-settles_open true true is = absurd (cc is)
-settles_open false since is = absurd (cc is)
+settles_open clear since is = grind arith
 
 module _ (settings : Settings) (range : AreInRange settings) (first : ℕ) (begin : Machine) (from : Life) (machine : Machine) (place number : ℕ) (answer : Block) (block : MadeBlock)
     (known : IsKnown settings first begin from machine) (t : Takes settings first from machine place number answer block) (facts : ContentFacts) (polls : PollsKnown settings machine facts) where

@@ -1,11 +1,10 @@
 -- In a run of fewer than 2^31 scans all that is compared is near.
-use Rattle.fio_ends.proofs.Names.{◌≡◌, ◌<◌, ◌≤◌, ◌^◌, ◌==◌, ℕ, Bool, true, false, List, [], ◌∷◌, ◌++◌, length, take, drop, Option, Some, None, slice_get, refl, ap, arith, if◌then◌else◌, same_Some, AllByRecursion, flat_map, block_in, Block, Life, Occurrence, Commanded, life_of, scans_of, Transition, log_of, MadeBlock, newest_poll, is_new, blocks_of, newest_end, next_block, start_after, count_from, Settings, Event, ToModule, ToCpu, SentFrame, Machine, item_numbered, after, Leads, HaveNoRestart, blocks_in, each-at}
-use Rattle.std.specs.Prelude.{option_and_then}
+use Rattle.fio_ends.proofs.Names.{◌≡◌, ◌<◌, ◌≤◌, ◌^◌, ◌==◌, ℕ, Bool, true, false, List, [], ◌∷◌, ◌++◌, length, take, drop, Option, Some, None, slice_get, refl, ap, arith, if◌then◌else◌, same_Some, AllByRecursion, flat_map, block_in, Block, Life, Occurrence, Commanded, life_of, scans_of, Transition, log_of, MadeBlock, newest_poll, is_new, blocks_of, newest_end, next_block, start_after, count_from, Settings, Event, ToModule, ToCpu, SentFrame, Machine, item_numbered, after, Leads, HaveNoRestart, blocks_in, each-at, BlocksAreNear, EntriesNearStates, HasNearTimes, InputsAreNear, IsNear, IsNearStates, IsWithinAge, StampsAreNear, StatesAreNear, block_taken, blocks_taken, comes_with, each-append, each-map, hears_states, latest_with, option_and_then, scans_above, scans_asked, scans_below, scans_left, scans_seen, scans_stamped}
 use Rattle.fio_message.specs.declared.commands.Command.TheVariants as commands
 use Rattle.fio_module.proofs.ScanTransitions.{each_logged}
 use Rattle.fio_link.proofs.Grown.{grows}
-use Rattle.fio_link.proofs.MadeBlocks.{each-append, each-drop, each-map, each-take}
-use Rattle.fio_ends.specs.ContentPremises.{BlocksAreNear, EntriesNearStates, HasNearTimes, InputsAreNear, IsNear, IsNearStates, IsWithinAge, NoMoreLoads, StampsAreNear, StatesAreNear, block_taken, blocks_taken, comes_with, hears_states, latest_with, scans_above, scans_asked, scans_below, scans_left, scans_seen, scans_stamped}
+use Rattle.fio_link.proofs.MadeBlocks.{each-drop, each-take}
+use Rattle.fio_ends.specs.ContentPremises.{NoMoreLoads}
 use Rattle.fio_ends.proofs.Lives.{scans_grow}
 
 -- so many scans are below this number

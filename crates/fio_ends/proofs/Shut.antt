@@ -1,10 +1,6 @@
 -- An input that is shut: it is ignored, and nothing that is still to be received opens it.
-use Rattle.fio_ends.proofs.Names.{◌≡◌, ◌≢◌, ◌∙◌, ◌-◌, ◌<◌, ◌≤◌, ◌&&◌, inl, inr, ℕ, Bool, true, false, not, List, [], ◌∷◌, ◌++◌, length, drop, Option, Some, None, refl, ap, sym, subst, if◌then◌else◌, slice_get, same_Some, Command, command_in, all_present, InputItem, ArrayVec, Settings, Life, Occurrence, Scanned, LineSynced, Raised, Commanded, life_of, life_after_command, log_of, log_of-with_command, ContentFacts, InputAbove, SentFrame, Machine, get_after_push}
+use Rattle.fio_ends.proofs.Names.{◌≡◌, ◌≢◌, ◌∙◌, ◌-◌, ◌<◌, ◌≤◌, ◌&&◌, inl, inr, ℕ, Bool, true, false, not, List, [], ◌∷◌, ◌++◌, length, drop, Option, Some, None, refl, ap, sym, subst, if◌then◌else◌, slice_get, same_Some, Command, command_in, all_present, InputItem, ArrayVec, Settings, Life, Occurrence, Scanned, LineSynced, Raised, Commanded, life_of, life_after_command, log_of, log_of-with_command, ContentFacts, InputAbove, SentFrame, Machine, get_after_push, Setting, applied_items, each-drop, item_for, items_sent, last_item_of, opens, setting_by}
 use Rattle.fio_message.specs.declared.commands.Command.TheVariants as commands
-use Rattle.fio_input.specs.FilterHistory.{applied_items, last_item_of, setting_by}
-use Rattle.fio_input.specs.FilterRule.{Setting}
-use Rattle.fio_module.proofs.ListParts.{each-drop}
-use Rattle.fio_check.specs.ContentSaid.{item_for, items_sent, opens}
 use Rattle.fio_ends.proofs.Alternating.{NoneOf}
 use Rattle.fio_ends.proofs.BlockPlaces.{end_at}
 use Rattle.fio_ends.proofs.Following.{IsNoCommand}

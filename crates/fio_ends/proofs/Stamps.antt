@@ -1,21 +1,12 @@
 -- The stamps that the CPU hears, and the scans when the module received their commands.
-use Rattle.fio_ends.proofs.Names.{◌≡◌, ◌∙◌, ◌≤◌, ℕ, false, List, [], ◌∷◌, ◌++◌, length, Option, Some, None, refl, ap, sym, subst, arith, if◌then◌else◌, AllByRecursion, is_some_and, same_Some, length-append, Answer, Command, Block, answered_block, says_again, Life, Occurrence, Commanded, life_of, scans_of, ContentFacts, Clock, Event, Machine}
-use Rattle.std.specs.Prelude.{option_and_then}
-use Rattle.fio_message.specs.Blocks.{block_answer}
+use Rattle.fio_ends.proofs.Names.{◌≡◌, ◌∙◌, ◌≤◌, ℕ, false, List, [], ◌∷◌, ◌++◌, length, Option, Some, None, refl, ap, sym, subst, arith, if◌then◌else◌, AllByRecursion, is_some_and, same_Some, length-append, Answer, Command, Block, answered_block, says_again, Life, Occurrence, Commanded, life_of, scans_of, ContentFacts, Clock, Event, Machine, block_answer, breaks_answer, counter_of, is_before, option_and_then, scans_asked, scans_stamped, stamp_of, without_excuse}
 use Rattle.fio_message.specs.declared.answers.Answer.TheVariants as answers
 use Rattle.fio_message.specs.declared.commands.Command.TheVariants as commands
-use Rattle.fio_module.specs.Life.{counter_of}
-use Rattle.fio_check.specs.ContentSaid.{is_before, stamp_of}
-use Rattle.fio_check.specs.ContentRules.{breaks_answer, without_excuse}
-use Rattle.fio_ends.specs.ContentPremises.{scans_asked, scans_stamped}
 use Rattle.fio_ends.proofs.Answered.{Says}
 use Rattle.fio_ends.proofs.Clocks.{clock, offset_of}
 use Rattle.fio_ends.proofs.Following.{GoesOn, IsNoCommand, IsSince}
 
 -- ---- the command that is answered
-
-pub length-more : (more life : List Occurrence) → length life ≤ length (more ++ life)
-length-more more life = omega (arith, length-append more life)
 
 -- after the life itself no command came
 pub none_since : (command : Command) (from life : Life) → IsSince command life from → GoesOn from life → ⊥

@@ -1,16 +1,10 @@
 -- The events of a block that the CPU takes keep the rule `state`, and what is known of the states that were asked for.
-use Rattle.fio_ends.proofs.Names.{◌≡◌, ◌+◌, ◌++◌, ◌≤◌, ℕ, Bool, true, false, List, [], ◌∷◌, Option, Some, None, refl, arith, if◌then◌else◌, Block, Settings, AreInRange, Life, life_of, scans_of, Transition, MadeBlock, ContentFacts, content_step, Heard, Recorded, Gap, Machine, after_taken, State}
-use Rattle.fio_message.specs.Blocks.{block_answer}
+use Rattle.fio_ends.proofs.Names.{◌≡◌, ◌+◌, ◌++◌, ◌≤◌, ℕ, Bool, true, false, List, [], ◌∷◌, Option, Some, None, refl, arith, if◌then◌else◌, Block, Settings, AreInRange, Life, life_of, scans_of, Transition, MadeBlock, ContentFacts, content_step, Heard, Recorded, Gap, Machine, after_taken, State, BlocksAreNear, IsNearStates, KeepsRule, Seen, block_answer, blocks_taken, is_aging, without_excuse}
 use Rattle.fio_link.specs.declared.event.Event.TheVariants as events
-use Rattle.fio_ends.specs.ContentPremises.{BlocksAreNear, IsNearStates, blocks_taken}
 use Rattle.fio_ends.proofs.SteadyKept.{watch_gap}
 use Rattle.fio_ends.proofs.BlockPlaces.{end_at}
 use Rattle.fio_ends.proofs.BlockWalk.{IsWalk}
 use Rattle.fio_ends.proofs.ContentSteps.{IsKnown, Takes}
-use Rattle.fio_check.specs.ContentSaid.{Seen}
-use Rattle.fio_check.specs.ContentFacts.{content_step, is_aging}
-use Rattle.fio_check.specs.ContentRules.{without_excuse}
-use Rattle.fio_ends.specs.ContentRuns.{KeepsRule}
 use Rattle.fio_ends.proofs.Fulls.{waits_briefly}
 use Rattle.fio_ends.proofs.Shut.{silent-further}
 use Rattle.fio_ends.proofs.SettledAgain.{MadeThen}
@@ -43,9 +37,9 @@ module _ (settings : Settings) (range : AreInRange settings) (first : ℕ) (begi
       below = λ clear. (let b = q.below clear in (omega (arith, b.0, forward), b.1));
       watch = λ input low. (let k = watch_gap settings range first begin from machine place number answer block known t facts forward q.watch input low in record { open_ones = k.open_ones; watched_ones = k.watched_ones });
       seen = λ seen is. absurd (cc is);
-      told = λ input low. record {
-        told = λ level is. absurd (cc is);
-        unlogged = λ is. (let u = (q.told input low).unlogged is in (u.0, silent-further now (end_at settings now machine.round) block.start input forward u.1));
+      shown = λ input low. record {
+        shown = λ level is. absurd (cc is);
+        unlogged = λ is. (let u = (q.shown input low).unlogged is in (u.0, silent-further now (end_at settings now machine.round) block.start input forward u.1));
       };
     }
 
@@ -88,5 +82,5 @@ module _ (settings : Settings) (range : AreInRange settings) (first : ℕ) (begi
             later = refl;
             made = n.made;
           });
-      told = λ input low. (let k = p.told input low in record { told = k.told; unlogged = k.unlogged });
+      shown = λ input low. (let k = p.shown input low in record { shown = k.shown; unlogged = k.unlogged });
     }

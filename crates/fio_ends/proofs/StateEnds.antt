@@ -1,18 +1,8 @@
 -- The end of a block that the CPU takes keeps the rule `state`, and what is known of the states that were asked for.
-use Rattle.fio_ends.proofs.Names.{◌≡◌, ◌∙◌, ◌+◌, ◌<◌, ◌≤◌, ◌&&◌, ◌||◌, inl, inr, ℕ, zero, suc, Bool, true, false, not, List, [], ◌∷◌, ◌++◌, length, Option, Some, None, refl, ap, sym, subst, arith, if◌then◌else◌, nat_lt, nat_tests, slice_get, slice_get_within, same_Some, Answer, Block, answer_in, answered_block, block_in, says_again, says_more, Settings, AreInRange, Life, life_of, log_of, scans_of, Transition, MadeBlock, blocks_of, blocks_in, ContentFacts, InputAbove, content_step, Ended, Heard, ContentEvent, SentFrame, Machine, after_taken}
-use Rattle.std.specs.Prelude.{is_some, option_and_then}
-use Rattle.std.proofs.lemmas.Bool.{cases_lt}
-use Rattle.fio_message.specs.declared.answers.Answer.TheVariants as answers
-use Rattle.fio_module.proofs.BlockLaws.{blocks_without_more_take_all}
-use Rattle.fio_module.proofs.LogOrder.{scans_within}
-use Rattle.fio_check.specs.ContentSaid.{Seen, is_before, states_heard, SentItem, comes_to}
-use Rattle.fio_check.specs.ContentFacts.{content_step, seen_below, coming, input_below_clear, input_ended, settled_now, settles}
-use Rattle.fio_check.specs.ContentKnown.{input_coming}
+use Rattle.fio_ends.proofs.Names.{◌≡◌, ◌∙◌, ◌+◌, ◌<◌, ◌≤◌, ◌&&◌, ◌||◌, inl, inr, ℕ, zero, suc, Bool, true, false, not, List, [], ◌∷◌, ◌++◌, length, Option, Some, None, refl, ap, sym, subst, arith, if◌then◌else◌, nat_lt, nat_tests, slice_get, slice_get_within, same_Some, Answer, Block, answer_in, answered_block, block_in, says_again, says_more, Settings, AreInRange, Life, life_of, log_of, scans_of, Transition, MadeBlock, blocks_of, blocks_in, ContentFacts, InputAbove, content_step, Ended, Heard, ContentEvent, SentFrame, Machine, after_taken, AreNear, BlocksAreNear, Seen, SentItem, block_taken, blocks_taken, blocks_without_more_take_all, broken_state, cases_lt, comes_to, comes_with, coming, frame_at_place, hears_states, if_comes, input_below_clear, input_coming, input_ended, is_before, is_some, option_and_then, scans_left, scans_seen, scans_within, seen_below, settled_now, states_heard, steady_state, without_excuse}
+use Rattle.fio_check.specs.ContentFacts.{settles}
 use Rattle.fio_check.proofs.KeptContent.{ended_input}
-use Rattle.fio_check.specs.ContentRules.{broken_state, steady_state, without_excuse}
-use Rattle.fio_link.proofs.Events.{frame_at_place}
 use Rattle.fio_link.specs.declared.event.Event.TheVariants as events
-use Rattle.fio_ends.specs.ContentPremises.{BlocksAreNear, blocks_taken, AreNear, block_taken, comes_with, hears_states, scans_left, scans_seen}
 use Rattle.fio_ends.proofs.SteadyKept.{KeepsWatch, watch_ended, watched_below}
 use Rattle.fio_ends.proofs.BlockPlaces.{ends_within, is_next}
 use Rattle.fio_ends.proofs.Clocks.{clock, not_before, offset_of}
@@ -26,8 +16,7 @@ use Rattle.fio_ends.proofs.SettledAgain.{IsLeftBetween, IsMadeThen, hidden-since
 use Rattle.fio_ends.proofs.Steady.{IsSteady}
 use Rattle.fio_ends.proofs.StateKnown.{IsPending, IsSeen, KeepsState, StateState, state_after}
 use Rattle.fio_message.specs.Bits.{is_set}
-use Rattle.fio_check.specs.ContentKnown.{if_comes}
-use Rattle.fio_ends.proofs.Told.{GoesFrom, KeepsTold, TellsFrom, goes-then, told-comes}
+use Rattle.fio_ends.proofs.Shown.{GoesFrom, KeepsShown, TellsFrom, goes-then, shown-comes}
 use Rattle.fio_ends.proofs.Watching.{NoneHidden, none_hidden-now, state_of}
 use Rattle.fio_ends.proofs.StateRule.{before_clock, keeps_state, states_bit}
 use Rattle.fio_ends.proofs.StateRests.{KeepsRest, SeenRest, logged_after, seen_with, watched_then}
@@ -60,9 +49,7 @@ module _ (settings : Settings) (range : AreInRange settings) (first : ℕ) (begi
 
     -- no states are heard with a block
     no_states : (found : Option Answer) (heard : Block) → answered_block found ≡ Some heard → option_and_then (λ answer. states_heard (Heard answer)) found ≡ None
-    no_states None heard is = absurd (cc is)
-    no_states (Some (answers.Block number entries status stamp)) heard is = refl
-    no_states (Some other) heard is = absurd (cc is)
+    no_states found heard is = grind arith
 
     hears_none : hears_states machine (events.ToCpu (place + 1)) ≡ false
     hears_none =
@@ -127,9 +114,7 @@ module _ (settings : Settings) (range : AreInRange settings) (first : ℕ) (begi
       near_block seen r whole = r.made (sym r.later) whole
 
       comes_whole : (more before : Bool) → (not more && not before) ≡ true → (more ≡ false) × (before ≡ false)
-      comes_whole true before is = absurd (cc is)
-      comes_whole false true is = absurd (cc is)
-      comes_whole false false is = (refl, refl)
+      comes_whole more before is = grind arith
 
       pub end_keeps : (seen : Option Seen) → facts.seen ≡ seen → broken_state (without_excuse facts) event_end seen ≡ None
       end_keeps None is = refl
@@ -307,14 +292,14 @@ module _ (settings : Settings) (range : AreInRange settings) (first : ℕ) (begi
           ∙ ap (λ taken. scans_left taken state.seen) takes_block ∙ ap (scans_left (Some block)) is ∙ ap (λ comes. if comes then None else Some scans) stays
 
       -- what the states say of an input, if the record comes to them at the end, and if not
-      told_here : (above : Option Seen) → facts.seen ≡ above → (input : ℕ) → input < 64
-          → KeepsTold now machine.to_module machine.last_to_module block.end input (input_coming input (option_and_then (if_comes event_end) above) (facts.inputs input))
-      told_here None is input low = (let k = q.told input low in record { told = k.told; unlogged = k.unlogged })
-      told_here (Some seen) is input low = by (comes_to seen event_end) refl
+      shown_here : (above : Option Seen) → facts.seen ≡ above → (input : ℕ) → input < 64
+          → KeepsShown now machine.to_module machine.last_to_module block.end input (input_coming input (option_and_then (if_comes event_end) above) (facts.inputs input))
+      shown_here None is input low = (let k = q.shown input low in record { shown = k.shown; unlogged = k.unlogged })
+      shown_here (Some seen) is input low = by (comes_to seen event_end) refl
         where
           by : (comes : Bool) → comes_to seen event_end ≡ comes
-              → KeepsTold now machine.to_module machine.last_to_module block.end input (input_coming input (if comes then Some seen else None) (facts.inputs input))
-          by false comes = (let k = q.told input low in record { told = k.told; unlogged = k.unlogged })
+              → KeepsShown now machine.to_module machine.last_to_module block.end input (input_coming input (if comes then Some seen else None) (facts.inputs input))
+          by false comes = (let k = q.shown input low in record { shown = k.shown; unlogged = k.unlogged })
           by true comes =
               let r = q.seen seen is in
               let s = r.is_seen in
@@ -331,20 +316,20 @@ module _ (settings : Settings) (range : AreInRange settings) (first : ℕ) (begi
               let inside = r.pending.inside in
               let here : length (log_of s.life) ≡ block.end = omega (arith, all, inside) in
               let level : state_of input s.life ≡ is_set seen.levels input = sym (states_bit s.life input low) ∙ ap (λ levels. is_set levels input) (sym s.levels) in
-              told-comes input low now machine.to_module machine.last_to_module block.end (facts.inputs input) seen
+              shown-comes input low now machine.to_module machine.last_to_module block.end (facts.inputs input) seen
               (λ un. subst (TellsFrom now machine.to_module machine.last_to_module block.end input) level
               (subst (λ n. TellsFrom now machine.to_module machine.last_to_module n input (state_of input s.life)) here (r.pending.tells input low un)))
-              (q.told input low)
+              (q.shown input low)
 
-      told_below : (above : InputAbove) (item : Option SentItem) (input : ℕ) → KeepsTold now machine.to_module machine.last_to_module block.end input above
-          → KeepsTold now machine.to_module machine.last_to_module block.end input (input_below_clear above item)
-      told_below above None input k = record { told = k.told; unlogged = k.unlogged }
-      told_below above (Some item) input k = record { told = k.told; unlogged = k.unlogged }
+      shown_below : (above : InputAbove) (item : Option SentItem) (input : ℕ) → KeepsShown now machine.to_module machine.last_to_module block.end input above
+          → KeepsShown now machine.to_module machine.last_to_module block.end input (input_below_clear above item)
+      shown_below above None input k = record { shown = k.shown; unlogged = k.unlogged }
+      shown_below above (Some item) input k = record { shown = k.shown; unlogged = k.unlogged }
 
-      told_end : (settling : Bool) (above : InputAbove) (input : ℕ) → KeepsTold now machine.to_module machine.last_to_module block.end input above
-          → KeepsTold now machine.to_module machine.last_to_module block.end input (input_ended settling above)
-      told_end true above input k = told_below above (settled_now above) input k
-      told_end false above input k = k
+      shown_end : (settling : Bool) (above : InputAbove) (input : ℕ) → KeepsShown now machine.to_module machine.last_to_module block.end input above
+          → KeepsShown now machine.to_module machine.last_to_module block.end input (input_ended settling above)
+      shown_end true above input k = shown_below above (settled_now above) input k
+      shown_end false above input k = k
 
       pub ended : KeepsState settings begin above (state_after settings state machine (events.ToCpu (place + 1))) now (after_taken machine place answer) (content_step facts event_end)
       ended =
@@ -375,7 +360,7 @@ module _ (settings : Settings) (range : AreInRange settings) (first : ℕ) (begi
             pending = λ seen is.
                 (let w = (parts.seen seen is).pending in
                 record { inside = omega (arith, w.inside, upto); goes_on = w.goes_on; tells = w.tells });
-            told = λ input low. subst (λ n. KeepsTold now machine.to_module machine.last_to_module n input ((content_step facts event_end).inputs input)) upto
-                (subst (KeepsTold now machine.to_module machine.last_to_module block.end input) (sym (ended_input facts answer.status answer.stamp input))
-                (told_end (settles facts input event_end) (input_coming input (coming facts event_end) (facts.inputs input)) input (told_here facts.seen refl input low)));
+            shown = λ input low. subst (λ n. KeepsShown now machine.to_module machine.last_to_module n input ((content_step facts event_end).inputs input)) upto
+                (subst (KeepsShown now machine.to_module machine.last_to_module block.end input) (sym (ended_input facts answer.status answer.stamp input))
+                (shown_end (settles facts input event_end) (input_coming input (coming facts event_end) (facts.inputs input)) input (shown_here facts.seen refl input low)));
           }

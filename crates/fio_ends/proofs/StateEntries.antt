@@ -1,16 +1,7 @@
 -- An entry of a block that the CPU takes keeps the rule `state`, and what is known of the states that were asked for.
-use Rattle.fio_ends.proofs.Names.{◌≡◌, is_some_and, beq, ◌∙◌, ◌+◌, ◌++◌, [], ◌<◌, ◌≤◌, ◌&&◌, ◌||◌, ◌⊎◌, inl, inr, ℕ, Bool, true, false, not, List, ◌∷◌, length, Option, Some, None, refl, ap, sym, subst, arith, if◌then◌else◌, ◌==◌, nat_lt, nat_tests, eqb_tells, slice_get, slice_get_within, same_Some, length-append, Block, Settings, AreInRange, Life, life_of, log_of, scans_of, Transition, entry_of, MadeBlock, ContentFacts, InputAbove, option_and_then, content_step, ContentEvent, Machine, State}
-use Rattle.std.proofs.lemmas.Bool.{cases_lt}
+use Rattle.fio_ends.proofs.Names.{◌≡◌, is_some_and, beq, ◌∙◌, ◌+◌, ◌++◌, [], ◌<◌, ◌≤◌, ◌&&◌, ◌||◌, ◌⊎◌, inl, inr, ℕ, Bool, true, false, not, List, ◌∷◌, length, Option, Some, None, refl, ap, sym, subst, arith, if◌then◌else◌, ◌==◌, nat_lt, nat_tests, eqb_tells, slice_get, slice_get_within, same_Some, length-append, Block, Settings, AreInRange, Life, life_of, log_of, scans_of, Transition, entry_of, MadeBlock, ContentFacts, InputAbove, option_and_then, content_step, ContentEvent, Machine, State, BlocksAreNear, KeepsRule, Seen, blocks_taken, broken_state, cases_lt, coming, if_comes, input_coming, input_with_entry, is_later, is_later_among, is_shown_otherwise, scans_within, seen_below, steady_state, watched_now, without_excuse}
 use Rattle.fio_input.specs.Widening.{wide_time_of}
-use Rattle.fio_module.proofs.LogOrder.{scans_within}
-use Rattle.fio_check.specs.ContentSaid.{Seen, is_later}
-use Rattle.fio_check.specs.ContentFacts.{coming, content_step, input_with_entry, seen_below, watched_now}
-use Rattle.fio_check.specs.ContentKnown.{input_coming}
-use Rattle.fio_check.specs.ContentRules.{broken_state, is_told_otherwise, steady_state, without_excuse}
-use Rattle.fio_check.specs.ContentKnown.{if_comes}
 use Rattle.fio_message.specs.Bits.{is_set}
-use Rattle.fio_ends.specs.ContentPremises.{BlocksAreNear, blocks_taken, is_later_among}
-use Rattle.fio_ends.specs.ContentRuns.{KeepsRule}
 use Rattle.fio_ends.proofs.SteadyKept.{steady_now, watch_entry}
 use Rattle.fio_ends.proofs.BlockWalk.{entry_event}
 use Rattle.fio_ends.proofs.Clocks.{clock, later_clock, offset_of}
@@ -22,7 +13,7 @@ use Rattle.fio_ends.proofs.SeenStates.{WatchAt, watch_another, watch_own}
 use Rattle.fio_ends.proofs.Steady.{IsSteady}
 use Rattle.fio_ends.proofs.StateKnown.{IsSeen, StateState}
 use Rattle.fio_ends.proofs.StateRule.{keeps_state, not_later, states_bit}
-use Rattle.fio_ends.proofs.Told.{KeepsTold, TellsFrom, told-comes, told-entry, told-other}
+use Rattle.fio_ends.proofs.Shown.{KeepsShown, TellsFrom, shown-comes, shown-entry, shown-other}
 use Rattle.fio_ends.proofs.Watching.{input_at, or_right, state_of}
 use Rattle.fio_ends.proofs.StateRests.{KeepsRest, SeenRest, logged_after, logged_in, seen_with, watched_then}
 
@@ -100,57 +91,57 @@ module _ (settings : Settings) (range : AreInRange settings) (first : ℕ) (begi
       touched_by false above = refl
 
       -- what the states say of an input, if the record comes to them with the entry, and if not
-      told_here : (above : Option Seen) → facts.seen ≡ above → (input : ℕ) → input < 64
-          → KeepsTold now machine.to_module machine.last_to_module (block.start + k) input (input_coming input (option_and_then (if_comes event) above) (facts.inputs input))
-      told_here None is input low = (let k = q.told input low in record { told = k.told; unlogged = k.unlogged })
-      told_here (Some seen) is input low = by (is_later wide seen.stamp) refl
+      shown_here : (above : Option Seen) → facts.seen ≡ above → (input : ℕ) → input < 64
+          → KeepsShown now machine.to_module machine.last_to_module (block.start + k) input (input_coming input (option_and_then (if_comes event) above) (facts.inputs input))
+      shown_here None is input low = (let k = q.shown input low in record { shown = k.shown; unlogged = k.unlogged })
+      shown_here (Some seen) is input low = by (is_later wide seen.stamp) refl
         where
           by : (comes : Bool) → is_later wide seen.stamp ≡ comes
-              → KeepsTold now machine.to_module machine.last_to_module (block.start + k) input (input_coming input (if comes then Some seen else None) (facts.inputs input))
-          by false comes = (let k = q.told input low in record { told = k.told; unlogged = k.unlogged })
+              → KeepsShown now machine.to_module machine.last_to_module (block.start + k) input (input_coming input (if comes then Some seen else None) (facts.inputs input))
+          by false comes = (let k = q.shown input low in record { shown = k.shown; unlogged = k.unlogged })
           by true comes =
               let r = q.seen seen is in
               let later = comes_later seen r r.timely comes in
               let inside = r.pending.inside in
               let here : length (log_of r.is_seen.life) ≡ block.start + k = omega (arith, later, inside) in
               let level : state_of input r.is_seen.life ≡ is_set seen.levels input = sym (states_bit r.is_seen.life input low) ∙ ap (λ levels. is_set levels input) (sym r.is_seen.levels) in
-              told-comes input low now machine.to_module machine.last_to_module (block.start + k) (facts.inputs input) seen
+              shown-comes input low now machine.to_module machine.last_to_module (block.start + k) (facts.inputs input) seen
               (λ un. subst (TellsFrom now machine.to_module machine.last_to_module (block.start + k) input) level
               (subst (λ n. TellsFrom now machine.to_module machine.last_to_module n input (state_of input r.is_seen.life)) here (r.pending.tells input low un)))
-              (q.told input low)
+              (q.shown input low)
 
-      told_now : (input : ℕ) → input < 64
-          → KeepsTold now machine.to_module machine.last_to_module (block.start + k) input (input_coming input (coming facts event) (facts.inputs input))
-      told_now = told_here facts.seen refl
+      shown_now : (input : ℕ) → input < 64
+          → KeepsShown now machine.to_module machine.last_to_module (block.start + k) input (input_coming input (coming facts event) (facts.inputs input))
+      shown_now = shown_here facts.seen refl
 
-      told_rule : is_told_otherwise transition.level (input_coming transition.input (coming facts event) (facts.inputs transition.input)) ≡ false
-      told_rule =
+      shown_rule : is_shown_otherwise transition.level (input_coming transition.input (coming facts event) (facts.inputs transition.input)) ≡ false
+      shown_rule =
           let low = input_at now (block.start + k) transition logged in
-          told-entry transition.input low now machine.to_module machine.last_to_module (block.start + k) _ transition logged refl (told_now transition.input low)
+          shown-entry transition.input low now machine.to_module machine.last_to_module (block.start + k) _ transition logged refl (shown_now transition.input low)
 
       -- below the entry
-      told_next : (input : ℕ) → input < 64 → KeepsTold now machine.to_module machine.last_to_module ((block.start + k) + 1) input ((content_step facts event).inputs input)
-      told_next input low = by (eqb_tells input transition.input)
+      shown_next : (input : ℕ) → input < 64 → KeepsShown now machine.to_module machine.last_to_module ((block.start + k) + 1) input ((content_step facts event).inputs input)
+      shown_next input low = by (eqb_tells input transition.input)
         where
-          own : transition.input ≡ input → KeepsTold now machine.to_module machine.last_to_module ((block.start + k) + 1) input (input_with_entry facts transition.level wide (input_coming input (coming facts event) (facts.inputs input)))
+          own : transition.input ≡ input → KeepsShown now machine.to_module machine.last_to_module ((block.start + k) + 1) input (input_with_entry facts transition.level wide (input_coming input (coming facts event) (facts.inputs input)))
           own same = record {
-            told = λ level is. absurd (cc is);
+            shown = λ level is. absurd (cc is);
             unlogged = λ is.
-                (let none = told-entry input low now machine.to_module machine.last_to_module (block.start + k) (input_coming input (coming facts event) (facts.inputs input)) transition logged same (told_now input low) in
+                (let none = shown-entry input low now machine.to_module machine.last_to_module (block.start + k) (input_coming input (coming facts event) (facts.inputs input)) transition logged same (shown_now input low) in
                 let above = input_coming input (coming facts event) (facts.inputs input) in
-                absurd (cc (or_right (is_some_and above.told (beq transition.level)) above.unlogged none, is)));
+                absurd (cc (or_right (is_some_and above.shown (beq transition.level)) above.unlogged none, is)));
           }
 
           by : (((input == transition.input) ≡ true) × (input ≡ transition.input)) ⊎ (((input == transition.input) ≡ false) × (input ≡ transition.input → ⊥))
-              → KeepsTold now machine.to_module machine.last_to_module ((block.start + k) + 1) input ((content_step facts event).inputs input)
+              → KeepsShown now machine.to_module machine.last_to_module ((block.start + k) + 1) input ((content_step facts event).inputs input)
           by (inl same) =
               let met : (input == transition.input && nat_lt input 64) ≡ true = (let s : input ≡ transition.input = same.1 in grind (arith, nat_tests)) in
-              subst (λ b. KeepsTold now machine.to_module machine.last_to_module ((block.start + k) + 1) input (if b then input_with_entry facts transition.level wide (input_coming input (coming facts event) (facts.inputs input)) else input_coming input (coming facts event) (facts.inputs input))) (sym met)
+              subst (λ b. KeepsShown now machine.to_module machine.last_to_module ((block.start + k) + 1) input (if b then input_with_entry facts transition.level wide (input_coming input (coming facts event) (facts.inputs input)) else input_coming input (coming facts event) (facts.inputs input))) (sym met)
               (own (sym same.1))
           by (inr apart) =
               let met : (input == transition.input && nat_lt input 64) ≡ false = ap (λ b. b && nat_lt input 64) apart.0 in
-              subst (λ b. KeepsTold now machine.to_module machine.last_to_module ((block.start + k) + 1) input (if b then input_with_entry facts transition.level wide (input_coming input (coming facts event) (facts.inputs input)) else input_coming input (coming facts event) (facts.inputs input))) (sym met)
-              (told-other input low now machine.to_module machine.last_to_module (block.start + k) _ transition logged (λ is. apart.1 (sym is)) (told_now input low))
+              subst (λ b. KeepsShown now machine.to_module machine.last_to_module ((block.start + k) + 1) input (if b then input_with_entry facts transition.level wide (input_coming input (coming facts event) (facts.inputs input)) else input_coming input (coming facts event) (facts.inputs input))) (sym met)
+              (shown-other input low now machine.to_module machine.last_to_module (block.start + k) _ transition logged (λ is. apart.1 (sym is)) (shown_now input low))
 
       -- the states are still above the next entry
       seen_next : (seen : Seen) → SeenYet (block.start + k) (transition ∷ rest) facts seen → is_later wide seen.stamp ≡ false
@@ -224,7 +215,7 @@ module _ (settings : Settings) (range : AreInRange settings) (first : ℕ) (begi
 
       pub entry_step : KeepsRule State (without_excuse facts) event × Rest (block.start + (k + 1)) rest (content_step facts event)
       entry_step = (
-        (entry_keeps facts.seen refl, told_rule),
+        (entry_keeps facts.seen refl, shown_rule),
         record {
           full = q.full;
           made = q.made;
@@ -232,7 +223,7 @@ module _ (settings : Settings) (range : AreInRange settings) (first : ℕ) (begi
           below = λ clear. (let b = q.below clear in (omega (arith, b.0), b.1));
           watch = λ input low. (let k = watch_entry settings range first begin from machine place number answer block known t k transition rest facts at logged q.watch input low in record { open_ones = k.open_ones; watched_ones = k.watched_ones });
           seen = λ seen still. still_seen facts.seen refl seen still;
-          told = (let next_place : (block.start + k) + 1 ≡ block.start + (k + 1) = omega arith in
-              λ input low. subst (λ n. KeepsTold now machine.to_module machine.last_to_module n input ((content_step facts event).inputs input)) next_place (told_next input low));
+          shown = (let next_place : (block.start + k) + 1 ≡ block.start + (k + 1) = omega arith in
+              λ input low. subst (λ n. KeepsShown now machine.to_module machine.last_to_module n input ((content_step facts event).inputs input)) next_place (shown_next input low));
         },
       )

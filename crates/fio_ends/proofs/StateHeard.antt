@@ -1,17 +1,10 @@
 -- An answer that is no block keeps the rule `state`; one with the states is what the record comes to.
-use Rattle.fio_ends.proofs.Names.{◌==◌, ◌≡◌, slice_get_within, ◌++◌, ◌∙◌, ◌+◌, ℕ, Bool, true, false, ◌∷◌, length, Option, Some, None, refl, ap, ap₂, sym, subst, arith, if◌then◌else◌, list_any, slice_get, same_Some, length-append, Answer, Command, answer_in, answered_block, block_in, Settings, Life, Commanded, life_of, log_of, log_of-with_command, loads_of, observation_of, answer_type_to, is_absent, MadeBlock, blocks_in, ContentFacts, content_step, Heard, SentFrame, Machine, State}
-use Rattle.std.specs.Prelude.{is_some, option_and_then}
+use Rattle.fio_ends.proofs.Names.{◌==◌, ◌≡◌, slice_get_within, ◌++◌, ◌∙◌, ◌+◌, ℕ, Bool, true, false, ◌∷◌, length, Option, Some, None, refl, ap, ap₂, sym, subst, arith, if◌then◌else◌, list_any, slice_get, same_Some, length-append, Answer, Command, answer_in, answered_block, block_in, Settings, Life, Commanded, life_of, log_of, log_of-with_command, loads_of, observation_of, answer_type_to, is_absent, MadeBlock, blocks_in, ContentFacts, content_step, Heard, SentFrame, Machine, State, KeepsRule, Seen, broken_state, counter_of, frame_at_place, is_some, option_and_then, scans_left, scans_seen, states_heard, steady_state, without_excuse}
 use Rattle.fio_message.specs.declared.answers.Answer.TheVariants as answers
 use Rattle.fio_message.specs.declared.commands.Command.TheVariants as commands
-use Rattle.fio_module.specs.Life.{counter_of}
-use Rattle.fio_check.specs.ContentSaid.{Seen, states_heard}
-use Rattle.fio_check.specs.ContentRules.{broken_state, first_differing, steady_state, without_excuse}
-use Rattle.fio_check.specs.ContentFacts.{content_step}
+use Rattle.fio_check.specs.ContentRules.{first_differing}
 use Rattle.fio_check.specs.declared.observation.Observation.TheVariants as seen
-use Rattle.fio_link.proofs.Events.{frame_at_place}
 use Rattle.fio_link.specs.declared.event.Event.TheVariants as events
-use Rattle.fio_ends.specs.ContentPremises.{scans_left, scans_seen}
-use Rattle.fio_ends.specs.ContentRuns.{KeepsRule}
 use Rattle.fio_ends.proofs.Answered.{Says, says_of, states_of}
 use Rattle.fio_ends.proofs.BlockPlaces.{end_at, ends_within}
 use Rattle.fio_ends.proofs.Stamps.{IsAsked}
@@ -22,7 +15,7 @@ use Rattle.fio_ends.proofs.ContentLines.{none_comes}
 use Rattle.fio_ends.proofs.Following.{goes_on-both}
 use Rattle.fio_ends.proofs.Lives.{goes_on-since, loads_grow, log_grows}
 use Rattle.fio_ends.proofs.SeenStates.{WatchAt, watch_asked, watch_since}
-use Rattle.fio_ends.proofs.Told.{GoesFrom, goes-now}
+use Rattle.fio_ends.proofs.Shown.{GoesFrom, goes-now}
 use Rattle.fio_ends.proofs.Watching.{state_of}
 use Rattle.fio_ends.proofs.StateKnown.{IsPending, IsSeen, KeepsState, StateState, state_after}
 
@@ -165,7 +158,7 @@ module _ (settings : Settings) (first : ℕ) (begin : Machine) (above : Option �
         recorded = ends_within settings heard_now machine.round;
         seen = λ states is. (seen states is).states;
         pending = λ states is. (seen states is).pending;
-        told = λ input low. (let k = p.told input low in record { told = k.told; unlogged = k.unlogged });
+        shown = λ input low. (let k = p.shown input low in record { shown = k.shown; unlogged = k.unlogged });
       },
     )
 

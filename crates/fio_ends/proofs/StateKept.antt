@@ -1,20 +1,12 @@
 -- The rule `state` never accuses: where the record comes to the states that were asked for, it has all entries up to them and
 -- none later.
-use Rattle.fio_check.specs.ContentRules.{steady_state}
-use Rattle.fio_ends.proofs.Names.{fold, ◌++◌, MadeBlock, Block, events_of_block, ◌≡◌, command_octets, length-append, log_of, ◌∙◌, ◌+◌, ◌<◌, ◌≤◌, ◌||◌, ℕ, Bool, true, false, List, [], ◌∷◌, length, Option, Some, None, refl, ap, sym, subst, arith, if◌then◌else◌, slice_get, Command, command_in, IsCommand, Settings, AreInRange, Life, Occurrence, Scanned, LineSynced, Raised, Commanded, life_of, life_after_command, blocks_in, end_of_blocks, ContentFacts, InputAbove, InputItem, Sent, Event, SentFrame, Machine, start, after, after_sending, after_delivery_to_module, after_taken, State}
-use Rattle.fio_message.specs.Blocks.{block_answer}
-use Rattle.fio_check.specs.ContentSaid.{ignores, item_for, items_sent}
-use Rattle.fio_check.specs.ContentFacts.{content_begun, content_step, input_with_item, unnamed}
-use Rattle.fio_check.proofs.ContentNext.{item_parts}
+use Rattle.fio_ends.proofs.Names.{fold, ◌++◌, MadeBlock, Block, events_of_block, ◌≡◌, command_octets, length-append, log_of, ◌∙◌, ◌+◌, ◌<◌, ◌≤◌, ◌||◌, ℕ, Bool, true, false, List, [], ◌∷◌, length, Option, Some, None, refl, ap, sym, subst, arith, if◌then◌else◌, slice_get, Command, command_in, IsCommand, Settings, AreInRange, Life, Occurrence, Scanned, LineSynced, Raised, Commanded, life_of, life_after_command, blocks_in, end_of_blocks, ContentFacts, InputAbove, InputItem, Sent, Event, SentFrame, Machine, start, after, after_sending, after_delivery_to_module, after_taken, State, BlocksAreNear, KeepsRule, StatesAreNear, block_answer, blocks_taken, content_begun, content_step, ignores, input_with_item, item_for, item_parts, items_sent, scans_above, steady_state, unnamed, without_excuse, Seen}
 use Rattle.fio_link.specs.declared.event.Event.TheVariants as events
-use Rattle.fio_ends.specs.ContentPremises.{BlocksAreNear, StatesAreNear, blocks_taken, scans_above}
-use Rattle.fio_ends.specs.ContentRuns.{KeepsRule}
 use Rattle.fio_ends.proofs.SteadyKept.{still_steady, watch_begun, watch-happens, watch-receives, watch-sends}
 use Rattle.fio_ends.proofs.BlockPlaces.{end_at, ends_within}
 use Rattle.fio_ends.proofs.BlockWalk.{gap_keeps, walk}
-use Rattle.fio_ends.proofs.ContentSteps.{IsKnown, IsPastBus, IsSending, Takes}
+use Rattle.fio_ends.proofs.ContentSteps.{IsKnown, IsPastBus, IsSending, Takes, past_cases}
 use Rattle.fio_ends.proofs.ContentLines.{EachKeeps}
-use Rattle.fio_check.specs.ContentRules.{without_excuse}
 use Rattle.fio_ends.proofs.Following.{GoesOn, IsNoCommand, goes_on-both, goes_on-more}
 use Rattle.fio_ends.proofs.Fulls.{full_begun, full-happens, full-receives}
 use Rattle.fio_ends.proofs.SeenStates.{WatchAt}
@@ -28,7 +20,7 @@ use Rattle.fio_ends.proofs.StateRests.{KeepsRest}
 use Rattle.fio_ends.proofs.ContentBegun.{begun_input}
 use Rattle.fio_ends.proofs.Lives.{log_grows}
 use Rattle.fio_ends.proofs.Sends.{read_back}
-use Rattle.fio_ends.proofs.Told.{KeepsTold, tells-quiet, tells-received, tells-sent, told-quiet, told-received, told-sent}
+use Rattle.fio_ends.proofs.Shown.{KeepsShown, tells-quiet, tells-received, tells-sent, shown-quiet, shown-received, shown-sent}
 use Rattle.fio_ends.proofs.Watching.{state_of}
 use Rattle.fio_ends.proofs.StateKnown.{IsPending, KeepsState, StateState, state_after}
 
@@ -63,54 +55,49 @@ module _ (settings : Settings) (range : AreInRange settings) (first : ℕ) (begi
 
   pub state-happens : (state : StateState) (from : Life) (machine : Machine) (facts : ContentFacts) (event : Event) → IsPastBus event → KeepsState settings begin above state from machine facts
       → KeepsState settings begin above (state_after settings state machine event) from (after settings first machine event) facts
-  state-happens state from machine facts (events.Scan raw) past p = record {
-    full = full-happens settings range first begin above machine facts (events.Scan raw) past p.full;
-    seen_timely = p.seen_timely;
-    below = p.below;
-    watch = watch-happens settings range first begin machine facts (events.Scan raw) past p.watch;
-    recorded = p.recorded;
-    seen = p.seen;
-    pending = λ seen is. still-pending machine facts (Scanned raw) tt (p.seen seen is).life (p.pending seen is);
-    told = λ input low. told-quiet input low (life_of machine.history) machine.to_module machine.last_to_module (end_at settings (life_of machine.history) machine.round) (facts.inputs input) (Scanned raw) tt (ends_within settings (life_of machine.history) machine.round) (p.told input low);
-  }
-  state-happens state from machine facts events.LineSync past p = record {
-    full = full-happens settings range first begin above machine facts events.LineSync past p.full;
-    seen_timely = p.seen_timely;
-    below = p.below;
-    watch = watch-happens settings range first begin machine facts events.LineSync past p.watch;
-    recorded = p.recorded;
-    seen = p.seen;
-    pending = λ seen is. still-pending machine facts LineSynced tt (p.seen seen is).life (p.pending seen is);
-    told = λ input low. told-quiet input low (life_of machine.history) machine.to_module machine.last_to_module (end_at settings (life_of machine.history) machine.round) (facts.inputs input) LineSynced tt (ends_within settings (life_of machine.history) machine.round) (p.told input low);
-  }
-  state-happens state from machine facts (events.Raise mask) past p = record {
-    full = full-happens settings range first begin above machine facts (events.Raise mask) past p.full;
-    seen_timely = p.seen_timely;
-    below = p.below;
-    watch = watch-happens settings range first begin machine facts (events.Raise mask) past p.watch;
-    recorded = p.recorded;
-    seen = p.seen;
-    pending = λ seen is. still-pending machine facts (Raised mask) tt (p.seen seen is).life (p.pending seen is);
-    told = λ input low. told-quiet input low (life_of machine.history) machine.to_module machine.last_to_module (end_at settings (life_of machine.history) machine.round) (facts.inputs input) (Raised mask) tt (ends_within settings (life_of machine.history) machine.round) (p.told input low);
-  }
-  state-happens state from machine facts events.Poll past p = absurd past
-  state-happens state from machine facts (events.Send command) past p = absurd past
-  state-happens state from machine facts (events.ToModule index) past p = absurd past
-  state-happens state from machine facts (events.ToCpu index) past p = absurd past
-  state-happens state from machine facts events.Restart past p = absurd past
+  state-happens state from machine facts event past p =
+      let now = life_of machine.history in
+      let upto = end_at settings now machine.round in
+      let pending = λ (occurrence : Occurrence) (none : IsNoCommand occurrence) (seen : Seen) (is : facts.seen ≡ Some seen). still-pending machine facts occurrence none (p.seen seen is).life (p.pending seen is) in
+      let shown = λ (occurrence : Occurrence) (none : IsNoCommand occurrence) (input : ℕ) (low : input < 64).
+      shown-quiet input low now machine.to_module machine.last_to_module upto (facts.inputs input) occurrence none (ends_within settings now machine.round) (p.shown input low) in
+      past_cases (λ event. KeepsState settings begin above (state_after settings state machine event) from (after settings first machine event) facts)
+      (λ raw. record {
+        full = full-happens settings range first begin above machine facts (events.Scan raw) tt p.full;
+        watch = watch-happens settings range first begin machine facts (events.Scan raw) tt p.watch;
+        seen_timely = p.seen_timely;
+        below = p.below;
+        recorded = p.recorded;
+        seen = p.seen;
+        pending = pending (Scanned raw) tt;
+        shown = shown (Scanned raw) tt;
+      })
+      (record {
+        full = full-happens settings range first begin above machine facts events.LineSync tt p.full;
+        watch = watch-happens settings range first begin machine facts events.LineSync tt p.watch;
+        seen_timely = p.seen_timely;
+        below = p.below;
+        recorded = p.recorded;
+        seen = p.seen;
+        pending = pending LineSynced tt;
+        shown = shown LineSynced tt;
+      })
+      (λ mask. record {
+        full = full-happens settings range first begin above machine facts (events.Raise mask) tt p.full;
+        watch = watch-happens settings range first begin machine facts (events.Raise mask) tt p.watch;
+        seen_timely = p.seen_timely;
+        below = p.below;
+        recorded = p.recorded;
+        seen = p.seen;
+        pending = pending (Raised mask) tt;
+        shown = shown (Raised mask) tt;
+      }) event past
 
   -- ---- a command is sent
 
   sent_seen : (state : StateState) (machine : Machine) (event : Event) (command : Command) → IsSending first machine event command
       → (state_after settings state machine event).seen ≡ state.seen
-  sent_seen state machine events.Poll command may = refl
-  sent_seen state machine (events.Send sent) command may = refl
-  sent_seen state machine (events.Scan raw) command may = absurd may
-  sent_seen state machine (events.Raise mask) command may = absurd may
-  sent_seen state machine events.LineSync command may = absurd may
-  sent_seen state machine (events.ToModule index) command may = absurd may
-  sent_seen state machine (events.ToCpu index) command may = absurd may
-  sent_seen state machine events.Restart command may = absurd may
+  sent_seen state machine event command may = grind arith
 
   watch_items : (life : Life) (upto input : ℕ) (clear hidden ignoring : Bool) (watched : Option Bool) → WatchAt life upto input clear hidden watched
       → WatchAt life upto input clear (ignoring || hidden) (if ignoring then None else watched)
@@ -122,13 +109,6 @@ module _ (settings : Settings) (range : AreInRange settings) (first : ℕ) (begi
   watch_item life upto input clear above item w =
       let below = watch_items life upto input clear above.hidden (ignores item) (steady_state above.watched) w in
       record { open_ones = λ is none. below.open_ones is (sym (item_parts above item).hidden ∙ none); watched_ones = λ level is. below.watched_ones level (still_steady above item level is) }
-
-  was_steady : (above : InputAbove) (item : Option InputItem) (level : Bool) → steady_state (input_with_item (unnamed above) item).watched ≡ Some level → steady_state above.watched ≡ Some level
-  was_steady above item level is = by (ignores item) (still_steady above item level is)
-    where
-      by : (ignoring : Bool) → (if ignoring then None else steady_state above.watched) ≡ Some level → steady_state above.watched ≡ Some level
-      by true is = absurd (cc is)
-      by false is = is
 
   pub state-sends : (state : StateState) (from : Life) (machine : Machine) (facts : ContentFacts) (event : Event) (command : Command) → IsKnown settings first begin from machine
       → IsSending first machine event command → IsCommand command → KeepsState settings begin above state from machine facts
@@ -161,8 +141,8 @@ module _ (settings : Settings) (range : AreInRange settings) (first : ℕ) (begi
               tells-sent input low (life_of machine.history) machine.to_module machine.last_to_module (length (log_of (p.seen seen is).life)) (state_of input (p.seen seen is).life)
               (record { octets = command_octets command; round = machine.round }) command (read_back command within) none.0 (w.tells input low none.1));
         });
-    told = λ input low. told-sent input low (life_of machine.history) machine.to_module machine.last_to_module (end_at settings (life_of machine.history) machine.round) (facts.inputs input)
-        (record { octets = command_octets command; round = machine.round }) command (item_for input (items_sent command)) (read_back command within) refl (p.told input low);
+    shown = λ input low. shown-sent input low (life_of machine.history) machine.to_module machine.last_to_module (end_at settings (life_of machine.history) machine.round) (facts.inputs input)
+        (record { octets = command_octets command; round = machine.round }) command (item_for input (items_sent command)) (read_back command within) refl (p.shown input low);
   }
 
   -- ---- the module receives a frame
@@ -202,8 +182,8 @@ module _ (settings : Settings) (range : AreInRange settings) (first : ℕ) (begi
               goes_on = goes_on-command (p.seen seen is).life now command w.goes_on;
               tells = λ input low un. tells-received input low now machine.to_module machine.last_to_module (length (log_of (p.seen seen is).life)) (state_of input (p.seen seen is).life) place frame (omega arith) at (w.tells input low un);
             });
-        told = λ input low. subst (λ n. KeepsTold (life_after_command command now) machine.to_module (place + 1) n input (facts.inputs input)) (sym upto)
-            (told-received input low now machine.to_module machine.last_to_module (end_at settings now machine.round) (facts.inputs input) place frame (omega arith) at (p.told input low));
+        shown = λ input low. subst (λ n. KeepsShown (life_after_command command now) machine.to_module (place + 1) n input (facts.inputs input)) (sym upto)
+            (shown-received input low now machine.to_module machine.last_to_module (end_at settings now machine.round) (facts.inputs input) place frame (omega arith) at (p.shown input low));
       }
 
   -- the CPU takes a block
@@ -237,5 +217,5 @@ state_begun settings = record {
   recorded = omega arith;
   seen = λ seen is. absurd (cc is);
   pending = λ seen is. absurd (cc is);
-  told = λ input low. subst (KeepsTold [] [] 0 0 input) (sym (begun_input input low)) (record { told = λ level is. absurd (cc is); unlogged = λ is. absurd (cc is) });
+  shown = λ input low. subst (KeepsShown [] [] 0 0 input) (sym (begun_input input low)) (record { shown = λ level is. absurd (cc is); unlogged = λ is. absurd (cc is) });
 }

@@ -1,8 +1,5 @@
 -- What is kept along a log of the states that were asked for.
-use Rattle.fio_check.specs.ContentRules.{steady_state}
-use Rattle.fio_ends.proofs.Names.{◌≡◌, ◌<◌, ◌≤◌, ℕ, true, false, List, length, Option, Some, Settings, Life, life_of, log_of, scans_of, blocks_of, ContentFacts, Event, Machine, SentFrame}
-use Rattle.fio_check.specs.ContentSaid.{Seen}
-use Rattle.fio_ends.specs.ContentPremises.{scans_asked, scans_seen}
+use Rattle.fio_ends.proofs.Names.{◌≡◌, ◌<◌, ◌≤◌, ℕ, true, false, List, length, Option, Some, Settings, Life, life_of, log_of, scans_of, blocks_of, ContentFacts, Event, Machine, SentFrame, Seen, scans_asked, scans_seen, steady_state}
 use Rattle.fio_ends.proofs.SteadyKept.{WatchHolds}
 use Rattle.fio_ends.proofs.Answered.{states_of}
 use Rattle.fio_ends.proofs.BlockPlaces.{end_at}
@@ -10,7 +7,7 @@ use Rattle.fio_ends.proofs.Clocks.{clock, offset_of}
 use Rattle.fio_ends.proofs.Following.{GoesOn}
 use Rattle.fio_ends.proofs.Fulls.{KeepsFull}
 use Rattle.fio_ends.proofs.SeenStates.{WatchAt}
-use Rattle.fio_ends.proofs.Told.{KeepsTold, TellsFrom}
+use Rattle.fio_ends.proofs.Shown.{KeepsShown, TellsFrom}
 use Rattle.fio_ends.proofs.Watching.{state_of}
 
 -- ---- what is kept
@@ -44,9 +41,9 @@ pub record IsPending (now : Life) (frames : List SentFrame) (last upto : ℕ) (f
   pub tells : (input : ℕ) → input < 64 → (facts.inputs input).touched ≡ false → TellsFrom now frames last (length (log_of life)) input (state_of input life)
 
 -- what is known of what states tell of each input
-abbrev pub ToldHolds : Settings → Machine → ℕ → ContentFacts → Type 0
-ToldHolds settings machine upto facts =
-    (input : ℕ) → input < 64 → KeepsTold (life_of machine.history) machine.to_module machine.last_to_module upto input (facts.inputs input)
+abbrev pub ShownHolds : Settings → Machine → ℕ → ContentFacts → Type 0
+ShownHolds settings machine upto facts =
+    (input : ℕ) → input < 64 → KeepsShown (life_of machine.history) machine.to_module machine.last_to_module upto input (facts.inputs input)
 
 pub record KeepsState (settings : Settings) (begin : Machine) (above : Option ℕ) (state : StateState) (from : Life) (machine : Machine) (facts : ContentFacts) : Type 0 where
   pub full : KeepsFull settings begin above machine facts
@@ -60,4 +57,4 @@ pub record KeepsState (settings : Settings) (begin : Machine) (above : Option �
       → IsSeen (life_of begin.history) from state.seen (end_at settings (life_of machine.history) machine.round) facts states
   pub pending : (states : Seen) (is : facts.seen ≡ Some states)
       → IsPending (life_of machine.history) machine.to_module machine.last_to_module (end_at settings (life_of machine.history) machine.round) facts (seen states is).life
-  pub told : ToldHolds settings machine (end_at settings (life_of machine.history) machine.round) facts
+  pub shown : ShownHolds settings machine (end_at settings (life_of machine.history) machine.round) facts

@@ -1,10 +1,6 @@
 -- What is kept of the states that were asked for between the entries of a block that the CPU takes.
-use Rattle.fio_check.specs.ContentRules.{steady_state}
-use Rattle.fio_ends.proofs.Names.{◌≡◌, ◌∙◌, ◌<◌, ◌≤◌, ℕ, Bool, true, false, List, [], length, drop, Option, Some, ap, sym, subst, arith, slice_get, Settings, Life, life_of, log_of, scans_of, Transition, MadeBlock, blocks_of, ContentFacts, Machine, SentFrame, get_in_front}
-use Rattle.std.proofs.Math.ListN.{drop_of_length-le}
+use Rattle.fio_ends.proofs.Names.{◌≡◌, ◌∙◌, ◌<◌, ◌≤◌, ℕ, Bool, true, false, List, [], length, drop, Option, Some, ap, sym, subst, arith, slice_get, Settings, Life, life_of, log_of, scans_of, Transition, MadeBlock, blocks_of, ContentFacts, Machine, SentFrame, get_in_front, AreNear, EntriesNearStates, Seen, drop_of_length-le, is_later_among, steady_state}
 use Rattle.fio_message.specs.Bits.{is_set}
-use Rattle.fio_check.specs.ContentSaid.{Seen}
-use Rattle.fio_ends.specs.ContentPremises.{AreNear, EntriesNearStates, is_later_among}
 use Rattle.fio_ends.proofs.Alternating.{Alternate}
 use Rattle.fio_ends.proofs.SteadyKept.{KeepsWatch}
 use Rattle.fio_ends.proofs.EntryTimes.{WaitBriefly}
@@ -14,7 +10,7 @@ use Rattle.fio_ends.proofs.Lives.{log_grows, logged_since, scans_grow}
 use Rattle.fio_ends.proofs.SeenStates.{WatchAt}
 use Rattle.fio_ends.proofs.SettledAgain.{MadeThen}
 use Rattle.fio_ends.proofs.Watching.{state_of}
-use Rattle.fio_ends.proofs.StateKnown.{IsPending, IsSeen, StateState, ToldHolds}
+use Rattle.fio_ends.proofs.StateKnown.{IsPending, IsSeen, StateState, ShownHolds}
 use Rattle.fio_ends.proofs.StateRule.{states_bit}
 
 -- the states with what is known of the changes that are still to be recorded then
@@ -53,7 +49,7 @@ pub record KeepsRest (settings : Settings) (begin : Machine) (above : Option ℕ
   pub watch : (input : ℕ) → input < 64
       → KeepsWatch (life_of machine.history) machine.to_module machine.last_to_module upto input facts.clear (facts.inputs input).hidden (steady_state (facts.inputs input).watched)
   pub seen : (states : Seen) → facts.seen ≡ Some states → SeenRest (life_of machine.history) machine.to_module machine.last_to_module (life_of begin.history) state from block upto rest facts states
-  pub told : ToldHolds settings machine upto facts
+  pub shown : ShownHolds settings machine upto facts
 
 -- an entry that is in the log of a life, or later
 pub logged_in : (now life : Life) → GoesOn life now → (upto : ℕ) (transition : Transition) → slice_get (log_of now) upto ≡ Some transition

@@ -1,11 +1,7 @@
 -- What the rule `state` asks for, by the inputs that are watched and by times.
-use Rattle.fio_ends.proofs.Names.{◌≡◌, ◌∙◌, ◌+◌, ◌-◌, ◌%◌, ◌^◌, ◌<◌, ◌≤◌, ◌&&◌, inl, inr, ℕ, zero, suc, Bool, true, false, not, Option, Some, None, refl, ap, arith, ◌==◌, nat_le, nat_tests, eqb_tells, beq, is_some_and, Life, filter_events, ContentFacts, ContentEvent}
-use Rattle.fio_message.specs.Bits.{bit_of, is_set}
-use Rattle.fio_input.specs.FilterHistory.{input_state}
-use Rattle.fio_module.proofs.Words.{bit_at-word_of}
-use Rattle.fio_check.specs.ContentSaid.{Seen, comes_to, is_before, is_later}
-use Rattle.fio_check.specs.ContentRules.{differing, first_differing, state_breach, steady_state}
-use Rattle.fio_check.specs.Places.{earliest_above}
+use Rattle.fio_ends.proofs.Names.{◌≡◌, ◌∙◌, ◌+◌, ◌-◌, ◌%◌, ◌^◌, ◌<◌, ◌≤◌, ◌&&◌, inl, inr, ℕ, zero, suc, Bool, true, false, not, Option, Some, None, refl, ap, arith, ◌==◌, nat_le, nat_tests, eqb_tells, beq, is_some_and, Life, filter_events, ContentFacts, ContentEvent, Seen, bit_at-word_of, bit_of, comes_to, differing, earliest_above, input_state, is_before, is_later, state_breach, steady_state}
+use Rattle.fio_message.specs.Bits.{is_set}
+use Rattle.fio_check.specs.ContentRules.{first_differing}
 use Rattle.fio_ends.proofs.Answered.{states_of}
 use Rattle.fio_ends.proofs.Clocks.{clock}
 use Rattle.fio_ends.proofs.Watching.{state_of}
@@ -69,10 +65,7 @@ unfolding first_differing
 none_differs facts seen same = none-found 64 (omega arith)
   where
     alike : (level bit : Bool) → level ≡ bit → not (beq level bit) ≡ false
-    alike true true is = refl
-    alike true false is = absurd (cc is)
-    alike false true is = absurd (cc is)
-    alike false false is = refl
+    alike level bit is = grind arith
 
     by : (input : ℕ) → input < 64 → (watched : Option Bool) → steady_state (facts.inputs input).watched ≡ watched → is_some_and watched (λ level. not (beq level (is_set seen.levels input))) ≡ false
     by input low None is = refl

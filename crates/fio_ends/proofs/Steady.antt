@@ -1,8 +1,7 @@
 -- The counter jumps where a load of it takes effect. Where none has taken effect since a life, none had above.
-use Rattle.fio_ends.proofs.Names.{◌≡◌, ◌+◌, ◌++◌, ◌∷◌, ◌==◌, ℕ, Bool, true, false, List, Option, None, Some, refl, ap, subst, arith, if◌then◌else◌, Block, Command, block_in, command_in, items_of_block, Settings, Life, life_of, life_after_command, loads_of, Event, SentFrame, Machine, number_of, after, after_delivered_block, after_delivery_to_cpu, after_delivery_to_module, item_numbered}
+use Rattle.fio_ends.proofs.Names.{◌≡◌, ◌+◌, ◌++◌, ◌∷◌, ◌==◌, ℕ, Bool, true, false, List, Option, None, Some, refl, ap, subst, arith, if◌then◌else◌, Block, Command, block_in, command_in, items_of_block, Settings, Life, life_of, life_after_command, loads_of, Event, SentFrame, Machine, number_of, after, after_delivered_block, after_delivery_to_cpu, after_delivery_to_module, item_numbered, LoadsAreSent, loads_sent}
 use Rattle.fio_message.specs.declared.commands.Command.TheVariants as commands
 use Rattle.fio_link.specs.declared.event.Event.TheVariants as events
-use Rattle.fio_ends.specs.ContentPremises.{LoadsAreSent, loads_sent}
 use Rattle.fio_ends.proofs.Following.{GoesOn}
 use Rattle.fio_ends.proofs.Lives.{loads_grow}
 
@@ -26,9 +25,7 @@ IsCalm (events.Send (commands.LoadCounter load)) = ⊥
 IsCalm other = Unit {0}
 
 loads-command : (command : Option Command) (life : Life) → loads_of (life_after_command command life) ≡ loads_of life
-loads-command None life = refl
-loads-command (Some (commands.LoadCounter load)) life = refl
-loads-command (Some other) life = refl
+loads-command command life = grind arith
 
 module _ (settings : Settings) (first : ℕ) (machine : Machine) where
   pub heard-life : (index : ℕ) (found : Option SentFrame) → (after_delivery_to_cpu first machine index found).history ≡ machine.history

@@ -1,20 +1,12 @@
 -- Inputs whose latest entry is watched, and that no item ignores which was sent since the clear block above it: their changes
 -- that are still to be recorded alternate.
-use Rattle.fio_ends.proofs.Names.{◌≡◌, ◌≢◌, ◌∙◌, ◌+◌, ◌<◌, ◌≤◌, ◌&&◌, ◌||◌, inl, inr, ℕ, Bool, true, false, not, List, [], ◌∷◌, ◌++◌, length, Option, Some, None, refl, ap, sym, subst, arith, if◌then◌else◌, ◌==◌, InputItem, slice_get, slice_get_within, eqb_tells, nat_lt, nat_tests, same_Some, Command, Block, command_in, command_octets, IsCommand, says_again, says_more, Settings, AreInRange, Life, Occurrence, Scanned, LineSynced, Raised, Commanded, life_of, life_after_command, log_of, Transition, entry_of, MadeBlock, blocks_in, ContentFacts, InputAbove, content_with, Ended, Recorded, Sent, Gap, Event, SentFrame, Machine, start, after, after_sending, after_delivery_to_module, IsKept, get_after_push}
+use Rattle.fio_ends.proofs.Names.{◌≡◌, ◌≢◌, ◌∙◌, ◌+◌, ◌<◌, ◌≤◌, ◌&&◌, ◌||◌, inl, inr, ℕ, Bool, true, false, not, List, [], ◌∷◌, ◌++◌, length, Option, Some, None, refl, ap, sym, subst, arith, if◌then◌else◌, ◌==◌, InputItem, slice_get, slice_get_within, eqb_tells, nat_lt, nat_tests, same_Some, Command, Block, command_in, command_octets, IsCommand, says_again, says_more, Settings, AreInRange, Life, Occurrence, Scanned, LineSynced, Raised, Commanded, life_of, life_after_command, log_of, Transition, entry_of, MadeBlock, blocks_in, ContentFacts, InputAbove, content_with, Ended, Recorded, Sent, Gap, Event, SentFrame, Machine, start, after, after_sending, after_delivery_to_module, IsKept, get_after_push, SentItem, WatchedState, coming, content_begun, end_of_blocks, ignores, input_below_clear, input_coming, input_ended, input_with_entry, input_with_item, item_for, item_parts, items_sent, settled_now, steady_state, unnamed, watched_now}
 use Rattle.fio_message.specs.declared.commands.Command.TheVariants as commands
 use Rattle.fio_input.specs.Widening.{wide_time_of}
-use Rattle.fio_module.specs.Blocks.{end_of_blocks}
-use Rattle.fio_check.specs.ContentKnown.{WatchedState}
-use Rattle.fio_check.specs.ContentSaid.{SentItem, ignores, item_for, items_sent}
-use Rattle.fio_check.specs.ContentFacts.{coming, content_begun, input_below_clear, input_ended, input_with_entry, input_with_item, settled_now, unnamed, watched_now}
-use Rattle.fio_check.specs.ContentKnown.{input_coming}
-use Rattle.fio_check.specs.ContentRules.{steady_state}
-use Rattle.fio_check.proofs.ContentNext.{item_parts}
-use Rattle.fio_link.specs.declared.event.Event.TheVariants as events
 use Rattle.fio_ends.proofs.BlockPlaces.{end_at, ends_within}
 use Rattle.fio_ends.proofs.BlockWalk.{entry_event}
 use Rattle.fio_ends.proofs.ContentBegun.{begun_input}
-use Rattle.fio_ends.proofs.ContentSteps.{IsKnown, IsPastBus, Takes}
+use Rattle.fio_ends.proofs.ContentSteps.{IsKnown, IsPastBus, Takes, past_cases}
 use Rattle.fio_ends.proofs.MadeNow.{made_now}
 use Rattle.fio_ends.proofs.Following.{IsNoCommand}
 use Rattle.fio_ends.proofs.Sends.{read_back}
@@ -124,10 +116,7 @@ steady_now clear level now above is = by clear above.reopened above.hidden is
   where
     by : (clear reopened hidden : Bool) → steady_state (if clear && not reopened then Some (record { level = level; shaded = hidden }) else None) ≡ Some now
         → (if clear && not hidden then Some level else None) ≡ Some now
-    by false reopened hidden is = absurd (cc is)
-    by true true hidden is = absurd (cc is)
-    by true false true is = absurd (cc is)
-    by true false false is = is
+    by clear reopened hidden is = grind arith
 
 -- ---- the CPU takes a block
 
@@ -151,11 +140,6 @@ module _ (life : Life) (frames : List SentFrame) (last upto : ℕ) (transition :
     open_ones = λ is none. (let o = k.open_ones is none in (o.0, none_hidden-further life upto (upto + 1) input (omega arith) o.1));
     watched_ones = λ level is. (let w = k.watched_ones level is in (w.0, watched-other life upto input level transition at apart w.1));
   }
-
--- below a clear block
-hidden_below : (above : InputAbove) (item : Option SentItem) → (input_below_clear above item).hidden ≡ false
-hidden_below above None = refl
-hidden_below above (Some item) = refl
 
 pub watched_below : (above : InputAbove) (item : Option SentItem) → (input_below_clear above item).watched ≡ above.watched
 watched_below above None = refl
@@ -256,20 +240,12 @@ module _ (settings : Settings) (range : AreInRange settings) (first : ℕ) (begi
 
   pub watch-happens : (machine : Machine) (facts : ContentFacts) (event : Event) → IsPastBus event → WatchHolds settings machine facts
       → WatchHolds settings (after settings first machine event) facts
-  watch-happens machine facts (events.Scan raw) past p = λ input low.
-      watch-quiet machine.to_module machine.last_to_module (end_at settings (life_of machine.history) machine.round) input facts.clear (facts.inputs input).hidden (steady_state (facts.inputs input).watched)
-      low (life_of machine.history) (Scanned raw) tt (ends_within settings (life_of machine.history) machine.round) (p input low)
-  watch-happens machine facts events.LineSync past p = λ input low.
-      watch-quiet machine.to_module machine.last_to_module (end_at settings (life_of machine.history) machine.round) input facts.clear (facts.inputs input).hidden (steady_state (facts.inputs input).watched)
-      low (life_of machine.history) LineSynced tt (ends_within settings (life_of machine.history) machine.round) (p input low)
-  watch-happens machine facts (events.Raise mask) past p = λ input low.
-      watch-quiet machine.to_module machine.last_to_module (end_at settings (life_of machine.history) machine.round) input facts.clear (facts.inputs input).hidden (steady_state (facts.inputs input).watched)
-      low (life_of machine.history) (Raised mask) tt (ends_within settings (life_of machine.history) machine.round) (p input low)
-  watch-happens machine facts events.Poll past p = absurd past
-  watch-happens machine facts (events.Send command) past p = absurd past
-  watch-happens machine facts (events.ToModule index) past p = absurd past
-  watch-happens machine facts (events.ToCpu index) past p = absurd past
-  watch-happens machine facts events.Restart past p = absurd past
+  watch-happens machine facts event past p =
+      let now = life_of machine.history in
+      let each = λ (occurrence : Occurrence) (none : IsNoCommand occurrence) (input : ℕ) (low : input < 64).
+      watch-quiet machine.to_module machine.last_to_module (end_at settings now machine.round) input facts.clear (facts.inputs input).hidden (steady_state (facts.inputs input).watched)
+      low now occurrence none (ends_within settings now machine.round) (p input low) in
+      past_cases (λ event. WatchHolds settings (after settings first machine event) facts) (λ raw. each (Scanned raw) tt) (each LineSynced tt) (λ mask. each (Raised mask) tt) event past
 
   pub watch-sends : (machine : Machine) (facts : ContentFacts) (command : Command) → IsCommand command → WatchHolds settings machine facts
       → WatchHolds settings (after_sending machine command) (content_with facts (Sent command))

@@ -1,19 +1,12 @@
 -- The events that keep the rules on time, and those that a load of the counter excuses: below an excused event nothing is known
 -- of times till the next clear block.
-use Rattle.fio_ends.proofs.Names.{Block, events_of_block, items_of_block, ◌<◌, ◌-◌, nat_lt, eqb_tells, option_and_then, is_some_and, ◌≡◌, ◌∙◌, ◌+◌, ◌≤◌, ◌&&◌, ◌⊎◌, inl, inr, ℕ, Bool, true, false, not, List, [], ◌∷◌, Option, Some, None, refl, ap, ap₂, sym, subst, arith, fold, if◌then◌else◌, is_some, nat_tests, ◌==◌, Answer, Item, Entry, Gap, ContentFacts, content_with, ContentEvent, Ended, Heard, Recorded, Sent, Apart, Clock, Fresh, Order, State}
+use Rattle.fio_ends.proofs.Names.{nat_lt, option_and_then, is_some_and, ◌≡◌, ◌∙◌, ◌&&◌, ℕ, Bool, true, false, not, List, [], ◌∷◌, Option, Some, None, refl, ap, ap₂, sym, subst, fold, if◌then◌else◌, is_some, ◌==◌, Answer, Item, Entry, Gap, ContentFacts, content_with, ContentEvent, Ended, Heard, Recorded, Sent, Apart, Clock, Fresh, Order, State, INPUTS, InputAbove, KeepsRule, Seen, SentItem, breaks_answer, broken_state, comes_to, coming, content_step, forgetting, if_comes, input_below_clear, input_coming, input_ended, input_with_entry, is_before, is_clear_end, seen_below, settled_now, stamp_of, state_breach, without_excuse}
 use Rattle.std.specs.Prelude.{◌||◌}
-use Rattle.std.proofs.lemmas.Bool.{cases_lt}
-use Rattle.fio_message.specs.Blocks.{block_answer}
-use Rattle.fio_check.specs.ContentSaid.{Seen, SentItem, comes_to, is_again_end, is_before, is_clear_end, stamp_of}
-use Rattle.fio_check.specs.ContentAbove.{one_excuse_less, one_excuse_more}
-use Rattle.fio_check.specs.ContentEvents.{items_and_end}
-use Rattle.fio_check.specs.ContentFacts.{coming, content_step, forgetting, input_below_clear, input_ended, input_with_entry, seen_below, settled_now}
-use Rattle.fio_check.specs.ContentKnown.{InputAbove, if_comes, input_coming, told_after, unlogged_after}
+use Rattle.fio_check.specs.ContentSaid.{is_again_end}
+use Rattle.fio_check.specs.ContentKnown.{shown_after, unlogged_after}
 use Rattle.fio_message.specs.declared.answers.Answer.TheVariants as answers
-use Rattle.fio_message.specs.declared.limits.TheConstants.{INPUTS}
 use Rattle.fio_ends.proofs.ContentFrame.{heard_keeps}
-use Rattle.fio_check.specs.ContentRules.{breaks_answer, breaks_time, broken_state, first_differing, is_excused, state_breach, without_excuse}
-use Rattle.fio_ends.specs.ContentRuns.{KeepsRule}
+use Rattle.fio_check.specs.ContentRules.{breaks_time, first_differing, is_excused}
 use Rattle.fio_ends.proofs.ContentLines.{EachKeeps}
 
 -- an event keeps the rules on time
@@ -29,9 +22,6 @@ abbrev pub WouldKeep : ContentFacts → ContentEvent → Type 0
 WouldKeep facts event = KeepsTimeRules (without_excuse facts) event
 
 -- ---- one event
-
-none_of : (a b c d : Bool) → a ≡ false → b ≡ false → c ≡ false → d ≡ false → (if a then true else (if b then true else (if c then true else (if d then true else false)))) ≡ false
-none_of a b c d first second third fourth = rw (first, second, third, fourth) refl
 
 -- one that would keep them is not excused
 breaks_none : (facts : ContentFacts) (event : ContentEvent) → WouldKeep facts event → breaks_time (without_excuse facts) event ≡ false
@@ -144,11 +134,11 @@ pub record IsTimeless (facts : ContentFacts) : Type 0 where
   pub timely : facts.timely ≡ false
   pub seen : facts.seen ≡ None
   pub timed : (input : ℕ) → (facts.inputs input).timed ≡ None
-  pub told : (input : ℕ) → (facts.inputs input).told ≡ None
+  pub shown : (input : ℕ) → (facts.inputs input).shown ≡ None
   pub unlogged : (input : ℕ) → (facts.inputs input).unlogged ≡ false
 
 pub timeless_forgetting : (facts : ContentFacts) → IsTimeless (forgetting true facts)
-timeless_forgetting facts = record { clock = refl; heard = refl; timely = refl; seen = refl; timed = λ input. refl; told = λ input. refl; unlogged = λ input. refl }
+timeless_forgetting facts = record { clock = refl; heard = refl; timely = refl; seen = refl; timed = λ input. refl; shown = λ input. refl; unlogged = λ input. refl }
 
 -- so it stays till the end of the block
 module _ (facts : ContentFacts) (t : IsTimeless facts) where
@@ -156,7 +146,7 @@ module _ (facts : ContentFacts) (t : IsTimeless facts) where
   none_seen event = ap (broken_state (without_excuse facts) event) t.seen
 
   gap_timeless : IsTimeless (content_step facts (Recorded Gap))
-  gap_timeless = record { clock = t.clock; heard = t.heard; timely = t.timely; seen = refl; timed = t.timed; told = λ input. refl; unlogged = t.unlogged }
+  gap_timeless = record { clock = t.clock; heard = t.heard; timely = t.timely; seen = refl; timed = t.timed; shown = λ input. refl; unlogged = t.unlogged }
 
   entry_timeless : (input low wide : ℕ) (level : Bool) → IsTimeless (content_step facts (Recorded (Entry input level low wide)))
   entry_timeless recorded low wide level = record {
@@ -165,7 +155,7 @@ module _ (facts : ContentFacts) (t : IsTimeless facts) where
     timely = t.timely;
     seen = rw t.seen refl;
     timed = λ input. by-timed input (input == recorded && nat_lt input INPUTS);
-    told = λ input. by-told input (input == recorded && nat_lt input INPUTS);
+    shown = λ input. by-shown input (input == recorded && nat_lt input INPUTS);
     unlogged = λ input. by-unlogged input (input == recorded && nat_lt input INPUTS);
   }
     where
@@ -182,9 +172,9 @@ module _ (facts : ContentFacts) (t : IsTimeless facts) where
       by-timed input true = rw t.timely refl
       by-timed input false = t.timed input
 
-      by-told : (input : ℕ) (own : Bool) → (if own then input_with_entry facts level wide (above input) else above input).told ≡ None
-      by-told input true = refl
-      by-told input false = ap (λ seen. told_after input seen (facts.inputs input)) none_comes ∙ t.told input
+      by-shown : (input : ℕ) (own : Bool) → (if own then input_with_entry facts level wide (above input) else above input).shown ≡ None
+      by-shown input true = refl
+      by-shown input false = ap (λ seen. shown_after input seen (facts.inputs input)) none_comes ∙ t.shown input
 
       by-unlogged : (input : ℕ) (own : Bool) → (if own then input_with_entry facts level wide (above input) else above input).unlogged ≡ false
       by-unlogged input true = ap (λ seen. unlogged_after input seen (facts.inputs input)) none_comes ∙ t.unlogged input
@@ -198,7 +188,7 @@ module _ (facts : ContentFacts) (t : IsTimeless facts) where
       fresh = rw t.timely refl;
       apart = rw t.timely refl;
       clock = refl;
-      state = (none_seen (Recorded (Entry input level low wide)), rw (t.seen, t.told input, t.unlogged input) refl);
+      state = (none_seen (Recorded (Entry input level low wide)), rw (t.seen, t.shown input, t.unlogged input) refl);
     },
     entry_timeless input low wide level,
   )
@@ -215,8 +205,8 @@ module _ (facts : ContentFacts) (t : IsTimeless facts) where
       none_comes : coming facts event ≡ None
       none_comes = ap (option_and_then (if_comes event)) t.seen
 
-      told : (input : ℕ) → told_after input (coming facts event) (facts.inputs input) ≡ None
-      told input = ap (λ seen. told_after input seen (facts.inputs input)) none_comes ∙ t.told input
+      shown : (input : ℕ) → shown_after input (coming facts event) (facts.inputs input) ≡ None
+      shown input = ap (λ seen. shown_after input seen (facts.inputs input)) none_comes ∙ t.shown input
 
       unlogged : (input : ℕ) → unlogged_after input (coming facts event) (facts.inputs input) ≡ false
       unlogged input = ap (λ seen. unlogged_after input seen (facts.inputs input)) none_comes ∙ t.unlogged input
@@ -225,9 +215,9 @@ module _ (facts : ContentFacts) (t : IsTimeless facts) where
       timed_below above None = refl
       timed_below above (Some item) = refl
 
-      told_below : (above : InputAbove) (item : Option SentItem) → (input_below_clear above item).told ≡ above.told
-      told_below above None = refl
-      told_below above (Some item) = refl
+      shown_below : (above : InputAbove) (item : Option SentItem) → (input_below_clear above item).shown ≡ above.shown
+      shown_below above None = refl
+      shown_below above (Some item) = refl
 
       unlogged_below : (above : InputAbove) (item : Option SentItem) → (input_below_clear above item).unlogged ≡ above.unlogged
       unlogged_below above None = refl
@@ -237,9 +227,9 @@ module _ (facts : ContentFacts) (t : IsTimeless facts) where
       timed_end true above = timed_below above (settled_now above)
       timed_end false above = refl
 
-      told_end : (settles : Bool) (above : InputAbove) → (input_ended settles above).told ≡ above.told
-      told_end true above = told_below above (settled_now above)
-      told_end false above = refl
+      shown_end : (settles : Bool) (above : InputAbove) → (input_ended settles above).shown ≡ above.shown
+      shown_end true above = shown_below above (settled_now above)
+      shown_end false above = refl
 
       unlogged_end : (settles : Bool) (above : InputAbove) → (input_ended settles above).unlogged ≡ above.unlogged
       unlogged_end true above = unlogged_below above (settled_now above)
@@ -256,7 +246,7 @@ module _ (facts : ContentFacts) (t : IsTimeless facts) where
         timely = ap₂ (λ h k. h || k) t.heard t.timely;
         seen = ap (seen_below event) t.seen;
         timed = λ input. timed_below (input_coming input (coming facts event) (facts.inputs input)) (settled_now (facts.inputs input)) ∙ t.timed input;
-        told = λ input. told_below (input_coming input (coming facts event) (facts.inputs input)) (settled_now (facts.inputs input)) ∙ told input;
+        shown = λ input. shown_below (input_coming input (coming facts event) (facts.inputs input)) (settled_now (facts.inputs input)) ∙ shown input;
         unlogged = λ input. unlogged_below (input_coming input (coming facts event) (facts.inputs input)) (settled_now (facts.inputs input)) ∙ unlogged input;
       })
       by false is = rw is (record {
@@ -265,117 +255,6 @@ module _ (facts : ContentFacts) (t : IsTimeless facts) where
         timely = t.timely;
         seen = ap (seen_below event) t.seen;
         timed = λ input. timed_end (settling input) (input_coming input (coming facts event) (facts.inputs input)) ∙ t.timed input;
-        told = λ input. told_end (settling input) (input_coming input (coming facts event) (facts.inputs input)) ∙ told input;
+        shown = λ input. shown_end (settling input) (input_coming input (coming facts event) (facts.inputs input)) ∙ shown input;
         unlogged = λ input. unlogged_end (settling input) (input_coming input (coming facts event) (facts.inputs input)) ∙ unlogged input;
       })
-
--- ---- a block in whose time the counter jumped, or may have
-
--- the excuses that are used are no more than the loads that took effect: so many have since these
-pub record HasExcuses (sent jumps excuses : ℕ) : Type 0 where
-  pub enough : (excuses ≡ 255) ⊎ (sent ≤ jumps + excuses)
-
--- where no load is sent more
-pub as_many : (sent more jumps excuses : ℕ) → more ≡ 0 → HasExcuses sent jumps excuses → HasExcuses (sent + more) jumps excuses
-as_many sent more jumps excuses none h = record { enough = by h.enough }
-  where
-    by : (excuses ≡ 255) ⊎ (sent ≤ jumps + excuses) → (excuses ≡ 255) ⊎ (sent + more ≤ jumps + excuses)
-    by (inl full) = inl full
-    by (inr enough) = inr (omega (arith, none, enough))
-
--- one load more
-pub one_more : (sent jumps excuses : ℕ) → HasExcuses sent jumps excuses → HasExcuses (sent + 1) jumps (one_excuse_more excuses)
-one_more sent jumps excuses h = record { enough = by h.enough (cases_lt excuses 255) }
-  where
-    by : (excuses ≡ 255) ⊎ (sent ≤ jumps + excuses) → (excuses < 255) ⊎ (255 ≤ excuses) → (one_excuse_more excuses ≡ 255) ⊎ (sent + 1 ≤ jumps + one_excuse_more excuses)
-    by (inl full) few = inl (omega (arith, full))
-    by (inr enough) (inl few) = inr (omega (arith, enough, few))
-    by (inr enough) (inr many) = inl (omega (arith, many))
-
--- so many more loads took effect than were sent before, or an excuse is left
-pub some_left : (sent jumps now excuses : ℕ) → jumps + 1 ≤ now → now ≤ sent → HasExcuses sent jumps excuses → (excuses == 0) ≡ false
-some_left sent jumps now excuses more most h = by h.enough
-  where
-    some : (n : ℕ) → 1 ≤ n → (n == 0) ≡ false
-    some n low = grind (arith, nat_tests)
-
-    by : (excuses ≡ 255) ⊎ (sent ≤ jumps + excuses) → (excuses == 0) ≡ false
-    by (inl full) = some excuses (omega (arith, full))
-    by (inr enough) = some excuses (omega (arith, enough, more, most))
-
--- one more jump for one excuse less
-pub one_less : (sent jumps later excuses : ℕ) → jumps + 1 ≤ later → (excuses ≡ 0 → ⊥) → HasExcuses sent jumps excuses → HasExcuses sent later (one_excuse_less excuses)
-one_less sent jumps later excuses more some h = by (eqb_tells excuses 255) h.enough
-  where
-    by : (((excuses == 255) ≡ true) × (excuses ≡ 255)) ⊎ (((excuses == 255) ≡ false) × (excuses ≡ 255 → ⊥)) → (excuses ≡ 255) ⊎ (sent ≤ jumps + excuses)
-        → HasExcuses sent later (one_excuse_less excuses)
-    by (inl full) enough = record { enough = inl (ap (λ b. if b then 255 else excuses - 1) full.0) }
-    by (inr few) (inl full) = absurd (few.1 full)
-    by (inr few) (inr enough) = record { enough = inr (subst (λ n. sent ≤ later + n) (sym (ap (λ b. if b then 255 else excuses - 1) few.0)) (omega (arith, enough, more, some))) }
-
--- an event of an answer or a block uses none, if it is not excused
-step_excuses : (facts : ContentFacts) (item : Item) → (content_step facts (Recorded item)).excuses ≡ facts.excuses
-step_excuses facts Gap = refl
-step_excuses facts (Entry input level low wide) = refl
-
-end_excuses : (facts : ContentFacts) (status stamp : ℕ) → (content_step facts (Ended status stamp)).excuses ≡ facts.excuses
-end_excuses facts status stamp = by (is_clear_end (Ended status stamp)) refl
-  where
-    by : (clear : Bool) → is_clear_end (Ended status stamp) ≡ clear → (content_step facts (Ended status stamp)).excuses ≡ facts.excuses
-    by true is = rw is refl
-    by false is = rw is refl
-
-pub block_excuses : (facts : ContentFacts) (answer : Block) → (fold content_step facts (events_of_block answer)).excuses ≡ facts.excuses
-block_excuses facts answer = below (content_step facts (Heard (block_answer answer))) (items_of_block answer)
-  where
-    below : (facts : ContentFacts) (items : List Item) → (fold content_step facts (items_and_end items answer.status answer.stamp)).excuses ≡ facts.excuses
-    below facts [] = end_excuses facts answer.status answer.stamp
-    below facts (item ∷ items) = below (content_step facts (Recorded item)) items ∙ step_excuses facts item
-
--- between the events of a block: none is excused yet, and one may be; or one was, and nothing is known of times
-pub data Jumped (sent jumps later : ℕ) (facts : ContentFacts) : Type 0 where
-  NotYet : (some : (facts.excuses == 0) ≡ false) (has : HasExcuses sent jumps facts.excuses) → Jumped sent jumps later facts
-  Used : (timeless : IsTimeless facts) (has : HasExcuses sent later facts.excuses) → Jumped sent jumps later facts
-
-module _ (sent jumps later : ℕ) (more : jumps + 1 ≤ later) where
-  zero_not : (n : ℕ) → (n == 0) ≡ false → n ≡ 0 → ⊥
-  zero_not n some none = (let same : (n == 0) ≡ true = grind (arith, nat_tests) in absurd (cc (some, same)))
-
-  -- an event where none is excused yet
-  jumped_step : (facts : ContentFacts) (event : ContentEvent) → (content_step facts event).excuses ≡ facts.excuses → (facts.excuses == 0) ≡ false → HasExcuses sent jumps facts.excuses
-      → Jumped sent jumps later (content_with facts event)
-  jumped_step facts event same some has = by (is_excused facts event) refl
-    where
-      by : (excused : Bool) → is_excused facts event ≡ excused → Jumped sent jumps later (forgetting (is_excused facts event) (content_step facts event))
-      by true is = rw is (Used (timeless_forgetting (content_step facts event))
-          (subst (λ n. HasExcuses sent later (one_excuse_less n)) (sym same) (one_less sent jumps later facts.excuses more (zero_not facts.excuses some) has)))
-      by false is = rw is (NotYet (ap (λ n. n == 0) same ∙ some) (subst (HasExcuses sent jumps) (sym same) has))
-
-  -- an event below one
-  used_step : (facts : ContentFacts) (event : ContentEvent) → (content_step facts event).excuses ≡ facts.excuses → WouldKeep facts event → IsTimeless (content_step facts event)
-      → HasExcuses sent later facts.excuses → Jumped sent jumps later (content_with facts event)
-  used_step facts event same k timeless has =
-      subst (λ b. Jumped sent jumps later (forgetting b (content_step facts event))) (sym (not_excused facts event k))
-      (Used timeless (subst (HasExcuses sent later) (sym same) has))
-
-  item_jumped : (facts : ContentFacts) (item : Item) → Jumped sent jumps later facts → KeepsTimeRules facts (Recorded item) × Jumped sent jumps later (content_with facts (Recorded item))
-  item_jumped facts item (NotYet some has) = (excuses_all facts some (Recorded item), jumped_step facts (Recorded item) (step_excuses facts item) some has)
-  item_jumped facts item (Used timeless has) =
-      let next = item_timeless facts timeless item in
-      (keeps facts (Recorded item) next.0, used_step facts (Recorded item) (step_excuses facts item) next.0 next.1 has)
-
-  pub items_jumped : (items : List Item) (facts : ContentFacts) (status stamp : ℕ) → Jumped sent jumps later facts
-      → EachKeeps KeepsTimeRules content_with facts (items_and_end items status stamp) × Jumped sent jumps later (fold content_with facts (items_and_end items status stamp))
-  items_jumped [] facts status stamp (NotYet some has) = ((excuses_all facts some (Ended status stamp), tt), jumped_step facts (Ended status stamp) (end_excuses facts status stamp) some has)
-  items_jumped [] facts status stamp (Used timeless has) =
-      let next = ended_timeless facts timeless status stamp in
-      ((keeps facts (Ended status stamp) next.0, tt), used_step facts (Ended status stamp) (end_excuses facts status stamp) next.0 next.1 has)
-  items_jumped (item ∷ items) facts status stamp jumped =
-      let here = item_jumped facts item jumped in
-      let rest = items_jumped items (content_with facts (Recorded item)) status stamp here.1 in
-      ((here.0, rest.0), rest.1)
-
-  -- an answer, and the items of its block
-  pub answer_jumped : (facts : ContentFacts) (answer : Answer) → (facts.excuses == 0) ≡ false → HasExcuses sent jumps facts.excuses
-      → KeepsTimeRules facts (Heard answer) × Jumped sent jumps later (content_with facts (Heard answer))
-  answer_jumped facts answer some has = (excuses_all facts some (Heard answer), jumped_step facts (Heard answer) refl some has)

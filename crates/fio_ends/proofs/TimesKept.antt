@@ -1,16 +1,9 @@
 -- The rules on time never accuse: a breach shows that the counter jumped since times were forgotten last, and no more loads take
 -- effect than are sent.
-use Rattle.fio_ends.proofs.Names.{log_of, blocks_in, end_of_blocks, ◌≡◌, ◌∙◌, ◌+◌, ◌<◌, ◌≤◌, inl, inr, ℕ, Bool, true, false, List, [], ◌∷◌, length, Option, Some, None, refl, ap, sym, subst, arith, fold, ◌==◌, eqb_tells, slice_get, Answer, Command, Block, IsCommand, command_in, Settings, AreInRange, Life, life_of, life_after_command, loads_of, Commanded, MadeBlock, ContentFacts, content_with, content_step, no_content, ContentEvent, Heard, Sent, events_of_block, items_of_block, ContentRule, Apart, Clock, Fresh, Order, State, Event, SentFrame, Machine, start, after, after_sending, after_delivery_to_module, after_taken, Leads, HaveNoRestart}
-use Rattle.fio_message.specs.Blocks.{block_answer}
+use Rattle.fio_ends.proofs.Names.{log_of, blocks_in, end_of_blocks, ◌≡◌, ◌∙◌, ◌+◌, ◌<◌, ◌≤◌, inl, inr, ℕ, Bool, true, false, List, [], ◌∷◌, length, Option, Some, None, refl, ap, sym, subst, arith, fold, ◌==◌, eqb_tells, slice_get, Answer, Command, Block, IsCommand, command_in, Settings, AreInRange, Life, life_of, life_after_command, loads_of, Commanded, MadeBlock, ContentFacts, content_with, content_step, no_content, ContentEvent, Heard, Sent, events_of_block, items_of_block, ContentRule, Apart, Clock, Fresh, Order, State, Event, SentFrame, Machine, start, after, after_sending, after_delivery_to_module, after_taken, Leads, HaveNoRestart, HasNearTimes, History, KeepsRule, LoadsAreSent, StampsAreNear, StatesAreNear, block_answer, content_begun, forgetting, loads_sent, one_excuse_more, scans_above, sent_step, without_excuse}
 use Rattle.fio_message.specs.declared.commands.Command.TheVariants as commands
-use Rattle.fio_module.specs.Life.{History}
-use Rattle.fio_check.proofs.Unexcused.{sent_step}
-use Rattle.fio_check.specs.ContentAbove.{one_excuse_more}
-use Rattle.fio_check.specs.ContentFacts.{content_begun, forgetting}
-use Rattle.fio_check.specs.ContentRules.{without_excuse}
 use Rattle.fio_link.specs.declared.event.Event.TheVariants as events
-use Rattle.fio_ends.specs.ContentPremises.{HasNearTimes, LoadsAreSent, StampsAreNear, StatesAreNear, loads_sent, scans_above}
-use Rattle.fio_ends.specs.ContentRuns.{ContentNeverAccuses, KeepsRule}
+use Rattle.fio_ends.specs.ContentRuns.{ContentNeverAccuses}
 use Rattle.fio_ends.proofs.ContentHeld.{timed_never_accuses}
 use Rattle.fio_ends.proofs.AlwaysKept.{Always, always_begun, always-begins, always-happens, always-hears, always-receives, always-sends, always-takes}
 use Rattle.fio_ends.proofs.ApartKept.{apart_begun, apart-happens, apart-hears, apart-receives, apart-sends, apart-takes}
@@ -20,7 +13,7 @@ use Rattle.fio_ends.proofs.BlockPlaces.{end_at, ends_within}
 use Rattle.fio_ends.proofs.ClockKept.{clock_above, clock_begun, clock-hears, clock-sends, clock-takes}
 use Rattle.fio_ends.proofs.ContentFrame.{heard_keeps}
 use Rattle.fio_ends.proofs.ContentLines.{EachKeeps}
-use Rattle.fio_ends.proofs.ContentSteps.{HearsAnswer, IsInvariant, IsKnown, IsPastBus, IsSending, PollsKnown, Takes}
+use Rattle.fio_ends.proofs.ContentSteps.{HearsAnswer, IsInvariant, IsKnown, IsPastBus, IsSending, PollsKnown, Takes, past_cases}
 use Rattle.fio_ends.proofs.FloorBlocks.{KeepsFloorRules}
 use Rattle.fio_ends.proofs.Floors.{KeepsFloor}
 use Rattle.fio_ends.proofs.FloorsKept.{floor_begun, floor-happens, floor-receives, floor-takes}
@@ -33,7 +26,8 @@ use Rattle.fio_ends.proofs.StateKept.{state_above, state_begun, state-happens, s
 use Rattle.fio_ends.proofs.StateKnown.{KeepsState, StateState, state_after}
 use Rattle.fio_ends.proofs.Steady.{IsSteady, steady_above}
 use Rattle.fio_ends.proofs.Taken.{Asks, asked_of, asks_on, blocks_stay}
-use Rattle.fio_ends.proofs.Timeless.{HasExcuses, IsTimeless, Jumped, KeepsTimeRules, NotYet, Used, WouldKeep, all_keep, answer_jumped, as_many, block_excuses, both_keep, items_jumped, keeps, none_excused, not_excused, one_more, some_left}
+use Rattle.fio_ends.proofs.Timeless.{IsTimeless, KeepsTimeRules, WouldKeep, all_keep, both_keep, keeps, none_excused, not_excused}
+use Rattle.fio_ends.proofs.JumpedBlocks.{HasExcuses, Jumped, answer_jumped, as_many, block_excuses, items_jumped, one_more, some_left, NotYet, Used}
 
 -- what the rules read of the events above, and how many loads of the counter were sent in the log
 pub record TimeState : Type 0 where
@@ -102,7 +96,7 @@ timeless_timed settings base above s from machine facts t always recorded = reco
     recorded = recorded;
     seen = λ states at. absurd (cc (sym t.seen ∙ at));
     pending = λ states at. absurd (cc (sym t.seen ∙ at));
-    told = λ input low. record { told = λ level at. absurd (cc (sym (t.told input) ∙ at)); unlogged = λ at. absurd (cc (sym (t.unlogged input) ∙ at)) };
+    shown = λ input low. record { shown = λ level at. absurd (cc (sym (t.shown input) ∙ at)); unlogged = λ at. absurd (cc (sym (t.unlogged input) ∙ at)) };
   };
 }
 
@@ -112,24 +106,14 @@ goes_on-command before now (Some command) g = goes_on-more before now (Commanded
 
 -- a machine after an event past the bus
 pub past_life : (settings : Settings) (first : ℕ) (machine : Machine) (event : Event) → IsPastBus event → GoesOn (life_of machine.history) (life_of (after settings first machine event).history)
-past_life settings first machine (events.Scan raw) past = goes_on-more _ _ _ (goes_on-same (life_of machine.history) (life_of machine.history) refl)
-past_life settings first machine events.LineSync past = goes_on-more _ _ _ (goes_on-same (life_of machine.history) (life_of machine.history) refl)
-past_life settings first machine (events.Raise mask) past = goes_on-more _ _ _ (goes_on-same (life_of machine.history) (life_of machine.history) refl)
-past_life settings first machine events.Poll past = absurd past
-past_life settings first machine (events.Send command) past = absurd past
-past_life settings first machine (events.ToModule index) past = absurd past
-past_life settings first machine (events.ToCpu index) past = absurd past
-past_life settings first machine events.Restart past = absurd past
+past_life settings first machine event past = past_cases (λ event. GoesOn (life_of machine.history) (life_of (after settings first machine event).history))
+    (λ raw. goes_on-more _ _ _ (goes_on-same (life_of machine.history) (life_of machine.history) refl))
+    (goes_on-more _ _ _ (goes_on-same (life_of machine.history) (life_of machine.history) refl))
+    (λ mask. goes_on-more _ _ _ (goes_on-same (life_of machine.history) (life_of machine.history) refl))
+    event past
 
 no_loads_past : (event : Event) → IsPastBus event → loads_sent event ≡ 0
-no_loads_past (events.Scan raw) past = refl
-no_loads_past events.LineSync past = refl
-no_loads_past (events.Raise mask) past = refl
-no_loads_past events.Poll past = absurd past
-no_loads_past (events.Send command) past = absurd past
-no_loads_past (events.ToModule index) past = absurd past
-no_loads_past (events.ToCpu index) past = absurd past
-no_loads_past events.Restart past = absurd past
+no_loads_past event past = grind arith
 
 module _ (settings : Settings) (range : AreInRange settings) (first : ℕ) (begin : Machine) (above : Option ℕ) where
   abbrev began : ℕ
@@ -151,25 +135,12 @@ module _ (settings : Settings) (range : AreInRange settings) (first : ℕ) (begi
 
   recorded-past : (from : Life) (machine : Machine) (event : Event) → IsPastBus event → end_at settings (life_of machine.history) machine.round ≤ length (log_of from)
       → end_at settings (life_of (after settings first machine event).history) (after settings first machine event).round ≤ length (log_of from)
-  recorded-past from machine (events.Scan raw) past recorded = recorded
-  recorded-past from machine events.LineSync past recorded = recorded
-  recorded-past from machine (events.Raise mask) past recorded = recorded
-  recorded-past from machine events.Poll past recorded = absurd past
-  recorded-past from machine (events.Send command) past recorded = absurd past
-  recorded-past from machine (events.ToModule index) past recorded = absurd past
-  recorded-past from machine (events.ToCpu index) past recorded = absurd past
-  recorded-past from machine events.Restart past recorded = absurd past
+  recorded-past from machine event past recorded = grind arith
 
   clock-past : (life : Life) (c : ClockState) (from : Life) (machine : Machine) (facts : ContentFacts) (event : Event) → IsPastBus event → KeepsClock life c from machine facts
       → KeepsClock life (clock_after c machine event) from (after settings first machine event) facts
-  clock-past life c from machine facts (events.Scan raw) past p = record { stamped = p.stamped }
-  clock-past life c from machine facts events.LineSync past p = record { stamped = p.stamped }
-  clock-past life c from machine facts (events.Raise mask) past p = record { stamped = p.stamped }
-  clock-past life c from machine facts events.Poll past p = absurd past
-  clock-past life c from machine facts (events.Send command) past p = absurd past
-  clock-past life c from machine facts (events.ToModule index) past p = absurd past
-  clock-past life c from machine facts (events.ToCpu index) past p = absurd past
-  clock-past life c from machine facts events.Restart past p = absurd past
+  clock-past life c from machine facts event past p = past_cases (λ event. KeepsClock life (clock_after c machine event) from (after settings first machine event) facts)
+      (λ raw. record { stamped = p.stamped }) (record { stamped = p.stamped }) (λ mask. record { stamped = p.stamped }) event past
 
   times-happen : (s : TimeState) (from : Life) (machine : Machine) (facts : ContentFacts) (event : Event) → IsKnown settings first begin from machine → IsPastBus event → P s from machine facts
       → P (time_after settings s machine event) from (after settings first machine event) facts
@@ -446,7 +417,7 @@ module _ (settings : Settings) (range : AreInRange settings) (first : ℕ) (begi
           upto = goes_on-same (life_of begin.history) (life_of begin.history) refl;
           has = record { enough = inr (omega arith) };
           timed = λ steady. timeless_timed settings (at_life begin begin.history) above (time_above begun) (life_of begin.history) begin no_content
-              (record { clock = refl; heard = refl; timely = refl; seen = refl; timed = λ input. refl; told = λ input. refl; unlogged = λ input. refl }) always recorded;
+              (record { clock = refl; heard = refl; timely = refl; seen = refl; timed = λ input. refl; shown = λ input. refl; unlogged = λ input. refl }) always recorded;
         });
     happens = λ s from machine facts event rest known past asks p. times-happen s from machine facts event known past p;
     sends = times-send;

@@ -1,15 +1,9 @@
 -- What is known of the changes of an input that are still to be recorded, as a module's life goes on.
-use Rattle.fio_ends.proofs.Names.{◌≡◌, ◌≢◌, ◌∙◌, ◌+◌, ◌-◌, ◌<◌, ◌≤◌, ◌||◌, ◌⊎◌, inl, inr, ℕ, zero, suc, Bool, true, false, not, List, [], ◌∷◌, ◌++◌, length, take, drop, Option, Some, None, refl, ap, sym, subst, arith, if◌then◌else◌, slice_get, AllByRecursion, take-append-drop, nat_lt, nat_tests, Life, Occurrence, Scanned, LineSynced, Raised, Commanded, Command, filter_events, life_after_command, Transition, log_of, InputItem, ArrayVec, all_present, input_setting, length-append, same_Some}
-use Rattle.std.proofs.lemmas.List.{drop-append-le, drop-drop}
-use Rattle.std.proofs.Math.ListN.{drop_of_length-le}
+use Rattle.fio_ends.proofs.Names.{◌≡◌, ◌≢◌, ◌∙◌, ◌+◌, ◌-◌, ◌<◌, ◌≤◌, ◌||◌, ◌⊎◌, inl, inr, ℕ, zero, suc, Bool, true, false, not, List, [], ◌∷◌, ◌++◌, length, take, drop, Option, Some, None, refl, ap, sym, subst, arith, if◌then◌else◌, slice_get, AllByRecursion, take-append-drop, nat_lt, nat_tests, Life, Occurrence, Scanned, LineSynced, Raised, Commanded, Command, filter_events, life_after_command, Transition, log_of, InputItem, ArrayVec, all_present, input_setting, length-append, same_Some, Setting, applied_items, drop-append-le, drop_of_length-le, each-drop, ignores, input_state, item_for, last_item_of, later_log, setting_by, state-configure}
+use Rattle.std.proofs.lemmas.List.{drop-drop}
 use Rattle.fio_message.specs.declared.commands.Command.TheVariants as commands
-use Rattle.fio_input.specs.FilterHistory.{applied_items, input_state, last_item_of, setting_by}
-use Rattle.fio_input.specs.FilterRule.{Setting}
-use Rattle.fio_input.proofs.History.{state-configure}
 use Rattle.fio_module.specs.Log.{transitions_below}
-use Rattle.fio_module.proofs.ListParts.{each-append, each-drop}
-use Rattle.fio_check.specs.ContentSaid.{ignores, item_for}
-use Rattle.fio_module.proofs.NewLevels.{later_log}
+use Rattle.fio_module.proofs.ListParts.{each-append}
 use Rattle.fio_module.proofs.ScanTransitions.{logged}
 use Rattle.fio_ends.proofs.Following.{IsNoCommand}
 use Rattle.fio_ends.proofs.Alternating.{Alternate, NoneOf, alternate-append, alternate-split, none-alternate, none_ignored, scan_below}
@@ -67,10 +61,6 @@ none_hidden-scan life raw upto input within low (inr watched) = inr (watched.0, 
 -- this command does not ignore an input
 abbrev pub KeepsOpen : ℕ → Option Command → Type 0
 KeepsOpen input command = (items : ArrayVec InputItem) → command ≡ Some (commands.ConfigureInputs items) → ignores (item_for input items.items) ≡ false
-
-pub or_left : (a b : Bool) → (a || b) ≡ false → a ≡ false
-or_left true b is = absurd (cc is)
-or_left false b is = refl
 
 pub or_right : (a b : Bool) → (a || b) ≡ false → b ≡ false
 or_right true b is = absurd (cc is)

@@ -139,7 +139,7 @@ pub fn loads_may_be_under_way()
 /// The judge of a link accuses no right link: in what the CPU's end logs of a prompt run, from the start of both ends or from
 /// any event on, no frame breaks a rule, though any frames may be missing at marks. At most one load of the counter is under
 /// way where the log goes on below a mark, and none where it begins; and all that is compared is near.
-#[tactic(auto, using(crate::proofs::JudgedRuns::judge_accuses_none))]
+#[tactic(auto, using(crate::proofs::JudgedLogs::judge_accuses_none))]
 pub fn judge_accuses_no_right_link()
     ensures { JudgeAccusesNone }
 {}

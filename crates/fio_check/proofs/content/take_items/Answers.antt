@@ -1,5 +1,4 @@
-use Rattle.fio_check.proofs.Names.{◌∙◌, ◌+◌, ap, ap₂, sym, map, option_or, Ended, breach_found, entries_of, facts_kept, item_of, says_lost}
-use Rattle.std.proofs.lemmas.List.{length-map}
+use Rattle.fio_check.proofs.Names.{◌∙◌, ◌+◌, ap, ap₂, sym, map, option_or, Ended, breach_found, entries_of, facts_kept, item_of, says_lost, length-map}
 use Rattle.fio_check.proofs.KeptContent.{block_found}
 use Rattle.fio_check.proofs.content.take_items.Goals as goal
 

@@ -1,6 +1,6 @@
-use Rattle.fio_check.proofs.Names.{◌∙◌, sym, arith}
+use Rattle.fio_check.proofs.Names.{◌∙◌, sym, arith, is_set-above}
 use Rattle.std.proofs.lemmas.Bool.{le-ltb}
-use Rattle.fio_message.proofs.Bits.{is_set-above, is_set_read}
+use Rattle.fio_message.proofs.Bits.{is_set_read}
 use Rattle.fio_check.proofs.input_sets.has_input.Goals as goal
 
 pub returns-then-input-lt-INPUTS-clause-set : goal.returns-then-input-lt-INPUTS-clause-set

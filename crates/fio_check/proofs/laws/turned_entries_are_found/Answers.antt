@@ -1,4 +1,4 @@
-use Rattle.fio_check.proofs.Found.{finds_turned, finds_turned_later}
+use Rattle.fio_check.proofs.FoundTurned.{finds_turned, finds_turned_later}
 use Rattle.fio_check.proofs.laws.turned_entries_are_found.Goals as goal
 
 pub returns-clause-at_once : goal.returns-clause-at_once

@@ -1,5 +1,4 @@
-use Rattle.std.proofs.Common.{◌≡◌}
-use Rattle.fio_message.specs.Views.{entries_of}
+use Rattle.fio_check.proofs.Names.{entries_of, ◌≡◌}
 use Rattle.fio_check.specs.LogCounts.{raised_by}
 use Rattle.fio_check.proofs.log_counts.raise_inputs.Given as goal
 

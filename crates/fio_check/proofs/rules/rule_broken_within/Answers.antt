@@ -1,5 +1,4 @@
-use Rattle.fio_check.proofs.Names.{◌∙◌, sym, rules}
-use Rattle.fio_check.specs.Rules.{breaks_within}
+use Rattle.fio_check.proofs.Names.{◌∙◌, sym, rules, breaks_within}
 use Rattle.fio_check.specs.declared.rules.Rule.TheVariants.{Readable}
 use Rattle.fio_check.proofs.FirstFound.{find-more}
 use Rattle.fio_check.proofs.rules.rule_broken_within.Goals as goal

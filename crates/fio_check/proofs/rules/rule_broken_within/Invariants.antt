@@ -1,5 +1,4 @@
-use Rattle.fio_check.proofs.Names.{◌≡◌, drop, find, rules}
-use Rattle.fio_check.specs.Rules.{breaks_within, first_broken_within}
+use Rattle.fio_check.proofs.Names.{◌≡◌, drop, find, rules, breaks_within, first_broken_within}
 use Rattle.fio_check.proofs.rules.rule_broken_within.Given as goal
 
 abbrev pub invariant-rules : goal.invariant-rules

@@ -1,8 +1,6 @@
-use Rattle.fio_check.proofs.Names.{◌∙◌, ap, true, Sent, content_with}
-use Rattle.fio_message.specs.Views.{command_of}
-use Rattle.fio_check.specs.ContentCheckers.{ContentChecking}
+use Rattle.fio_check.proofs.Names.{◌∙◌, ap, true, Sent, content_with, ContentChecking, command_of, facts_kept}
 use Rattle.fio_check.specs.ContentEvents.{number_with_command}
-use Rattle.fio_check.specs.ContentKept.{content_kept, facts_kept}
+use Rattle.fio_check.specs.ContentKept.{content_kept}
 use Rattle.fio_check.proofs.content.ContentChecker.send.Goals as goal
 
 pub returns : goal.returns

@@ -1,5 +1,4 @@
-use Rattle.fio_check.proofs.Names.{◌∙◌, sym, facts_kept}
-use Rattle.fio_message.specs.Views.{command_of}
+use Rattle.fio_check.proofs.Names.{◌∙◌, sym, facts_kept, command_of}
 use Rattle.fio_check.proofs.Unexcused.{sent_step}
 use Rattle.fio_check.proofs.content_above.ContentAbove.add_command.Goals as goal
 

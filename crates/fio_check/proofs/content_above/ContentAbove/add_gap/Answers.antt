@@ -1,5 +1,4 @@
-use Rattle.fio_check.proofs.Names.{◌∙◌, ℕ, None, ap, sym, facts_kept, InputAbove}
-use Rattle.std.proofs.Math.Path.{fun_ext}
+use Rattle.fio_check.proofs.Names.{◌∙◌, ℕ, None, ap, sym, facts_kept, InputAbove, fun_ext}
 use Rattle.fio_check.proofs.Unexcused.{gap_step}
 use Rattle.fio_check.proofs.content_above.ContentAbove.add_gap.Goals as goal
 

@@ -1,10 +1,6 @@
-use Rattle.fio_check.proofs.Names.{◌≡◌, ◌∙◌, ◌+◌, ◌<◌, ap, ap₂, sym, arith, drop, length, [], ◌∷◌, items_of, ContentFacts}
-use Rattle.std.specs.Prelude.{◌-◌}
+use Rattle.fio_check.proofs.Names.{◌≡◌, ◌∙◌, ◌+◌, ◌<◌, ap, ap₂, sym, arith, drop, length, [], ◌∷◌, items_of, ContentFacts, facts_kept, input_kept, input_with_earlier, item_for, with_items, ◌-◌}
 use Rattle.std.proofs.lemmas.List.{drop_more}
-use Rattle.fio_check.specs.ContentSaid.{item_for}
-use Rattle.fio_check.specs.ContentFacts.{input_with_earlier, with_items}
-use Rattle.fio_check.specs.ContentKept.{facts_kept, input_kept}
-use Rattle.fio_check.proofs.KeptInputs.{with_items_more}
+use Rattle.fio_check.proofs.KeptSettled.{with_items_more}
 use Rattle.fio_check.proofs.content_above.ContentAbove.add_items.Goals as goal
 
 pub items-preserved : goal.items-preserved

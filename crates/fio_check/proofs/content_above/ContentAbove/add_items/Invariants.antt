@@ -1,6 +1,4 @@
-use Rattle.fio_check.proofs.Names.{◌≡◌, ◌≤◌, drop, items_of, length}
-use Rattle.fio_check.specs.ContentFacts.{with_items}
-use Rattle.fio_check.specs.ContentKept.{facts_kept}
+use Rattle.fio_check.proofs.Names.{◌≡◌, ◌≤◌, drop, items_of, length, facts_kept, with_items}
 use Rattle.fio_check.proofs.content_above.ContentAbove.add_items.Given as goal
 
 abbrev pub invariant-items : goal.invariant-items

@@ -1,8 +1,4 @@
-use Rattle.fio_check.proofs.Names.{◌≡◌, ◌∙◌, ◌==◌, ℕ, Bool, false, not, ap, ap₂, sym, arith, nat_tests, is_set}
-use Rattle.std.specs.Prelude.{◌&&◌, ◌||◌}
-use Rattle.std.proofs.Math.Path.{fun_ext}
-use Rattle.fio_message.proofs.Bits.{is_set-or}
-use Rattle.fio_check.specs.ContentKept.{facts_kept}
+use Rattle.fio_check.proofs.Names.{◌≡◌, ◌∙◌, ◌==◌, ℕ, Bool, false, not, ap, ap₂, sym, arith, nat_tests, is_set, facts_kept, fun_ext, is_set-or, ◌&&◌, ◌||◌}
 use Rattle.fio_check.proofs.content_above.ContentAbove.add_since_poll.Goals as goal
 
 pub returns-then-self-ne0 : goal.returns-then-self-ne0

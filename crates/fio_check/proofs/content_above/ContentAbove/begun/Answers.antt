@@ -1,7 +1,4 @@
-use Rattle.fio_check.proofs.Names.{◌∙◌, ap, ContentFacts, None, Some, true}
-use Rattle.std.proofs.Math.Path.{fun_ext}
-use Rattle.fio_check.specs.ContentFacts.{content_begun}
-use Rattle.fio_check.specs.ContentKept.{input_kept}
+use Rattle.fio_check.proofs.Names.{◌∙◌, ap, ContentFacts, None, Some, true, content_begun, fun_ext, input_kept}
 use Rattle.fio_check.proofs.content_above.ContentAbove.begun.Goals as goal
 
 pub returns : goal.returns

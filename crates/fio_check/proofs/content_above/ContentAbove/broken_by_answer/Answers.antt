@@ -1,7 +1,4 @@
-use Rattle.fio_check.proofs.Names.{◌∙◌, sym, answer_of}
-use Rattle.fio_check.specs.ContentKept.{facts_kept}
-use Rattle.fio_check.specs.ContentRules.{answer_rules, breaks_answer}
-use Rattle.fio_check.specs.declared.content_rules.ContentRule.TheVariants.{Order}
+use Rattle.fio_check.proofs.Names.{◌∙◌, sym, answer_of, Order, answer_rules, breaks_answer, facts_kept}
 use Rattle.fio_check.proofs.FirstFound.{find-more}
 use Rattle.fio_check.proofs.content_above.ContentAbove.broken_by_answer.Goals as goal
 

@@ -1,6 +1,4 @@
-use Rattle.fio_check.proofs.Names.{◌≡◌, drop, find, answer_of}
-use Rattle.fio_check.specs.ContentKept.{facts_kept}
-use Rattle.fio_check.specs.ContentRules.{answer_rules, breaks_answer}
+use Rattle.fio_check.proofs.Names.{◌≡◌, drop, find, answer_of, answer_rules, breaks_answer, facts_kept}
 use Rattle.fio_check.proofs.content_above.ContentAbove.broken_by_answer.Given as goal
 
 abbrev pub invariant-rules : goal.invariant-rules

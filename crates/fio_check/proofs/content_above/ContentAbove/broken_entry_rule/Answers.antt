@@ -1,7 +1,4 @@
-use Rattle.fio_check.proofs.Names.{◌∙◌, sym}
-use Rattle.fio_check.specs.ContentKept.{facts_kept}
-use Rattle.fio_check.specs.ContentRules.{breaks_entry, entry_rules}
-use Rattle.fio_check.specs.declared.content_rules.ContentRule.TheVariants.{Order}
+use Rattle.fio_check.proofs.Names.{◌∙◌, sym, Order, breaks_entry, entry_rules, facts_kept}
 use Rattle.fio_check.proofs.FirstFound.{find-more}
 use Rattle.fio_check.proofs.content_above.ContentAbove.broken_entry_rule.Goals as goal
 

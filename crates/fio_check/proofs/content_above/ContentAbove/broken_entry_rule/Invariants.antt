@@ -1,6 +1,4 @@
-use Rattle.fio_check.proofs.Names.{◌≡◌, drop, find}
-use Rattle.fio_check.specs.ContentKept.{facts_kept}
-use Rattle.fio_check.specs.ContentRules.{breaks_entry, entry_rules}
+use Rattle.fio_check.proofs.Names.{◌≡◌, drop, find, breaks_entry, entry_rules, facts_kept}
 use Rattle.fio_check.proofs.content_above.ContentAbove.broken_entry_rule.Given as goal
 
 abbrev pub invariant-rules : goal.invariant-rules

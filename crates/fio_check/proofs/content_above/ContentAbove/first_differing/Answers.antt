@@ -1,6 +1,4 @@
-use Rattle.fio_check.proofs.Names.{◌≡◌, ◌∙◌, sym, ap, arith, earliest_above}
-use Rattle.fio_check.specs.ContentKept.{facts_kept, seen_kept}
-use Rattle.fio_check.specs.ContentRules.{differing, without_excuse}
+use Rattle.fio_check.proofs.Names.{◌≡◌, ◌∙◌, sym, ap, arith, earliest_above, differing, facts_kept, seen_kept, without_excuse}
 use Rattle.fio_check.proofs.Differing.{first_found, none_found}
 use Rattle.fio_check.proofs.content_above.ContentAbove.first_differing.Goals as goal
 

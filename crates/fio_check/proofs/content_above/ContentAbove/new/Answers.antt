@@ -1,6 +1,4 @@
-use Rattle.fio_check.proofs.Names.{ap₂, no_content}
-use Rattle.std.proofs.Math.Path.{fun_ext}
-use Rattle.fio_message.proofs.Bits.{is_set-zero}
+use Rattle.fio_check.proofs.Names.{ap₂, no_content, fun_ext, is_set-zero}
 use Rattle.fio_check.proofs.content_above.ContentAbove.new.Goals as goal
 
 pub returns : goal.returns

@@ -1,6 +1,4 @@
-use Rattle.fio_check.proofs.Names.{◌∙◌, sym, ap}
-use Rattle.fio_message.specs.Status.{says_again}
-use Rattle.fio_check.specs.ContentKept.{facts_kept, input_kept}
+use Rattle.fio_check.proofs.Names.{◌∙◌, sym, ap, facts_kept, input_kept, says_again}
 use Rattle.fio_check.proofs.KeptContent.{settled_clear}
 use Rattle.fio_check.proofs.content_above.ContentAbove.settle.Goals as goal
 

@@ -1,6 +1,4 @@
-use Rattle.fio_check.proofs.Names.{◌∙◌, None, Some, ap, if◌then◌else◌, true, refl}
-use Rattle.fio_check.specs.ContentFacts.{is_aging}
-use Rattle.fio_check.specs.ContentKnown.{ContentFacts}
+use Rattle.fio_check.proofs.Names.{◌∙◌, None, Some, ap, if◌then◌else◌, true, refl, ContentFacts, is_aging}
 use Rattle.fio_check.proofs.content_above.ContentAbove.step_answer.Goals as goal
 
 pub returns-in-Watchdog : goal.returns-in-Watchdog

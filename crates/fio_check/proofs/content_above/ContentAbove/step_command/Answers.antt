@@ -1,7 +1,5 @@
-use Rattle.fio_check.proofs.Names.{◌∙◌, ap, ContentFacts}
-use Rattle.fio_message.specs.Views.{command_of}
-use Rattle.fio_check.specs.ContentSaid.{items_sent}
-use Rattle.fio_check.specs.ContentFacts.{with_items, with_since_poll}
+use Rattle.fio_check.proofs.Names.{◌∙◌, ap, ContentFacts, command_of, items_sent, with_items}
+use Rattle.fio_check.specs.ContentFacts.{with_since_poll}
 use Rattle.fio_check.proofs.content_above.ContentAbove.step_command.Goals as goal
 
 pub add_items_of-requires : goal.add_items_of-requires

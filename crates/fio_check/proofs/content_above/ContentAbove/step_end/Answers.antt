@@ -1,9 +1,4 @@
-use Rattle.fio_check.proofs.Names.{◌≡◌, ◌∙◌, ℕ, Bool, sym, ap, Ended, false}
-use Rattle.std.proofs.Math.Path.{fun_ext}
-use Rattle.fio_message.specs.Status.{says_more}
-use Rattle.fio_message.proofs.Bits.{is_set-zero}
-use Rattle.fio_check.specs.ContentKept.{facts_kept}
-use Rattle.fio_check.specs.ContentFacts.{content_step}
+use Rattle.fio_check.proofs.Names.{◌≡◌, ◌∙◌, ℕ, Bool, sym, ap, Ended, false, content_step, facts_kept, fun_ext, is_set-zero, says_more}
 use Rattle.fio_check.proofs.KeptContent.{ended_full, ended_more, flagged_if}
 use Rattle.fio_check.proofs.content_above.ContentAbove.step_end.Goals as goal
 use Rattle.fio_check.proofs.content_above.ContentAbove.step_end.Goals.{then-not-more, else-not-more}

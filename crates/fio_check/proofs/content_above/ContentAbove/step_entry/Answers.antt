@@ -1,7 +1,4 @@
-use Rattle.fio_check.proofs.Names.{◌∙◌, ◌==◌, None, Some, ap, if◌then◌else◌, nat_lt, ContentFacts}
-use Rattle.std.specs.Prelude.{◌&&◌}
-use Rattle.fio_message.specs.declared.limits.TheConstants.{INPUTS}
-use Rattle.fio_check.specs.ContentFacts.{input_with_entry}
+use Rattle.fio_check.proofs.Names.{◌∙◌, ◌==◌, None, Some, ap, if◌then◌else◌, nat_lt, ContentFacts, INPUTS, input_with_entry, ◌&&◌}
 use Rattle.fio_check.proofs.content_above.ContentAbove.step_entry.Goals as goal
 
 pub returns : goal.returns

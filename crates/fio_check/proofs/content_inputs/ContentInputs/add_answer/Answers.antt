@@ -1,5 +1,4 @@
-use Rattle.fio_check.proofs.Names.{refl}
-use Rattle.fio_message.proofs.Bits.{is_set-zero}
+use Rattle.fio_check.proofs.Names.{refl, is_set-zero}
 use Rattle.fio_check.proofs.KeptInputs.{answer_taken}
 use Rattle.fio_check.proofs.content_inputs.ContentInputs.add_answer.Goals as goal
 

@@ -1,6 +1,4 @@
-use Rattle.fio_check.proofs.Names.{◌∙◌, ap, ap₂, sym, arith, is_set}
-use Rattle.fio_check.specs.ContentSaid.{FilterPair}
-use Rattle.fio_check.specs.ContentKept.{input_kept}
+use Rattle.fio_check.proofs.Names.{◌∙◌, ap, ap₂, sym, arith, is_set, FilterPair, input_kept}
 use Rattle.fio_check.proofs.KeptInputs.{item_added}
 use Rattle.fio_check.proofs.content_inputs.ContentInputs.add_item.Goals as goal
 

@@ -1,5 +1,4 @@
-use Rattle.fio_check.proofs.Names.{refl, replicate}
-use Rattle.fio_input.specs.declared.filters.TheConstants.{DEFAULT_FILTER}
+use Rattle.fio_check.proofs.Names.{refl, replicate, DEFAULT_FILTER}
 use Rattle.fio_check.proofs.KeptInputs.{begun_kept}
 use Rattle.fio_check.proofs.content_inputs.ContentInputs.begun.Goals as goal
 

@@ -1,5 +1,5 @@
 use Rattle.fio_check.proofs.Names.{arith}
-use Rattle.fio_check.proofs.KeptInputs.{come_kept}
+use Rattle.fio_check.proofs.KeptSettled.{come_kept}
 use Rattle.fio_check.proofs.content_inputs.ContentInputs.come_to.Goals as goal
 
 pub returns : goal.returns

@@ -1,5 +1,4 @@
-use Rattle.fio_check.proofs.Names.{refl}
-use Rattle.fio_message.proofs.Bits.{is_set-zero}
+use Rattle.fio_check.proofs.Names.{refl, is_set-zero}
 use Rattle.fio_check.proofs.content_inputs.ContentInputs.forget_times.Goals as goal
 
 pub returns : goal.returns

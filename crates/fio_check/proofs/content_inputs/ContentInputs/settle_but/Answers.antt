@@ -1,9 +1,6 @@
-use Rattle.fio_check.proofs.Names.{arith}
-use Rattle.std.specs.Int.Bits.{bit_and}
-use Rattle.std.specs.Int.{bit_not}
-use Rattle.std.proofs.Common.{w64}
+use Rattle.fio_check.proofs.Names.{arith, bit_and, bit_not, w64}
 use Rattle.std.proofs.lemmas.Nat.{and_le_l}
-use Rattle.fio_check.proofs.KeptInputs.{settled_kept}
+use Rattle.fio_check.proofs.KeptSettled.{settled_kept}
 use Rattle.fio_check.proofs.content_inputs.ContentInputs.settle_but.Goals as goal
 
 pub returns : goal.returns

@@ -1,9 +1,4 @@
-use Rattle.fio_check.proofs.Names.{◌∙◌, sym, ap}
-use Rattle.fio_check.specs.Checkers.{found_by}
-use Rattle.fio_check.specs.ContentCheckers.{found_in_frame}
-use Rattle.fio_check.specs.LinkJudges.{content_here, is_unheard, outcome_found}
-use Rattle.fio_check.specs.LinkKept.{judging}
-use Rattle.fio_check.specs.Observations.{observation_in}
+use Rattle.fio_check.proofs.Names.{◌∙◌, sym, ap, content_here, found_by, found_in_frame, is_unheard, judging, observation_in, outcome_found}
 use Rattle.fio_check.proofs.link_judge.LinkJudge.judge.Goals as goal
 
 pub returns-in-None-clause-outcome : goal.returns-in-None-clause-outcome

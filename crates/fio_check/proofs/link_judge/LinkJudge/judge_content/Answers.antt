@@ -1,8 +1,4 @@
-use Rattle.fio_check.proofs.Names.{◌∙◌, sym, ap}
-use Rattle.fio_check.specs.Checkers.{checker_with}
-use Rattle.fio_check.specs.LinkJudges.{asked_below, loads_below, loads_left, place_lost, polls_below}
-use Rattle.fio_check.specs.Observations.{observation_in}
-use Rattle.fio_check.specs.LinkKept.{judging}
+use Rattle.fio_check.proofs.Names.{◌∙◌, sym, ap, asked_below, checker_with, judging, loads_below, loads_left, observation_in, place_lost, polls_below}
 use Rattle.fio_check.proofs.LinkJudges.{restart-loses}
 use Rattle.fio_check.proofs.link_judge.LinkJudge.judge_content.Goals as goal
 

@@ -1,7 +1,4 @@
-use Rattle.fio_check.proofs.Names.{◌∙◌, ap, ap₂}
-use Rattle.fio_check.specs.ContentCheckers.{checking_with}
-use Rattle.fio_check.specs.LinkJudges.{Judging, asked_below, content_here, polls_below}
-use Rattle.fio_check.specs.LinkKept.{judging}
+use Rattle.fio_check.proofs.Names.{◌∙◌, ap, ap₂, Judging, asked_below, checking_with, content_here, judging, polls_below}
 use Rattle.fio_check.proofs.link_judge.LinkJudge.take.Goals as goal
 
 pub returns-clause-next : goal.returns-clause-next

@@ -1,8 +1,5 @@
-use Rattle.fio_check.proofs.Names.{◌≡◌, ◌∙◌, None, ap, sym}
-use Rattle.fio_check.specs.LinkJudges.{judging_with, outcome_in}
-use Rattle.fio_check.specs.LinkKept.{judging}
-use Rattle.fio_check.specs.LogJudges.{LogJudging, log_below, log_judging, log_reached, log_reaching, outcome_here, outcome_late, outcome_reached, place_of}
-use Rattle.fio_check.specs.declared.log_judge.LogOutcome.TheVariants.{Link}
+use Rattle.fio_check.proofs.Names.{◌∙◌, ap, sym, Link, LogJudging, judging_with, log_reached, outcome_in, outcome_reached, place_of}
+use Rattle.fio_check.specs.LogJudges.{log_below, log_judging, log_reaching, outcome_here, outcome_late}
 use Rattle.fio_check.proofs.log_judge.LogJudge.frame.Goals as goal
 
 pub returns-in-None-clause-outcome : goal.returns-in-None-clause-outcome

@@ -1,13 +1,7 @@
 -- What the states of a 181 tell of an input, if no item of it is sent since: its changes alternate from there on, or it has none.
-use Rattle.fio_ends.proofs.Names.{◌≡◌, ◌≢◌, ◌∙◌, ◌+◌, ◌<◌, ◌≤◌, ◌&&◌, ◌||◌, ◌⊎◌, inl, inr, ℕ, Bool, true, false, not, List, [], ◌∷◌, ◌++◌, length, drop, Option, Some, None, is_some_and, refl, ap, sym, subst, arith, if◌then◌else◌, beq, slice_get, AllByRecursion, same_Some, Command, command_in, InputItem, Life, Occurrence, Scanned, LineSynced, Raised, Commanded, life_after_command, log_of, length-append, Transition, SentFrame, InputAbove, get_after_push, nat_lt}
+use Rattle.fio_ends.proofs.Names.{◌≡◌, ◌≢◌, ◌∙◌, ◌+◌, ◌<◌, ◌≤◌, ◌&&◌, ◌||◌, ◌⊎◌, inl, inr, ℕ, Bool, true, false, not, List, [], ◌∷◌, ◌++◌, length, drop, Option, Some, None, is_some_and, refl, ap, sym, subst, arith, if◌then◌else◌, beq, slice_get, AllByRecursion, same_Some, Command, command_in, InputItem, Life, Occurrence, Scanned, LineSynced, Raised, Commanded, life_after_command, log_of, length-append, Transition, SentFrame, InputAbove, get_after_push, nat_lt, Seen, drop_of_length-le, ignores, input_coming, input_with_item, is_shown_otherwise, item_for, items_sent, later_log, opens, unnamed}
 use Rattle.fio_message.specs.Bits.{is_set}
-use Rattle.std.proofs.Math.ListN.{drop_of_length-le}
 use Rattle.fio_message.specs.declared.commands.Command.TheVariants as commands
-use Rattle.fio_module.proofs.NewLevels.{later_log}
-use Rattle.fio_check.specs.ContentSaid.{Seen, ignores, item_for, items_sent, opens}
-use Rattle.fio_check.specs.ContentFacts.{input_with_item, unnamed}
-use Rattle.fio_check.specs.ContentKnown.{input_coming}
-use Rattle.fio_check.specs.ContentRules.{is_told_otherwise}
 use Rattle.fio_ends.proofs.Alternating.{Alternate, NoneOf, alternate-same}
 use Rattle.fio_ends.proofs.Following.{IsNoCommand}
 use Rattle.fio_ends.proofs.FirstPolls.{LeavesInput, NamesNot, NoneNames}
@@ -24,8 +18,8 @@ pub record TellsFrom (life : Life) (frames : List SentFrame) (last upto input : 
   pub goes : GoesFrom life upto input level
 
 -- what is known of what the states tell of an input
-pub record KeepsTold (life : Life) (frames : List SentFrame) (last upto input : ℕ) (above : InputAbove) : Type 0 where
-  pub told : (level : Bool) → above.told ≡ Some level → TellsFrom life frames last upto input level
+pub record KeepsShown (life : Life) (frames : List SentFrame) (last upto input : ℕ) (above : InputAbove) : Type 0 where
+  pub shown : (level : Bool) → above.shown ≡ Some level → TellsFrom life frames last upto input level
   pub unlogged : above.unlogged ≡ true → NoneNames frames last input × IsSilent life upto input
 
 -- ---- one event
@@ -122,17 +116,17 @@ module _ (input : ℕ) (low : input < 64) where
 
     -- ---- what is kept of an input
 
-    pub told-quiet : (above : InputAbove) (occurrence : Occurrence) → IsNoCommand occurrence → upto ≤ length (log_of life) → KeepsTold life frames last upto input above
-        → KeepsTold (occurrence ∷ life) frames last upto input above
-    told-quiet above occurrence quiet within k = record {
-      told = λ level is. tells-quiet level occurrence quiet within (k.told level is);
+    pub shown-quiet : (above : InputAbove) (occurrence : Occurrence) → IsNoCommand occurrence → upto ≤ length (log_of life) → KeepsShown life frames last upto input above
+        → KeepsShown (occurrence ∷ life) frames last upto input above
+    shown-quiet above occurrence quiet within k = record {
+      shown = λ level is. tells-quiet level occurrence quiet within (k.shown level is);
       unlogged = λ is. (let u = k.unlogged is in (u.0, silent-quiet life occurrence upto input quiet within u.1));
     }
 
-    pub told-received : (above : InputAbove) (place : ℕ) (frame : SentFrame) → last ≤ place → slice_get frames place ≡ Some frame → KeepsTold life frames last upto input above
-        → KeepsTold (life_after_command (command_in frame.octets) life) frames (place + 1) upto input above
-    told-received above place frame new at k = record {
-      told = λ level is. tells-received level place frame new at (k.told level is);
+    pub shown-received : (above : InputAbove) (place : ℕ) (frame : SentFrame) → last ≤ place → slice_get frames place ≡ Some frame → KeepsShown life frames last upto input above
+        → KeepsShown (life_after_command (command_in frame.octets) life) frames (place + 1) upto input above
+    shown-received above place frame new at k = record {
+      shown = λ level is. tells-received level place frame new at (k.shown level is);
       unlogged = λ is.
           (let u = k.unlogged is in (
             λ later f high there. u.0 later f (omega (arith, new, high)) there,
@@ -140,50 +134,47 @@ module _ (input : ℕ) (low : input < 64) where
           ));
     }
 
-    pub told-sent : (above : InputAbove) (f : SentFrame) (command : Command) (item : Option InputItem) → command_in f.octets ≡ Some command → item_for input (items_sent command) ≡ item
-        → KeepsTold life frames last upto input above → KeepsTold life (frames ++ f ∷ []) last upto input (input_with_item (unnamed above) item)
-    told-sent above f command (Some item) reads is k = record { told = λ level now. absurd (cc now); unlogged = λ now. absurd (cc now) }
-    told-sent above f command None reads is k = record {
-      told = λ level now. tells-sent level f command reads is (k.told level now);
+    pub shown-sent : (above : InputAbove) (f : SentFrame) (command : Command) (item : Option InputItem) → command_in f.octets ≡ Some command → item_for input (items_sent command) ≡ item
+        → KeepsShown life frames last upto input above → KeepsShown life (frames ++ f ∷ []) last upto input (input_with_item (unnamed above) item)
+    shown-sent above f command (Some item) reads is k = record { shown = λ level now. absurd (cc now); unlogged = λ now. absurd (cc now) }
+    shown-sent above f command None reads is k = record {
+      shown = λ level now. tells-sent level f command reads is (k.shown level now);
       unlogged = λ now. (let u = k.unlogged now in (names-sent f command reads is u.0, u.1));
     }
 
     -- the record comes to states of this input, and goes on from this place
-    pub told-comes : (above : InputAbove) (seen : Seen) → (above.touched ≡ false → TellsFrom life frames last upto input (is_set seen.levels input))
-        → KeepsTold life frames last upto input above → KeepsTold life frames last upto input (input_coming input (Some seen) above)
-    told-comes above seen pending k = record {
-      told = λ level now. by-told (nat_lt input 64) above.touched refl level now;
-      unlogged = λ now. by-unlogged (nat_lt input 64) above.touched refl above.told refl above.unlogged refl now;
+    pub shown-comes : (above : InputAbove) (seen : Seen) → (above.touched ≡ false → TellsFrom life frames last upto input (is_set seen.levels input))
+        → KeepsShown life frames last upto input above → KeepsShown life frames last upto input (input_coming input (Some seen) above)
+    shown-comes above seen pending k = record {
+      shown = λ level now. by-shown (nat_lt input 64) above.touched refl level now;
+      unlogged = λ now. by-unlogged (nat_lt input 64) above.touched refl above.shown refl above.unlogged refl now;
     }
       where
         bit : Bool
         bit = is_set seen.levels input
 
-        by-told : (within touched : Bool) → above.touched ≡ touched → (level : Bool) → (if within then (if touched then None else Some bit) else above.told) ≡ Some level
+        by-shown : (within touched : Bool) → above.touched ≡ touched → (level : Bool) → (if within then (if touched then None else Some bit) else above.shown) ≡ Some level
             → TellsFrom life frames last upto input level
-        by-told false touched is level now = k.told level now
-        by-told true true is level now = absurd (cc now)
-        by-told true false is level now = subst (TellsFrom life frames last upto input) (same_Some _ _ now) (pending is)
+        by-shown false touched is level now = k.shown level now
+        by-shown true true is level now = absurd (cc now)
+        by-shown true false is level now = subst (TellsFrom life frames last upto input) (same_Some _ _ now) (pending is)
 
         differ : (a b : Bool) → not (beq a b) ≡ true → a ≡ b → ⊥
-        differ true true is same = absurd (cc is)
-        differ true false is same = absurd (cc same)
-        differ false true is same = absurd (cc same)
-        differ false false is same = absurd (cc is)
+        differ a b is same = grind arith
 
         silent : (level other : Bool) → (level ≡ other → ⊥) → GoesFrom life upto input level → GoesFrom life upto input other → IsSilent life upto input
         silent level other apart (inl s) goes = s
         silent level other apart (inr w) (inl s) = s
         silent level other apart (inr w) (inr v) = absurd (apart (alternate-same input level other (state_of input life) (drop upto (log_of life)) w.alternate v.alternate))
 
-        by-unlogged : (within touched : Bool) → above.touched ≡ touched → (told : Option Bool) → above.told ≡ told → (unlogged : Bool) → above.unlogged ≡ unlogged
-            → ((within && (not touched && is_some_and told (λ level. not (beq level bit)))) || unlogged) ≡ true → NoneNames frames last input × IsSilent life upto input
-        by-unlogged within touched is told at true un now = k.unlogged un
-        by-unlogged false touched is told at false un now = absurd (cc now)
-        by-unlogged true true is told at false un now = absurd (cc now)
+        by-unlogged : (within touched : Bool) → above.touched ≡ touched → (shown : Option Bool) → above.shown ≡ shown → (unlogged : Bool) → above.unlogged ≡ unlogged
+            → ((within && (not touched && is_some_and shown (λ level. not (beq level bit)))) || unlogged) ≡ true → NoneNames frames last input × IsSilent life upto input
+        by-unlogged within touched is shown at true un now = k.unlogged un
+        by-unlogged false touched is shown at false un now = absurd (cc now)
+        by-unlogged true true is shown at false un now = absurd (cc now)
         by-unlogged true false is None at false un now = absurd (cc now)
         by-unlogged true false is (Some level) at false un now =
-            let t = k.told level at in
+            let t = k.shown level at in
             let p = pending is in
             (t.names, silent level bit (differ level bit (or_none (not (beq level bit)) now)) t.goes p.goes)
           where
@@ -192,33 +183,30 @@ module _ (input : ℕ) (low : input < 64) where
             or_none false is = absurd (cc is)
 
     -- an entry of the input
-    pub told-entry : (above : InputAbove) (transition : Transition) → slice_get (log_of life) upto ≡ Some transition → transition.input ≡ input
-        → KeepsTold life frames last upto input above → is_told_otherwise transition.level above ≡ false
-    told-entry above transition at same k = by above.told refl above.unlogged refl
+    pub shown-entry : (above : InputAbove) (transition : Transition) → slice_get (log_of life) upto ≡ Some transition → transition.input ≡ input
+        → KeepsShown life frames last upto input above → is_shown_otherwise transition.level above ≡ false
+    shown-entry above transition at same k = by above.shown refl above.unlogged refl
       where
         never : IsSilent life upto input → ⊥
         never s = (subst (NoneOf input) (rest_at (log_of life) upto transition at) s.none).0 same
 
         other : (now before : Bool) → now ≡ not before → beq now before ≡ false
-        other true true is = absurd (cc is)
-        other true false is = refl
-        other false true is = refl
-        other false false is = absurd (cc is)
+        other now before is = grind arith
 
         changed : (level : Bool) → GoesFrom life upto input level → beq transition.level level ≡ false
         changed level (inl s) = absurd (never s)
         changed level (inr w) = other transition.level level (watched-entry life upto input level transition at same w).0
 
-        by : (told : Option Bool) → above.told ≡ told → (unlogged : Bool) → above.unlogged ≡ unlogged → (is_some_and told (beq transition.level) || unlogged) ≡ false
-        by told at true un = absurd (never (k.unlogged un).1)
+        by : (shown : Option Bool) → above.shown ≡ shown → (unlogged : Bool) → above.unlogged ≡ unlogged → (is_some_and shown (beq transition.level) || unlogged) ≡ false
+        by shown at true un = absurd (never (k.unlogged un).1)
         by None at false un = refl
-        by (Some level) at false un = ap (λ b. b || false) (changed level (k.told level at).goes)
+        by (Some level) at false un = ap (λ b. b || false) (changed level (k.shown level at).goes)
 
     -- and of another
-    pub told-other : (above : InputAbove) (transition : Transition) → slice_get (log_of life) upto ≡ Some transition → transition.input ≢ input
-        → KeepsTold life frames last upto input above → KeepsTold life frames last (upto + 1) input above
-    told-other above transition at apart k = record {
-      told = λ level is. (let t = k.told level is in record { names = t.names; goes = by level t.goes });
+    pub shown-other : (above : InputAbove) (transition : Transition) → slice_get (log_of life) upto ≡ Some transition → transition.input ≢ input
+        → KeepsShown life frames last upto input above → KeepsShown life frames last (upto + 1) input above
+    shown-other above transition at apart k = record {
+      shown = λ level is. (let t = k.shown level is in record { names = t.names; goes = by level t.goes });
       unlogged = λ is. (let u = k.unlogged is in (u.0, silent-further life upto (upto + 1) input (omega arith) u.1));
     }
       where

@@ -1,24 +1,16 @@
 -- A log in which an input's latest entry has the other state, or is missing: what is above differs in that state alone, until
 -- an event tells the state.
-use Rattle.fio_check.proofs.Names.{◌≡◌, ◌<◌, ◌≤◌, ◌∙◌, ◌+◌, ◌++◌, ℕ, zero, suc, Bool, true, false, List, [], ◌∷◌, Option, Some, None, refl, sym, subst, ap, ap₂, arith, option_or, length, drop, take, length-drop, if◌then◌else◌, is_some, nat_lt, not, option_map, option_and_then, slice_get, slice_get_within, ◌==◌, Entry, Gap, ContentFacts, InputAbove, Seen, SentItem, content_at, content_with, ContentEvent, Sent, Heard, Recorded, Ended, LineEvent, content_event_at, Placed, is_some_and}
-use Rattle.std.specs.Prelude.{◌&&◌, ◌||◌, ◌-◌}
-use Rattle.fio_message.specs.declared.limits.TheConstants.{INPUTS}
-use Rattle.fio_check.specs.ContentAbove.{latest_said, one_excuse_more}
-use Rattle.fio_check.specs.ContentKnown.{WatchedState}
-use Rattle.fio_check.specs.ContentSaid.{TimedState, block_stamp, comes_to, entry_recorded, full_end, ignores, ignoring, is_clear_end, is_far, is_gap, is_loading, item_for, items_sent, opening, opens, states_heard}
-use Rattle.fio_check.specs.ContentFacts.{coming, content_step, input_below_clear, input_ended, is_aging, seen_below, seen_with, settled_now, settles}
-use Rattle.fio_check.specs.ContentKnown.{input_coming}
-use Rattle.fio_check.specs.ContentRules.{rule_broken_by}
-use Rattle.fio_check.specs.ContentFaults.{first_fault_in}
-use Rattle.fio_check.specs.Finding.{IsComparedAt, place_of_latest, seen_unloaded, tells_of}
+use Rattle.fio_check.proofs.Names.{◌≡◌, ◌<◌, ◌≤◌, ◌∙◌, ◌+◌, ◌++◌, ℕ, zero, suc, Bool, true, false, List, [], ◌∷◌, Option, Some, None, refl, sym, subst, ap, ap₂, arith, option_or, length, drop, take, length-drop, if◌then◌else◌, is_some, nat_lt, not, option_map, option_and_then, slice_get, slice_get_within, ◌==◌, Entry, Gap, ContentFacts, InputAbove, Seen, SentItem, content_at, content_with, ContentEvent, Sent, Heard, Recorded, Ended, LineEvent, content_event_at, Placed, is_some_and, INPUTS, TimedState, WatchedState, block_stamp, comes_to, coming, content_step, entry_recorded, first_fault_in, full_end, ignores, ignoring, input_below_clear, input_coming, input_ended, is_aging, is_clear_end, is_far, is_gap, is_loading, item_for, items_sent, latest_said, one_excuse_more, opening, opens, place_of_latest, rule_broken_by, seen_below, seen_unloaded, seen_with, settled_now, settles, states_heard, tells_of, ◌&&◌, ◌-◌, ◌||◌}
+use Rattle.fio_check.specs.Finding.{IsComparedAt}
 use Rattle.fio_check.proofs.ContentCourse.{dropped_first}
-use Rattle.fio_check.proofs.ContentNext.{item_parts, unwatched_none, watched_same}
-use Rattle.fio_check.proofs.ContentPlaces.{event_of, said, watched_after}
+use Rattle.fio_check.proofs.InputParts.{item_parts, unwatched_none, watched_same}
+use Rattle.fio_check.proofs.ContentPlaces.{said, watched_after}
+use Rattle.fio_check.proofs.ShownPlaces.{event_of}
 use Rattle.fio_check.proofs.KeptContent.{ended_input}
 use Rattle.fio_check.proofs.Unexcused.{quiet_above, step_only}
 use Rattle.fio_check.proofs.LogFaults.{course, cut_at, facts_below, fault_at_event, no_fault_at}
 use Rattle.fio_check.proofs.Places.{is_the_latest}
-use Rattle.fio_check.proofs.RulesFound.{AreJudged, is_told, timed}
+use Rattle.fio_check.proofs.RulesFound.{AreJudged, has_content, timed}
 
 -- ---- with one event more
 
@@ -189,18 +181,13 @@ spoiled-below (event ∷ between) all rest place input unloaded facts spoiled le
     (λ at from to. none at (omega (arith, from)) (omega (arith, to)))
     (spoiled-with facts spoiled event.event input unloaded (quiet place event.event (omega arith) (omega arith) (ap (option_map event_of) cut.0)) here above)
 
--- ---- where the state is told
+-- ---- where the state is shown
 
 -- the first of what is left
 left-first : {A : Type 0} (all : List A) (place : ℕ) (found : A) → slice_get all place ≡ Some found → drop place all ≡ found ∷ drop (suc place) all
 left-first [] place found here = absurd (cc)
 left-first (one ∷ all) zero found here = let same : one ≡ found = cc in ap (λ x. x ∷ all) same
 left-first (one ∷ all) (suc place) found here = left-first all place found here
-
-pub both_hold : (one other : Bool) → (one && other) ≡ true → (one ≡ true) × (other ≡ true)
-both_hold true true is = (refl, refl)
-both_hold true false is = absurd (cc)
-both_hold false other is = absurd (cc)
 
 -- the latest entry of an input, by its place
 latest-found : (events : List LineEvent) (input place from : ℕ) (found : Option (Placed TimedState)) → latest_said (entry_recorded input) events place ≡ found
@@ -239,10 +226,10 @@ module _ (events spoiled_events left : List LineEvent) (from spoiled_from place 
   none-loaded None is = refl
   none-loaded (Some found) is = absurd (cc is)
 
-  told-at : (found : LineEvent) → slice_get events place ≡ Some found → place_of_latest events input place ≡ Some from
+  shown-at : (found : LineEvent) → slice_get events place ≡ Some found → place_of_latest events input place ≡ Some from
       → is_some_and ((content_at events place).inputs input).watched (tells_of (seen_unloaded events place) input found.event) ≡ true
       → is_some (first_fault_in spoiled_events) ≡ true
-  told-at found here at tells =
+  shown-at found here at tells =
       let latest = latest-found events input place from (latest_said (entry_recorded input) events place) refl at in
       let after = latest.0 in
       let inside = slice_get_within events place found here in
@@ -262,15 +249,15 @@ module _ (events spoiled_events left : List LineEvent) (from spoiled_from place 
       (λ n from to. latest.1 n (omega (arith, from)) (omega (arith, to, reaches))) is_spoiled in
       fault_at_event spoiled_events (spoiled_from + length between) found spoiled_here
       (ap (λ above. is_some (rule_broken_by above found.event)) spoiled_way.0
-      ∙ told (facts_below facts between) (facts_below spoiled between) found.event ((facts_below facts between).inputs input).watched refl is_spoiled_here
+      ∙ shown (facts_below facts between) (facts_below spoiled between) found.event ((facts_below facts between).inputs input).watched refl is_spoiled_here
       (sym (ap (λ (above : ContentFacts). is_some_and (above.inputs input).watched (tells_of (if is_some (latest_said is_loading events place) then None else above.seen) input found.event)) facts_here) ∙ tells)
       (sym (ap (λ above. rule_broken_by above found.event) facts_here) ∙ no_fault_at events place found here none))
     where
-      told : (facts spoiled : ContentFacts) (event : ContentEvent) (watched : Option WatchedState) → (facts.inputs input).watched ≡ watched → IsSpoiled input unloaded facts spoiled
+      shown : (facts spoiled : ContentFacts) (event : ContentEvent) (watched : Option WatchedState) → (facts.inputs input).watched ≡ watched → IsSpoiled input unloaded facts spoiled
           → is_some_and watched (tells_of (if is_some (latest_said is_loading events place) then None else facts.seen) input event) ≡ true → rule_broken_by facts event ≡ None → is_some (rule_broken_by spoiled event) ≡ true
-      told facts spoiled event None is differs tells none = absurd (cc)
-      told facts spoiled event (Some watched) is differs tells none =
-          is_told facts spoiled input within watched.level watched.shaded is (differs.watched watched is) (if is_some (latest_said is_loading events place) then None else facts.seen)
+      shown facts spoiled event None is differs tells none = absurd (cc)
+      shown facts spoiled event (Some watched) is differs tells none =
+          has_content facts spoiled input within watched.level watched.shaded is (differs.watched watched is) (if is_some (latest_said is_loading events place) then None else facts.seen)
           (λ seen at. by (is_some (latest_said is_loading events place)) seen differs.times at) event tells none
         where
           by : (loaded : Bool) (seen : Seen) → (not loaded ≡ true → IsSameTime facts spoiled) → (if loaded then None else facts.seen) ≡ Some seen → AreJudged facts spoiled seen
@@ -278,12 +265,12 @@ module _ (events spoiled_events left : List LineEvent) (from spoiled_from place 
           by false seen times at = (let same = times refl in
               record { judged = same.judged; seen_is = at; spoiled_judged = same.spoiled_judged; spoiled_seen = same.seen seen at })
 
-  event-told : (found : Option LineEvent) → slice_get events place ≡ found → place_of_latest events input place ≡ Some from
+  event-shown : (found : Option LineEvent) → slice_get events place ≡ found → place_of_latest events input place ≡ Some from
       → is_some_and (option_map (λ (event : LineEvent). event.event) found)
       (λ event. is_some_and ((content_at events place).inputs input).watched (tells_of (seen_unloaded events place) input event)) ≡ true → is_some (first_fault_in spoiled_events) ≡ true
-  event-told None here at tells = absurd (cc)
-  event-told (Some found) here at tells = told-at found here at tells
+  event-shown None here at tells = absurd (cc)
+  event-shown (Some found) here at tells = shown-at found here at tells
 
   -- the spoiled log has a fault
-  pub told_later : IsComparedAt events input from place → is_some (first_fault_in spoiled_events) ≡ true
-  told_later at = event-told (slice_get events place) refl at.latest at.compared
+  pub shown_later : IsComparedAt events input from place → is_some (first_fault_in spoiled_events) ≡ true
+  shown_later at = event-shown (slice_get events place) refl at.latest at.compared
