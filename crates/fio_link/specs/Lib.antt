@@ -17,6 +17,8 @@ pub mod ForEach
 pub mod WholeSince
 pub mod StandardLinks
 pub mod LostRounds
+pub mod Pace
+pub mod Rate
 pub mod MovedScans
 pub mod Sharpness
 pub mod Instances

@@ -17,6 +17,7 @@ ghost use Rattle.fio_link.specs.KeptUp.{AreInTime, RoundIsInTime, RoundWithNothi
 ghost use Rattle.fio_link.specs.ForEach.{AllArrivesForEach};
 ghost use Rattle.fio_link.specs.WholeSince.{GainsAllWhere, StaysFew, IsRoomyOutage, IsOftenForEach};
 ghost use Rattle.fio_link.specs.StandardLinks.{StandardLinkIsNeverLater, StandardLinkRecordsNewLevels};
+ghost use Rattle.fio_link.specs.Rate.{ArrivesInTimeAtARate};
 ghost use Rattle.fio_link.specs.MovedScans.{ScansMoveOut};
 ghost use Rattle.fio_link.specs.Sharpness.{StandardLinkIsAsLate, LosesWhereAScanLater};
 ghost use Rattle.fio_link.specs.Instances.{IsKeptUpAfterRestarts};
@@ -264,6 +265,15 @@ pub fn links_polled_too_seldom_lose()
 #[tactic(auto, using(crate::proofs::Instances::kept_up_after_a_restart))]
 pub fn links_are_kept_up_with_after_restarts()
     ensures { IsKeptUpAfterRestarts (standard_settings 0) 64 5 15 15 1 2 255 }
+{}
+
+/// Over a line of a rate, from a settled point on, after restarts too: if the bits of a poll, of its answer and of other
+/// traffic, and the time that the module takes, fit into the pace, and blocks keep up at that pace, each round ends before the
+/// next one, the record gains each transition once, in order, and no gap mark, and none is later than `most_late` scans, the
+/// time on the line included. This holds also if the line loses rounds, as many in a row as it may.
+#[tactic(auto, using(crate::proofs::Rate::arrives_in_time_at_a_rate))]
+pub fn arrives_in_time_at_a_rate()
+    ensures { HoldsWhateverRestarts ArrivesInTimeAtARate }
 {}
 
 /// Scans that come while a poll or its answer is under way lead to the same machine as scans before the poll is sent, and

@@ -1,5 +1,5 @@
 //! The link machine: both ends of the transition link and the bus between them, event by event, and what holds of every run
-//! of it. The only code is the type of an event.
+//! of it; and how often the CPU may poll over a line of a rate.
 //!
 //! What the crates above rely on: whatever is shown to be a run of the machine has the headline and the other promises
 //! (`Sound`).
@@ -9,11 +9,13 @@
 //! (`Headline`), what else is promised (`Claims`), the order of rounds on which that rests (`Rounds`), the rising record,
 //! through restarts too (`Rising`, `Restarts`), what arrives (`Delivery`), from which points on (`Settled`, `WholeSince`),
 //! how soon (`KeptUp`, `StandardLinks`), also counted from the raw sample (`NewLevels`), how many rounds may be lost
-//! (`LostRounds`), what may take time (`MovedScans`), how sharp the bounds are (`Sharpness`), and all of it for one run
+//! (`LostRounds`), how often to poll over a line that takes its time (`Pace`, `Rate`), what may take time (`MovedScans`), how sharp the bounds are (`Sharpness`), and all of it for one run
 //! (`Sound`). The laws are the contracts of the module `laws`.
 #![tactic(auto)]
 
 mod event;
 pub mod laws;
+mod line;
 
 pub use event::Event;
+pub use line::{Line, Traffic};

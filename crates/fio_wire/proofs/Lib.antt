@@ -10,3 +10,4 @@ pub mod BitLines
 pub mod SentBits
 pub mod OneFlip
 pub mod FlipFound
+pub mod Lengths

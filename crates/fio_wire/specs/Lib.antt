@@ -4,3 +4,4 @@ pub mod Octets
 pub mod Detection
 pub mod Bits
 pub mod Laws
+pub mod Lengths

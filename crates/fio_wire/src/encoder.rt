@@ -40,6 +40,8 @@ fn put(out: &mut [u8], count: usize, octet: u8) -> usize
 pub fn write(address: u8, control: u8, message: &[u8], out: &mut [u8]) -> usize
     ensures written { 1 ≤ length message.now → length message.now ≤ FRAME_OCTETS → 2 * length message.now + 10 ≤ length out.old
         → take result out.new ≡ sent address control message.now }
+    ensures count { 1 ≤ length message.now → length message.now ≤ FRAME_OCTETS → 2 * length message.now + 10 ≤ length out.old
+        → result ≡ length (sent address control message.now) }
     ensures within { result ≤ length out.old }
     ensures rest { drop result out.new ≡ drop result out.old }
     ensures refused { (length message.now ≡ 0) ⊎ ((FRAME_OCTETS < length message.now) ⊎ (length out.old < 2 * length message.now + 10)) → result ≡ 0 }

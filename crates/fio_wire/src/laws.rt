@@ -6,7 +6,9 @@ ghost use Rattle.fio_wire.specs.Frames.{Frame, Damage, address_in, control_in, f
 ghost use Rattle.fio_wire.specs.Octets.{HasNoFlag, Reading, said_in, said_of, start, stuffed, with_flags};
 ghost use Rattle.fio_wire.specs.Bits as bits;
 ghost use Rattle.fio_wire.specs.Laws.{Arrival, ArrivesNoFlag, AreOctets, BitFate, CanSend, Fate, Flips, IsBitFate, IsDetectable, IsFate, Octet, OneFlip, arrivals_with_flags, arrives, arrives_by_bits, bits_between, part_between, said_in_arrivals, said_of_arrivals};
+ghost use Rattle.fio_wire.specs.Lengths.{TakesFewBits, TakesMostBits};
 ghost use Rattle.fio_wire.specs.declared.limits.TheConstants.{FLAG};
+ghost use Rattle.fio_wire.specs.declared.line_kind.LineKind.TheVariants.{Asynchronous, Synchronous};
 
 /// A decoder says of a line of octets exactly what its parts say; what comes before the first flag and after the last says
 /// nothing.
@@ -114,4 +116,18 @@ pub fn one_flip_is_found_by_bits()
     ensures { (octets : List ℕ) (part : List Bool) → AreOctets octets → is_frame octets ≡ true
         → OneFlip (bits.bit_stuffed 0 (bits.line_bits octets)) part → bits.HasNoSix 0 part
         → bits.said_in part ≡ Damage ∷ [] }
+{}
+
+/// A message takes no more bits than the most.
+#[tactic(auto, using(crate::proofs::Lengths::takes_few_bits))]
+pub fn messages_take_few_bits()
+    ensures { TakesFewBits }
+{}
+
+/// There are messages that take the most: on an asynchronous line nine octets, where each octet of the frame is stuffed, and
+/// on a synchronous line none, where all bits of the frame are ones.
+#[tactic(auto, using(crate::proofs::Lengths::nine_octets, crate::proofs::Lengths::no_octets))]
+pub fn messages_can_take_the_most_bits()
+    ensures asynchronous { (stop : ℕ) → TakesMostBits (Asynchronous stop) 126 126 (126 ∷ 125 ∷ 125 ∷ 126 ∷ 126 ∷ 126 ∷ 125 ∷ 126 ∷ 126 ∷ []) }
+    ensures synchronous { TakesMostBits Synchronous 255 255 [] }
 {}

@@ -11,7 +11,7 @@
 //!
 //! A *part* is what is on a line between two flags next to each other. The definitions are in `specs/`, in this order: the frame
 //! check (`Checks`); frames, what a part says and which frames are one's own (`Frames`); lines of octets (`Octets`); which damage
-//! the check finds (`Detection`); lines of bits (`Bits`); what a line may do to frames (`Laws`). `Octets` and `Bits` say what is
+//! the check finds (`Detection`); lines of bits (`Bits`); what a line may do to frames (`Laws`); how many bits a message takes (`Lengths`). `Octets` and `Bits` say what is
 //! sent, then what a part says, and then what a decoder does, one octet or bit after the other. The laws are the contracts of the
 //! module `laws`.
 //!
@@ -35,6 +35,7 @@ mod encoder;
 mod heard;
 pub mod laws;
 mod limits;
+mod line_kind;
 mod packing;
 
 pub use bit_decoder::WireBits;
@@ -43,3 +44,4 @@ pub use decoder::Wire;
 pub use encoder::write;
 pub use heard::WireHeard;
 pub use limits::{FLAG, HELD_OCTETS, LONGEST};
+pub use line_kind::LineKind;
