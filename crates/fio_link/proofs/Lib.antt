@@ -44,6 +44,10 @@ pub mod AllArrives
 pub mod Pauses
 pub mod ForEach
 pub mod LostRounds
+pub mod PaceNumbers
+pub mod AnswerLengths
+pub mod LinePauses
+pub mod Rate
 pub mod NewLevels
 pub mod MovedScans
 pub mod WholeRecords

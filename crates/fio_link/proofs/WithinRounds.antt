@@ -124,10 +124,12 @@ module _ (settings : Settings) (range : AreInRange settings) (first : ℕ) (begi
   o_last : IsInRound base last
   o_last = round_all settings range first base rest_events polled last all_within c.answered.1 i_polled o_polled
 
+  -- the poll is still among the frames
+  pub poll_stays : slice_get receipt.to_module (length begin.to_module) ≡ Some (poll_frame first begin.round)
+  poll_stays = o_receipt.more.to_module (length begin.to_module) (poll_frame first begin.round) (get_push begin.to_module (poll_frame first begin.round))
+
   is_answered : IsAnswered settings first begin.round receipt polled
-  is_answered =
-      poll_answered settings range first begin.round receipt (length begin.to_module)
-      (o_receipt.more.to_module (length begin.to_module) (poll_frame first begin.round) (get_push begin.to_module (poll_frame first begin.round)))
+  is_answered = poll_answered settings range first begin.round receipt (length begin.to_module) poll_stays
 
   -- the answer stays among the frames
   answered_in : (machine : Machine) → HasMore polled machine → HasBlock machine.to_cpu place is_answered.answer begin.round

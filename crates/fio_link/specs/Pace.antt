@@ -46,6 +46,7 @@ round_scans line traffic pace = answer_scans line (8 + 3 * most_entries line tra
 -- A pace of a line: if the CPU polls each `pace` scans, each round ends before the next one, the blocks make up for all
 -- scans, and the buffer has room for what comes between two blocks.
 pub record IsPace (line : Line) (traffic : Traffic) (pace : ℕ) : Type 0 where
+  pub some_rate : 1 ≤ line.rate
   pub ends : round_scans line traffic pace ≤ pace
   pub enough : traffic.opened * clean_pace line pace ≤ traffic.per_block * traffic.filter
   pub room : traffic.opened * (most_behind line pace + (traffic.filter - 1)) ≤ traffic.waiting * traffic.filter

@@ -271,7 +271,6 @@ pub fn links_are_kept_up_with_after_restarts()
 /// traffic, and the time that the module takes, fit into the pace, and blocks keep up at that pace, each round ends before the
 /// next one, the record gains each transition once, in order, and no gap mark, and none is later than `most_late` scans, the
 /// time on the line included. This holds also if the line loses rounds, as many in a row as it may.
-#[tactic(auto, using(crate::proofs::Rate::arrives_in_time_at_a_rate))]
 pub fn arrives_in_time_at_a_rate()
     ensures { HoldsWhateverRestarts ArrivesInTimeAtARate }
 {}

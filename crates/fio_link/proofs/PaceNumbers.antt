@@ -1,0 +1,72 @@
+-- Numbers of a pace.
+use Rattle.fio_link.proofs.Names.{◌≡◌, ℕ, ◌+◌, ◌-◌, ◌*◌, ◌<◌, ◌≤◌, inl, inr, arith, mul-le-mul_left, mul-le-mul_right, cases_lt}
+use Rattle.std.proofs.Common.{◌/◌}
+use Rattle.std.specs.Prelude.{min}
+use Rattle.std.proofs.Math.Nat.{div-lt_iff_lt-mul, div-mul-le_self, le-div_iff_mul-le}
+use Rattle.fio_wire.specs.Lengths.{most_bits}
+use Rattle.fio_wire.specs.declared.line_kind.LineKind.{LineKind}
+use Rattle.fio_wire.specs.declared.line_kind.LineKind.TheVariants.{Asynchronous, Synchronous}
+use Rattle.fio_link.specs.declared.line.Line.{Line}
+use Rattle.fio_link.specs.Pace.{answer_scans, scans_on_line}
+
+-- a longer message takes no fewer bits
+pub more_bits : (kind : LineKind) (few many : ℕ) → few ≤ many → most_bits kind few ≤ most_bits kind many
+more_bits (Asynchronous stop) few many le = mul-le-mul_left (1 + 8 + stop) (omega arith)
+more_bits Synchronous few many le = omega arith
+
+div-more : (a b k : ℕ) → 1 ≤ k → a ≤ b → a / k ≤ b / k
+div-more a b k some le = let low = div-mul-le_self a k in (le-div_iff_mul-le {k = k} {x = a / k} {y = b} some).1 (omega arith)
+
+-- and no fewer scans
+pub more_scans : (line : Line) (few many : ℕ) → 1 ≤ line.rate → few ≤ many → answer_scans line few ≤ answer_scans line many
+more_scans line few many some le =
+    let bits = more_bits line.kind few many le in
+    let scans = div-more (1000 * (most_bits line.kind 2 + most_bits line.kind few + line.other) + (line.rate - 1))
+    (1000 * (most_bits line.kind 2 + most_bits line.kind many + line.other) + (line.rate - 1)) line.rate some (omega arith) in
+    omega arith
+
+-- a number, divided and rounded up
+rounded : (x filter : ℕ) → 1 ≤ filter → x < (1 + x / filter) * filter
+rounded x filter some = (div-lt_iff_lt-mul {k = filter} {x = x} {y = 1 + x / filter} some).0 (omega arith)
+
+-- What a block takes when m scans wait at most: j blocks make up for j s scans, in which no more is reported than they take.
+pub few_taken : (opened filter per_block scans most behind blocks waiting : ℕ) → 1 ≤ filter → scans ≤ most → behind ≤ most
+    → waiting + per_block * blocks ≤ opened * (1 + (scans * blocks + behind - 1) / filter)
+    → min per_block waiting ≤ min per_block (opened * (1 + (most - 1) / filter))
+few_taken opened filter per_block scans most behind blocks waiting some le low few =
+    elim (cases_lt (opened * (1 + (most - 1) / filter)) per_block) as (λ _. min per_block waiting ≤ min per_block (opened * (1 + (most - 1) / filter))) [
+      | inr full ↦ omega arith
+      | inl less ↦
+          let times = (scans - 1) / filter in
+          let later = (most - 1) / filter in
+          let all = (scans * blocks + behind - 1) / filter in
+          let count = (1 + times) * blocks in
+          let fewer : times ≤ later = div-more (scans - 1) (most - 1) filter some (omega arith) in
+          let takes : opened * (1 + times) ≤ opened * (1 + later) = mul-le-mul_left opened (omega arith) in
+          let within = rounded (scans - 1) filter some in
+          let within_most = rounded (most - 1) filter some in
+          let made_up : scans * blocks ≤ (1 + times) * filter * blocks = mul-le-mul_right blocks (omega arith) in
+          let regroup : (1 + times) * filter * blocks ≡ count * filter = grind arith in
+          let sum : (count + (1 + later)) * filter ≡ count * filter + (1 + later) * filter = grind arith in
+          let below : all < count + (1 + later) =
+          (div-lt_iff_lt-mul {k = filter} {x = scans * blocks + behind - 1} {y = count + (1 + later)} some).1 (omega arith) in
+          let product : opened * (1 + all) ≤ opened * (count + (1 + later)) = mul-le-mul_left opened (omega arith) in
+          let split : opened * ((1 + times) * blocks + (1 + later)) ≡ opened * (1 + times) * blocks + opened * (1 + later) = grind arith in
+          let taken : opened * (1 + times) * blocks ≤ per_block * blocks = mul-le-mul_right blocks (omega arith) in
+          omega arith
+    ]
+
+-- what blocks make up for, if each takes all that may come
+pub no_more_scans : (opened filter per_block scans blocks : ℕ) → 1 ≤ opened → 1 ≤ filter → opened * (1 + (scans - 1) / filter) ≤ per_block
+    → scans * blocks ≤ filter * (per_block * blocks / opened)
+no_more_scans opened filter per_block scans blocks some_open some takes =
+    let count = 1 + (scans - 1) / filter in
+    let within = rounded (scans - 1) filter some in
+    let made_up : scans * blocks ≤ count * filter * blocks = mul-le-mul_right blocks (omega arith) in
+    let regroup : count * filter * blocks ≡ filter * (count * blocks) = grind arith in
+    let all : opened * count * blocks ≤ per_block * blocks = mul-le-mul_right blocks takes in
+    let turned : count * blocks * opened ≡ opened * count * blocks = grind arith in
+    let filled : count * blocks ≤ per_block * blocks / opened =
+    (le-div_iff_mul-le {k = opened} {x = count * blocks} {y = per_block * blocks} some_open).1 (omega arith) in
+    let more : filter * (count * blocks) ≤ filter * (per_block * blocks / opened) = mul-le-mul_left filter filled in
+    omega arith
