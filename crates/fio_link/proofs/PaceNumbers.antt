@@ -1,5 +1,5 @@
 -- Numbers of a pace.
-use Rattle.fio_link.proofs.Names.{◌≡◌, ℕ, ◌+◌, ◌-◌, ◌*◌, ◌<◌, ◌≤◌, inl, inr, arith, mul-le-mul_left, mul-le-mul_right, cases_lt}
+use Rattle.fio_link.proofs.Names.{◌≡◌, ℕ, zero, suc, ◌+◌, ◌-◌, ◌*◌, ◌<◌, ◌≤◌, inl, inr, subst, arith, mul-le-mul_left, mul-le-mul_right, cases_lt}
 use Rattle.std.proofs.Common.{◌/◌}
 use Rattle.std.specs.Prelude.{min}
 use Rattle.std.proofs.Math.Nat.{div-lt_iff_lt-mul, div-mul-le_self, le-div_iff_mul-le}
@@ -7,7 +7,8 @@ use Rattle.fio_wire.specs.Lengths.{most_bits}
 use Rattle.fio_wire.specs.declared.line_kind.LineKind.{LineKind}
 use Rattle.fio_wire.specs.declared.line_kind.LineKind.TheVariants.{Asynchronous, Synchronous}
 use Rattle.fio_link.specs.declared.line.Line.{Line}
-use Rattle.fio_link.specs.Pace.{answer_scans, scans_on_line}
+use Rattle.fio_link.specs.declared.line.Traffic.{Traffic}
+use Rattle.fio_link.specs.Pace.{HasNoPaceBelow, IsPace, answer_scans, clean_pace, most_entries, scans_on_line}
 
 -- a longer message takes no fewer bits
 pub more_bits : (kind : LineKind) (few many : ℕ) → few ≤ many → most_bits kind few ≤ most_bits kind many
@@ -70,3 +71,52 @@ no_more_scans opened filter per_block scans blocks some_open some takes =
     (le-div_iff_mul-le {k = opened} {x = count * blocks} {y = per_block * blocks} some_open).1 (omega arith) in
     let more : filter * (count * blocks) ≤ filter * (per_block * blocks / opened) = mul-le-mul_left filter filled in
     omega arith
+
+-- no slower pace is one, if blocks do not make up for all scans at this one
+none_slower : (line : Line) (traffic : Traffic) (pace n : ℕ) → pace ≤ n → traffic.per_block * traffic.filter < traffic.opened * clean_pace line pace
+    → IsPace line traffic n → ⊥
+none_slower line traffic pace n le many p =
+    let apart : (line.lost + 1) * pace ≤ (line.lost + 1) * n = mul-le-mul_left (line.lost + 1) le in
+    let each : traffic.opened * clean_pace line pace ≤ traffic.opened * clean_pace line n = mul-le-mul_left traffic.opened apart in
+    omega (arith, p.enough)
+
+-- so there is none, if none is below it
+pub none_at_all : (line : Line) (traffic : Traffic) (pace : ℕ) → HasNoPaceBelow line traffic pace
+    → traffic.per_block * traffic.filter < traffic.opened * clean_pace line pace → (n : ℕ) → IsPace line traffic n → ⊥
+none_at_all line traffic pace below many n p =
+    elim (cases_lt n pace) as (λ _. ⊥) [
+      | inl less ↦ below n less p
+      | inr more ↦ none_slower line traffic pace n more many p
+    ]
+
+-- blocks never make up for so many scans
+pub most_are_too_many : (line : Line) (traffic : Traffic) → 1 ≤ traffic.opened → traffic.per_block ≤ 255 → traffic.filter ≤ 255
+    → traffic.per_block * traffic.filter < traffic.opened * clean_pace line (255 * 255 + 1)
+most_are_too_many line traffic some few_entries few_samples =
+    let more : 1 ≤ line.lost + 1 = omega arith in
+    let once : 1 * (255 * 255 + 1) ≤ (line.lost + 1) * (255 * 255 + 1) = mul-le-mul_right (255 * 255 + 1) more in
+    let each : 1 * clean_pace line (255 * 255 + 1) ≤ traffic.opened * clean_pace line (255 * 255 + 1) = mul-le-mul_right (clean_pace line (255 * 255 + 1)) some in
+    let block : traffic.per_block * traffic.filter ≤ 255 * traffic.filter = mul-le-mul_right traffic.filter few_entries in
+    omega arith
+
+-- one number more is no pace
+pub none_below_more : (line : Line) (traffic : Traffic) (pace : ℕ) → HasNoPaceBelow line traffic pace → (IsPace line traffic pace → ⊥)
+    → HasNoPaceBelow line traffic (pace + 1)
+none_below_more line traffic pace below none n less p =
+    elim (cases_lt n pace) as (λ _. ⊥) [
+      | inl before ↦ below n before p
+      | inr same ↦ let here : n ≡ pace = omega arith in none (subst (IsPace line traffic) here p)
+    ]
+
+-- a round takes a scan at least
+some_bits : (kind : LineKind) → 1 ≤ most_bits kind 2
+some_bits (Asynchronous stop) = omega arith
+some_bits Synchronous = omega arith
+
+pub none_below_one : (line : Line) (traffic : Traffic) → HasNoPaceBelow line traffic 1
+none_below_one line traffic zero less p =
+    let bits = some_bits line.kind in
+    let all = most_bits line.kind 2 + most_bits line.kind (8 + 3 * most_entries line traffic 0) + line.other in
+    let some : 1 ≤ scans_on_line line.rate all = (le-div_iff_mul-le {k = line.rate} {x = 1} {y = 1000 * all + (line.rate - 1)} p.some_rate).1 (omega (arith, p.some_rate)) in
+    omega (arith, p.ends)
+none_below_one line traffic (suc n) less p = omega arith

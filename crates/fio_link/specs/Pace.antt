@@ -1,5 +1,5 @@
 -- How often the CPU may poll over a line that takes its time.
-use Rattle.std.specs.Prelude.{ℕ, ◌+◌, ◌-◌, ◌*◌, ◌/◌, ◌≤◌, nat_lt, min, if◌then◌else◌}
+use Rattle.std.specs.Prelude.{ℕ, ◌+◌, ◌-◌, ◌*◌, ◌/◌, ◌<◌, ◌≤◌, nat_lt, min, if◌then◌else◌}
 use Rattle.fio_wire.specs.Lengths.{most_bits}
 use Rattle.fio_module.specs.Settings.{Settings}
 use Rattle.fio_link.specs.declared.line.Line.{Line}
@@ -51,6 +51,10 @@ pub record IsPace (line : Line) (traffic : Traffic) (pace : ℕ) : Type 0 where
   pub enough : traffic.opened * clean_pace line pace ≤ traffic.per_block * traffic.filter
   pub room : traffic.opened * (most_behind line pace + (traffic.filter - 1)) ≤ traffic.waiting * traffic.filter
 
+-- no pace is below this number
+abbrev pub HasNoPaceBelow : Line → Traffic → ℕ → Type 0
+HasNoPaceBelow line traffic most = (pace : ℕ) → pace < most → IsPace line traffic pace → ⊥
+
 -- how many scans a change that waits for the block after the next can be older: none, if a block takes all that the scans
 -- from one clean round to the next can bring
 abbrev pub held_over : Line → Traffic → ℕ → ℕ
@@ -61,3 +65,10 @@ held_over line traffic pace =
 abbrev pub most_late : Line → Traffic → ℕ → ℕ
 most_late line traffic pace =
     line.lost * pace + clean_pace line pace + round_scans line traffic pace + held_over line traffic pace - 1
+
+-- how much of the line's time a round's bits take at most, in thousandths, rounded up
+abbrev pub most_load : Line → Traffic → ℕ → ℕ
+most_load line traffic pace =
+    let octets = 8 + 3 * most_entries line traffic pace in
+    let bits = most_bits line.kind 2 + most_bits line.kind octets + line.other in
+    (1000 * (1000 * bits) + (line.rate * pace - 1)) / (line.rate * pace)

@@ -16,6 +16,8 @@
 mod event;
 pub mod laws;
 mod line;
+mod planning;
 
 pub use event::Event;
 pub use line::{Line, Traffic};
+pub use planning::{Pace, plan};
