@@ -64,5 +64,6 @@ pub mod Examples
 pub mod FramesUnderWay
 pub mod DenseRuns
 pub mod Sharpness
+pub mod RateAtEdge
 pub mod Instances
 pub mod PolledTooSeldom

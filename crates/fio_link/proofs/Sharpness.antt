@@ -13,13 +13,13 @@ use Rattle.fio_link.specs.KeptUp.{IsPauseOf, IsRoundAfter}
 use Rattle.fio_link.proofs.Grown.{few_in_time}
 use Rattle.fio_link.proofs.Pauses.{quick_round_after}
 
-abbrev standard : Settings
+abbrev pub standard : Settings
 standard = standard_settings 0
 
-abbrev beginning : List Event
+abbrev pub beginning : List Event
 beginning = events.Send (ConfigureInputs (record { items = items_below 5 64 })) ∷ events.ToModule 1 ∷ dense 5 0 4
 
-unfoldable machine0 : Machine
+unfoldable pub machine0 : Machine
 machine0 = done standard start beginning
 
 unfoldable begin1 : Machine
@@ -43,19 +43,19 @@ clean1 : Leads standard 0 begin1 (clean_round begin1) last1
 unfolding machine0 begin1 last1 done dense items_below message_in is_set transitions_below
 clean1 = (refl, (refl, (refl, refl)))
 
-taken0 : HasTakenAll 0 machine0
+pub taken0 : HasTakenAll 0 machine0
 unfolding machine0 done dense items_below message_in is_set transitions_below
 taken0 = record { answered = refl; present = refl }
 
-waits0 : waiting_of standard (life_of machine0.history) ≡ []
+pub waits0 : waiting_of standard (life_of machine0.history) ≡ []
 unfolding machine0 done dense items_below message_in is_set transitions_below
 waits0 = refl
 
-run0 : IsRun standard 0 beginning machine0
+pub run0 : IsRun standard 0 beginning machine0
 unfolding machine0 done
 run0 = (refl, (refl, leads_scans standard (after standard 0 (after standard 0 start (events.Send (ConfigureInputs (record { items = items_below 5 64 })))) (events.ToModule 1)) 5 0 4))
 
-life0 : life_of machine0.history ≡ opened 5
+pub life0 : life_of machine0.history ≡ opened 5
 unfolding machine0 done dense densest items_below message_in is_set transitions_below
 life0 = refl
 
@@ -82,7 +82,7 @@ kept = record { settled = 0; untaken = 19 }
 stays : (machine : Machine) → LeadsInTime standard 0 0 machine machine machine
 stays machine = record { leads_on = record { events = []; no_restart = tt; leads = refl }; in_time = omega arith }
 
-filters0 : OpenHaveFiltersOf (filter_events (life_of machine0.history)) 5
+pub filters0 : OpenHaveFiltersOf (filter_events (life_of machine0.history)) 5
 filters0 = subst (λ l. OpenHaveFiltersOf (filter_events l) 5) (sym life0) filters_of_5
 
 -- the round, and the machine at which its poll is received
@@ -175,7 +175,7 @@ heard2_leads = (refl, (refl, (refl, refl)))
 abbrev receipt2 : Machine
 receipt2 = after standard 0 lost1 events.Poll
 
-polls0 : next_round machine0.polls ≡ 0
+pub polls0 : next_round machine0.polls ≡ 0
 unfolding machine0 done dense items_below message_in is_set transitions_below
 polls0 = refl
 

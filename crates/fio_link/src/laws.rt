@@ -19,7 +19,8 @@ ghost use Rattle.fio_link.specs.WholeSince.{GainsAllWhere, StaysFew, IsRoomyOuta
 ghost use Rattle.fio_link.specs.StandardLinks.{StandardLinkIsNeverLater, StandardLinkRecordsNewLevels};
 ghost use Rattle.fio_link.specs.Rate.{ArrivesInTimeAtARate};
 ghost use Rattle.fio_link.specs.MovedScans.{ScansMoveOut};
-ghost use Rattle.fio_link.specs.Sharpness.{StandardLinkIsAsLate, LosesWhereAScanLater};
+ghost use Rattle.fio_link.specs.Sharpness.{IsAsLateAtARate, LosesWhereARoundIsLonger, LosesWhereAScanLater, StandardLinkIsAsLate};
+ghost use Rattle.fio_wire.specs.declared.line_kind.LineKind.TheVariants.{Synchronous};
 ghost use Rattle.fio_link.specs.Instances.{IsKeptUpAfterRestarts};
 ghost use Rattle.fio_link.specs.LostRounds.{LoseFewRounds, LostRoundsArePossible};
 
@@ -273,6 +274,13 @@ pub fn links_are_kept_up_with_after_restarts()
 /// time on the line included. This holds also if the line loses rounds, as many in a row as it may.
 pub fn arrives_in_time_at_a_rate()
     ensures { HoldsWhateverRestarts ArrivesInTimeAtARate }
+{}
+
+/// The bound is reached at the edge: with 64 open inputs and filters of 5, over a synchronous line of 614,400 bit/s, a round
+/// takes the whole of a pace of 4 scans, and a transition can be 7 scans late.
+#[tactic(auto, using(crate::proofs::RateAtEdge::late_7))]
+pub fn links_at_a_rate_are_as_late()
+    ensures { IsAsLateAtARate (record { kind = Synchronous; rate = 614400; answer = 0; other = 0; lost = 0 }) 64 5 4 7 }
 {}
 
 /// Scans that come while a poll or its answer is under way lead to the same machine as scans before the poll is sent, and
