@@ -65,5 +65,6 @@ pub mod FramesUnderWay
 pub mod DenseRuns
 pub mod Sharpness
 pub mod RateAtEdge
+pub mod RateBeyond
 pub mod Instances
 pub mod PolledTooSeldom

@@ -283,6 +283,14 @@ pub fn links_at_a_rate_are_as_late()
     ensures { IsAsLateAtARate (record { kind = Synchronous; rate = 614400; answer = 0; other = 0; lost = 0 }) 64 5 4 7 }
 {}
 
+/// If a round takes one scan more than the pace, a link can lose transitions: with 64 open inputs, filters of 1, blocks of 64,
+/// and rounds of 2 scans at a pace of 1.
+#[tactic(auto, using(crate::proofs::RateBeyond::loses))]
+pub fn links_beyond_their_rate_lose()
+    ensures { LosesWhereARoundIsLonger (record { id = 0; per_block = 64; waiting = 128 })
+        (record { kind = Synchronous; rate = 2000000; answer = 0; other = 1900; lost = 0 }) 64 1 1 }
+{}
+
 /// Scans that come while a poll or its answer is under way lead to the same machine as scans before the poll is sent, and
 /// after its answer is received: a clean round may take time.
 #[tactic(auto, using(crate::proofs::MovedScans::scans_move_out))]
