@@ -85,5 +85,5 @@ answer_is_sent settings first round machine place at =
       sending,
       l.is,
       subst (λ (m : Machine). frame_length (item_numbered m.to_cpu (length machine.to_cpu + 1)) ≡ 8 + 3 * length sending.entries) same
-      (ap frame_length there ∙ length_sent sending),
+          (ap frame_length there ∙ length_sent sending),
     )

@@ -82,19 +82,25 @@ late_7 =
         some = omega arith;
         some_open = omega arith;
         settled = record { all_taken = taken0; nothing_waits = waits0 };
-        rounds = (machine0, machine0, machine0, (refl, refl, refl), record {
-          again = machine0;
-          leads_on = stays;
-          all_taken = omega (arith, polls0);
-          paced = omega arith;
-          repeats = stays;
-          lost_paced = omega arith;
-          round = record {
-            round = nothing_between_is_clean standard 0 machine0 last1 clean1;
-            poll = omega arith;
-            answer = omega (arith, scans1);
-          };
-        });
+        rounds = (
+          machine0,
+          machine0,
+          machine0,
+          (refl, refl, refl),
+          record {
+            again = machine0;
+            leads_on = stays;
+            all_taken = omega (arith, polls0);
+            paced = omega arith;
+            repeats = stays;
+            lost_paced = omega arith;
+            round = record {
+              round = nothing_between_is_clean standard 0 machine0 last1 clean1;
+              poll = omega arith;
+              answer = omega (arith, scans1);
+            };
+          },
+        );
         few_lost = (omega arith, tt);
         since = life1;
         few_open = all_may_open 5 (filter_events later) (filter_events (life_of machine0.history))

@@ -173,11 +173,19 @@ loses =
         some = omega arith;
         some_open = omega arith;
         settled = record { all_taken = taken0; nothing_waits = waits0 };
-        rounds = (machine1, receipt2, machine2,
-            (machine0, receipt1, machine1,
+        rounds = (
+          machine1,
+          receipt2,
+          machine2,
+          (
+            machine0,
+            receipt1,
+            machine1,
             (machine0, machine0, machine0, (refl, refl, refl), next_round_now machine0 machine0 machine1 taken0.answered clean1 (scans1 ∙ omega (arith, scans0)) slow1),
-            next_round_now machine0 machine1 machine2 taken1 clean2 (scans2 ∙ omega (arith, scans1)) slow2),
-            next_round_now machine1 machine2 machine3 taken2 clean3 (scans3 ∙ omega (arith, scans2)) slow3);
+            next_round_now machine0 machine1 machine2 taken1 clean2 (scans2 ∙ omega (arith, scans1)) slow2,
+          ),
+          next_round_now machine1 machine2 machine3 taken2 clean3 (scans3 ∙ omega (arith, scans2)) slow3,
+        );
         few_lost = (omega arith, (omega arith, (omega arith, tt)));
         since = life3 ∙ ap (λ l. later3 ++ l) (sym life0);
         few_open = all_may_open 1 (filter_events later3) (filter_events (life_of machine0.history))

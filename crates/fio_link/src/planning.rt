@@ -126,7 +126,8 @@ fn is_enough(line: Line, traffic: Traffic, pace: u32) -> bool
     ensures yes { result ≡ true → traffic.opened * clean_pace line pace ≤ traffic.per_block * traffic.filter }
     ensures no { result ≡ false → traffic.per_block * traffic.filter < traffic.opened * clean_pace line pace }
 {
-    for_each(traffic, times(u32::from(line.lost) + 1, pace)) <= u64::from(traffic.per_block) * u64::from(traffic.filter)
+    for_each(traffic, times(u32::from(line.lost) + 1, pace))
+        <= u64::from(traffic.per_block) * u64::from(traffic.filter)
 }
 
 /// Returns whether the buffer has room for what comes between two blocks at this pace.
@@ -147,7 +148,9 @@ fn is_pace(line: Line, traffic: Traffic, pace: u32) -> bool
     ensures yes { result ≡ true → IsPace line traffic pace }
     ensures no { result ≡ false → IsPace line traffic pace → ⊥ }
 {
-    round_scans(line, traffic, pace) <= u64::from(pace) && is_enough(line, traffic, pace) && has_room(line, traffic, pace)
+    round_scans(line, traffic, pace) <= u64::from(pace)
+        && is_enough(line, traffic, pace)
+        && has_room(line, traffic, pace)
 }
 
 /// Returns how many scans a change that waits for the block after the next can be older.

@@ -17,10 +17,6 @@ use Rattle.fio_wire.specs.declared.limits.TheConstants.{FLAG, ESCAPE, STUFFED}
 length_frame : (address control : ℕ) (message : List ℕ) → length (frame_of address control message) ≡ length message + 4
 length_frame address control message = length-append (address ∷ control ∷ message) _ ∙ omega arith
 
-
-
-
-
 one_or_two : (is : Bool) (octet : ℕ) → length (if is then ESCAPE ∷ bit_xor octet STUFFED ∷ [] else octet ∷ []) ≤ 2
 one_or_two true octet = omega arith
 one_or_two false octet = omega arith
