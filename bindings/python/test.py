@@ -1,21 +1,21 @@
-"""The worked examples in Python: `python3 -m unittest test`, with FIO2070_LIBRARY naming the library."""
+"""The tests of the package: `python3 test.py`, with FIO2070_LIBRARY naming the library. Here are the calls, each with a right result
+and an error: those of the library below have their rows in tests/rows.json."""
 
 import ctypes
 import doctest
 import os
 import pickle
-import random
 import re
 import sys
 import unittest
-from unittest import mock
 
 import fio2070
 from fio2070 import Answer, Command, ConfigurationItem, Entry, encode, tester
+from test_links import Links, Signs
+from test_logs import LOG, LogBatches, Logs
+from test_tester import Tester
 
 BLOCK = bytes.fromhex('b605018c03e700000003e8')
-
-LOG = b'07:15:02.000 RX b6 05 01 8c 03 e7 00 00 00 03 e8\nno octets\n\n'
 
 
 class Calls(unittest.TestCase):
@@ -29,7 +29,7 @@ class Calls(unittest.TestCase):
         self.assertEqual(fio2070.decode_command(bytes.fromhex('33020c0503830000')).items, [(12, False, 5, 3), (3, True, 0, 0)])
         self.assertEqual(fio2070.decode_answer(BLOCK)[:8], (182, 0, 0, 0, 0, 5, 1000, 0))
         self.assertEqual(fio2070.read_outputs_answer(bytes.fromhex('b70001020304')), 0x01020304)
-        self.assertEqual(fio2070.read_identification(b'\xbc\xfe'), 254)
+        self.assertEqual((fio2070.read_identification(b'\xbc\xfe'), encode.raw_inputs()), (254, b'4'))
         for read, octets, why in ((fio2070.decode_command, b'', 'empty'), (fio2070.decode_command, bytes(774), 'too long got 774'),
                                   (fio2070.decode_answer, b'6\5', 'unknown type 54'), (fio2070.read_identification, BLOCK, 'unknown type 182'),
                                   (fio2070.read_outputs_answer, b'\xb7\0', 'wrong length needed 6 got 2')):
@@ -63,83 +63,13 @@ class Calls(unittest.TestCase):
         self.assertEqual(found[0], (1, 'frames', '', (BLOCK,), ((1, 16, 48),), 26102000000, '<'))
         self.assertEqual([one[1:3] for one in found[1:]], [('passed over', 'no octets'), ('blank', '')])
 
-
-class Logs(unittest.TestCase):
-    def test_many_lines(self):
-        # More verdicts than a batch takes.
-        reader = fio2070.LogReader()
-        verdicts = reader.read(b'\n' * 10000) + reader.end()
-        self.assertEqual([one.line for one in verdicts], list(range(1, 10001)))
-
-    def test_large_piece(self):
-        # The library gets a few times the octets of a piece, however large it is.
-        text, counts, read = b'\n' * 2**18, [], fio2070.logs.c.library.fio2070_log_read
-
-        def counted(reader, octets, length, batch):
-            counts.append(length)
-            return read(reader, octets, length, batch)
-        with mock.patch.object(fio2070.logs.c.library, 'fio2070_log_read', counted):
-            self.assertEqual(len(fio2070.LogReader().read(text)), len(text))
-        self.assertLess(sum(counts), 10 * len(text))
-
-    def test_next_log(self):
-        # After the end octets begin a log of the same form.
-        for form, text in (('auto', LOG + b'last'), ('frames', b'3605\n36'), ('transcript', b'> 3605\n3605')):
-            reader = fio2070.LogReader(form)
-            first = reader.read(text) + reader.end()
-            for _ in range(3):
-                self.assertEqual(reader.end(), [])
-                self.assertEqual(reader.read(b''), [])
-                self.assertEqual(reader.read(text) + reader.end(), first)
-
-    def test_forms(self):
-        self.assertRaises(ValueError, fio2070.LogReader, 'other')
-
-    def test_end(self):
-        # The library is asked until a batch has no verdicts.
-        reader, library = fio2070.LogReader(), fio2070.logs.c.library
-        reader.read(b'last')
-        with mock.patch.object(library, 'fio2070_log_read', wraps=library.fio2070_log_read) as read:
-            self.assertEqual(len(reader.end()), 1)
-        self.assertEqual(read.call_count, 2)
-
-    def test_longest_frame_by_order(self):
-        text = b'3b' * 773 + b'\n' + b'3b' * 774 + b'\n'
-        self.assertEqual(fio2070.LogReader('frames').read(text), [
-            (1, 'frames', '', (b';' * 773,), ((1, 0, 1546),), None, ''), (2, 'damaged', 'no message', (), (), None, '')])
-
-    def test_long_line_by_order(self):
-        for first, verdict in ((b'#', ('blank', '')), (b'3', ('damaged', 'too long'))):
-            reader = fio2070.LogReader('frames')
-            self.assertEqual(reader.read(first * 70000 + b'\n'), [(1, *verdict, (), (), None, '')])
-
-
-def link_with_restarts(draw, polls=80, inputs=4):
-    """What a CPU's end sends and hears of a module that restarts, as (whether it is sent, octets), and the place of the last
-    restart."""
-    module, poller, log, commands, reached, restart = fio2070.Module(2), fio2070.Poller(draw.randrange(256)), [], [], 0, 0
-    levels = 2**64 - 1
-    for _ in range(polls):
-        for _ in range(draw.randrange(6)):
-            levels ^= draw.getrandbits(inputs) & draw.getrandbits(inputs)
-            module.scan(levels)
-        items = [ConfigurationItem(number, draw.random() < 0.2, draw.randrange(4), draw.randrange(4)) for number in range(inputs)]
-        other = draw.choice((encode.configure_inputs(items), encode.filtered_inputs(), encode.status(255), encode.watchdog(9)))
-        commands.append(poller.poll() if draw.random() < 0.7 else other)
-        log.append((True, commands[-1]))
-        while reached < len(commands) - 1 and draw.random() < 0.4:
-            module.receive(commands[reached])
-            reached += 1
-        answer = None
-        if draw.random() < 0.75:
-            reached, answer = len(commands), module.receive(commands[-1])
-        if draw.random() < 0.05:
-            module.restart()
-            restart = len(log)
-        if answer and draw.random() < 0.8:
-            log.append((False, answer))
-            poller.hear(answer)
-    return log, restart
+    def test_types(self):
+        # What the table does not say of a breach: a number that was not due is False, an input that is none is None.
+        breach = fio2070.Checker().heard(b'\xb3\0')
+        self.assertEqual(breach, (fio2070.constants.RULE_PAIR, False, 0, 0))
+        self.assertIs(breach.has_due, False)
+        self.assertIs(fio2070.ContentChecker(begun=True).heard(b'\xb3\1').input, None)
+        self.assertRaises(ValueError, fio2070.Checker, 0)
 
 
 class Wires(unittest.TestCase):
@@ -175,206 +105,6 @@ class Wires(unittest.TestCase):
         # A piece that is longer than what the library gets at a time.
         self.assertEqual(fio2070.Wire().read(2000 * self.FRAME), 2000 * [self.POLL])
         self.assertEqual(fio2070.Wire().read(b''), [])
-
-
-class Rules(unittest.TestCase):
-    def test_types(self):
-        # What the table does not say of a breach: a number that was not due is False, an input that is none is None.
-        breach = fio2070.Checker().heard(b'\xb3\0')
-        self.assertEqual(breach, (fio2070.constants.RULE_PAIR, False, 0, 0))
-        self.assertIs(breach.has_due, False)
-        self.assertIs(fio2070.ContentChecker(begun=True).heard(b'\xb3\1').input, None)
-        self.assertRaises(ValueError, fio2070.Checker, 0)
-
-    def test_right_modules(self):
-        # Modules with rings and blocks of their own, which overflow now and then: no checker with their limits accuses one.
-        draw = random.Random(7)
-        for per_block, waiting in ((255, 64), (64, 64), (8, 64), (1, 1), (3, 2), (255, 1024)):
-            module, poller = fio2070.Module(2, per_block, waiting), fio2070.Poller(0)
-            checker, standard = fio2070.Checker(per_block, waiting), fio2070.Checker()
-            module.receive(encode.configure_inputs([ConfigurationItem(number, False, 1, 1) for number in range(4)]))
-            levels, accused = 2**64 - 1, 0
-            for _ in range(400):
-                for _ in range(draw.choice((0, 1, 3, 40))):
-                    levels ^= draw.randrange(16)
-                    module.scan(levels)
-                poll = poller.poll()
-                answer = module.receive(poll)
-                self.assertIsNone(checker.sent(poll), (per_block, waiting))
-                accused += standard.sent(poll) is not None
-                if draw.random() < 0.8:
-                    self.assertIsNone(checker.heard(answer), (per_block, waiting))
-                    accused += standard.heard(answer) is not None
-                    poller.hear(answer)
-            self.assertEqual(accused == 0, (per_block, waiting) == (255, 1024))
-
-    def test_logs_after_a_restart(self):
-        # Commands are lost or late, and an answer comes directly after its command or never; the module restarts whatever is
-        # under way. Checkers that start anywhere below the last restart accuse nobody.
-        draw = random.Random(11)
-        for turn in range(60):
-            log, restart = link_with_restarts(draw)
-            for start in (restart, draw.randrange(restart, len(log) + 1)):
-                checker, content = fio2070.Checker(anywhere=True), fio2070.ContentChecker()
-                for is_sent, octets in log[start:]:
-                    self.assertIsNone((checker.sent if is_sent else checker.heard)(octets), (turn, start))
-                    self.assertIsNone((content.sent if is_sent else content.heard)(octets), (turn, start))
-
-
-class LogBatches(unittest.TestCase):
-    """What takes a batch says the same as what takes its lines one by one."""
-
-    TEXT = LOG + b''.join(b'07:15:%02d TX 36 %02x\n07:15:%02d.004 RX b6 %02x 00 00 00 00 00 %02x\n' % (turn, turn + turn // 5, turn, turn, turn)
-                          for turn in range(30)) + b'RX b6 0? 00\n3 messages lost\nTX 36 40\nTX 36 41 ?\n'
-
-    @staticmethod
-    def one_by_one(verdicts, as_said=False):
-        judge, counts, signs, found, taken = fio2070.LogJudge(), fio2070.LogCounts(), fio2070.LogSigns(), [], []
-        for one in verdicts:
-            if one.kind == 'possible' or one.reason == 'heading':
-                judge.possible()
-            elif one.reason == 'loss':
-                judge.miss()
-            elif one.kind == 'damaged':
-                judge.lose()
-            if one.kind in ('possible', 'damaged') or one.reason in ('loss', 'heading'):
-                counts.lose()
-            for octets in one.frames if one.kind == 'frames' else ():
-                from_cpu = one.said == '>' if as_said and one.said else octets[0] < 128
-                found.append(judge.frame(octets, from_cpu, one.said))
-                signs.frame(octets, from_cpu, one.said)
-                taken.append(counts.frame(octets, one.time))
-        return [one for one in found if one.kind], [one for one in taken if one is not None], counts, signs.sign
-
-    def test_same(self):
-        reader, judge, counts, signs = fio2070.LogReader(), fio2070.LogJudge(), fio2070.LogCounts(), fio2070.LogSigns()
-        verdicts, found, taken = [], [], []
-        for batches in (reader.batches(self.TEXT), reader.last_batches()):
-            for batch in batches:
-                verdicts += batch.verdicts()
-                found += [outcome for _, outcome in judge.batch(batch)]
-                taken += counts.batch(batch)
-                signs.batch(batch)
-        outcomes, times, single, sign = self.one_by_one(verdicts)
-        self.assertEqual((found, taken, bytes(counts._counts), signs.sign), (outcomes, times, bytes(single._counts), sign))
-        self.assertGreater(len(outcomes), 3)
-        self.assertGreater(len(times), 20)
-        self.assertEqual((counts.command, counts.polled), (None, 64))
-        counts.frame(bytes([54, 5]))
-        self.assertEqual((counts.command, counts.polled), (54, 5))
-
-    def test_as_said(self):
-        # Each answer is there twice, and its line says that the CPU sent it: that is no answer, so no sign.
-        text, signs = ''.join(2 * ('TX b6 %02x 00 00 00 00 00 01\n' % number) for number in range(4)).encode(), {}
-        verdicts = fio2070.LogReader().read(text)
-        for as_said in (False, True):
-            batch, judge, sign = fio2070.LogBatch(verdicts), fio2070.LogJudge(), fio2070.LogSigns()
-            sign.batch(batch, as_said)
-            outcomes, _, _, signs[as_said] = self.one_by_one(verdicts, as_said)
-            self.assertEqual(([one for _, one in judge.batch(batch, as_said)], sign.sign), (outcomes, signs[as_said]))
-            self.assertEqual(outcomes[0].breach is not None, as_said)
-        self.assertEqual(signs, {False: 'twice', True: ''})
-
-    def test_zero(self):
-        # The time 0 is one; a frame without octets has the type 0.
-        verdicts = [fio2070.Verdict(number, 'frames', '', frames, (), time, '') for number, frames, time in (
-            (1, (b'', bytes([54, 5]), b''), 0), (2, (bytes([54]),), None), (3, (b'',), 7))]
-        batch = fio2070.LogBatch(verdicts)
-        self.assertEqual(batch.verdicts(), verdicts)
-        self.assertEqual([batch.told(index).time for index in range(3)], [0, None, 7])
-        self.assertEqual((batch.timed, batch.types()), (bytes([1, 0, 1]), bytes([0, 54, 0, 54, 0])))
-        self.assertEqual([one.time for one in fio2070.LogReader().read(b'00:00:00 RX b6 05 00 00 00 00 00 01\n')], [0])
-
-    def test_limits(self):
-        for kind in (fio2070.LinkJudge, fio2070.LogJudge):
-            self.assertTrue(kind(255, 8192) and kind(1, 1))
-            for limits in ((255, 8193), (256, 8192), (255, 0), (0, 8192)):
-                self.assertRaises(ValueError, kind, *limits)
-
-    def test_made(self):
-        verdicts = fio2070.LogReader().read(self.TEXT)
-        batch = fio2070.LogBatch(verdicts)
-        self.assertEqual(batch.verdicts(), verdicts)
-        self.assertEqual((len(batch), repr(batch)), (len(verdicts), '<LogBatch lines=%d frames=%d>' % (len(verdicts), batch.frame_count)))
-        self.assertEqual((batch.numbers(), batch.frames()), ([one.line for one in verdicts], [octets for one in verdicts for octets in one.frames]))
-        self.assertEqual(batch.types(), bytes(octets[0] for octets in batch.frames()))
-        self.assertEqual(batch.times(), [one.time or 0 for one in verdicts])
-        self.assertEqual([fio2070.LogJudge().batch(fio2070.LogBatch()), fio2070.LogBatch().types()], [[], b''])
-        batch.set_kind(0, fio2070.constants.LOG_DAMAGED)
-        batch.set_side(0, fio2070.constants.LOG_FROM_CPU)
-        self.assertEqual((batch.told(0).kind, batch.told(0).said, batch.kinds[0], batch.sides[0]), ('damaged', '>', 4, 1))
-        batch.truncate(1)
-        self.assertEqual([one.kind for one in batch.verdicts()], ['damaged'])
-        self.assertRaises(ValueError, fio2070.LogBatch, verdicts * 100)
-
-
-class LogJudges(unittest.TestCase):
-    """The judge of a log, frame by frame. Late answers have a check of their own, tests/late-answers.py."""
-
-    ACCUSED = (fio2070.constants.OUTCOME_BROKEN, fio2070.constants.OUTCOME_BROKEN_CONTENT, fio2070.constants.OUTCOME_RESTARTED)
-
-    def test_lost_lines(self):
-        # Any frames of a right run are lost from its log at the CPU's end, each at a line that may have held a frame.
-        draw = random.Random(2)
-        for turn in range(20):
-            log, restart = link_with_restarts(draw)
-            judge = fio2070.LogJudge(place='cpu')
-            for is_sent, octets in log[restart:]:
-                if draw.random() < 0.1:
-                    judge.lose()
-                    continue
-                self.assertNotIn(judge.frame(octets, is_sent).kind, self.ACCUSED, turn)
-
-    def test_words(self):
-        judge = fio2070.LogJudge()
-        self.assertEqual(repr(judge), '<LogJudge>')
-        for call in [lambda: fio2070.LogJudge(place='bank'), lambda: fio2070.LogJudge(begun=True, late_answers=True),
-                     lambda: fio2070.LogJudge(per_block=0), lambda: judge.frame(BLOCK, False, 'module')]:
-            self.assertRaises(ValueError, call)
-
-
-class Signs(unittest.TestCase):
-    """What kind of log a log looks like, of logs of right links in which commands are lost or late and the module restarts."""
-
-    def sign(self, log):
-        signs = fio2070.LogSigns()
-        for is_sent, octets, *said in log:
-            signs.frame(octets, is_sent, *said)
-        return signs.sign
-
-    def logs(self):
-        draw = random.Random(13)
-        for _ in range(20):
-            yield draw, link_with_restarts(draw)[0]
-
-    def test_right_links(self):
-        for draw, log in self.logs():
-            for part in (log, log + log, [frame for frame in log if draw.random() > .1], [frame for frame in log if frame[0]],
-                         [frame for frame in log if not frame[0]]):
-                self.assertEqual(self.sign(part), '')
-
-    def test_each_frame_twice(self):
-        for _, log in self.logs():
-            self.assertEqual(self.sign(frame for frame in log for _ in range(2)), 'twice')
-
-    def test_both_ends(self):
-        for _, log in self.logs():
-            merged = [(is_sent, octets, said) for is_sent, octets in log for said in '><']
-            self.assertEqual(self.sign(merged), 'both ends')
-
-    def test_last_line_first(self):
-        for _, log in self.logs():
-            self.assertEqual(self.sign(log[::-1]), 'reversed')
-
-    def test_two_links(self):
-        for draw, log in self.logs():
-            other = link_with_restarts(draw)[0]
-            # Up to six frames of one link, then of the other.
-            parts, lists = [], [log[::-1], other[::-1]]
-            while all(lists):
-                for frames in lists:
-                    parts += [frames.pop() for _ in range(min(len(frames), draw.randint(2, 6)))]
-            self.assertEqual(self.sign(parts), 'two links')
 
 
 class Messages(unittest.TestCase):
@@ -569,88 +299,6 @@ class Ends(unittest.TestCase):
         self.assertEqual(counter.now(), 0)
 
 
-class Proved(tester.Maker):
-    """The proved module."""
-
-    def reset(self):
-        self.module = fio2070.Module(self.id, self.per_block)
-
-    def step(self, inputs):
-        self.module.scan(inputs)
-
-    def line_sync(self):
-        self.module.line_sync()
-
-    def exchange(self, octets):
-        return self.module.receive(octets)
-
-
-class ProvedCpu(tester.CpuMaker):
-    """The proved CPU's end."""
-
-    def reset(self, number):
-        self.poller = fio2070.Poller(number)
-
-    def poll(self):
-        return self.poller.poll()
-
-    def hear(self, octets):
-        before = len(self.poller.record)
-        self.poller.hear(octets)
-        return self.poller.record[before:]
-
-    def number(self):
-        return self.poller.number
-
-
-class Gapless(ProvedCpu):
-    """It keeps no gap marks."""
-
-    def hear(self, octets):
-        return [item for item in super().hear(octets) if not item.gap]
-
-
-class Forgetful(Proved):
-    """It does not set E in a block that it sends again."""
-
-    def exchange(self, octets):
-        answer = super().exchange(octets)
-        if not answer or answer[0] != 182:
-            return answer
-        return answer[:-5] + bytes([answer[-5] & ~2]) + answer[-4:]
-
-
-class TwoIds(Proved):
-    """Its identification has two octets."""
-
-    def exchange(self, octets):
-        answer = super().exchange(octets)
-        return answer + b'\0' if answer and answer[0] == 188 else answer
-
-
-class Slow(Proved):
-    """Its watchdog takes a millisecond more."""
-
-    def watchdog_ms(self):
-        return (self.module.watchdog_ms or -1) + 1
-
-
-class Unfinished(Proved):
-    """Its answer to an identification is still to be written."""
-
-    def exchange(self, octets):
-        if octets[:1] == b'\x3c':
-            raise NotImplementedError('identification')
-        return super().exchange(octets)
-
-
-class Deaf(ProvedCpu):
-    """It hears nothing yet."""
-
-    def hear(self, octets):
-        raise NotImplementedError('hear')
-
-
 class Package(unittest.TestCase):
     def test_version(self):
         with open(os.path.join(os.path.dirname(__file__), 'pyproject.toml'), encoding='utf-8') as file:
@@ -662,38 +310,6 @@ class Package(unittest.TestCase):
         exec('from fio2070 import *', names)
         self.assertEqual(set(fio2070.__all__), set(names) - {'__builtins__'})
         self.assertIs(names['tester'], tester)
-
-
-class Tester(unittest.TestCase):
-    def test_rules(self):
-        self.assertIsNone(tester.run(TwoIds(), events=20_000, excepted=['identification']))
-        report = tester.run(TwoIds(), events=20_000, goes_on=True)
-        self.assertIn('# the first rule that this breaks: identification, own profile', report)
-        self.assertIn('# the first rule that this breaks: watchdog-timeout, TEES 2009', tester.run(Slow(), events=20_000))
-        for name in ('sent-again', 'none-such'):
-            self.assertRaises(ValueError, tester.run, Proved(), excepted=[name])
-
-    def test_calls_that_raise(self):
-        with self.assertRaisesRegex(NotImplementedError, 'identification'):
-            tester.run(Unfinished(), events=20_000)
-        with self.assertRaisesRegex(NotImplementedError, 'hear'):
-            tester.run_cpu(Deaf(), events=20_000)
-
-    def test_modules(self):
-        self.assertIsNone(tester.run(Proved(), events=20_000))
-        report = tester.run(Forgetful(), events=20_000)
-        self.assertRegex(report, '(?s)^# expected: .*sent again with E set.*\nfio2070 script 1 2 0\npoll\nto-module 1\npoll\n')
-
-    def test_settings_by_name(self):
-        for run, maker in ((tester.run, Proved()), (tester.run_cpu, ProvedCpu())):
-            with self.assertRaises(TypeError):
-                run(maker, 20_000)
-
-    def test_cpu(self):
-        self.assertIsNone(tester.run_cpu(ProvedCpu(), events=20_000))
-        script = tester.run_cpu(Gapless(), events=20_000)
-        self.assertIn('one gap mark if F is set', script)
-        self.assertIn('\n# transcript:\n', script)
 
 
 if __name__ == '__main__':

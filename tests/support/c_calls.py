@@ -3,7 +3,7 @@ room or into what is only read; with too little room the same count is returned 
 struct, or none; what is reserved is 0, and is not read; a struct may be moved.
 
 The words of a call are its arguments in order: a number, or the name of a constant; octets in hexadecimal, where `30*3` is short
-for `303030` and `+` joins; `FIELD VALUE ..` for a struct; `12/0/5/3` for an item of a list, `*3` after it for three of them. What
+for `303030`, `+` joins, and `..` is as many zeros as make eight octets; `FIELD VALUE ..` for a struct; `12/0/5/3` for an item of a list, `*3` after it for three of them. What
 is missing has length 0, and a null pointer. The struct that a call keeps is that of the call before. `room N` at the end is how
 much room there is; without it there is as much as is needed. What a call says is what it returns and writes, in this form: zeros
 and what is not written are left out, and a number that the struct begins with which is written."""
@@ -52,9 +52,10 @@ def number(word):
 
 
 def octets(word):
-    """Octets in hexadecimal, without `*` and `+`."""
+    """Octets in hexadecimal, without `..`, `*` and `+`."""
+    first, _, last = word.partition('..')
     parts = [part.partition('*') for part in word.split('+')]
-    return ''.join(part * int(times or 1) for part, _, times in parts)
+    return first + last.rjust(16 - len(first), '0') if '..' in word else ''.join(part * int(times or 1) for part, _, times in parts)
 
 
 def struct_of(kind, words):

@@ -19,20 +19,6 @@ def types(run):
                 yield 'FAILED %s %d: %s' % (way, code, said)
 
 
-def errors(run):
-    """One more error at a time, until 255."""
-    run.call('sized_module_start', '2', '1', '255')
-    for time in range(1, 300):
-        run.call('sized_module_count_receive_error')
-        if time % 2 == 0:
-            run.call('sized_module_count_transmit_error')
-        due = 'errors receive %d%s' % (min(time, 255), ' transmit %d' % (time // 2) if time > 1 else '')
-        if not run.call('sized_module_state').endswith(due):
-            yield 'FAILED not ' + due
-    if run.call('sized_module_receive', '3100') != 'b180ff9500000000':
-        yield 'FAILED the status after errors'
-
-
 def overflow(run):
     """1,280 transitions, 64 a scan: the latest ones wait, as far as there is room. The first block says whether some were pushed
     out, each but the last that more wait, and each begins with the oldest entry that remains."""
@@ -62,15 +48,6 @@ def any_octets(run):
             waiting = int((re.findall(r'waiting (\d+)', said) or [0])[0])
             if not run.slots.is_unwritten(count) or waiting > run.kept['sized_module'].values[0].waiting:
                 yield 'FAILED %d slots: %d wait' % (count, waiting)
-
-
-def longest_line(run):
-    """The longest frame fits into the longest line, and is read from it."""
-    message = '7e' * NUMBERS['LONGEST_FRAME']
-    text = run.call('wire_write', '0x7d', '0x7e', message, 'room', str(NUMBERS['WIRE_LONGEST']))
-    run.call('wire_start', '0x7d', '256')
-    if run.call('wire_read', text) != '%d heard 1' % (len(text) // 2) or bytes(run.kept['wire'].values[0].octets[:775]) != bytes.fromhex('7d7e' + message):
-        yield 'FAILED the longest line'
 
 
 def next_log(run):
@@ -112,4 +89,4 @@ def ends_with_verdicts_due(run):
                 yield 'FAILED %d frames below %d lines' % (frames, blank)
 
 
-LOOPS = [types, errors, overflow, any_octets, longest_line, next_log, ends_with_verdicts_due]
+LOOPS = [types, overflow, any_octets, next_log, ends_with_verdicts_due]

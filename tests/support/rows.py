@@ -1,10 +1,12 @@
 #!/usr/bin/env -S python3 -B
-"""The rows of tests/rows.json over the library for C: `rows.py LIBRARY`. A row has the name of a call, or that of a group of calls
-which keep a struct, and steps: the words of a call (c_calls.py), below the name of a group with its name in the group in front,
-and after ` = ` what it says. A text that says nothing is left out. `~0` is a number of 64 bits without this one, `holds` what is
+"""The rows of tests/rows.json over the library for C: `rows.py LIBRARY`. The last line is `N passed, M failed`.
+
+A row has the name of a call, or that of a group of calls which keep a struct, as `checker` for checker_start and checker_sent, and
+steps. A step is the words of a call (c_calls.py), in a group below the rest of its name, and after ` = ` what the call says, if that
+is anything. ` *3` at its end stands for three such steps; `~0` is a number of 64 bits less this one; the step `holds` says what is
 in the kept struct, and `line` what a decoder says of a line. What is decoded is written again, as the same octets. Rows of `log`
 have the form, a log, in which `~` is the end of a line, and what is read of it; rows of `log_batches` also whether a frame is of
-whom its line says, and what the calls for batches say. Each call has a row. The last line is `N passed, M failed`."""
+whom its line says, and what the calls for batches say. Each call of the header has a row."""
 
 import ctypes
 import json
@@ -23,9 +25,9 @@ HEARD = ('', 'own', 'other', 'damaged')
 
 
 def normal(said):
-    """A text with each number in one notation, and octets without `*` and `+`."""
+    """A text with each number, and octets, in one notation."""
     words = [str(number(word)) if word in NUMBERS or re.fullmatch(r'0x[0-9a-f]+|~\w+', word) else
-             octets(word) if re.fullmatch(r'[0-9a-f]+[*+][0-9a-f*+]+', word) else word for word in said.split(' ')]
+             octets(word) if re.fullmatch(r'[0-9a-f]+([*+]|[.]{2})[0-9a-f*+]*', word) else word for word in said.split(' ')]
     return ' '.join(words) if words != ['0'] else ''
 
 

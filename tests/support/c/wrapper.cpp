@@ -15,18 +15,19 @@ static std::string hex(const fio2070::Frame &frame) {
 
 static const List BLOCK = {0xb6, 5, 1, 0x8c, 3, 0xe7, 0, 0, 0, 3, 0xe8}, IDENTIFY = {FIO2070_TYPE_IDENTIFY};
 
-static fio2070::Frame poll(std::uint8_t block) {
+// A command of a type with one field more.
+static fio2070::Command command_of(std::uint8_t code, std::uint8_t fio2070::Command::*field, std::uint8_t number) {
     fio2070::Command command{};
-    command.code = FIO2070_TYPE_POLL;
-    command.block = block;
-    return fio2070::encode_command(command).value();
+    command.code = code, command.*field = number;
+    return command;
+}
+
+static fio2070::Frame poll(std::uint8_t block) {
+    return fio2070::encode_command(command_of(FIO2070_TYPE_POLL, &fio2070::Command::block, block)).value();
 }
 
 static fio2070::Command configuration_of(std::uint8_t count) {
-    fio2070::Command command{};
-    command.code = FIO2070_TYPE_CONFIGURE_INPUTS;
-    command.count = count;
-    return command;
+    return command_of(FIO2070_TYPE_CONFIGURE_INPUTS, &fio2070::Command::count, count);
 }
 
 static void reads_and_writes() {
@@ -80,18 +81,7 @@ static void tells(Field Value::*field, const char *name, int line) {
     bool holds = true;
     for (unsigned bit = 0; bit < 8 * sizeof(Field); bit++) {
         Value one{}, other{};
-        other.*field = static_cast<Field>(Field(1) << bit);
-        holds = holds && one == Value{} && !(one == other) && one != other;
-    }
-    check(holds, name, static_cast<unsigned>(line));
-}
-
-template <typename Value>
-static void tells(std::uint8_t (Value::*field)[8], const char *name, int line) {
-    bool holds = true;
-    for (int place = 0; place < 8; place++) {
-        Value one{}, other{};
-        (other.*field)[place] = 1;
+        reinterpret_cast<std::uint8_t *>(&(other.*field))[bit / 8] = static_cast<std::uint8_t>(1 << bit % 8);
         holds = holds && one == Value{} && !(one == other) && one != other;
     }
     check(holds, name, static_cast<unsigned>(line));
@@ -99,23 +89,20 @@ static void tells(std::uint8_t (Value::*field)[8], const char *name, int line) {
 #define TELLS(field) tells(&fio2070_##field, #field, __LINE__)
 
 static void tells_values() {
-    TELLS(entry::input), TELLS(entry::state), TELLS(entry::stamp);
+    TELLS(entry::input), TELLS(entry::state), TELLS(entry::stamp), TELLS(outputs::levels), TELLS(outputs::controls);
     TELLS(configuration_item::input), TELLS(configuration_item::ignore);
     TELLS(configuration_item::leading), TELLS(configuration_item::trailing);
-    TELLS(record_item::gap), TELLS(record_item::input), TELLS(record_item::state);
-    TELLS(record_item::stamp), TELLS(record_item::wide);
+    TELLS(record_item::gap), TELLS(record_item::input), TELLS(record_item::state), TELLS(record_item::stamp), TELLS(record_item::wide);
     TELLS(block_header::number), TELLS(block_header::status), TELLS(block_header::count), TELLS(block_header::stamp);
-    TELLS(outputs::levels), TELLS(outputs::controls);
-    TELLS(error_counts::receive), TELLS(error_counts::transmit);
     TELLS(breach::rule), TELLS(breach::has_due), TELLS(breach::due), TELLS(breach::got);
     TELLS(content_breach::rule), TELLS(content_breach::input), TELLS(content_breach::items);
+    TELLS(error_counts::receive), TELLS(error_counts::transmit);
     TELLS(judge_outcome::kind), TELLS(judge_outcome::why), TELLS(judge_outcome::rule), TELLS(judge_outcome::has_due);
     TELLS(judge_outcome::due), TELLS(judge_outcome::got), TELLS(judge_outcome::input), TELLS(judge_outcome::items);
     TELLS(command::code), TELLS(command::clear), TELLS(command::block), TELLS(command::timeout), TELLS(command::count);
     TELLS(command::body), TELLS(command::load), TELLS(command::levels), TELLS(command::controls);
     TELLS(answer::code), TELLS(answer::flags), TELLS(answer::receive_errors), TELLS(answer::transmit_errors);
-    TELLS(answer::status), TELLS(answer::block), TELLS(answer::count), TELLS(answer::body);
-    TELLS(answer::stamp), TELLS(answer::inputs);
+    TELLS(answer::status), TELLS(answer::block), TELLS(answer::count), TELLS(answer::body), TELLS(answer::stamp), TELLS(answer::inputs);
 }
 
 static void has_the_longest_text() {
@@ -229,30 +216,53 @@ static void judges() {
     CHECK(judge->sent({0x34}, FIO2070_AT_MODULE).why == FIO2070_WHY_PLACE_LOST);
 }
 
-// A log of a poll, a line that may have held a frame, and the answer to another poll, by batches and frame by frame.
+static fio2070::Octets octets(const std::string &text) { return {reinterpret_cast<const std::uint8_t *>(text.data()), text.size()}; }
+
+static fio2070_log_batch batch;
+
+// A log, by batches: the second answer has the number of another poll.
 static void judges_a_log() {
-    static fio2070_log_batch batch;
+    static fio2070::LogReader reader;
+    const std::string text = "00:00:01.000 TX 36 05\n00:00:01.003 RX b6 05 00 00 00 00 00 05\n"
+                             "00:00:02.000 TX 36 06\n00:00:02.001 RX b6 07 00 00 00 00 00 06\nRX b6 0";
+    auto judge = fio2070::LogJudge::start();
+    fio2070::LogCounts counts;
+    std::vector<fio2070_judge_outcome> found;
+    std::vector<std::uint64_t> taken;
+    const auto take = [&] {
+        for (const auto &one : judge->batch(batch)) found.push_back(one);
+        for (const auto one : counts.batch(batch)) taken.push_back(one);
+    };
+    CHECK(reader.read(octets(text), batch) == text.size()), take(), reader.end();
+    CHECK(reader.read({}, batch) == 0), take();
+    CHECK(batch.verdict_count == 1 && batch.verdicts[0].line == 5 && batch.verdicts[0].kind == FIO2070_LOG_PASSED_OVER);
+    CHECK(found.size() == 4 && found[2].kind == FIO2070_OUTCOME_KEPT && found[3].rule == FIO2070_RULE_NUMBER && found[3].got == 7);
+    CHECK(taken == std::vector<std::uint64_t>({3000, 1000}) && counts->polls == 2 && (*counts).frames == 4);
+}
+
+// The same frame by frame, and the signs.
+static void judges_frames() {
     static fio2070::LogReader reader(FIO2070_LOG_FRAMES);
-    const std::string text = "3605\n36051\n3606\n";
-    auto judge = fio2070::LogJudge::start(), other = judge;
-    fio2070::LogCounts counts, single;
-    fio2070::LogSigns signs;
-    CHECK(reader.read({reinterpret_cast<const std::uint8_t *>(text.data()), text.size()}, batch) == text.size());
-    CHECK(batch.verdict_count == 3 && batch.verdicts[1].kind == FIO2070_LOG_DAMAGED && batch.frame_count == 2);
-    const auto found = judge->batch(batch);
-    CHECK(found.size() == 2 && found[1].kind == FIO2070_OUTCOME_KEPT && counts.batch(batch).empty() && counts->polls == 2);
-    signs.batch(batch);
-    reader.end();
-    CHECK(reader.read({}, batch) == 0 && batch.verdict_count == 0);
-    CHECK(other->frame({0x36, 5}, true) == found[0]);
-    other->possible(), other->lose();
-    CHECK(other->frame({0x36, 6}, true) == found[1] && other->frame({0xb6, 9, 0, 0, 0, 0, 0, 5}, false).rule == FIO2070_RULE_NUMBER);
-    other->miss();
+    const List next = {0xb6, 6, 0, 0, 0, 0, 0, 5};
+    auto judge = fio2070::LogJudge::start();
+    CHECK(judge->frame({0x36, 5}, true).kind == FIO2070_OUTCOME_KEPT && judge->frame(next, false).rule == FIO2070_RULE_NUMBER);
+    judge->frame({0x36, 5}, true, FIO2070_LOG_FROM_CPU), judge->lose();
+    CHECK(judge->frame(next, false).why == FIO2070_WHY_PLACE_LOST);
+    judge->frame({0x36, 5}, true), judge->miss(), judge->possible();
+    CHECK(judge->frame(next, false).why == FIO2070_WHY_PLACE_LOST);
     CHECK(!fio2070::LogJudge::start(FIO2070_LOG_TAKEN_AUTO, FIO2070_LOG_BEGINS_ANYWHERE, 0));
-    single.frame({0x36, 5}, 10), single.lose(), single.frame({0x36, 6}, 20);
-    CHECK(single.frame({0xb6, 6, 0, 0, 0, 0, 0, 5}, 50) == 30 && single->unanswered == 0 && (*single).frames == 3);
-    for (std::uint8_t block = 0; block < 8; block++) signs.frame({0xb6, std::uint8_t(block / 2), 0, 0, 0, 0, 0, 1}, false);
-    CHECK(signs.sign() == FIO2070_LOG_SIGN_TWICE && fio2070::LogSigns().sign() == FIO2070_LOG_SIGN_NONE);
+    fio2070::LogCounts counts;
+    counts.frame({0x36, 5}, 10), counts.lose(), counts.frame({0x36, 6}, 20);
+    CHECK(counts.frame(next, 50) == 30 && counts->unanswered == 0);
+    fio2070::LogSigns signs, by_batch;
+    std::string text;
+    for (const char *number : {"00", "00", "01", "01", "02", "02", "03", "03"}) {
+        text += std::string("b6") + number + "000000000001\n";
+        signs.frame({0xb6, std::uint8_t(number[1] - '0'), 0, 0, 0, 0, 0, 1}, false);
+    }
+    CHECK(fio2070::LogSigns().sign() == FIO2070_LOG_SIGN_NONE && signs.sign() == FIO2070_LOG_SIGN_TWICE);
+    CHECK(reader.read(octets(text), batch) == text.size()), by_batch.batch(batch);
+    CHECK(by_batch.sign() == FIO2070_LOG_SIGN_TWICE);
 }
 
 static void reads_a_line() {
@@ -266,10 +276,9 @@ static void reads_a_line() {
     rest = shared;
     const auto other = fio2070::Wire(0x15, FIO2070_WIRE_CONTROL).read(rest);
     CHECK(other->kind() == FIO2070_WIRE_OTHER && !other->is_message() && other->address() == 0x14);
-    const std::string bits = "011111100010100011000001011011001010000000100011110110000" "1111110";
-    const fio2070::Octets line(reinterpret_cast<const std::uint8_t *>(bits.data()), bits.size());
+    const std::string bits = "0111111000101000110000010110110010100000001000111101100001111110";
     fio2070::WireBits decoder(FIO2070_WIRE_ADDRESS, FIO2070_WIRE_ANY);
-    rest = line;
+    rest = octets(bits);
     CHECK(octets(decoder.read(rest)->message()) == List({0x36, 5}) && rest.empty());
     rest = fio2070::Octets(shared.data(), 4), any.read(rest), any.lose(), rest = fio2070::Octets(shared.data() + 4, 4);
     CHECK(any.read(rest)->kind() == FIO2070_WIRE_DAMAGED);
@@ -290,6 +299,7 @@ int main() {
     has_checkers();
     judges();
     judges_a_log();
+    judges_frames();
     reads_a_line();
     return end_of_checks();
 }

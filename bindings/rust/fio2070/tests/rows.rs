@@ -302,29 +302,37 @@ fn logs_are_read_by_batches() {
 }
 
 fn read_by_batches() {
-    let text = b"3605\n36051\nb605000000000005\n";
-    let mut reader = Box::new(LogReader::new(LOG_FRAMES));
+    let text = b"00:00:01.000 TX 36 05\n00:00:01.003 RX b6 06 00 00 00 00 00 05\n";
+    let mut reader = Box::new(LogReader::new(LOG_AUTO));
     let mut batch = Box::new(LogBatch::new());
     let (mut outcomes, mut taken) = ([JudgeOutcome::default(); 20480], [0; 20480]);
     assert_eq!(reader.read(text, &mut batch), text.len());
-    let kinds: Vec<_> = batch.verdicts().map(|it| (it.line, it.kind)).collect();
-    assert_eq!(kinds, [(1, LOG_SAYS), (2, LOG_DAMAGED), (3, LOG_SAYS)]);
-    let mut third = batch.verdicts().nth(2).unwrap();
-    let place = third.places[0];
-    assert_eq!((place.line, place.start, place.end), (3, 0, 16));
-    assert_eq!(third.frames.next(), Some(&block(5, 5)[..]));
-    assert_eq!((third.reason, third.time, third.said), (0, None, 0));
-    let mut judge = LogJudge::new(LOG_TAKEN_AUTO, LOG_BEGINS_ANYWHERE, 255, 1024).unwrap();
-    let found = judge.batch(false, &batch, &mut outcomes);
-    let why: Vec<_> = found.iter().map(|it| it.why).collect();
-    assert_eq!(why, [0, WHY_PLACE_LOST]);
-    let (mut counts, mut signs) = (LogCounts::new(), LogSigns::new());
-    assert!(counts.batch(&batch, &mut taken).is_empty());
-    signs.batch(false, &batch);
-    assert_eq!((counts.frames, signs.sign()), (2, LOG_SIGN_NONE));
+    assert!(batch.verdicts().next().is_none());
     reader.end();
     assert_eq!(reader.read(&[], &mut batch), 0);
-    assert!(batch.verdicts().next().is_none());
+    let kinds: Vec<_> = batch.verdicts().map(|it| (it.line, it.kind)).collect();
+    assert_eq!(kinds, [(1, LOG_SAYS), (2, LOG_SAYS)]);
+    let mut second = batch.verdicts().nth(1).unwrap();
+    let place = second.places[0];
+    assert_eq!((place.line, place.start, place.end), (2, 16, 39));
+    assert_eq!(second.frames.next(), Some(&block(6, 5)[..]));
+    assert_eq!(second.reason, LOG_NO_REASON);
+    assert_eq!(
+        (second.time, second.said),
+        (Some(1_003_000), LOG_FROM_MODULE)
+    );
+    let mut judge = LogJudge::new(LOG_TAKEN_AUTO, LOG_BEGINS_ANYWHERE, 255, 1024).unwrap();
+    let found = judge.batch(false, &batch, &mut outcomes);
+    let rules: Vec<_> = found.iter().map(|it| it.rule).collect();
+    assert_eq!(rules, [0, RULE_NUMBER]);
+    let mut counts = LogCounts::new();
+    assert_eq!(counts.batch(&batch, &mut taken), [3000]);
+    assert_eq!((counts.frames, counts.polls), (2, 1));
+    let lines = [0, 0, 1, 1, 2, 2, 3, 3].map(|number| format!("b60{number}000000000001\n"));
+    let (mut reader, mut signs) = (LogReader::new(LOG_FRAMES), LogSigns::new());
+    reader.read(lines.concat().as_bytes(), &mut batch);
+    signs.batch(false, &batch);
+    assert_eq!(signs.sign(), LOG_SIGN_TWICE);
 }
 
 #[test]

@@ -1,0 +1,162 @@
+"""Logs by the package: what a reader says of lines, and that what takes a batch says what takes them one by one."""
+
+import unittest
+from unittest import mock
+
+import fio2070
+
+LOG = b'07:15:02.000 RX b6 05 01 8c 03 e7 00 00 00 03 e8\nno octets\n\n'
+
+
+class Logs(unittest.TestCase):
+    def test_many_lines(self):
+        # More verdicts than a batch takes.
+        reader = fio2070.LogReader()
+        verdicts = reader.read(b'\n' * 10000) + reader.end()
+        self.assertEqual([one.line for one in verdicts], list(range(1, 10001)))
+
+    def test_large_piece(self):
+        # The library gets a few times the octets of a piece, however large it is.
+        text, counts, read = b'\n' * 2**18, [], fio2070.logs.c.library.fio2070_log_read
+
+        def counted(reader, octets, length, batch):
+            counts.append(length)
+            return read(reader, octets, length, batch)
+        with mock.patch.object(fio2070.logs.c.library, 'fio2070_log_read', counted):
+            self.assertEqual(len(fio2070.LogReader().read(text)), len(text))
+        self.assertLess(sum(counts), 10 * len(text))
+
+    def test_next_log(self):
+        # After the end octets begin a log of the same form.
+        for form, text in (('auto', LOG + b'last'), ('frames', b'3605\n36'), ('transcript', b'> 3605\n3605')):
+            reader = fio2070.LogReader(form)
+            first = reader.read(text) + reader.end()
+            for _ in range(3):
+                self.assertEqual(reader.end(), [])
+                self.assertEqual(reader.read(b''), [])
+                self.assertEqual(reader.read(text) + reader.end(), first)
+
+    def test_forms(self):
+        self.assertRaises(ValueError, fio2070.LogReader, 'other')
+
+    def test_end(self):
+        # The library is asked until a batch has no verdicts.
+        reader, library = fio2070.LogReader(), fio2070.logs.c.library
+        reader.read(b'last')
+        with mock.patch.object(library, 'fio2070_log_read', wraps=library.fio2070_log_read) as read:
+            self.assertEqual(len(reader.end()), 1)
+        self.assertEqual(read.call_count, 2)
+
+    def test_longest_frame_by_order(self):
+        text = b'3b' * 773 + b'\n' + b'3b' * 774 + b'\n'
+        self.assertEqual(fio2070.LogReader('frames').read(text), [
+            (1, 'frames', '', (b';' * 773,), ((1, 0, 1546),), None, ''), (2, 'damaged', 'no message', (), (), None, '')])
+
+    def test_long_line_by_order(self):
+        for first, verdict in ((b'#', ('blank', '')), (b'3', ('damaged', 'too long'))):
+            reader = fio2070.LogReader('frames')
+            self.assertEqual(reader.read(first * 70000 + b'\n'), [(1, *verdict, (), (), None, '')])
+
+
+class LogBatches(unittest.TestCase):
+    """What takes a batch says the same as what takes its lines one by one."""
+
+    TEXT = LOG + b''.join(b'07:15:%02d TX 36 %02x\n07:15:%02d.004 RX b6 %02x 00 00 00 00 00 %02x\n' % (turn, turn + turn // 5, turn, turn, turn)
+                          for turn in range(30)) + b'RX b6 0? 00\n3 messages lost\nTX 36 40\nTX 36 41 ?\n'
+
+    @staticmethod
+    def one_by_one(verdicts, as_said=False):
+        judge, counts, signs, found, taken = fio2070.LogJudge(), fio2070.LogCounts(), fio2070.LogSigns(), [], []
+        for one in verdicts:
+            if one.kind == 'possible' or one.reason == 'heading':
+                judge.possible()
+            elif one.reason == 'loss':
+                judge.miss()
+            elif one.kind == 'damaged':
+                judge.lose()
+            if one.kind in ('possible', 'damaged') or one.reason in ('loss', 'heading'):
+                counts.lose()
+            for octets in one.frames if one.kind == 'frames' else ():
+                from_cpu = one.said == '>' if as_said and one.said else octets[0] < 128
+                found.append(judge.frame(octets, from_cpu, one.said))
+                signs.frame(octets, from_cpu, one.said)
+                taken.append(counts.frame(octets, one.time))
+        return [one for one in found if one.kind], [one for one in taken if one is not None], counts, signs.sign
+
+    def test_same(self):
+        reader, judge, counts, signs = fio2070.LogReader(), fio2070.LogJudge(), fio2070.LogCounts(), fio2070.LogSigns()
+        verdicts, found, taken = [], [], []
+        for batches in (reader.batches(self.TEXT), reader.last_batches()):
+            for batch in batches:
+                verdicts += batch.verdicts()
+                found += [outcome for _, outcome in judge.batch(batch)]
+                taken += counts.batch(batch)
+                signs.batch(batch)
+        outcomes, times, single, sign = self.one_by_one(verdicts)
+        self.assertEqual((found, taken, bytes(counts._counts), signs.sign), (outcomes, times, bytes(single._counts), sign))
+        self.assertGreater(len(outcomes), 3)
+        self.assertGreater(len(times), 20)
+        self.assertEqual((counts.command, counts.polled), (None, 64))
+        counts.frame(bytes([54, 5]))
+        self.assertEqual((counts.command, counts.polled), (54, 5))
+
+    def test_as_said(self):
+        # Each answer is there twice, and its line says that the CPU sent it: that is no answer, so no sign.
+        text, signs = ''.join(2 * ('TX b6 %02x 00 00 00 00 00 01\n' % number) for number in range(4)).encode(), {}
+        verdicts = fio2070.LogReader().read(text)
+        for as_said in (False, True):
+            batch, judge, sign = fio2070.LogBatch(verdicts), fio2070.LogJudge(), fio2070.LogSigns()
+            sign.batch(batch, as_said)
+            outcomes, _, _, signs[as_said] = self.one_by_one(verdicts, as_said)
+            self.assertEqual(([one for _, one in judge.batch(batch, as_said)], sign.sign), (outcomes, signs[as_said]))
+            self.assertEqual(outcomes[0].breach is not None, as_said)
+        self.assertEqual(signs, {False: 'twice', True: ''})
+
+    def test_zero(self):
+        # The time 0 is one; a frame without octets has the type 0.
+        verdicts = [fio2070.Verdict(number, 'frames', '', frames, (), time, '') for number, frames, time in (
+            (1, (b'', bytes([54, 5]), b''), 0), (2, (bytes([54]),), None), (3, (b'',), 7))]
+        batch = fio2070.LogBatch(verdicts)
+        self.assertEqual(batch.verdicts(), verdicts)
+        self.assertEqual([batch.told(index).time for index in range(3)], [0, None, 7])
+        self.assertEqual((batch.timed, batch.types()), (bytes([1, 0, 1]), bytes([0, 54, 0, 54, 0])))
+        self.assertEqual([one.time for one in fio2070.LogReader().read(b'00:00:00 RX b6 05 00 00 00 00 00 01\n')], [0])
+
+    def test_counts(self):
+        counts = fio2070.LogCounts()
+        frames = (('3605', 10), ('b605018c03e704000003e8', 40), ('3606', None), ('3606', None), ('b180000000000001', None),
+                  ('b100000000000002', None), ('b180000000000003', None))
+        self.assertEqual([counts.frame(bytes.fromhex(octets), time) for octets, time in frames], [None, 30, *5 * [None]])
+        self.assertEqual((counts.frames, counts.polls, counts.repeats, counts.unanswered, counts.waits), (7, 3, 1, 1, True))
+        self.assertEqual((counts.marks, counts.entries, counts.restarts, counts.reset, counts.first_reset), (1, 1, 1, True, True))
+        self.assertEqual((counts.types, counts.inputs, counts.fills), ({54: 3, 182: 1, 177: 3}, {12: 1}, {1: 1}))
+
+    def test_limits(self):
+        for kind in (fio2070.LinkJudge, fio2070.LogJudge):
+            self.assertTrue(kind(255, 8192) and kind(1, 1))
+            for limits in ((255, 8193), (256, 8192), (255, 0), (0, 8192)):
+                self.assertRaises(ValueError, kind, *limits)
+
+    def test_made(self):
+        verdicts = fio2070.LogReader().read(self.TEXT)
+        batch = fio2070.LogBatch(verdicts)
+        self.assertEqual(batch.verdicts(), verdicts)
+        self.assertEqual((len(batch), repr(batch)), (len(verdicts), '<LogBatch lines=%d frames=%d>' % (len(verdicts), batch.frame_count)))
+        self.assertEqual((batch.numbers(), batch.frames()), ([one.line for one in verdicts], [octets for one in verdicts for octets in one.frames]))
+        self.assertEqual(batch.types(), bytes(octets[0] for octets in batch.frames()))
+        self.assertEqual(batch.times(), [one.time or 0 for one in verdicts])
+        self.assertEqual((batch.frame_counts(), batch.place_count), ([len(one.frames) for one in verdicts], sum(len(one.places) for one in verdicts)))
+        self.assertEqual([fio2070.LogJudge().batch(fio2070.LogBatch()), fio2070.LogBatch().types()], [[], b''])
+        batch.set_kind(0, fio2070.constants.LOG_DAMAGED)
+        batch.set_side(0, fio2070.constants.LOG_FROM_CPU)
+        self.assertEqual((batch.told(0).kind, batch.told(0).said, batch.kinds[0], batch.sides[0]), ('damaged', '>', 4, 1))
+        batch.truncate(1)
+        self.assertEqual([one.kind for one in batch.verdicts()], ['damaged'])
+        self.assertRaises(ValueError, fio2070.LogBatch, verdicts * 100)
+
+    def test_words(self):
+        judge = fio2070.LogJudge()
+        self.assertEqual(repr(judge), '<LogJudge>')
+        for call in [lambda: fio2070.LogJudge(place='bank'), lambda: fio2070.LogJudge(begun=True, late_answers=True),
+                     lambda: fio2070.LogJudge(per_block=0), lambda: judge.frame(b'', False, 'module')]:
+            self.assertRaises(ValueError, call)
