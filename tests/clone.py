@@ -292,9 +292,9 @@ def windows():
         check.skip('a library for Windows', 'no %s here (Debian package gcc-mingw-w64-x86-64)' % compiler)
         return
     out = room / 'windows'
-    works('a library for Windows', 'make -s library OUT=%s CC=%s AR=x86_64-w64-mingw32-ar' % (out, compiler))
-    works('a program for Windows', '%s -I dist program.c %s/libfio2070.a -o %s/program.exe' % (compiler, out, out))
-    works('fio2070.exe', '%s -O2 -Wall -Wextra -I dist tools/without-kit/main.c dist/fio2070.c -o %s/fio2070.exe' % (compiler, out))
+    works('a library for Windows', "make -s library OUT=%s CC=%s AR=x86_64-w64-mingw32-ar CFLAGS='-O1 -Wall -Wextra'" % (out, compiler))
+    for name, source in ('program', 'program.c'), ('fio2070', 'tools/without-kit/main.c'):
+        works(name + '.exe', '%s -O1 -Wall -Wextra -I dist %s %s/libfio2070.a -o %s/%s.exe' % (compiler, source, out, out, name))
     headers = '/usr/share/mingw-w64/include'
     if shutil.which('clang') and os.path.isdir(headers):
         works('no warning in the dialect of MSVC', 'clang --target=x86_64-pc-windows-msvc -fms-extensions -std=c11 '
@@ -319,8 +319,8 @@ def processors():
             check.skip('the library on ' + name, 'no %sgcc or no %s here (Debian packages gcc-%s, qemu-user)' % (prefix, qemu, name))
             continue
         out = room / name
-        works('make library for ' + name, 'make -s library OUT=%s CC=%sgcc AR=%sar LDFLAGS=-static-libgcc' % (out, prefix, prefix))
-        built = fault(prefix + 'gcc', '-O1', '-static', '-I', 'dist', 'tools/without-kit/main.c', 'dist/fio2070.c', '-o', out / 'fio2070')
+        works('make library for ' + name, 'make -s library OUT=%s CC=%sgcc AR=%sar CFLAGS=-O1 LDFLAGS=-static-libgcc' % (out, prefix, prefix))
+        built = fault(prefix + 'gcc', '-O1', '-static', '-I', 'dist', 'tools/without-kit/main.c', out / 'libfio2070.a', '-o', out / 'fio2070')
         check.equal('the program for ' + name, None, built)
         for path in sorted(EXAMPLES.iterdir()) if not built else ():
             tool, end = {'.frames': ('show', '.shown'), '.transcript': ('check', '.verdict')}.get(path.suffix, ('', ''))

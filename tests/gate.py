@@ -13,6 +13,7 @@ import tempfile
 
 from support.check import Check
 from support.tables import TOP
+from support.waits import LONGEST
 
 CRATES = 'low:\nhigh: low\nbeside: low hex\ntop: high\n'
 # Proves nothing, and says of which crates that was asked.
@@ -142,7 +143,7 @@ def check_built(check, room):
         check.equal(name + ': what is proved', ['ci'], tree.asked())
         copied = re.findall(r'^(/\S+/copy/\S+) (.*)$', text, re.M)
         check.equal(name + ': what is run in the copy', 4, len(copied))
-        check.holds(name + ': the wrong bodies', any(folder.endswith('/wrong-bodies') and '--until' in said and ('--changed' in said) != bool(words)
+        check.holds(name + ': the wrong bodies', any(folder.endswith('/wrong-bodies') and '--until' in said and ('--public' if words else '--changed') in said.split()
                                                      for folder, said in copied), text)
         check.holds(name + ': the library is that of the copy', re.search(r'^/\S+/copy$', text, re.M), text)
     check.holds('what is said of dist/', 'dist/ is of other sources than these' in text, text)
@@ -196,7 +197,7 @@ def check_ended(check, room):
             with open(pipe, encoding='utf-8') as told:
                 process = int(told.read())
             run.send_signal(number)
-            check.equal('%s: its status' % number.name, 128 + number, run.wait(60))
+            check.equal('%s: its status' % number.name, 128 + number, run.wait(LONGEST))
             check.equal('%s: nothing runs on' % number.name, False, os.path.exists('/proc/%d' % process))
 
 

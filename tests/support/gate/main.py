@@ -3,7 +3,8 @@
 `./test` checks what a change can break on this machine. It proves the crates that are not as they were proved last, by the list
 tests/proved.sums, and those that rest on them, tries the wrong bodies (functions with a planted bug) of crates that changed since their
 last trial here, and runs the quick form of each check in tests/. `./test --all` does what a merge waits for: it proves all by `rt ci`,
-whatever the list says, tries all wrong bodies, and runs each check in its whole form; it fails if the list is not that of the tree.
+whatever the list says, tries the wrong bodies of each promise, and runs each check in its whole form; it fails if the list is not
+that of the tree.
 
 A check is an executable file of tests/, whose last line is `N passed, M failed`. At the end `./test` says what each part cost, what
 is left to `--all`, what failed and how that is run by itself, and what was skipped and why; its last line gives the totals, and the
@@ -101,7 +102,8 @@ class Gate:
             are_some = self.is_of_dist and not self.given.all and not self.given.part
             return Part(name, [*GATE, *(proved.resting_on(self.differing) if are_some else [])], ['./test', PROOFS])
         if name == BODIES:
-            return Part(name, ['wrong-bodies/try', *([] if self.given.all else ['--changed']), *rows])
+            which = [] if rows and self.given.all else ['--public' if self.given.all else '--changed']
+            return Part(name, ['wrong-bodies/try', *which, *rows])
         if name == LIBRARY:
             return self.library()
         if name in WITH_MAKE and lacking():
@@ -229,9 +231,12 @@ def main():
         if given.list:
             gate.list()
             return 0
-        # In a thread, so that this one can end it.
+        # In a thread, so that this one can end it. A signal may reach any thread, and this one alone acts on it, once it wakes.
         with concurrent.futures.ThreadPoolExecutor(1) as pool:
-            pool.submit(gate.run).result()
+            running = pool.submit(gate.run)
+            while not running.done():
+                concurrent.futures.wait([running], 1)
+            running.result()
         return 0 if gate.end() else 1
 
 
