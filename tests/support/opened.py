@@ -103,12 +103,20 @@ def text_of(name):
         return file.read()
 
 
+def has_opened(browser, name):
+    """Waits until a log is open, and for two frames more: in the first it gets its size, at which all rows are drawn anew, and what is
+    clicked meanwhile may become another row."""
+    browser.wait(OPENED, name)
+    browser.run('window.isDrawn = false; requestAnimationFrame(() => requestAnimationFrame(() => { window.isDrawn = true; }))')
+    browser.wait('return window.isDrawn')
+
+
 def example(browser, name):
     """Opens an example by its button."""
     browser.click('#tab-open')
     browser.run(CLOSE + '; document.getElementById("more-examples").open = true')
     browser.click('[data-example="%s"]' % name)
-    browser.wait(OPENED, name)
+    has_opened(browser, name)
 
 
 def saved(browser, button='save'):
@@ -123,7 +131,7 @@ def opened(browser, path):
     browser.click('#tab-open')
     browser.run(CLOSE)
     browser.type('#file', path)
-    browser.wait(OPENED, os.path.basename(path))
+    has_opened(browser, os.path.basename(path))
 
 
 def pasted(browser, text):
@@ -131,7 +139,7 @@ def pasted(browser, text):
     browser.click('#tab-open')
     browser.run(CLOSE + '; document.getElementById("paste").value = arguments[0]', text)
     browser.click('#open-paste')
-    browser.wait(OPENED, 'pasted text')
+    has_opened(browser, 'pasted text')
 
 
 def dropped(browser, text, file=''):
@@ -139,7 +147,7 @@ def dropped(browser, text, file=''):
     browser.click('#tab-open')
     browser.run(CLOSE)
     browser.run(DROP, text, file)
-    browser.wait(OPENED, file or 'dropped text')
+    has_opened(browser, file or 'dropped text')
 
 
 def is_message(row):

@@ -14,7 +14,7 @@ ONLY_ALL = ('completions', 'packages', 'release')
 # Parts that need what the Rattle kit makes of the crates.
 WITH_KIT = (PROOFS, BODIES, 'clone', 'embedding', 'portable', 'portable-parts', 'release', 'snippets')
 # Checks that need nothing that `make library` makes.
-WITHOUT_LIBRARY = ('building', 'checked-runs', 'computed-reports', 'embedding', 'examples', 'lossy', 'page', 'page-access', 'portable-instructions',
+WITHOUT_LIBRARY = ('building', 'checked-runs', 'computed-reports', 'embedding', 'examples', 'lossy', 'page-access', 'portable-instructions',
                    'program', 'random-inputs', 'records', 'scripts', 'shows', 'snippets', 'texts', 'transcripts', 'waveform')
 # Checks that are nothing without make and a compiler.
 WITH_MAKE = ('c-library', 'conformance', 'endurance', 'firmware', 'gate', 'install', 'packages', 'page', 'page-access', 'refused-memory')
