@@ -19,8 +19,6 @@ BLOCK = bytes.fromhex('b605018c03e700000003e8')
 
 
 class Calls(unittest.TestCase):
-    """Calls of the package, each with a right result and an error; those below it have their rows in tests/rows.json."""
-
     def test_messages(self):
         for octets in ('31a5', '3200010000', '33020c0503830000', '3605', '37' + '01' * 16, '38010203', '3ac8', '3b0102', '3c'):
             self.assertEqual(encode.command(fio2070.decode_command(bytes.fromhex(octets))).hex(), octets)
@@ -93,13 +91,10 @@ class Wires(unittest.TestCase):
         self.assertEqual([one.kind for one in wire.read(self.FRAME[3:])], ['damaged'])
 
     def test_settings(self):
-        for kind in (fio2070.Wire, fio2070.WireBits):
+        for call in (fio2070.Wire, fio2070.WireBits, lambda **given: fio2070.wire_frame(b'6\5', **given)):
             for number in (-1, 256):
-                self.assertRaises(ValueError, kind, address=number)
-                self.assertRaises(ValueError, kind, control=number)
-        for number in (-1, 256):
-            self.assertRaises(ValueError, fio2070.wire_frame, b'\x36\5', address=number)
-            self.assertRaises(ValueError, fio2070.wire_frame, b'\x36\5', control=number)
+                self.assertRaises(ValueError, call, address=number)
+                self.assertRaises(ValueError, call, control=number)
 
     def test_long_piece(self):
         # A piece that is longer than what the library gets at a time.

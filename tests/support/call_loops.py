@@ -6,7 +6,6 @@ import re
 from c_calls import GUARD, Memory
 from c_header import NUMBERS, STRUCTS
 
-ALL = '~0'
 BLOCK = bytes.fromhex('b605018c03e700000003e8')
 
 
@@ -26,7 +25,7 @@ def overflow(run):
         run.call('sized_module_start', '2', str(room), '255')
         run.call('sized_module_receive', '3340' + ''.join('%02x0101' % place for place in range(64)))
         for scan in range(20):
-            run.call('sized_module_scan', ALL if scan % 2 else '0')
+            run.call('sized_module_scan', '~0' if scan % 2 else '0')
         waiting = ['%02x%04x' % (place % 64 | (0x80 if place // 64 % 2 else 0), place // 64 + 1) for place in range(1280)][-room:]
         blocks = [waiting[at:at + 255] for at in range(0, len(waiting), 255)]
         for place, block in enumerate(blocks):
@@ -43,7 +42,7 @@ def any_octets(run):
         for count in range(4):
             run.kept['sized_module'], run.slots = Memory(module), Memory(slot, count)
             run.kept['sized_module'].octets[GUARD:-GUARD] = bytes([fill]) * ctypes.sizeof(module)
-            for name, *words in (('scan', ALL if fill % 2 else '0'), ('receive', '3600'), ('state',)):
+            for name, *words in (('scan', '~0' if fill % 2 else '0'), ('receive', '3600'), ('state',)):
                 said = run.call_once('sized_module_' + name, words)
             waiting = int((re.findall(r'waiting (\d+)', said) or [0])[0])
             if not run.slots.is_unwritten(count) or waiting > run.kept['sized_module'].values[0].waiting:

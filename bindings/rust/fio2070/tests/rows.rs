@@ -13,6 +13,10 @@ fn block(number: u8, stamp: u8) -> [u8; 8] {
     [0xb6, number, 0, 0, 0, 0, 0, stamp]
 }
 
+fn words(it: impl std::fmt::Debug) -> String {
+    format!("{it:?}")
+}
+
 fn items(input: u8, count: usize) -> Vec<ConfigurationItem> {
     let (ignore, leading, trailing) = (false, 3, 2);
     let item = ConfigurationItem {
@@ -170,25 +174,11 @@ fn a_poller_polls_a_copy() {
     let answer = answer.unwrap();
     assert_eq!(answer, [0xb6, 5, 1, 12, 0, 1, 0, 0, 0, 0, 1]);
     let (mut item, heard) = ([RecordItem::default()], poller.hear(answer, &mut []));
-    assert!(matches!(
-        heard,
-        Heard::NoRoom {
-            number: 5,
-            stamp: 1,
-            items: 1
-        }
-    ));
+    assert_eq!(words(heard), "NoRoom { number: 5, stamp: 1, items: 1 }");
     assert_eq!(heard.to_string(), "no room needed 1");
-    let heard = poller.hear(answer, &mut item);
-    let (number, stamp, entries, status, items) = (5, 1, 1, 0, 1);
-    let taken = Heard::Taken {
-        number,
-        stamp,
-        entries,
-        status,
-        items,
-    };
-    assert_eq!((heard, poller.number()), (taken, 6));
+    let taken = "Taken { number: 5, stamp: 1, entries: 1, status: 0, items: 1 }";
+    assert_eq!(words(poller.hear(answer, &mut item)), taken);
+    assert_eq!(poller.number(), 6);
     assert_eq!((item[0].gap, item[0].input, item[0].wide), (false, 12, 1));
     let words = [
         (&[][..], "unreadable empty"),
@@ -338,29 +328,21 @@ fn read_by_batches() {
 #[test]
 fn lines_are_written_and_read() {
     let line = [0x7e, 0x14, 0x83, 0x36, 5, 0xc4, 0x1b, 0x7e];
-    let (address, control, message) = (0x14, 0x83, &POLL[..]);
-    let own = WireHeard::Message {
-        address,
-        control,
-        message,
-    };
-    let other = WireHeard::Other {
-        address,
-        control,
-        message,
-    };
+    let frame = "{ address: 20, control: 131, message: [54, 5] }";
     let mut out = [0; WIRE_LONGEST];
-    let written = wire_frame(message, address, control, &mut out);
+    let written = wire_frame(&POLL, 0x14, 0x83, &mut out);
     assert_eq!(written, Ok(&line[..]));
     let mut wire = Wire::new(Some(0x15), None);
-    assert_eq!(wire.read(&mut &line[..]), Some(other));
+    let heard = wire.read(&mut &line[..]).map(words);
+    assert_eq!(heard, Some(format!("Other {frame}")));
     assert_eq!(wire.read(&mut &line[..3]), None);
     wire.lose();
     assert_eq!(wire.read(&mut &line[3..]), Some(WireHeard::Damaged));
     let mut bits = &b"01111110001010001100000101101100101000000010001111011000"[..];
-    let mut decoder = WireBits::new(Some(address), Some(control));
+    let mut decoder = WireBits::new(Some(0x14), Some(0x83));
     assert_eq!(decoder.read(&mut bits), None);
-    assert_eq!(decoder.read(&mut &b"01111110"[..]), Some(own));
+    let heard = decoder.read(&mut &b"01111110"[..]).map(words);
+    assert_eq!(heard, Some(format!("Message {frame}")));
     let mut longest = wire_frame(&[0x7e; 773], 0x7d, 0x7e, &mut out).unwrap();
     let mut wire = Wire::new(None, None);
     let heard = wire.read(&mut longest);
